@@ -28,7 +28,7 @@ ITEM = re.compile(r"^(?:pub(?:\(\w+\))? )?(?:impl|trait|struct|enum|fn)\b", re.M
 OWNER = re.compile(r"[\w() ]*?\b(impl|trait|struct)(?:<[^{]*?>)? (?:(\w+)(?:<[^{]*?>)? for )?(\w+)")
 FUNCTION = re.compile(r"^ *(pub )?(?:pub\(\w+\) )?(?:const |unsafe )*fn (\w+)", re.M)
 CONTRACT = re.compile(r"^\s+(?=ensures|requires)|\{\}?$|;$", re.M)
-CLAUSE = re.compile(r"\s*(ensures|requires)\s*(\w*)\s*\{")
+CLAUSE = re.compile(r"\s*(ensures|requires)\*?\s*(\w*)\s*\{")
 GHOST = re.compile(r"\bghost (\w+)(?::| =) \{")
 
 
@@ -36,7 +36,7 @@ GHOST = re.compile(r"\bghost (\w+)(?::| =) \{")
 class Definition:
     path: str
     name: str
-    place: str
+    where: str
     comment: list[str]
     text: list[str]
     scope: Scope
@@ -49,7 +49,7 @@ class Definition:
 
 @dataclass
 class Function:
-    """A function with its contract; or a type, whose ghost fields are the clauses. A clause is (name, text, place)."""
+    """A function with its contract; or a type, whose ghost fields are the clauses. A clause is (name, text, where)."""
 
     crate: str
     name: str
@@ -82,7 +82,7 @@ def braced(text: str, start: int) -> str:
     return text[start : end - 1]
 
 
-def place(file: Path, text: str, start: int) -> str:
+def where(file: Path, text: str, start: int) -> str:
     return f"{file.relative_to(ROOT)}:{text.count(chr(10), 0, start) + 1}"
 
 
@@ -112,7 +112,7 @@ class Sources:
             path = scope[name] = f"{module}.{name}"
             above = [line.strip(" -") for line in comment.splitlines()]
             lines = [line[len(indent) :] for line in (indent + body).split("\n") if line.strip()]
-            self.definitions[path] = Definition(path, name, place(file, text, match.start(3)), above, lines, scope)
+            self.definitions[path] = Definition(path, name, where(file, text, match.start(3)), above, lines, scope)
             if body.startswith("pub data"):
                 scope.update({case: f"{path}.{case}" for case in re.findall(r"^ +(\w+) :", body, re.M)})
 
@@ -120,7 +120,7 @@ class Sources:
         owner = OWNER.match(text, start, end)
         kind, trait, name = owner.groups("") if owner else ("", "", "")
         crate = file.relative_to(ROOT / "crates").parts[0]
-        found = [(m[1], braced(text, m.end()), place(file, text, m.start())) for m in GHOST.finditer(text, start, end)]
+        found = [(m[1], braced(text, m.end()), where(file, text, m.start())) for m in GHOST.finditer(text, start, end)]
         ghosts = {ghost: value for ghost, value, _ in found}
         if kind == "struct":
             self.functions[name].append(Function(crate, name, "", True, set(), scope, found, {}))
@@ -139,7 +139,7 @@ class Sources:
         while match := CLAUSE.match(text, start):
             clause = braced(text, match.end())
             start = match.end() + len(clause) + 1
-            yield match[2] if match[1] == "ensures" else "requires", clause, place(file, text, match.start(1))
+            yield match[2] if match[1] == "ensures" else "requires", clause, where(file, text, match.start(1))
 
     def find(self, path: str) -> Definition | None:
         """The definition with this path, or with its longest prefix."""
@@ -163,7 +163,7 @@ class Sources:
     def cited_by(self, definition: Definition) -> list[Definition]:
         parts = re.split(r"\n(?=\w)", "\n".join(definition.text))
         found = [other for part in parts for other in self.cited(part, definition.scope)]
-        return [definition.narrowed.get(other.path, other) for other in found if other.place != definition.place]
+        return [definition.narrowed.get(other.path, other) for other in found if other.where != definition.where]
 
     def stated(self, function: Function) -> Function:
         """The function with its contract: itself, or else the trait's."""
@@ -183,10 +183,10 @@ class Sources:
     def citing(self, relation: Definition) -> list[str]:
         """The clauses of public functions that cite a relation, those of laws first."""
         found = [
-            ("/laws" not in place, f"{function.crate} {function.name}: {clause}, {place}")
+            ("/laws" not in where, f"{function.crate} {function.name}: {clause}, {where}")
             for same in self.functions.values()
             for function in same
-            for clause, text, place in function.clauses
+            for clause, text, where in function.clauses
             if function.is_public and relation in self.cited(text, function.scope)
         ]
         return [text for _, text in sorted(found)]

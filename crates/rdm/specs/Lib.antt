@@ -36,7 +36,7 @@ pub use Rattle.rdm_line.specs.Scenes
 pub use Rattle.rdm_line.specs.Tape
 pub use Rattle.rdm_line.specs.Sim
 pub use Rattle.rdm_line.specs.SimSound
-pub use Rattle.rdm_line.specs.SimRuns
+pub use Rattle.rdm_line.specs.SimSteps
 pub use Rattle.rdm_line.specs.Streams
 pub use Rattle.rdm_log.specs.log
 pub use Rattle.rdm_log.specs.promises

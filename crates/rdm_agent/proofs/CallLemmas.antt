@@ -217,7 +217,7 @@ module _ (a : AgentState) (end : next_op a ≡ End) (fault : AgentFault) (has_fa
       going : next_of s.before ≢ None
       going none = s.is.0 (none_ends s.before none)
 
--- the same by what the agent tells of its fault
+-- the same by what the agent reports of its fault
 pub fault-certified : {search : Search} (a : AgentState) → next_op a ≡ End → (o : Option AgentFault)
     → o ≡ fault_of a.phase → OfEach search a (λ kind known budget aborted x. IfNone o
     (Certificate kind known x a.found))

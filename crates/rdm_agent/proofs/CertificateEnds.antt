@@ -88,7 +88,7 @@ module _ {P : Seen → Type 0} where
           fewer : length s.run ≡ length (run ++ last ∷ []) → length s.run ≡ suc n → length run ≡ n
           fewer p q = omega (arith, p, q, length-append run (last ∷ []))
 
-  -- some in succession of such a list were there before, or are the last ones
+  -- some in a row of such a list were there before, or are the last ones
   grown_succession : (n : ℕ) (x : List Seen) (e : Seen) → InSuccession n P (x ++ e ∷ []) → InSuccession n P x
       ⊎ EndsWith n P (x ++ e ∷ [])
   grown_succession n x e s = elim (last_of s.back) [
@@ -126,7 +126,7 @@ FewSilent (MutingSwept u tries sweep top below) x = Unit {0}
 FewSilent (Doubting sweep top below) x = (lo hi n : ℕ) → top.hi ≤ hi → EndsWith n (IsSilentBranch lo hi) x → n ≤ 0
 FewSilent (Ended fault) x = Unit {0}
 
--- and no range with the greatest UID was silent five times in succession, unless the run has ended without fault
+-- and no range with the greatest UID was silent five times in a row, unless the run has ended without fault
 record IsUncleared (phase : Phase) (x : List Seen) : Type 0 where
   cleared_last : (lo hi : ℕ) → greatest ≤ hi → InSuccession TRIES (IsSilentBranch lo hi) x → phase ≡ Ended None
   few : FewSilent phase x
@@ -175,9 +175,9 @@ module _ (silences : ℕ) (top : Span) (below : List Span) (x : List Seen) (stac
   not_ended e = cc
 
   -- five times at most: the next range is another one, and the last one ends the run
-  taken_off : (rest : List Span) → IsStack top rest → IsUncleared (search_below rest) (x ++ again ∷ [])
-  taken_off [] s = record { cleared_last = λ lo hi far five. refl; few = tt }
-  taken_off (r ∷ rs) s = record {
+  popped : (rest : List Span) → IsStack top rest → IsUncleared (search_below rest) (x ++ again ∷ [])
+  popped [] s = record { cleared_last = λ lo hi far five. refl; few = tt }
+  popped (r ∷ rs) s = record {
     cleared_last = λ lo hi far five. elim (grown_succession TRIES x again five) [
       | inl before ↦ absurd (not_ended (k.cleared_last lo hi far before))
       | inr ends ↦ absurd (too_far hi far (same_range lo hi (grown_end 4 x again ends).0).1)
@@ -223,7 +223,7 @@ module _ (silences : ℕ) (top : Span) (below : List Span) (x : List Seen) (stac
   branch_silent : IsUncleared (cond ((silences + 1) == TRIES) (search_below below) (Searching (silences + 1) top below))
       (x ++ again ∷ [])
   branch_silent =
-      cond_both ((silences + 1) == TRIES) _ _ (λ p. IsUncleared p (x ++ again ∷ [])) (λ five. taken_off below stack)
+      cond_both ((silences + 1) == TRIES) _ _ (λ p. IsUncleared p (x ++ again ∷ [])) (λ five. popped below stack)
       (λ not. silent_again (eqb-false (silences + 1) TRIES not))
 
 -- a sweep's top range is silent: the next one ends above it

@@ -96,7 +96,7 @@ corrupt-mutes top u x found sound new spelt one = record {
 abbrev pub NoBranch : Seen → Type 0
 NoBranch e = is_branch e ≡ false
 
--- the last branch of a list: its place, and what stands after it
+-- the last branch of a list: its index, and what stands after it
 record SameLast (front back : List Seen) (b : Seen) (other after : List Seen) (c : Seen) : Type 0 where
   pub fronts : front ≡ other
   pub branches : b ≡ c

@@ -23,7 +23,7 @@ use Rattle.rdm_agent.proofs.Stacks.{IsStack-whole}
 use Rattle.rdm_agent.proofs.CorruptLemmas.{not_corrupt-no_branch}
 use Rattle.rdm_agent.proofs.FoundLemmas.{found-same}
 use Rattle.rdm_agent.proofs.UnderWay.{EndsWith-none, named-mute, lost-acks_none, under_way-lost, under_way-acked}
-use Rattle.rdm_agent.proofs.UnderWay.{under_way-given_up, under_way-taken_up}
+use Rattle.rdm_agent.proofs.UnderWay.{under_way-given_up, under_way-next_begun}
 use Rattle.rdm_agent.proofs.Invariant.{IsFound, MutesKnown, Searches, InPhase}
 
 five_muted : (u : ℕ) (x : List Seen) → InSuccession TRIES (IsLostMute u) x → has (muted_in x) u ≡ true
@@ -129,7 +129,7 @@ pub known-next : (kind : Kind) (known : List ℕ) (budget : ℕ) (search : Searc
 known-next kind known budget search [] x found m = begins kind known budget x found m search
 known-next kind known budget search (u ∷ left) x found m = record {
   muting = record {
-    under_way = under_way-taken_up (known_of kind known) u x found m.under_way;
+    under_way = under_way-next_begun (known_of kind known) u x found m.under_way;
     no_branch = m.no_branch;
     devices = m.devices;
     are_known = m.are_known;

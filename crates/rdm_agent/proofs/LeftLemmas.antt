@@ -35,19 +35,19 @@ pub one_fewer : (t s : ℕ → Bool) (us : List ℕ) (v : ℕ) → ((u : ℕ) �
     → has us v ≡ true → length (filter s us) + 1 ≤ length (filter t us)
 one_fewer t s [] v stricter was now here = absurd (true≢false (sym here))
 one_fewer t s (u ∷ us) v stricter was now here =
-    by_place (or_cases (v == u) (has us v) here) (cases_Bool (s u)) (cases_Bool (t u)) (no_more t s us stricter)
+    by_position (or_cases (v == u) (has us v) here) (cases_Bool (s u)) (cases_Bool (t u)) (no_more t s us stricter)
     (λ rest. one_fewer t s us v stricter was now rest)
   where
-    by_place : ((v == u) ≡ true) ⊎ (has us v ≡ true) → (s u ≡ true) ⊎ (s u ≡ false) → (t u ≡ true) ⊎ (t u ≡ false)
+    by_position : ((v == u) ≡ true) ⊎ (has us v ≡ true) → (s u ≡ true) ⊎ (s u ≡ false) → (t u ≡ true) ⊎ (t u ≡ false)
         → length (filter s us) ≤ length (filter t us)
         → (has us v ≡ true → length (filter s us) + 1 ≤ length (filter t us))
         → length (filter s (u ∷ us)) + 1 ≤ length (filter t (u ∷ us))
-    by_place (inl is) p q le onward =
+    by_position (inl is) p q le onward =
         rw (ap s (sym (eqb-true v u is)) ∙ now, ap t (sym (eqb-true v u is)) ∙ was) (omega (arith, le))
-    by_place (inr rest) (inl p) (inl q) le onward = let o = onward rest in rw (p, q) (omega (arith, o))
-    by_place (inr rest) (inl p) (inr q) le onward = absurd (true≢false (sym (stricter u p) ∙ q))
-    by_place (inr rest) (inr p) (inl q) le onward = let o = onward rest in rw (p, q) (omega (arith, o))
-    by_place (inr rest) (inr p) (inr q) le onward = let o = onward rest in rw (p, q) o
+    by_position (inr rest) (inl p) (inl q) le onward = let o = onward rest in rw (p, q) (omega (arith, o))
+    by_position (inr rest) (inl p) (inr q) le onward = absurd (true≢false (sym (stricter u p) ∙ q))
+    by_position (inr rest) (inr p) (inl q) le onward = let o = onward rest in rw (p, q) (omega (arith, o))
+    by_position (inr rest) (inr p) (inr q) le onward = let o = onward rest in rw (p, q) o
 
 pub no_more_than : (s : ℕ → Bool) (us : List ℕ) → length (filter s us) ≤ length us
 no_more_than s [] = omega arith
@@ -101,7 +101,7 @@ at_most_one t (u ∷ us) v a only = by_test (t u) refl (at_most_one t us v a.1 o
 -- a device is in one half, or in neither and not in the range
 one_half : (lo m hi u : ℕ) (f : Bool) → lo ≤ m → m < hi
     → counts (is_within lo hi u && f) ≡ counts (is_within lo m u && f) + counts (is_within (m + 1) hi u && f)
-one_half lo m hi u f first last = by_place (cases_lt u lo) (cases_lt m u) (cases_lt hi u)
+one_half lo m hi u f first last = by_position (cases_lt u lo) (cases_lt m u) (cases_lt hi u)
   where
     of_lower : (f : Bool) → counts f ≡ counts f + 0
     of_lower true = refl
@@ -111,14 +111,14 @@ one_half lo m hi u f first last = by_place (cases_lt u lo) (cases_lt m u) (cases
     of_upper true = refl
     of_upper false = refl
 
-    by_place : (u < lo) ⊎ (lo ≤ u) → (m < u) ⊎ (u ≤ m) → (hi < u) ⊎ (u ≤ hi)
+    by_position : (u < lo) ⊎ (lo ≤ u) → (m < u) ⊎ (u ≤ m) → (hi < u) ⊎ (u ≤ hi)
         → counts (is_within lo hi u && f) ≡ counts (is_within lo m u && f) + counts (is_within (m + 1) hi u && f)
-    by_place (inl below) _ _ = rw (lt-leb lo u below, lt-leb (m + 1) u (omega arith)) refl
-    by_place (inr above) (inr lower) _ =
+    by_position (inl below) _ _ = rw (lt-leb lo u below, lt-leb (m + 1) u (omega arith)) refl
+    by_position (inr above) (inr lower) _ =
         rw (le-leb lo u above, le-leb u hi (omega arith), le-leb u m lower, lt-leb (m + 1) u (omega arith)) (of_lower f)
-    by_place (inr above) (inl upper) (inr inside) =
+    by_position (inr above) (inl upper) (inr inside) =
         rw (le-leb lo u above, lt-leb u m upper, le-leb (m + 1) u (omega arith), le-leb u hi inside) (of_upper f)
-    by_place (inr above) (inl upper) (inl outside) =
+    by_position (inr above) (inl upper) (inl outside) =
         rw (le-leb lo u above, lt-leb u hi outside, lt-leb u m upper, le-leb (m + 1) u (omega arith)) refl
 
 -- the devices of a range are those of its halves

@@ -88,7 +88,7 @@ lost_branch u lo hi s new within unmuted step = record {
     moves : KeepsMuted u s new × Counts new (s.lost_branches + 1) 0 0
     moves = subst (λ d. KeepsMuted u s new × Counts new (lost_after d Silent s.lost_branches) 0 0) due step
 
--- no more than four are lost in succession
+-- no more than four are lost in a row
 pub silences : (u lo hi : ℕ) (s : LineState) (run rest : List Seen) → is_within lo hi u ≡ true → s.muted u ≡ false
     → AllByRecursion (IsSilentBranch lo hi) run → Chain (HonestToStep u) s (run ++ rest)
     → (length run ≡ 0) ⊎ (s.lost_branches + length run ≤ 4)
@@ -190,7 +190,7 @@ peel lo hi e xs [] (r ∷ run) back p each five whole =
     absurd (no_branch e.asked lo hi p (ap (λ x. x.asked) (heads whole) ∙ each.0.0))
 peel lo hi e xs (f ∷ front) run back p each five whole = (front, tails whole)
 
--- five mutes of the device in succession aren't lost
+-- five mutes of the device in a row aren't lost
 pub five_mutes : (u : ℕ) (s : LineState) (x : List Seen) → AllByRecursion NotFailed x → Chain (HonestToStep u) s x
     → InSuccession TRIES (IsLostMute u) x → ⊥
 five_mutes u s x ok chain five =
@@ -213,7 +213,7 @@ five_mutes u s x ok chain five =
     too_many (inl none) = let many = five.many in omega arith
     too_many (inr few) = let many = five.many in omega arith
 
--- a device in a range that was silent five times in succession was muted before, after the three unmutes
+-- a device in a range that was silent five times in a row was muted before, after the three unmutes
 cleared_muted : (u : ℕ) (x rest : List Seen) → AllByRecursion NotFailed rest → Begun u x rest → (lo hi : ℕ)
     → is_within lo hi u ≡ true → (front run back : List Seen) → rest ≡ front ++ (run ++ back) → length run ≡ TRIES
     → AllByRecursion (IsSilentBranch lo hi) run → has (muted_in rest) u ≡ true

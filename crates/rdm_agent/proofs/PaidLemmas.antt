@@ -142,7 +142,7 @@ acked-mute present s new u ack step = by_presence (has present u) step.1
     by_presence true (inr silent) = absurd (loud silent.0)
     by_presence false absent = absurd (loud absent.0)
 
--- a device's mute that is lost is one more in succession, and no more than four
+-- a device's mute that is lost is one more in a row, and no more than four
 pub lost-mute : (present : List ℕ) (s new : LineState) (u : ℕ) (h : Heard) → is_acked h ≡ false
     → HonestStep present s (Mute u) h new → has present u ≡ true
     → (new.lost_mutes ≡ s.lost_mutes + 1) × (s.lost_mutes + 1 ≤ 4)

@@ -17,7 +17,7 @@ pub All-push : {X : Type 0} (P : X → Type 0) (xs : List X) (x : X) → AllByRe
 All-push P [] x all p = (p, tt)
 All-push P (y ∷ ys) x all p = (all.0, All-push P ys x all.1 p)
 
--- what holds of each holds of the one at a place
+-- what holds of each holds of the one at an index
 pub All-at : {X : Type 0} (P : X → Type 0) (xs front back : List X) (x : X) → AllByRecursion P xs
     → xs ≡ front ++ x ∷ back → P x
 All-at P xs front back x all whole = (last_part P front (x ∷ back) (subst (λ l. AllByRecursion P l) whole all)).0
@@ -97,7 +97,7 @@ pub no_branch-before : (x : List Seen) → AllByRecursion (λ e. is_branch e ≡
 no_branch-before [] none = refl
 no_branch-before (e ∷ x) none = before_branch-cons e x ∙ rw none.0 (ap (λ l. e ∷ l) (no_branch-before x none.1))
 
--- exchanges in succession stay so
+-- consecutive exchanges stay consecutive
 pub InSuccession-push : {n : ℕ} {P : Seen → Type 0} {x : List Seen} (y : List Seen) → InSuccession n P x
     → InSuccession n P (x ++ y)
 InSuccession-push y s = record {

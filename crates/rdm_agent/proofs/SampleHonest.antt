@@ -1,4 +1,4 @@
--- The sample runs are an honest line's, and not where five replies are lost in succession.
+-- The sample runs are an honest line's, but not if five replies in a row are lost.
 use Rattle.std.proofs.Common.{◌≡◌, ℕ, zero, suc, ◌+◌, ◌≤◌, Bool, false, List, [], ◌∷◌, ◌++◌, replicate, length, take}
 use Rattle.std.proofs.Common.{drop, refl, inl, inr, arith}
 use Rattle.std.specs.Prelude.{◌==◌, ◌⊎◌}
@@ -17,7 +17,7 @@ none_muted u = false
 abbrev pub one_muted : ℕ → Bool
 one_muted u = sample_uid == u
 
--- a line that lost this many branch replies and acknowledgements in succession, and was unmuted this often
+-- a line that lost this many branch replies and acknowledgements in a row, and was unmuted this often
 abbrev pub line : (ℕ → Bool) → ℕ → ℕ → ℕ → LineState
 line muted branches mutes unmutes = record {
   muted = muted;
@@ -88,7 +88,7 @@ lost_mutes k (suc left) x few onward =
       lost_mutes (k + 1) left x (omega arith) onward,
     )
 
--- up to four replies of each kind may be lost in succession
+-- up to four replies of each kind may be lost in a row
 pub lossy_honest : (branches mutes : ℕ) → branches ≤ 4 → mutes ≤ 4
     → HonestTrace (sample_uid ∷ []) (lossy_run branches mutes)
 lossy_honest branches mutes few_branches few_mutes = (

@@ -129,7 +129,7 @@ all_cleared kind known x found w known_first cleared = record {
     none_some : (u : ℕ) → None ≡ Some u → ⊥
     none_some u p = cc
 
--- the top range is taken off: the next one is searched, or the run ends
+-- the top range is popped: the next one is searched, or the run ends
 pub search-next : (kind : Kind) (known : List ℕ) (budget : ℕ) (top : Span) (below : List Span) (x : List Seen)
     (e : Seen) (found : List ℕ) → Searches (known_of kind known) None top below (x ++ e ∷ []) found
     → InSuccession TRIES (IsSilentBranch top.lo top.hi) (x ++ e ∷ []) → ((u : ℕ) → IsCorrupt u (x ++ e ∷ []) → ⊥)

@@ -37,7 +37,7 @@ IsStack-ends top below s =
     let end = Ascends-below (top.hi + 1) s.level below s.rest in let size = s.size in
     let some : 0 < 2 ^ s.level = pow_pos s.level in (omega arith, omega arith)
 
--- the top range is taken off
+-- the top range is popped
 pub IsStack-pop : (top r : Span) (rs : List Span) → IsStack top (r ∷ rs) → IsStack r rs
 IsStack-pop top r rs s =
     let a = s.rest in let height : a.0 ≤ 47 = a.2 in let at : r.lo ≡ top.hi + 1 = a.3 in

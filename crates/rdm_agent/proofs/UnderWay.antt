@@ -138,10 +138,10 @@ under_way-given_up known u x found device five w = record {
     same : (v : ℕ) → Some u ≡ Some v → u ≡ v
     same v p = cc
 
--- one is taken up
-pub under_way-taken_up : (known : List ℕ) (u : ℕ) (x : List Seen) (found : List ℕ) → IsUnderWay known None x found
+-- the next one has begun
+pub under_way-next_begun : (known : List ℕ) (u : ℕ) (x : List Seen) (found : List ℕ) → IsUnderWay known None x found
     → IsUnderWay known (Some u) x found
-under_way-taken_up known u x found w = record {
+under_way-next_begun known u x found w = record {
   begun = w.begun;
   no_failure = w.no_failure;
   is_found = w.is_found;

@@ -17,7 +17,8 @@ use Rattle.rdm_agent.specs.declared.limits.TheConstants.{DEFAULT_BUDGET}
 abbrev pub most_frames : ℕ → ℕ → ℕ
 most_frames devices known = 8 + 370 * devices + 5 * known
 
--- the same for a run of this kind; a full one mutes no known UIDs
+-- the exchanges that suffice for a steady run of this kind with these devices and known UIDs; a full one mutes no known
+-- UIDs
 abbrev pub enough_for : List ℕ → Kind → List ℕ → ℕ
 enough_for present kind known = most_frames (length present) (length (known_of kind known))
 

@@ -1,3 +1,3 @@
 -- What only the proofs need.
 pub mod Sound
-pub mod View
+pub mod AgentFields

@@ -45,7 +45,7 @@ const _: () = prove!(size_of::<Agent>() == 41_848);
 impl Model for Agent {
     ghost use Rattle.rdm_agent.specs.Machine.{AgentState};
     ghost use Rattle.rdm_agent.specs.body.Sound.{IsSound, IsFresh};
-    ghost use Rattle.rdm_agent.specs.body.View.{seen_phase, state_of};
+    ghost use Rattle.rdm_agent.specs.body.AgentFields.{seen_phase, state_of};
 
     ghost Value = { AgentState };
 

@@ -11,7 +11,7 @@ use std::marker::Model;
 #[derive(Debug, Drop)]
 pub(crate) struct KnownLeft {
     uids: UidSet,
-    taken: usize,
+    used: usize,
 }
 
 impl Model for KnownLeft {
@@ -20,9 +20,9 @@ impl Model for KnownLeft {
 
     ghost Value = { List ℕ };
 
-    ghost view = { λ k. drop k.taken k.uids };
+    ghost view = { λ k. drop k.used k.uids };
 
-    ghost invariant = { λ k. IsDeviceSet k.uids × (k.taken ≤ length k.uids) };
+    ghost invariant = { λ k. IsDeviceSet k.uids × (k.used ≤ length k.uids) };
 }
 
 impl KnownLeft {
@@ -37,7 +37,7 @@ impl KnownLeft {
             Kind::Full => UidSet::new(),
             Kind::Incremental => known.copied(),
         };
-        KnownLeft { uids, taken: 0 }
+        KnownLeft { uids, used: 0 }
     }
 
     /// Becomes what [`KnownLeft::new`] returns. The cost grows with the number of UIDs that it had, and of known ones.
@@ -47,7 +47,7 @@ impl KnownLeft {
     {
         // Only for the proof: a set's UIDs are devices'.
         let _devices = known.len();
-        self.taken = 0;
+        self.used = 0;
         match kind {
             Kind::Full => self.uids.clear(),
             Kind::Incremental => self.uids.copy_from(known),
@@ -58,8 +58,8 @@ impl KnownLeft {
     pub(crate) fn next(&mut self) -> Option<Uid>
         ensures { MatchOption result ((self.old ≡ []) × (self.new ≡ [])) (λ u. self.old ≡ u ∷ self.new) }
     {
-        let uid = *self.uids.as_slice().get(self.taken)?;
-        self.taken += 1;
+        let uid = *self.uids.as_slice().get(self.used)?;
+        self.used += 1;
         Some(uid)
     }
 }

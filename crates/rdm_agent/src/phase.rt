@@ -70,7 +70,7 @@ pub(crate) enum Phase {
 }
 
 impl Phase {
-    ghost use Rattle.rdm_agent.specs.body.View.{phase_of};
+    ghost use Rattle.rdm_agent.specs.body.AgentFields.{phase_of};
 
     /// What it asks of the line.
     pub(crate) fn op(self) -> Op

@@ -42,7 +42,7 @@ impl RangesBelow {
         self.ranges.len()
     }
 
-    /// Puts a range in front.
+    /// Puts a range on top.
     pub(crate) fn push(&mut self, range: UidRange)
         requires { length self.old < MOST_BELOW }
         ensures { self.new ≡ range ∷ self.old }
@@ -57,7 +57,7 @@ impl RangesBelow {
         self.ranges.clear();
     }
 
-    /// Takes the front one; `None` if there is none.
+    /// Removes the top one; `None` if there is none.
     pub(crate) fn pop(&mut self) -> Option<UidRange>
         ensures { MatchOption result ((self.old ≡ []) × (self.new ≡ [])) (λ r. self.old ≡ r ∷ self.new) }
     {

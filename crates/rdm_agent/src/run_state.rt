@@ -16,7 +16,7 @@ ghost use Rattle.rdm_agent.specs.Run.{heard_by, heard_of_mute, heard_of_branch, 
 ghost use Rattle.rdm_agent.specs.Calls.{fits, op_of};
 ghost use Rattle.rdm_agent.specs.body.Sound.{IsSound, IsFresh, IsStack};
 ghost use Rattle.rdm_agent.specs.declared.fault.AgentFault.TheVariants.{TooMany};
-ghost use Rattle.rdm_agent.specs.body.View.{seen_phase, phase_of, sweep_of, Steps};
+ghost use Rattle.rdm_agent.specs.body.AgentFields.{seen_phase, phase_of, sweep_of, Steps};
 
 use crate::fault::AgentFault;
 use crate::kind::Kind;

@@ -1,7 +1,7 @@
 //! What a sweep remembers.
 ghost use Rattle.std.specs.Prelude.{◌≡◌, ◌<◌, ◌^◌};
 ghost use Rattle.rdm_agent.specs.Machine.{counted, suspecting, first_sweep, probe, lower_pair};
-ghost use Rattle.rdm_agent.specs.body.View.{sweep_of};
+ghost use Rattle.rdm_agent.specs.body.AgentFields.{sweep_of};
 
 use rdm_wire::{Uid, UidRange};
 

@@ -69,12 +69,12 @@ struct Runs<'a> {
 
 impl Sample for Runs<'_> {
     #[inline(never)]
-    fn run(&mut self) -> Option<u64> {
+    fn perform(&mut self) -> Option<u64> {
         let mut agent = Agent::start(Kind::Full, self.known, self.budget);
-        for (place, heard) in self.heard.as_slice().iter().enumerate() {
+        for (index, heard) in self.heard.as_slice().iter().enumerate() {
             let op = agent.next();
-            self.write(op, place)?;
-            hear(&mut agent, op, self.read(place, *heard))?;
+            self.write(op, index)?;
+            hear(&mut agent, op, self.read(index, *heard))?;
         }
         if agent.next() != Op::End {
             return None;
@@ -90,19 +90,19 @@ impl Sample for Runs<'_> {
 impl Runs<'_> {
     // Writes the frame of this operation, if that is to be done.
     #[inline(never)]
-    fn write(&self, op: Op, place: usize) -> Option<()>
+    fn write(&self, op: Op, index: usize) -> Option<()>
         requires device { (u : ℕ) → op ≡ Op.Mute u → IsDevice u }
     {
         if !self.writes {
             return Some(());
         }
-        let tn = (place % 256) as u8;
+        let tn = (index % 256) as u8;
         holds(op != Op::End && op.frame(controller(), tn).get(TRANSACTION_NUMBER) == Some(&tn))
     }
 
     // What the agent hears. A branch reply is read from its bytes, if that is to be done.
-    fn read(&self, place: usize, heard: OpReply) -> OpReply {
-        match self.tape.get(place) {
+    fn read(&self, index: usize, heard: OpReply) -> OpReply {
+        match self.tape.get(index) {
             Some(taped) if self.reads => taped.heard(),
             _ => heard,
         }

@@ -9,7 +9,7 @@ const SAMPLES: usize = 21;
 /// Work that is timed.
 pub trait Sample {
     /// Does the work once, and returns how many steps that were. None: a call didn't return what it should.
-    fn run(&mut self) -> Option<u64>;
+    fn perform(&mut self) -> Option<u64>;
 }
 
 /// How each piece of work is timed.
@@ -38,7 +38,7 @@ impl<R> Bench<'_, R> {
     fn repeat<S: Sample>(&self, sample: &mut S) -> Option<u64> {
         let mut steps: u64 = 0;
         for _ in 0..self.rounds {
-            steps = steps.wrapping_add(sample.run()?);
+            steps = steps.wrapping_add(sample.perform()?);
         }
         Some(steps)
     }

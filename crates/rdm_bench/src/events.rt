@@ -29,8 +29,8 @@ pub fn time<R: CpuClock + Print + Eprint>(
 
 // The session with this many requests of its clients.
 fn filled(mut session: Session, requests: usize) -> Option<Session> {
-    for place in 0..requests {
-        let client = id_of(place % usize::from(CLIENTS));
+    for index in 0..requests {
+        let client = id_of(index % usize::from(CLIENTS));
         holds(session.submit(client, request(TAG)).is_ok())?;
     }
     Some(session)
@@ -48,7 +48,7 @@ struct Requests {
 }
 
 impl Sample for Requests {
-    fn run(&mut self) -> Option<u64> {
+    fn perform(&mut self) -> Option<u64> {
         let events = self.events();
         holds(if self.at_once {
             self.runs(&events)

@@ -53,7 +53,7 @@ impl Wrong {
     fn scene(self, alloc: Global, good: &UidSet, random: &mut Random) -> Option<Scene> {
         Some(Scene {
             source: controller(),
-            devices: placed(alloc, good)?,
+            devices: staying(alloc, good)?,
             collisions: self.collisions(alloc, random)?,
             losses: self.losses(alloc, random)?,
             fails: Vec::new(alloc),
@@ -133,7 +133,7 @@ pub fn device_of(uid: Uid) -> Device
 }
 
 // These devices, which stay.
-fn placed(alloc: Global, uids: &UidSet) -> Option<SceneDevices> {
+fn staying(alloc: Global, uids: &UidSet) -> Option<SceneDevices> {
     let mut devices = SceneDevices::new(alloc);
     for uid in uids.as_slice() {
         add(alloc, &mut devices, *uid)?;
@@ -426,13 +426,13 @@ pub enum Spread {
 pub fn devices(count: usize, spread: Spread, seed: u64) -> Option<UidSet> {
     let mut set = UidSet::new();
     let mut random = Random::new(seed);
-    for place in 0..10_000 {
+    for index in 0..10_000 {
         if set.len() == count {
             return Some(set);
         }
         let uid = uid_of(match spread {
             Spread::Random => random.next() >> 16,
-            Spread::Consecutive => place,
+            Spread::Consecutive => index,
             Spread::Close => close(&mut random, seed, count as u64),
         });
         holds(uid.is_broadcast() || set.insert(uid).is_ok())?;

@@ -61,7 +61,7 @@ const ALL: [&str; 13] = [
 ];
 
 fn main(rt: HostRuntime) -> ExitCode {
-    match run(&rt) {
+    match perform(&rt) {
         Some(()) => ExitCode::SUCCESS,
         None => ExitCode::FAILURE,
     }
@@ -69,7 +69,7 @@ fn main(rt: HostRuntime) -> ExitCode {
 
 // None: the arguments ask for nothing, a call didn't return what it should, an allocation failed, or a line couldn't be
 // written.
-fn run<R: Env + Files + AllocGlobal + CpuClock + Print + Eprint + Wait>(rt: &R) -> Option<()> {
+fn perform<R: Env + Files + AllocGlobal + CpuClock + Print + Eprint + Wait>(rt: &R) -> Option<()> {
     let words = env::args(rt)
         .ok()?
         .skip(1)

@@ -68,9 +68,9 @@ impl Line for Replay {
 
     fn exchange(&mut self, frame: &Frame) -> Result<LineReply, LineFault> {
         let tn = frame.get(TRANSACTION_NUMBER).copied().unwrap_or(0);
-        let place = self.next % self.replies.len().max(1);
-        self.next = place.wrapping_add(1);
-        match self.replies.get(place) {
+        let index = self.next % self.replies.len().max(1);
+        self.next = index.wrapping_add(1);
+        match self.replies.get(index) {
             Some(reply) => Ok(numbered(reply, tn)),
             None => Ok(LineReply::new()),
         }
@@ -166,7 +166,7 @@ struct Calls {
 }
 
 impl Sample for Calls {
-    fn run(&mut self) -> Option<u64> {
+    fn perform(&mut self) -> Option<u64> {
         let mut tn: u8 = 0;
         for event in self.events.as_slice() {
             let LineEvent::Reply(reply) = event else {

@@ -10,9 +10,10 @@ use left_right::Absorb;
 use rdm_agent::Kind;
 use rdm_client::{AskTold, Collected, DeviceView, Told};
 use rdm_join::LineEvent;
-use rdm_lanes::{BlankHistory, Lanes, RingFault, Shown, ViewHistory, WorkerEnd, open_lanes};
+use rdm_lanes::views::{BlankHistory, Shown, ViewHistory};
+use rdm_lanes::{Lanes, RingFault, WorkerEnd, open_lanes};
 use rdm_line::Line;
-use rdm_locked::{CallShare, Exchange, Left, LockedClient, Port, WorkerEnd as PortEnd};
+use rdm_locked::{CallShare, Exchange, Left, LockedClient, Port};
 use rdm_queue::{Log, SubmitFault};
 use rdm_rig::{AskNote, Note, cancels, log, request};
 use rdm_wire::Frame;
@@ -120,7 +121,7 @@ impl<L: Ledger, R: Wait, X: Line> Served for Locked<'_, L, R, X> {
         let end = self
             .port
             .work(rt, alloc, &mut self.line, turns, &mut self.record);
-        holds(end == PortEnd::Turns)
+        holds(end == WorkerEnd::Turns)
     }
 
     fn collect(&mut self, client: usize) -> Option<Told> {
@@ -196,7 +197,7 @@ fn on_port<L: Ledger, X: Line + Drop, D: Job, R: Wait>(
         record,
     };
     let joined = join(bench, &port, count, &mut locked.clients);
-    let done = job.run(&mut locked);
+    let done = job.perform(&mut locked);
     let Locked {
         bench: _,
         port: _,
@@ -322,7 +323,7 @@ fn on_rings<J: ViewHistory, X: Line + Drop, D: Job, W: Wait + Drop>(
     let opened = open_lanes(rt, alloc, history, config(), log, PLACES, places);
     let lanes: Lanes<J, Shown<J>, W, Note, AskNote> = opened.ok()?;
     let mut rings = Rings { alloc, lanes, line };
-    let done = job.run(&mut rings);
+    let done = job.perform(&mut rings);
     let Rings {
         alloc: _,
         lanes,

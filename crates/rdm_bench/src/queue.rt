@@ -136,7 +136,7 @@ pub fn time<R: CpuClock + Print + Eprint>(bench: &Bench<'_, R>, waiting: usize) 
         discovery: Some((line.replies.len() as u64, DEVICES)),
     };
     let queue = queue_of(bench, false, waiting)?;
-    timing.run(&mut clients_of(bench.alloc, queue, line, false))
+    timing.perform(&mut clients_of(bench.alloc, queue, line, false))
 }
 
 /// Times requests of a queue with or without a log. Outcomes are collected by the call for either kind, or by the one
@@ -167,7 +167,7 @@ pub fn time_requests<R: CpuClock + Print + Eprint>(
         waiting,
         discovery: None,
     };
-    timing.run(&mut clients_of(bench.alloc, queue, line, by_outcome))
+    timing.perform(&mut clients_of(bench.alloc, queue, line, by_outcome))
 }
 
 // A queue of sixteen clients, for the requests that are timed while this many wait.

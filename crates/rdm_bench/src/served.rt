@@ -47,7 +47,7 @@ pub trait Served {
 /// What is done with the clients of a session.
 pub trait Job {
     /// Does it.
-    fn run<S: Served>(&mut self, served: &mut S) -> Option<()>;
+    fn perform<S: Served>(&mut self, served: &mut S) -> Option<()>;
 }
 
 /// A controller `7a70:00000100` with all the places that there may be.
@@ -89,10 +89,10 @@ pub struct Timing<'a, R, W> {
 }
 
 impl<R: CpuClock + Print + Eprint, W: fmt::Display + Copy> Job for Timing<'_, R, W> {
-    fn run<S: Served>(&mut self, served: &mut S) -> Option<()> {
+    fn perform<S: Served>(&mut self, served: &mut S) -> Option<()> {
         let clients = usize::from(self.clients.max(1));
-        for place in 0..self.waiting {
-            holds(served.submit(place % clients, TAG)?)?;
+        for index in 0..self.waiting {
+            holds(served.submit(index % clients, TAG)?)?;
         }
         let mut turns = Turns {
             served,
@@ -116,7 +116,7 @@ struct Turns<'a, S> {
 }
 
 impl<S: Served> Sample for Turns<'_, S> {
-    fn run(&mut self) -> Option<u64> {
+    fn perform(&mut self) -> Option<u64> {
         if let Some((frames, devices)) = self.discovery {
             self.served.discover()?;
             self.served.work(frames)?;

@@ -7,7 +7,7 @@ use crate::served::{CLIENTS, FREE, Job, Served};
 use rdm_client::Told;
 use rdm_join::Status;
 use rdm_line::SimLine;
-use rdm_rig::{Heard, LONG, LineOf, Meeting, Placed, Who, completion_told, line_of, log};
+use rdm_rig::{Heard, LONG, LineOf, Meeting, TimedDevice, Who, completion_told, line_of, log};
 use std::alloc::Global;
 use std::fs;
 use std::rt::Files;
@@ -77,7 +77,7 @@ fn line_for(alloc: Global, requests: u64, seed: u64) -> Option<SimLine> {
             losses.push(exchange).ok()?;
         }
     }
-    let devices = [Placed::stays(Who::First)];
+    let devices = [TimedDevice::stays(Who::First)];
     let line = LineOf {
         devices: &devices,
         meeting: Meeting::Noise,
@@ -110,7 +110,7 @@ struct Tally {
 
 impl Job for Tally {
     // There are many more rounds than it takes. At last each client looks for one outcome more.
-    fn run<S: Served>(&mut self, served: &mut S) -> Option<()> {
+    fn perform<S: Served>(&mut self, served: &mut S) -> Option<()> {
         for _ in 0..self.requests.wrapping_mul(2).wrapping_add(1_000) {
             self.round(served)?;
             if self.told() == self.requests {

@@ -6,7 +6,7 @@ use crate::bench::{Bench, Sample, holds};
 use crate::lines::{Spread, device_of, devices};
 use left_right::Absorb;
 use rdm_client::DeviceView;
-use rdm_lanes::{BlankHistory, Publisher, Shown, ViewHistory, ViewReader};
+use rdm_lanes::views::{BlankHistory, Publisher, Shown, ViewHistory, ViewReader};
 use rdm_wire::DeviceSet;
 use std::alloc::Global;
 use std::marker::Brand;
@@ -100,7 +100,7 @@ impl<J: ViewHistory, W: Wait + Drop> Views<J, Shown<J>, W> {
 }
 
 impl<J: ViewHistory, W: Wait + Drop> Sample for Views<J, Shown<J>, W> {
-    fn run(&mut self) -> Option<u64> {
+    fn perform(&mut self) -> Option<u64> {
         if self.publishes {
             self.publish()?;
         }

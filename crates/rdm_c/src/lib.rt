@@ -1,7 +1,11 @@
 //! The calls that C makes. `bindings/c/wurstlinen.h` declares each.
 //!
 //! Each call has the clauses of the library's call with that name that fix the result, the state and the status, for
-//! what its handle holds. An argument needs only its type: each range is tested, and has a status.
+//! what its handle holds. An argument needs only its type: each range is tested, and has a status. All of it is
+//! the profile of this project.
+//!
+//! A call takes what a handle holds to find out whether it is open, and puts it back: the prover doesn't let it read a
+//! field of a value that owns memory.
 #![tactic(auto)]
 
 ghost use Rattle.std.specs.Prelude.{◌≡◌};

@@ -34,34 +34,34 @@ pub trait TellsAsk {
 /// It is neither [`Clone`] nor [`Drop`]: it is called, cancelled or passed on, as a [`Callback`](crate::Callback) is.
 pub struct AskCallback {
     tag: u64,
-    run: Box<dyn FnOnce(BoxedAsk) -> AskTold + Send>,
-    ghost callable: { (c : AskCompletion) → AskFits c → pre run c },
-    ghost tells: { (c : AskCompletion) (t : AskTold) → AskFits c → post run c t → t ≡ ask_told tag c },
+    closure: Box<dyn FnOnce(BoxedAsk) -> AskTold + Send>,
+    ghost callable: { (c : AskCompletion) → AskFits c → pre closure c },
+    ghost tells: { (c : AskCompletion) (t : AskTold) → AskFits c → post closure c t → t ≡ ask_told tag c },
 }
 
 impl AskCallback {
     /// A callback with this tag. The closure has to accept any completion whose numbers are in the ranges of their
     /// types, with at most 1,024 devices. It has to return `AskTold { tag, done }` with this tag and that completion.
     /// No test can show this: it is proved from the closure's code.
-    pub fn new(tag: u64, run: Box<dyn FnOnce(BoxedAsk) -> AskTold + Send>) -> AskCallback
-        requires callable { (c : AskCompletion) → AskFits c → pre run c }
-        requires tells { (c : AskCompletion) (t : AskTold) → AskFits c → post run c t → t ≡ ask_told tag c }
+    pub fn new(tag: u64, closure: Box<dyn FnOnce(BoxedAsk) -> AskTold + Send>) -> AskCallback
+        requires callable { (c : AskCompletion) → AskFits c → pre closure c }
+        requires tells { (c : AskCompletion) (t : AskTold) → AskFits c → post closure c t → t ≡ ask_told tag c }
         ensures tag { result.tag ≡ tag }
-        ensures run { result.run ≡ run }
+        ensures closure { result.closure ≡ closure }
     {
-        AskCallback { tag, run }
+        AskCallback { tag, closure }
     }
 }
 
 impl TellsAsk for AskCallback {
     ghost tag_of = { λ callback. callback.tag };
 
-    ghost calls = { λ callback done told. post callback.run done told };
+    ghost calls = { λ callback done told. post callback.closure done told };
 
     fn spend(self, done: BoxedAsk) -> AskTold {
-        let AskCallback { tag: _, run } = self;
+        let AskCallback { tag: _, closure } = self;
         done.fits();
-        run(done)
+        closure(done)
     }
 
     fn cancel(self) -> AskTold {

@@ -53,34 +53,34 @@ pub trait Tells {
 /// ```
 pub struct Callback {
     tag: u64,
-    run: Box<dyn FnOnce(Completion) -> Told + Send>,
-    ghost callable: { (c : Completion) → Fits c → pre run c },
-    ghost tells: { (c : Completion) (t : Told) → Fits c → post run c t → t ≡ told tag c },
+    closure: Box<dyn FnOnce(Completion) -> Told + Send>,
+    ghost callable: { (c : Completion) → Fits c → pre closure c },
+    ghost tells: { (c : Completion) (t : Told) → Fits c → post closure c t → t ≡ told tag c },
 }
 
 impl Callback {
     /// A callback with this tag. The closure has to accept any completion whose numbers are in the ranges of their
     /// types. It has to return `Told { tag, done }` with this tag and that completion. No test can show this: it is
     /// proved from the closure's code.
-    pub fn new(tag: u64, run: Box<dyn FnOnce(Completion) -> Told + Send>) -> Callback
-        requires callable { (c : Completion) → Fits c → pre run c }
-        requires tells { (c : Completion) (t : Told) → Fits c → post run c t → t ≡ told tag c }
+    pub fn new(tag: u64, closure: Box<dyn FnOnce(Completion) -> Told + Send>) -> Callback
+        requires callable { (c : Completion) → Fits c → pre closure c }
+        requires tells { (c : Completion) (t : Told) → Fits c → post closure c t → t ≡ told tag c }
         ensures tag { result.tag ≡ tag }
-        ensures run { result.run ≡ run }
+        ensures closure { result.closure ≡ closure }
     {
-        Callback { tag, run }
+        Callback { tag, closure }
     }
 }
 
 impl Tells for Callback {
     ghost tag_of = { λ callback. callback.tag };
 
-    ghost calls = { λ callback done told. post callback.run done told };
+    ghost calls = { λ callback done told. post callback.closure done told };
 
     fn spend(self, done: Completion) -> Told {
-        let Callback { tag: _, run } = self;
+        let Callback { tag: _, closure } = self;
         bytes_fit(&done.bytes);
-        run(done)
+        closure(done)
     }
 
     fn cancel(self, alloc: Global) -> Told {

@@ -127,7 +127,7 @@ impl<C: Tells, A: TellsAsk> Desk<C, A> {
     pub fn settle_request(&mut self, done: Completion) -> Result<Told, (Misdelivered, Completion)>
         ensures called { IfOk result (λ told. OldestCalled C.calls self.old.requests done told) }
         ensures told { IfOk result (λ told. spent C.tag_of self.old.requests done ≡ Some told) }
-        ensures taken { OnOk result (self.new ≡ record self.old { requests = drop 1 self.old.requests }) }
+        ensures removed { OnOk result (self.new ≡ record self.old { requests = drop 1 self.old.requests }) }
         ensures misdelivered { OnErr result (self.old.requests ≡ []) }
         ensures back { IfErr result (λ e. (e.1 ≡ done) × (self.new ≡ self.old)) }
     {
@@ -142,7 +142,7 @@ impl<C: Tells, A: TellsAsk> Desk<C, A> {
     pub fn settle_ask(&mut self, done: BoxedAsk) -> Result<AskTold, (Misdelivered, BoxedAsk)>
         ensures called { IfOk result (λ told. OldestCalled A.calls self.old.asks done told) }
         ensures told { IfOk result (λ told. ask_spent A.tag_of self.old.asks done ≡ Some told) }
-        ensures taken { OnOk result (self.new ≡ record self.old { asks = drop 1 self.old.asks }) }
+        ensures removed { OnOk result (self.new ≡ record self.old { asks = drop 1 self.old.asks }) }
         ensures misdelivered { OnErr result (self.old.asks ≡ []) }
         ensures back { IfErr result (λ e. (e.1 ≡ done) × (self.new ≡ self.old)) }
     {
@@ -158,7 +158,7 @@ impl<C: Tells, A: TellsAsk> Desk<C, A> {
         requires held { 0 < length self.old.asks }
         ensures called { OldestCalled A.calls self.old.asks done result }
         ensures told { ask_spent A.tag_of self.old.asks done ≡ Some result }
-        ensures taken { self.new ≡ record self.old { asks = drop 1 self.old.asks } }
+        ensures removed { self.new ≡ record self.old { asks = drop 1 self.old.asks } }
     {
         self.asks.pop_front().unwrap().spend(done)
     }
@@ -172,7 +172,7 @@ impl<C: Tells, A: TellsAsk> Desk<C, A> {
     ) -> Result<Collected, (Misdelivered, BoxedOutcome)>
         ensures called { IfOk result (λ told. Called C.calls A.calls self.old (unboxed outcome) told) }
         ensures told { IfOk result (λ told. settled C.tag_of A.tag_of self.old (unboxed outcome) ≡ Some told) }
-        ensures taken { OnOk result (self.new ≡ without_oldest self.old (unboxed outcome)) }
+        ensures removed { OnOk result (self.new ≡ without_oldest self.old (unboxed outcome)) }
         ensures misdelivered { OnErr result (settled C.tag_of A.tag_of self.old (unboxed outcome) ≡ None) }
         ensures back { IfErr result (λ e. (e.1 ≡ outcome) × (self.new ≡ self.old)) }
     {

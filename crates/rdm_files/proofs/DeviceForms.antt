@@ -14,7 +14,7 @@ use Rattle.rdm_wire.specs.Uid.{has}
 use Rattle.rdm_line.specs.Scenes.{uids_of_scene, with_scene_device}
 use Rattle.rdm_line.specs.declared.scene.SceneDevice.{SceneDevice}
 use Rattle.rdm_files.specs.Forms.{Each, IsWhole, IsOwnUid, MayHave, MayGive}
-use Rattle.rdm_files.specs.SceneFiles.{IsDeviceOf, AreDevices, AllDiffer, in_place, leaves_first}
+use Rattle.rdm_files.specs.SceneFiles.{IsDeviceOf, AreDevices, AllDiffer, in_uid_order, leaves_first}
 use Rattle.rdm_files.specs.body.Elements.{IsAdded}
 use Rattle.rdm_files.proofs.FormLemmas.{one_has, one_may_have, one_may_give, one_whole, one_own_uid, each_next}
 use Rattle.rdm_files.proofs.FormLemmas.{each_many, cut_at, listed_items}
@@ -37,9 +37,10 @@ leaves d device from until h f u first =
 pub one_device : (d : Data) (a b : SceneDevice) → IsDeviceOf d a → IsDeviceOf d b → a.device.uid ≡ b.device.uid
 one_device d a b p q = one_has (codes "uid") IsOwnUid one_own_uid d a.device.uid b.device.uid p.uid q.uid
 
--- one more device in its place
-in_place-more : (xs : List SceneDevice) (x : SceneDevice) → in_place (xs ++ x ∷ []) ≡ with_scene_device x (in_place xs)
-in_place-more xs x = fold-append (λ placed d. with_scene_device d placed) [] xs (x ∷ [])
+-- one more device, in the order of UIDs
+in_uid_order-more : (xs : List SceneDevice) (x : SceneDevice)
+    → in_uid_order (xs ++ x ∷ []) ≡ with_scene_device x (in_uid_order xs)
+in_uid_order-more xs x = fold-append (λ ordered d. with_scene_device d ordered) [] xs (x ∷ [])
 
 has-with : (x : SceneDevice) (ds : List SceneDevice) (u : ℕ)
     → has (uids_of_scene (with_scene_device x ds)) u ≡ ((u == x.device.uid) || has (uids_of_scene ds) u)
@@ -99,21 +100,21 @@ has-pushed (y ∷ xs) x u =
     swap true false c = refl
     swap false b c = refl
 
--- the devices listed so far, and those in their places
-pub record Placed (vs : List Value) (i : ℕ) (devices : List SceneDevice) : Type 0 where
+-- the devices listed so far, and these ascending by UID
+pub record Ordered (vs : List Value) (i : ℕ) (devices : List SceneDevice) : Type 0 where
   pub listed : List SceneDevice
   pub each : Each IsDeviceOf (items_view (take i vs)) listed
   pub differ : AllDiffer (uids_of_scene listed)
-  pub placed : devices ≡ in_place listed
+  pub ordered : devices ≡ in_uid_order listed
   pub same : (u : ℕ) → has (uids_of_scene devices) u ≡ has (uids_of_scene listed) u
   pub many : length devices ≡ i
 
-pub none_placed : (vs : List Value) (devices : List SceneDevice) → devices ≡ [] → Placed vs 0 devices
-none_placed vs devices none = record {
+pub none_ordered : (vs : List Value) (devices : List SceneDevice) → devices ≡ [] → Ordered vs 0 devices
+none_ordered vs devices none = record {
   listed = [];
   each = tt;
   differ = tt;
-  placed = none;
+  ordered = none;
   same = λ u. ap (λ ds. has (uids_of_scene ds) u) none;
   many = ap length none;
 }
@@ -129,24 +130,24 @@ differ-more (v ∷ us) u all new = (
     others : (b : Bool) → b ≡ false → (b || false) ≡ false
     others b is = ap (λ c. c || false) is
 
-pub one_placed : (vs : List Value) (i : ℕ) (v : Value) (old new : List SceneDevice) → i < length vs → v ≡ get_or vs i v
-    → Placed vs i old → IsAdded (view v) old new → Placed vs (i + 1) new
-one_placed vs i v old new lt is p a = record {
+pub one_ordered : (vs : List Value) (i : ℕ) (v : Value) (old new : List SceneDevice) → i < length vs → v ≡ get_or vs i v
+    → Ordered vs i old → IsAdded (view v) old new → Ordered vs (i + 1) new
+one_ordered vs i v old new lt is p a = record {
   listed = p.listed ++ a.device ∷ [];
   each = each_next IsDeviceOf vs p.listed i v a.device lt is p.each a.read;
   differ = subst AllDiffer (sym (map-append (λ (d : SceneDevice). d.device.uid) p.listed (a.device ∷ [])))
       (differ-more (uids_of_scene p.listed) a.device.device.uid p.differ
       (sym (p.same a.device.device.uid) ∙ a.differs));
-  placed = a.added ∙ ap (with_scene_device a.device) p.placed ∙ sym (in_place-more p.listed a.device);
+  ordered = a.added ∙ ap (with_scene_device a.device) p.ordered ∙ sym (in_uid_order-more p.listed a.device);
   same = λ u. ap (λ ds. has (uids_of_scene ds) u) a.added ∙ has-with a.device old u
       ∙ ap (λ b. (u == a.device.device.uid) || b) (p.same u) ∙ sym (has-pushed p.listed a.device u);
   many = ap length a.added ∙ length-with a.device old ∙ ap (λ k. k + 1) p.many;
 }
 
 -- at the end
-pub all_placed : (d : Data) (vs : List Value) (i : ℕ) (devices : List SceneDevice) → Some (items_view vs) ≡ as_array d
-    → length vs ≡ i → length vs ≤ 1024 → Placed vs i devices → AreDevices d devices
-all_placed d vs i devices is all few p =
+pub all_ordered : (d : Data) (vs : List Value) (i : ℕ) (devices : List SceneDevice) → Some (items_view vs) ≡ as_array d
+    → length vs ≡ i → length vs ≤ 1024 → Ordered vs i devices → AreDevices d devices
+all_ordered d vs i devices is all few p =
     let each : Each IsDeviceOf (items_view vs) p.listed = subst (λ ws. Each IsDeviceOf (items_view ws) p.listed)
     (take_all i vs (omega (arith, all))) p.each in
     let many = each_many IsDeviceOf vs p.listed each in record {
@@ -159,7 +160,7 @@ all_placed d vs i devices is all few p =
         at_most = omega (arith, many, few);
       };
       differ = p.differ;
-      placed = p.placed;
+      ordered = p.ordered;
     }
 
 -- the devices of the same values have the same UIDs
@@ -184,7 +185,7 @@ differ-before (v ∷ us) u ws all =
 
 -- a device that can't be added makes a list that says nothing
 pub none_listed : (d : Data) (vs : List Value) (i : ℕ) (v : Value) (old : List SceneDevice)
-    → Some (items_view vs) ≡ as_array d → i < length vs → length vs ≤ 1024 → v ≡ get_or vs i v → Placed vs i old
+    → Some (items_view vs) ≡ as_array d → i < length vs → length vs ≤ 1024 → v ≡ get_or vs i v → Ordered vs i old
     → ((x : SceneDevice) → IsDeviceOf (view v) x → has (uids_of_scene old) x.device.uid ≡ false → length old ≡ 1024)
     → (devices : List SceneDevice) → AreDevices d devices → ⊥
 none_listed d vs i v old is lt few at p refused devices h =

@@ -1,4 +1,4 @@
--- Five successive numbers among ascending ones.
+-- Five consecutive numbers among ascending ones.
 use Rattle.std.proofs.Common.{◌≡◌, ℕ, zero, suc, ◌+◌, ◌<◌, ◌≤◌, Bool, true, false, List, length, get_or, Option, Some}
 use Rattle.std.proofs.Common.{None, Result, Ok, Err, refl, ap, sym, subst, ◌∙◌, arith}
 use Rattle.std.specs.Prelude.{◌==◌, ◌&&◌, is_ok, nat_lt, IfSome, IfNone}
@@ -10,8 +10,8 @@ use Rattle.std.proofs.lemmas.List.Folds.{list_any_at, Any-from_list_any}
 use Rattle.std.proofs.lemmas.List.Sorted.{searched, list_any-IsPermutation}
 use Rattle.std.proofs.lemmas.Grind.{get_or_default_zero}
 use Rattle.rdm_wire.specs.Uid.{has}
-use Rattle.rdm_wire.proofs.SetLemmas.{has-at_place}
-use Rattle.rdm_line.specs.SimRuns.{NoFiveSuccessive}
+use Rattle.rdm_wire.proofs.SetLemmas.{has-at_insertion}
+use Rattle.rdm_line.specs.SimSteps.{NoFiveSuccessive}
 use Rattle.rdm_files.specs.Losses.{HasFive, IsFirstOfFive}
 use Rattle.rdm_files.specs.body.Losses.{has_five}
 
@@ -26,19 +26,19 @@ has-searched numbers u (Err i) ascending found =
     let at : (i ≤ length numbers) × ((k : ℕ) → k < i → get_or numbers k 0 < u)
     × ((k : ℕ) → i ≤ k → k < length numbers → u < get_or numbers k 0) =
     searched numbers u (Err i) found (λ j k. ascending j k 0) in
-    has-at_place u numbers i (record { within = at.0; below = at.1; above = at.2 })
+    has-at_insertion u numbers i (record { within = at.0; below = at.1; above = at.2 })
 
--- the place of a number that is there
+-- the index of a number that is there
 record At (xs : List ℕ) (n : ℕ) : Type 0 where
-  place : ℕ
-  within : place < length xs
-  is : get_or xs place 0 ≡ n
+  index : ℕ
+  within : index < length xs
+  is : get_or xs index 0 ≡ n
 
 at : (xs : List ℕ) (n : ℕ) → has xs n ≡ true → At xs n
 at xs n h =
     let any = Any-from_list_any (λ v. n == v) xs h in
     record {
-      place = any.0;
+      index = any.0;
       within = any.2;
       is = sym (get_or_default_zero xs any.0 any.1 any.2) ∙ (any.3 ∙ sym (eqb-true n any.1 any.4));
     }
@@ -74,17 +74,17 @@ test-from_five xs first all =
     same : first + 0 ≡ first
     same = omega arith
 
--- no five end before this place
+-- no five end before this index
 abbrev pub NoneEnd : List ℕ → ℕ → Type 0
 NoneEnd xs i = (k : ℕ) → k < i → (first : ℕ) → first + 4 ≡ get_or xs k 0 → has_five xs first ≡ false
 
 pub none_end-next : (xs : List ℕ) (i : ℕ) → NoneEnd xs i
     → ((first : ℕ) → first + 4 ≡ get_or xs i 0 → has_five xs first ≡ false) → NoneEnd xs (i + 1)
-none_end-next xs i before here k lt first is = by_place (nat_lt k i) refl
+none_end-next xs i before here k lt first is = by_index (nat_lt k i) refl
   where
-    by_place : (b : Bool) → nat_lt k i ≡ b → has_five xs first ≡ false
-    by_place true earlier = before k (ltb-true k i earlier) first is
-    by_place false later =
+    by_index : (b : Bool) → nat_lt k i ≡ b → has_five xs first ≡ false
+    by_index true earlier = before k (ltb-true k i earlier) first is
+    by_index false later =
         let last : k ≡ i = omega (arith, ltb-false k i later) in
         here first (is ∙ ap (λ n. get_or xs n 0) last)
 
@@ -92,7 +92,7 @@ none_end-next xs i before here k lt first is = by_place (nat_lt k i) refl
 pub none-at_all : (xs : List ℕ) → NoneEnd xs (length xs) → NoFiveSuccessive xs
 none-at_all xs none i all =
     let end = at xs (i + 4) (all 4 (omega arith)) in
-    let no : has_five xs i ≡ false = none end.place end.within i (sym end.is) in
+    let no : has_five xs i ≡ false = none end.index end.within i (sym end.is) in
     let yes = test-from_five xs i all in cc
 
 -- and those that end first are the least
@@ -101,17 +101,17 @@ pub first-least : (xs : List ℕ) (i first : ℕ) → IsNonDecreasing xs → i <
 first-least xs i first ascending within before ends test = record { all = five-from_test xs first test; least = least }
   where
     least : (other : ℕ) → HasFive xs other → first ≤ other
-    least other all = by_place (nat_lt end.place i) refl
+    least other all = by_index (nat_lt end.index i) refl
       where
         end : At xs (other + 4)
         end = at xs (other + 4) (all 4 (omega arith))
 
-        by_place : (b : Bool) → nat_lt end.place i ≡ b → first ≤ other
-        by_place true earlier =
-            let no : has_five xs other ≡ false = before end.place (ltb-true end.place i earlier) other (sym end.is) in
+        by_index : (b : Bool) → nat_lt end.index i ≡ b → first ≤ other
+        by_index true earlier =
+            let no : has_five xs other ≡ false = before end.index (ltb-true end.index i earlier) other (sym end.is) in
             let yes = test-from_five xs other all in cc
-        by_place false later =
-            let up = ascending i end.place 0 (ltb-false end.place i later) end.within in
+        by_index false later =
+            let up = ascending i end.index 0 (ltb-false end.index i later) end.within in
             omega (arith, up, ends, end.is)
 
 -- the same of the numbers in another order

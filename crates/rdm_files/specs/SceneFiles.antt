@@ -48,15 +48,15 @@ AllDiffer [] = Unit {0}
 AllDiffer (u ∷ us) = (has us u ≡ false) × AllDiffer us
 
 -- devices, ascending by UID
-abbrev pub in_place : List SceneDevice → List SceneDevice
-in_place devices = fold (λ placed d. with_scene_device d placed) [] devices
+abbrev pub in_uid_order : List SceneDevice → List SceneDevice
+in_uid_order devices = fold (λ ordered d. with_scene_device d ordered) [] devices
 
 -- the devices, at most 1,024, in any order, no two with the same UID
 pub record AreDevices (d : Data) (devices : List SceneDevice) : Type 0 where
   pub listed : List SceneDevice
   pub list : IsListOf SceneDevice IsDeviceOf 0 1024 d listed
   pub differ : AllDiffer (uids_of_scene listed)
-  pub placed : devices ≡ in_place listed
+  pub ordered : devices ≡ in_uid_order listed
 
 -- what results from a collision
 abbrev pub IsCollision : Data → Collision → Type 0

@@ -55,7 +55,7 @@ abbrev pub IsSearch : Data → Search → Type 0
 IsSearch d Steady = as_str d ≡ Some (codes "steady")
 IsSearch d Quick = as_str d ≡ Some (codes "quick")
 
--- the whole file
+-- a session file: its scene, 1 to 16 clients, and settings that may be left out
 pub record IsSessionFile (d : Data) (f : SessionFile) : Type 0 where
   pub scene : Has (codes "scene") IsSceneFile d f.scene
   pub clients : Has (codes "clients") (IsListOf ClientFile IsClient 1 16) d f.clients.items

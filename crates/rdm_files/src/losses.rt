@@ -2,7 +2,7 @@
 ghost use Rattle.std.specs.Prelude.{◌≡◌, ◌+◌, ◌<◌, ℕ, false, true, IfOk, IfSome, IfNone};
 ghost use Rattle.std.specs.List.Sorted.{IsPermutation, IsNonDecreasing};
 ghost use Rattle.rdm_wire.specs.Uid.{has};
-ghost use Rattle.rdm_line.specs.SimRuns.{NoFiveSuccessive};
+ghost use Rattle.rdm_line.specs.SimSteps.{NoFiveSuccessive};
 ghost use Rattle.rdm_files.specs.Losses.{IsFirstOfFive};
 ghost use Rattle.rdm_files.specs.body.Losses.{has_five};
 

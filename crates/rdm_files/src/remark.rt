@@ -25,7 +25,7 @@ impl fmt::Display for Remark {
                 write!(
                     f,
                     "{path}: exchanges {first} to {last} are all lost; \
-                     with five lost in succession a device may be missed"
+                     with five lost in a row a device may be missed"
                 )
             }
         }

@@ -13,14 +13,14 @@ use Rattle.rdm_queue.specs.promises.Lengths.{length_of_value, answer_length, old
 use Rattle.rdm_handles.specs.Forms.{form_with_head, form_of_completion}
 
 -- its length is that which was told
-pub told_length : (o : Opening) (h : List Entry) (c : ℕ) (outcome : Outcome) → IsOldest o h c outcome
+pub length_of_oldest : (o : Opening) (h : List Entry) (c : ℕ) (outcome : Outcome) → IsOldest o h c outcome
     → oldest_length o h c ≡ Some (length_of_value (outcome_value outcome))
-told_length o h c outcome is =
+length_of_oldest o h c outcome is =
     ap (λ e. option_and_then (answer_length h) e) is.oldest ∙ ap (λ v. option_map length_of_value v) is.told
 
 pub needed_is : (o : Opening) (h : List Entry) (c : ℕ) (outcome : Outcome) (told : Option ℕ)
     → told ≡ oldest_length o h c → IsOldest o h c outcome → unwrap_or told 0 ≡ length_of_value (outcome_value outcome)
-needed_is o h c outcome told is oldest = ap (λ n. unwrap_or n 0) (is ∙ told_length o h c outcome oldest)
+needed_is o h c outcome told is oldest = ap (λ n. unwrap_or n 0) (is ∙ length_of_oldest o h c outcome oldest)
 
 -- with and without a head
 form_len : (number len status : ℕ) (head : Option ReplyHead) → (form_with_head number len status head).len ≡ len

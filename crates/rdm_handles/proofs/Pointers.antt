@@ -54,11 +54,11 @@ module _ (R Z : RattleType) (L : Laws Z) (g : Ghosts Z.Denot) where
 
   module _ {M : Type 1} {𝓤 : Ura M} {𝓛 : Logic 𝓤} {K : Type 0} {Γ : List (Item 𝓤)} {G : Goal 𝓤 𝓛.H} where
     -- by value it is what its pointer owns, which isn't null, and the allocator
-    pub taken_apart : K → (d : Row.Denot) (vs : List Val)
+    pub unpacked : K → (d : Row.Denot) (vs : List Val)
         → ((b o : ℕ) (h : Val) → d.at ≡ block_ptr b o → vs ≡ two (vptr b o) h ∷ [] → Good (layout Z) h
         → Seq K 𝓛 (‵ (owned d.alloc (block_ptr b o) d.value) ∷ ‵ (Z.own_val d.alloc (h ∷ [])) ∷ Γ) G)
         → Seq K 𝓛 (‵ (Row.own_val d vs) ∷ Γ) G
-    taken_apart t d vs k =
+    unpacked t d vs k =
         fsplit t $ fpick t (λ vss. fsplit t $ feq_l t (λ ev. fsplit t $ feq_l t (λ ep. fsplit t $
         handle_tells quiet t d.alloc vss.1.0 (λ h eh good. move t (1 ∷ []) $ drop t $ move t (1 ∷ []) $
         in_a_block t d.at (λ p. owned d.alloc p d.value)

@@ -2,7 +2,7 @@
 use rdm_agent::Agent;
 use rdm_wire::Uid;
 
-/// A discovery run without a queue, on a line of the caller's own (profile of this project).
+/// A discovery run without a queue, on a line of the caller's own.
 #[derive(Debug, Drop)]
 pub struct Discovery {
     /// The run, between an exchange and the next.

@@ -1,6 +1,7 @@
 //! What C holds and passes: handles of controllers, sessions, logs and discovery runs, and structs of numbers.
 //!
-//! A handle is 16 bytes in the memory of its C program. It owns a value on the heap while it is open.
+//! A handle is 16 bytes in the memory of its C program. It owns a value on the heap while it is open. All of it is the
+//! profile of this project.
 #![tactic(auto)]
 
 mod agent;

@@ -343,7 +343,7 @@ pub fn rotate(session: &mut Session, alloc: Global, entries: usize) -> Result<Bo
     if !session.is_idle() {
         return Err(NOT_IDLE);
     }
-    let Ok((fresh, stand_in, mut old)) = places_of_a_rotation(alloc, entries) else {
+    let Ok((fresh, stand_in, mut old)) = memory_for_rotation(alloc, entries) else {
         return Err(OUT_OF_MEMORY);
     };
     match replace(session, stand_in).rotate(fresh) {
@@ -361,7 +361,7 @@ pub fn rotate(session: &mut Session, alloc: Global, entries: usize) -> Result<Bo
 
 // What a rotation needs memory for: the new log of this many entries, a session in place of the one that rotates, and
 // the old log's box. All are allocated before, so that the rotation can't run out of memory.
-fn places_of_a_rotation(alloc: Global, entries: usize) -> Result<(Log, Session, Box<Log>), NoMemory>
+fn memory_for_rotation(alloc: Global, entries: usize) -> Result<(Log, Session, Box<Log>), NoMemory>
     requires { entries ≤ 1000000 }
     ensures { IfOk result (λ r. r.0 ≡ blank_log (entries + 1)) }
 {

@@ -25,7 +25,7 @@ use Rattle.rdm_join.specs.Result.{is_too_long}
 use Rattle.rdm_join.proofs.ResultLemmas.{result_of-push, whole_ends, end_ends, few_parts}
 use Rattle.rdm_join.specs.JoinerStanding.{JoinerStanding, head_of_standing, IsOpen, IsOpenStage, step_of}
 use Rattle.rdm_join.specs.body.Standing.{StandsAt, JoinerMoves, standing_at, stage_of_parts, ended_standing}
-use Rattle.rdm_join.specs.body.Standing.{stage_with_part, takes_whole}
+use Rattle.rdm_join.specs.body.Standing.{stage_with_part, allows_whole}
 
 standing_with : (vs : List Judged) (s : JoinerStanding) (o : Option Joined) → StandsAt vs s → result_of vs ≡ o
     → s ≡ standing_at o vs
@@ -101,7 +101,7 @@ long s r over = lt-ltb 65535 (length s.data_ + length r.param.items) over
 
 abbrev whole_decided : JoinerStanding → Response → Option Joined
 whole_decided s r =
-    if not (takes_whole s.stage (head_of r)) || is_long s r then Some (ended InvalidResponse)
+    if not (allows_whole s.stage (head_of r)) || is_long s r then Some (ended InvalidResponse)
     else Some (record { status = Completed; data_ = s.data_ ++ r.param.items; head = Some (head_of r) })
 
 abbrev part_decided : JoinerStanding → Response → Option Joined
@@ -143,8 +143,9 @@ part_by_standing (Part p ∷ vs) r e =
     let few : suc (length vs) < 512 = few_parts (Part p ∷ vs) e in
     let size : length vs + 1 ≡ suc (length vs) = omega arith in
     let other = differs (head_of p) (head_of r) in
-    let places = nat_lt (suc (length vs) + 1) 512 in
-    let tests = part_test other (is_too_long (Part p ∷ vs) r) places (Joining (head_of p) (suc (length vs) + 1)) in
+    let has_capacity = nat_lt (suc (length vs) + 1) 512 in
+    let tests = part_test other (is_too_long (Part p ∷ vs) r) has_capacity (Joining (head_of p) (suc (length vs) + 1))
+    in
     rw (size, last_test (suc (length vs)) few, tests) refl
 part_by_standing (Whole p ∷ vs) r e = absurd (whole_ends p vs e)
 part_by_standing (verdicts.Ended s ∷ vs) r e = absurd (end_ends s vs e)
@@ -167,8 +168,8 @@ stage_of_more : (vs : List Judged) (r : Response) (stage : Stage) → result_of 
 stage_of_more [] r stage e h = cc
 stage_of_more (Part p ∷ vs) r stage e h =
     let size : length vs + 1 + 1 ≡ length (vs ++ Part r ∷ []) + 1 = omega (arith, length-append vs (Part r ∷ [])) in
-    let takes = not (differs (head_of p) (head_of r)) && nat_lt (length vs + 1 + 1) 512 in
-    sym (from_some takes (Joining (head_of p) (length vs + 1 + 1)) stage h) ∙ ap (λ n. Joining (head_of p) n) size
+    let allowed = not (differs (head_of p) (head_of r)) && nat_lt (length vs + 1 + 1) 512 in
+    sym (from_some allowed (Joining (head_of p) (length vs + 1 + 1)) stage h) ∙ ap (λ n. Joining (head_of p) n) size
 stage_of_more (Whole p ∷ vs) r stage e h = absurd (whole_ends p vs e)
 stage_of_more (verdicts.Ended s ∷ vs) r stage e h = absurd (end_ends s vs e)
 
@@ -192,38 +193,38 @@ pub ended_moves : (old : JoinerStanding) (s : Status) → IsOpen old
 ended_moves old s is_open = ends_at old (verdicts.Ended s) s is_open (λ vs e at. refl)
 
 pub whole_refused : (old : JoinerStanding) (r : Response) → IsOpen old
-    → (takes_whole old.stage (head_of r) ≡ false) ⊎ HasNoRoom old r
+    → (allows_whole old.stage (head_of r) ≡ false) ⊎ HasNoRoom old r
     → JoinerMoves old (Whole r) (Done InvalidResponse) ended_standing
 whole_refused old r is_open why =
     ends_at old (Whole r) InvalidResponse is_open
     (λ vs e at. whole_by_standing vs r e ∙ ap (λ s. whole_decided s r) (sym at) ∙ refused why)
   where
-    refused : (takes_whole old.stage (head_of r) ≡ false) ⊎ HasNoRoom old r
+    refused : (allows_whole old.stage (head_of r) ≡ false) ⊎ HasNoRoom old r
         → whole_decided old r ≡ Some (ended InvalidResponse)
     refused (inl no_whole) = rw no_whole refl
     refused (inr too_long) = rw (long old r too_long, or-true) refl
 
-pub whole_taken : (old : JoinerStanding) (r : Response) → IsOpen old → takes_whole old.stage (head_of r) ≡ true
+pub whole_joined : (old : JoinerStanding) (r : Response) → IsOpen old → allows_whole old.stage (head_of r) ≡ true
     → HasRoom old r
     → JoinerMoves old (Whole r) (Done Completed) (record {
       stage = Ended (Some (head_of r));
       data_ = old.data_ ++ r.param.items;
     })
-whole_taken old r is_open takes fits =
+whole_joined old r is_open allowed fits =
     moves_on old (Whole r)
     (Some (record { status = Completed; data_ = old.data_ ++ r.param.items; head = Some (head_of r) })) _ is_open
-    (λ vs e at. (whole_by_standing vs r e ∙ ap (λ s. whole_decided s r) (sym at) ∙ taken, refl))
+    (λ vs e at. (whole_by_standing vs r e ∙ ap (λ s. whole_decided s r) (sym at) ∙ is_joined, refl))
     ((λ h. absurd (done_more h)), (λ h. absurd h))
   where
     done_more : Done Completed ≡ More → ⊥
     done_more h = cc
 
-    taken : whole_decided old r ≡ Some (record {
+    is_joined : whole_decided old r ≡ Some (record {
       status = Completed;
       data_ = old.data_ ++ r.param.items;
       head = Some (head_of r);
     })
-    taken = rw (takes, not_long old r fits) refl
+    is_joined = rw (allowed, not_long old r fits) refl
 
 pub part_refused : (old : JoinerStanding) (r : Response) → IsOpen old
     → (stage_with_part old.stage (head_of r) ≡ None) ⊎ HasNoRoom old r
@@ -237,23 +238,23 @@ part_refused old r is_open why =
     refused (inl no_stage) = rw no_stage refl
     refused (inr too_long) = rw (long old r too_long, or-true) refl
 
-pub part_taken : (old : JoinerStanding) (r : Response) (stage : Stage) → IsOpen old
+pub part_joined : (old : JoinerStanding) (r : Response) (stage : Stage) → IsOpen old
     → stage_with_part old.stage (head_of r) ≡ Some stage → HasRoom old r
     → JoinerMoves old (Part r) More (record { stage = stage; data_ = old.data_ ++ r.param.items })
-part_taken old r stage is_open takes fits =
+part_joined old r stage is_open allowed fits =
     moves_on old (Part r) None (record { stage = stage; data_ = old.data_ ++ r.param.items }) is_open
-    (λ vs e at. (part_by_standing vs r e ∙ ap (λ s. part_decided s r) (sym at) ∙ taken, stands vs e at))
-    ((λ h. open_with_part old.stage (head_of r) stage takes), (λ h. refl))
+    (λ vs e at. (part_by_standing vs r e ∙ ap (λ s. part_decided s r) (sym at) ∙ is_joined, stands vs e at))
+    ((λ h. open_with_part old.stage (head_of r) stage allowed), (λ h. refl))
   where
-    taken : part_decided old r ≡ None
-    taken = rw (takes, not_long old r fits) refl
+    is_joined : part_decided old r ≡ None
+    is_joined = rw (allowed, not_long old r fits) refl
 
     stands : (vs : List Judged) → result_of vs ≡ None → old ≡ standing_at None vs
         → record { stage = stage; data_ = old.data_ ++ r.param.items } ≡ standing_at None (vs ++ Part r ∷ [])
     stands vs e at =
         let same_stage : stage
         ≡ stage_of_parts (vs ++ Part r ∷ []) =
-        stage_of_more vs r stage e (ap (λ s. stage_with_part s.stage (head_of r)) (sym at) ∙ takes) in
+        stage_of_more vs r stage e (ap (λ s. stage_with_part s.stage (head_of r)) (sym at) ∙ allowed) in
         let same_data : old.data_ ++ r.param.items
         ≡ joined_data (vs ++ Part r ∷ []) = ap (λ s. s.data_ ++ r.param.items) at ∙ sym (data_of_more vs r) in
         cc

@@ -2,7 +2,7 @@
 ghost use Rattle.std.specs.Prelude.{◌≡◌, ◌<◌, ◌↔◌, List, [], ◌∷◌, ◌++◌, length, not, true, IfOk, OnErr};
 ghost use Rattle.rdm_join.specs.Result.{result_of, head_of, differs};
 ghost use Rattle.rdm_join.specs.JoinerStanding.{IsOpen, head_of_standing, step_of};
-ghost use Rattle.rdm_join.specs.body.Standing.{StandsAt, JoinerMoves, ended_standing, stage_with_part, takes_whole};
+ghost use Rattle.rdm_join.specs.body.Standing.{StandsAt, JoinerMoves, ended_standing, stage_with_part, allows_whole};
 ghost use Rattle.rdm_join.specs.declared.verdict.Judged.{Judged};
 ghost use Rattle.rdm_join.specs.declared.verdict.Judged.TheVariants.{Whole, Part};
 
@@ -94,8 +94,8 @@ impl Stage {
     }
 
     // Whether a reply with all, or the rest, of the answer completes the request.
-    fn takes_whole(self, head: ReplyHead) -> bool
-        ensures { result ≡ takes_whole self head }
+    fn allows_whole(self, head: ReplyHead) -> bool
+        ensures { result ≡ allows_whole self head }
     {
         match self {
             Stage::Waiting => true,
@@ -185,7 +185,7 @@ impl Joiner {
         ensures { JoinerMoves self.old (Whole whole.now) result self.new }
     {
         let head = head_of(whole);
-        if !self.stage.takes_whole(head)
+        if !self.stage.allows_whole(head)
             || self.joined.try_extend_from_slice(&whole.param).is_err()
         {
             return self.end(Status::InvalidResponse);

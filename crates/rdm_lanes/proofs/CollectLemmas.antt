@@ -19,7 +19,7 @@ use Rattle.rdm_log.specs.log.LogState.{LogState, is_full_log, free_entries}
 use Rattle.rdm_log.proofs.LogLemmas.PushLemmas.{accepts_same, asks_same, sends_same, finishes_same, answered_same}
 use Rattle.rdm_log.proofs.LogLemmas.PushLemmas.{awaited-push, is_closed-push, is_paused-push}
 use Rattle.rdm_log.proofs.LogLemmas.RunLemmas.{open_run_same, last_run_same, asked_before_same}
-use Rattle.rdm_log.proofs.LogLemmas.RoomLemmas.{added, added_by, taken_block}
+use Rattle.rdm_log.proofs.LogLemmas.RoomLemmas.{added, added_by, used_block}
 use Rattle.rdm_lanes.specs.body.Quiet.{NoExchange, OnlyCollects, is_collect}
 use Rattle.rdm_lanes.specs.Lines.{SameSwitches}
 use Rattle.rdm_lanes.proofs.ListLemmas.{all_follow}
@@ -76,17 +76,17 @@ collects_switches old new is = switches_stay old new is.block is.grows
     (all_follow (λ e. is_collect e ≡ true) (λ e. is_switch e ≡ false) no_switch is.block is.each)
 
 -- as many entries are free
-takes_nothing : (e : Entry) → is_collect e ≡ true → added e ≡ 0
-takes_nothing (Collect c) is = refl
-takes_nothing (Finish n status len) is = refl
-takes_nothing (Answer n run fault) is = refl
-takes_nothing (Came event) is = refl
-takes_nothing Close is = refl
-takes_nothing _ is = absurd (true≢false (sym is))
+collect_needs_nothing : (e : Entry) → is_collect e ≡ true → added e ≡ 0
+collect_needs_nothing (Collect c) is = refl
+collect_needs_nothing (Finish n status len) is = refl
+collect_needs_nothing (Answer n run fault) is = refl
+collect_needs_nothing (Came event) is = refl
+collect_needs_nothing Close is = refl
+collect_needs_nothing _ is = absurd (true≢false (sym is))
 
-take_nothing : (block : List Entry) → AllCollects block → added_by block ≡ 0
-take_nothing [] all = refl
-take_nothing (e ∷ block) all = omega (arith, takes_nothing e all.0, take_nothing block all.1)
+collects_need_nothing : (block : List Entry) → AllCollects block → added_by block ≡ 0
+collects_need_nothing [] all = refl
+collects_need_nothing (e ∷ block) all = omega (arith, collect_needs_nothing e all.0, collects_need_nothing block all.1)
 
 free_stays : (o : Opening) (h block : List Entry) (room : ℕ) (search : Search) → EachAfter (MayFollow o) (h ++ block)
     → AllCollects block
@@ -96,7 +96,7 @@ free_stays : (o : Opening) (h block : List Entry) (room : ℕ) (search : Search)
       room = room;
       search = search;
     })
-free_stays o h block room search each all = omega (arith, taken_block o h block each, take_nothing block all)
+free_stays o h block room search each all = omega (arith, used_block o h block each, collects_need_nothing block all)
 
 pub full_stays : (old new : LogState) → OnlyCollects old new → Legal new.opening new.entries
     → is_full_log new ≡ is_full_log old

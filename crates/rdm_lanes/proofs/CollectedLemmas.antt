@@ -29,7 +29,7 @@ use Rattle.rdm_log.specs.promises.Outcomes.{OutcomeValue, Discovered, completion
 use Rattle.rdm_log.specs.promises.Outcomes.{outcome_value, refused_outcome}
 use Rattle.rdm_log.specs.promises.Outcomes.OutcomeValue.{RequestValue, DiscoveryValue}
 use Rattle.rdm_log.proofs.LogLemmas.PushLemmas.{finishes-append, answered-append}
-use Rattle.rdm_log.proofs.LogLemmas.Places.{slice_get-drop}
+use Rattle.rdm_log.proofs.LogLemmas.Indices.{slice_get-drop}
 use Rattle.rdm_lanes.specs.declared.call.ClientCall.{ClientCall}
 use Rattle.rdm_lanes.specs.declared.ring_outcome.RingOutcome.{RingOutcome}
 use Rattle.rdm_lanes.specs.declared.worker.lane.Lane.{Lane}
@@ -198,7 +198,7 @@ collected_fits o h room search d x item lane next requests asks each oldest told
     record {
       calls_are = ap work_in isnext.calls_are ∙ f.calls_are
           ∙ ap (λ (xs : List ClientCall). xs ++ []) (sym (calls_stay d.0 h (Collect d) refl));
-      told_are =
+      moved_are =
           rw (replies, value_more (pushed lane.replies) item)
           (ap (λ (vs : List (Option OutcomeValue)). vs ++ uncollected_values o d.0 (h ++ Collect d ∷ []))
           (map-append (λ (v : OutcomeValue). Some v) (values_in (pushed lane.replies)) (value_in item ∷ []))
@@ -210,7 +210,7 @@ collected_fits o h room search d x item lane next requests asks each oldest told
           ∙ ap (λ (vs : List (Option OutcomeValue)). map (λ (v : OutcomeValue). Some v)
           (values_in (pushed lane.replies))
           ++ vs) (sym (values_first o h d each x oldest))
-          ∙ f.told_are
+          ∙ f.moved_are
           ∙ sym (told_same o h (Collect d) each refl d.0 refl));
       requests_are = isnext.requests_are ∙ sym counted;
       asks_are = isnext.asks_are ∙ sym asked;

@@ -21,7 +21,7 @@ use Rattle.rdm_lanes.specs.body.Leaves.{leave_if}
 use Rattle.rdm_lanes.specs.Told.{value_in, values_in}
 use Rattle.rdm_lanes.specs.Pairs.{ArePair}
 use Rattle.rdm_lanes.specs.Lanes.{Fits, AllFit, AllHaveLeft, is_leave}
-use Rattle.rdm_lanes.specs.Ends.{end_rings, left_in, PairUp, Agrees, AllAgree, AllRead, SameTold, AllTold}
+use Rattle.rdm_lanes.specs.Ends.{end_rings, left_in, PairUp, Agrees, AllAgree, AllRead, ShowsSame, AllShowSame}
 use Rattle.rdm_lanes.proofs.LaneLemmas.{get-set}
 
 work_parts : (xs ys : List ClientCall) → work_in (xs ++ ys) ≡ work_in xs ++ work_in ys
@@ -118,10 +118,10 @@ module _ {J : Type 0} {h : Ghosts J} {C A : Type 0} where
         → slice_get ends i ≡ Some e → lane.left ≡ true → left_in e.calls ≡ []
     pub pairs : (i : ℕ) (lane : Lane) (e : ClientEnd J C A h) → at ≤ i → slice_get lanes i ≡ Some lane
         → slice_get ends i ≡ Some e → ArePair (end_rings e) lane × Fits i k lane
-    pub told : AllTold before ends
+    pub show_same : AllShowSame before ends
 
-  same_told : (a : ClientEnd J C A h) → SameTold a a
-  same_told a = record {
+  shows_same : (a : ClientEnd J C A h) → ShowsSame a a
+  shows_same a = record {
     sent_are = refl;
     got_are = refl;
     unspent_is = refl;
@@ -130,8 +130,8 @@ module _ {J : Type 0} {h : Ghosts J} {C A : Type 0} where
     replies_slots = refl;
   }
 
-  same_told_join : (a b d : ClientEnd J C A h) → SameTold a b → SameTold b d → SameTold a d
-  same_told_join a b d p q = record {
+  shows_same_join : (a b d : ClientEnd J C A h) → ShowsSame a b → ShowsSame b d → ShowsSame a d
+  shows_same_join a b d p q = record {
     sent_are = q.sent_are ∙ p.sent_are;
     got_are = q.got_are ∙ p.got_are;
     unspent_is = q.unspent_is ∙ p.unspent_is;
@@ -151,10 +151,10 @@ module _ {J : Type 0} {h : Ghosts J} {C A : Type 0} where
     read = λ i lane e low at there left. absurd (omega (arith, low));
     pairs = λ i lane e low here there.
         (pairs.each i lane (end_rings e) here (get_map end_rings ends i e there), all.each i lane here);
-    told = record {
+    show_same = record {
       long = refl;
       each = λ i a b p q. let e = get_or_from_slice_get ends i a b p in let f = get_or_from_slice_get ends i b b q in
-          rw (sym e ∙ f) (same_told b);
+          rw (sym e ∙ f) (shows_same b);
     };
   }
 
@@ -164,7 +164,7 @@ module _ {J : Type 0} {h : Ghosts J} {C A : Type 0} where
   settles c k lane e f put got = record {
     sent_are = ap work_in put ∙ work_parts (popped lane.calls) (left_in e.calls)
         ∙ ap (λ (xs : List ClientCall). xs ++ work_in (left_in e.calls)) (f.calls_are ∙ append-nil _);
-    got_are = rw (sym (value_parts (popped e.replies) (known_items e.replies)), got) f.told_are;
+    got_are = rw (sym (value_parts (popped e.replies) (known_items e.replies)), got) f.moved_are;
   }
 
   reads : (c : ℕ) (k : LogState) (lane : Lane) (e : ClientEnd J C A h) → Fits c k lane
@@ -177,7 +177,7 @@ module _ {J : Type 0} {h : Ghosts J} {C A : Type 0} where
       (ends : List (ClientEnd J C A h)) (at : ℕ) (l m : Lane) (e d : ClientEnd J C A h)
       → Comparing k first before lanes ends at → slice_get lanes at ≡ Some l → slice_get ends at ≡ Some e
       → pushed d.calls ≡ popped l.calls ++ left_in d.calls
-      → popped d.replies ++ known_items d.replies ≡ pushed l.replies → SameTold e d → m.left ≡ l.left
+      → popped d.replies ++ known_items d.replies ≡ pushed l.replies → ShowsSame e d → m.left ≡ l.left
       → Comparing k first before (slice_set lanes at m) (slice_set ends at d) (at + 1)
   comparing_more k first before lanes ends at l m e d is lane_here end_here put got same left = record {
     long = length-set ends at d ∙ is.long ∙ sym (length-set lanes at m);
@@ -213,12 +213,13 @@ module _ {J : Type 0} {h : Ghosts J} {C A : Type 0} where
             | inr p ↦ is.pairs i x y (omega (arith, high)) q.1 p.1
           ]
         ];
-    told = record {
-      long = length-set ends at d ∙ is.told.long;
+    show_same = record {
+      long = length-set ends at d ∙ is.show_same.long;
       each = λ i a b in_before in_ends.
           elim (get-set ends at i d b in_ends) [
-            | inl q ↦ rw (sym q.1) (same_told_join a e d (is.told.each at a e (rw (sym q.0) in_before) end_here) same)
-            | inr q ↦ is.told.each i a b in_before q.1
+            | inl q ↦ rw (sym q.1)
+                (shows_same_join a e d (is.show_same.each at a e (rw (sym q.0) in_before) end_here) same)
+            | inr q ↦ is.show_same.each i a b in_before q.1
           ];
     };
   }

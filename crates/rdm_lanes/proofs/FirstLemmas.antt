@@ -14,7 +14,7 @@ use Rattle.rdm_log.specs.log.Entries.{Answered, answers}
 use Rattle.rdm_log.specs.log.LogState.{LogState}
 use Rattle.rdm_log.specs.promises.Outcomes.{OutcomeValue, Discovered, never_begun}
 use Rattle.rdm_log.specs.promises.Outcomes.OutcomeValue.{DiscoveryValue}
-use Rattle.rdm_log.proofs.LogLemmas.Places.{slice_get-append_left}
+use Rattle.rdm_log.proofs.LogLemmas.Indices.{slice_get-append_left}
 use Rattle.rdm_log.proofs.LogLemmas.PushLemmas.{answered-append, answered_more}
 use Rattle.rdm_lanes.specs.declared.views.history.ViewHistory.{Ghosts}
 use Rattle.rdm_lanes.specs.declared.client.RingClient.{RingClient}
@@ -37,9 +37,9 @@ use Rattle.rdm_lanes.proofs.ToldLemmas.{IsToldBy, IsAnswered, IsRefusedByClose, 
 abbrev Has : List ℕ → ℕ → Type 0
 Has runs r = (i : ℕ) × (slice_get runs i ≡ Some r)
 
-last_place : {X : Type 0} (xs : List X) (x : X) → slice_get (xs ++ x ∷ []) (length xs) ≡ Some x
-last_place [] x = refl
-last_place (y ∷ xs) x = last_place xs x
+last_index : {X : Type 0} (xs : List X) (x : X) → slice_get (xs ++ x ∷ []) (length xs) ≡ Some x
+last_index [] x = refl
+last_index (y ∷ xs) x = last_index xs x
 
 last_has : (m : Option ℕ) (runs : List ℕ) (r : ℕ) → fold (λ (before : Option ℕ) (q : ℕ). Some q) m runs ≡ Some r
     → Has runs r ⊎ (m ≡ Some r)
@@ -59,7 +59,7 @@ has_own runs r = by_test (cases_Bool (is_last (last_number runs) r))
 
     by_test : (is_last (last_number runs) r ≡ true) ⊎ (is_last (last_number runs) r ≡ false) → Has (with_run runs r) r
     by_test (inl is) = rw is (in_runs (last_has None runs r (is_last_true (last_number runs) r is)))
-    by_test (inr not) = rw not (length runs, last_place runs r)
+    by_test (inr not) = rw not (length runs, last_index runs r)
 
 has_with : (runs : List ℕ) (q r : ℕ) (f : Option AgentFault) → Has runs q → Has (with_found runs f r) q
 has_with runs q r (Some fault) has = has
@@ -92,13 +92,13 @@ unfolding runs_found
 found_has h i b at none = found_at [] (answers h) i b at none
 
 -- so it isn't later than that of the last view
-answered_place : (front back : List Entry) (n r : ℕ) (f : Option AgentFault)
+answered_index : (front back : List Entry) (n r : ℕ) (f : Option AgentFault)
     → slice_get (answers (front ++ Answer n r f ∷ back)) (length (answers front)) ≡ Some (record {
       number = n;
       run = r;
       fault = f;
     })
-answered_place front back n r f =
+answered_index front back n r f =
     let b : Answered = record { number = n; run = r; fault = f } in
     let parts : answers (front ++ Answer n r f ∷ back) ≡ (answers front ++ b ∷ []) ++ answers back =
     ap answers (sym (append_assoc front (Answer n r f ∷ []) back))
@@ -106,14 +106,14 @@ answered_place front back n r f =
     ∙ ap (λ (bs : List Answered). bs ++ answers back) (answered_more front (Answer n r f) b refl)) in
     ap (λ (bs : List Answered). slice_get bs (length (answers front))) parts
     ∙ slice_get-append_left (answers front ++ b ∷ []) (answers back) (length (answers front)) b
-    (last_place (answers front) b)
+    (last_index (answers front) b)
 
 run_shown : (h front back : List Entry) (n r : ℕ) → NoneLater (all_views h) → h ≡ front ++ Answer n r None ∷ back
     → r ≤ last_view_run (all_views h)
 run_shown h front back n r none whole =
     let b : Answered = record { number = n; run = r; fault = None } in
     let at = ap (λ (l : List Entry). slice_get (answers l) (length (answers front))) whole
-    ∙ answered_place front back n r None in
+    ∙ answered_index front back n r None in
     let has = found_has h (length (answers front)) b at refl in
     none (suc has.0) (view_of h r) (get_map (view_of h) (runs_found h) has.0 r has.1)
 
@@ -130,7 +130,7 @@ first_shown k lanes shown none fit all = record { each = each }
       where
         told : IsToldBy k.opening k.entries i (DiscoveryValue number done)
         told = told_in k.opening k.entries i (values_in (pushed lane.replies)) (DiscoveryValue number done) j
-            (fit.each i lane here).told_are at
+            (fit.each i lane here).moved_are at
 
         aborted : None ≡ never_begun.fault → ⊥
         aborted e = cc
@@ -174,7 +174,7 @@ ends_shown_first k lanes ends shown fit agree long first = record {
       let same = same_some (values_in (pushed lane.0.replies)) all
       (cancel_back (map (λ (v : OutcomeValue). Some v) (values_in (pushed lane.0.replies)))
       (map (λ (v : OutcomeValue). Some v) all) (uncollected_values k.opening i k.entries)
-      ((fit.each i lane.0 lane.1).told_are ∙ sym (agree.each i e here).got_are)) in
+      ((fit.each i lane.0 lane.1).moved_are ∙ sym (agree.each i e here).got_are)) in
       let at = slice_get-append_left (end_got e) (values_in (known_items e.replies)) got.0 (DiscoveryValue number done)
       got.1 in
       first.each i got.0 lane.0 number done lane.1 (ap (λ (vs : List OutcomeValue). slice_get vs got.0) same ∙ at)
@@ -182,11 +182,11 @@ ends_shown_first k lanes ends shown fit agree long first = record {
 }
 
 -- at first nothing was moved
-nothing_told : (items : List RingOutcome) (j : ℕ) (v : OutcomeValue) → items ≡ []
+nothing_moved : (items : List RingOutcome) (j : ℕ) (v : OutcomeValue) → items ≡ []
     → slice_get (values_in items) j ≡ Some v → ⊥
 unfolding values_in
-nothing_told [] j v none at = cc
-nothing_told (item ∷ items) j v none at = cc
+nothing_moved [] j v none at = cc
+nothing_moved (item ∷ items) j v none at = cc
 
 pub new_shown_first : {J : Type 0} {h : Ghosts J} {C A : Type 0} (shown : List DeviceView) (ring : ℕ) (ps : List ℕ)
     (clients : List (RingClient J C A h)) (lanes : List Lane) → AreNewWith ring ps clients lanes
@@ -200,5 +200,5 @@ new_shown_first shown ring ps clients lanes all = record { each = each }
         let low = slice_get_within lanes i lane here in
         let p = within_get ps i (omega (arith, low, all.lanes_long)) in
         let client = within_get clients i (omega (arith, low, all.lanes_long, all.clients_long)) in
-        absurd (nothing_told (pushed lane.replies) j (DiscoveryValue number done)
-        (all.each i p.0 client.0 lane p.1 client.1 here).nothing_told at)
+        absurd (nothing_moved (pushed lane.replies) j (DiscoveryValue number done)
+        (all.each i p.0 client.0 lane p.1 client.1 here).nothing_moved at)

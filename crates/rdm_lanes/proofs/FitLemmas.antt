@@ -43,7 +43,7 @@ use Rattle.rdm_lanes.specs.declared.worker.lane.Lane.{Lane}
 use Rattle.rdm_lanes.specs.Calls.{call_by, calls_by, refused_call, work_in}
 use Rattle.rdm_lanes.specs.Told.{told_values, uncollected_values, values_in, value_in}
 use Rattle.rdm_lanes.specs.Lanes.{FitsBut, Fits, is_leave}
-use Rattle.rdm_lanes.specs.body.Serving.{MayTell, MayMake, CanTakeSubmit, CanTakeDiscover, AfterSubmit}
+use Rattle.rdm_lanes.specs.body.Serving.{HasRefusalSlot, MayMake, FitsSubmitAnswer, FitsDiscoverAnswer, AfterSubmit}
 use Rattle.rdm_lanes.specs.body.Serving.{AfterSubmitFault, AfterDiscover, AfterAskFault}
 use Rattle.rdm_lanes.proofs.Counting.{value_more}
 use Rattle.rdm_lanes.proofs.LineLemmas.{is_quiet}
@@ -235,11 +235,11 @@ made : (x : ClientCall) (c : ℕ) (o : Opening) (h : List Entry) (room : ℕ) (s
     → Fits c (record { opening = o; entries = h ++ e ∷ []; room = room; search = search }) new
 made x c o h room search e lane new requests asks each f quiet collect call other counted asked next replies = record {
   calls_are = ap work_in next.calls_are ∙ f.calls_are ∙ sym (append-nil _ ∙ calls_more c h e x call);
-  told_are = rw (
+  moved_are = rw (
     replies,
     uncollected_same o h e each quiet c (no_collect_of c e collect),
     told_same o h e each quiet c other,
-  ) f.told_are;
+  ) f.moved_are;
   requests_are = next.requests_are ∙ sym counted;
   asks_are = next.asks_are ∙ sym asked;
   left_is = next.left_is ∙ f.left_is ∙ ap (list_any is_leave) (sym next.calls_are);
@@ -316,14 +316,14 @@ fits_closed old new d call cause x item lane next is legal mine shut tells none 
     rw is (record {
       calls_are = ap work_in isnext.calls_are ∙ f.calls_are
           ∙ sym (append-nil _ ∙ calls_more d.0 h e x (own_refusal d call cause x mine));
-      told_are =
+      moved_are =
           rw (left, replies, value_more (pushed lane.replies) item)
           (append-nil _
           ∙ map-append (λ (v : OutcomeValue). Some v) (values_in (pushed lane.replies)) (value_in item ∷ [])
           ∙ ap (λ (vs : List (Option OutcomeValue)). vs ++ Some (value_in item) ∷ [])
           (sym (append-nil _)
           ∙ ap (λ (vs : List (Option OutcomeValue)). map (λ (v : OutcomeValue). Some v)
-          (values_in (pushed lane.replies)) ++ vs) (sym (no_values o d.0 h none)) ∙ f.told_are)
+          (values_in (pushed lane.replies)) ++ vs) (sym (no_values o d.0 h none)) ∙ f.moved_are)
           ∙ ap (λ (v : Option OutcomeValue). told_values o d.0 h ++ v ∷ []) (sym tells)
           ∙ sym (told_refused o h e each refl d.0 closed));
       requests_are = isnext.requests_are ∙ f.requests_are ∙ sym (requests_stay o h e d.0 each refl refl);
@@ -396,21 +396,21 @@ at_true false P Q e m = absurd (true≢false (sym e))
 
 can_submit : (k : LogState) (d : ClientId) (request : Request) (lane : Lane) (r : Result ℕ (SubmitFault × Request))
     (block : List Entry)
-    → SubmitAdds k.opening k.entries d request r block → MayMake d.0 k lane (Submit request) → CanTakeSubmit lane r
+    → SubmitAdds k.opening k.entries d request r block → MayMake d.0 k lane (Submit request) → FitsSubmitAnswer lane r
 can_submit k d request lane (Ok n) block adds may =
-    at_false (is_closed k.opening k.entries) (MayTell d.0 k lane) (lane.requests < lane.places)
+    at_false (is_closed k.opening k.entries) (HasRefusalSlot d.0 k lane) (lane.requests < lane.places)
     (open_is (is_closed k.opening k.entries) (places k.opening k.entries)
     (outstanding_requests k.opening d.0 k.entries) (next_request k.opening k.entries) d.0 adds.0) may
 can_submit k d request lane (Err e) block adds may =
-    λ closed. (at_true (is_closed k.opening k.entries) (MayTell d.0 k lane) (lane.requests < lane.places)
+    λ closed. (at_true (is_closed k.opening k.entries) (HasRefusalSlot d.0 k lane) (lane.requests < lane.places)
     (closed_is (is_closed k.opening k.entries) (places k.opening k.entries)
     (outstanding_requests k.opening d.0 k.entries) (next_request k.opening k.entries) d.0
     (adds.0 ∙ ap (λ f. Some f) closed)) may).1
 
-pub can_take_submit : (old new : LogState) (d : ClientId) (request : Request) (lane : Lane)
+pub fits_submit_answer : (old new : LogState) (d : ClientId) (request : Request) (lane : Lane)
     (r : Result ℕ (SubmitFault × Request)) → GrowsBy old (SubmitLogs old d request r) new → is_full_log old ≡ false
-    → MayMake d.0 old lane (Submit request) → CanTakeSubmit lane r
-can_take_submit old new d request lane r g free may =
+    → MayMake d.0 old lane (Submit request) → FitsSubmitAnswer lane r
+fits_submit_answer old new d request lane r g free may =
     can_submit old d request lane r g.block (submit_adds old d request r g.block free g.adds) may
 
 fits_after_fault : (old new : LogState) (d : ClientId) (request : Request) (lane next : Lane) (fault : SubmitFault)
@@ -446,7 +446,7 @@ fits_answer old new d request lane next (Ok n) block adds is legal may f after =
     (rw after (record { calls_are = refl; requests_are = refl; asks_are = refl; left_is = refl })) (rw after refl)
 fits_answer old new d request lane next (Err e) block adds is legal may f after =
     fits_after_fault old new d request lane next e.0 (rw adds.2 at is) legal
-    (λ closed. (at_true (is_closed old.opening old.entries) (MayTell d.0 old lane) (lane.requests < lane.places)
+    (λ closed. (at_true (is_closed old.opening old.entries) (HasRefusalSlot d.0 old lane) (lane.requests < lane.places)
     (closed_is (is_closed old.opening old.entries) (places old.opening old.entries)
     (outstanding_requests old.opening d.0 old.entries) (next_request old.opening old.entries) d.0
     (adds.0 ∙ ap (λ f. Some f) closed)) may).0) f after
@@ -461,21 +461,21 @@ fits_submit old new d request lane next r g free legal may f after =
 
 -- likewise of a discover
 can_ask : (k : LogState) (d : ClientId) (kind : Kind) (lane : Lane) (r : Result ℕ AskFault) (block : List Entry)
-    → DiscoverAdds k.opening k.entries d kind r block → MayMake d.0 k lane (Discover kind) → CanTakeDiscover lane r
+    → DiscoverAdds k.opening k.entries d kind r block → MayMake d.0 k lane (Discover kind) → FitsDiscoverAnswer lane r
 can_ask k d kind lane (Ok n) block adds may =
-    at_false (is_closed k.opening k.entries) (MayTell d.0 k lane) (lane.asks < 4)
+    at_false (is_closed k.opening k.entries) (HasRefusalSlot d.0 k lane) (lane.asks < 4)
     (ask_open_is (is_closed k.opening k.entries) (places k.opening k.entries)
     (outstanding_discoveries k.opening d.0 k.entries) (next_ask k.opening k.entries) d.0 adds.0) may
 can_ask k d kind lane (Err fault) block adds may =
-    λ closed. (at_true (is_closed k.opening k.entries) (MayTell d.0 k lane) (lane.asks < 4)
+    λ closed. (at_true (is_closed k.opening k.entries) (HasRefusalSlot d.0 k lane) (lane.asks < 4)
     (ask_closed_is (is_closed k.opening k.entries) (places k.opening k.entries)
     (outstanding_discoveries k.opening d.0 k.entries) (next_ask k.opening k.entries) d.0
     (adds.0 ∙ ap (λ f. Some f) closed)) may).1
 
-pub can_take_discover : (old new : LogState) (d : ClientId) (kind : Kind) (lane : Lane) (r : Result ℕ AskFault)
+pub fits_discover_answer : (old new : LogState) (d : ClientId) (kind : Kind) (lane : Lane) (r : Result ℕ AskFault)
     → GrowsBy old (DiscoverLogs old d kind r) new → is_full_log old ≡ false
-    → MayMake d.0 old lane (Discover kind) → CanTakeDiscover lane r
-can_take_discover old new d kind lane r g free may =
+    → MayMake d.0 old lane (Discover kind) → FitsDiscoverAnswer lane r
+fits_discover_answer old new d kind lane r g free may =
     can_ask old d kind lane r g.block (ask_adds old d kind r g.block free g.adds) may
 
 fits_after_ask_fault : (old new : LogState) (d : ClientId) (kind : Kind) (lane next : Lane) (fault : AskFault)
@@ -510,7 +510,7 @@ fits_ask_answer old new d kind lane next (Ok n) block adds is legal may f after 
     (rw after (record { calls_are = refl; requests_are = refl; asks_are = refl; left_is = refl })) (rw after refl)
 fits_ask_answer old new d kind lane next (Err fault) block adds is legal may f after =
     fits_after_ask_fault old new d kind lane next fault (rw adds.1 at is) legal
-    (λ closed. (at_true (is_closed old.opening old.entries) (MayTell d.0 old lane) (lane.asks < 4)
+    (λ closed. (at_true (is_closed old.opening old.entries) (HasRefusalSlot d.0 old lane) (lane.asks < 4)
     (ask_closed_is (is_closed old.opening old.entries) (places old.opening old.entries)
     (outstanding_discoveries old.opening d.0 old.entries) (next_ask old.opening old.entries) d.0
     (adds.0 ∙ ap (λ f. Some f) closed)) may).0) f after

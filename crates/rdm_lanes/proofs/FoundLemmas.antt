@@ -35,13 +35,13 @@ use Rattle.rdm_log.specs.log.MayAnswer.{MayAnswer, MayAnswerByRun}
 use Rattle.rdm_log.specs.log.Legal.{MayFollow}
 use Rattle.rdm_log.specs.promises.Blocks.{is_result, AllResults}
 use Rattle.rdm_log.proofs.LogLemmas.Grows.{front}
-use Rattle.rdm_log.proofs.LogLemmas.Places.{all_at, all_from_places, place_within}
+use Rattle.rdm_log.proofs.LogLemmas.Indices.{all_at, all_from_indices, index_within}
 use Rattle.rdm_log.proofs.LogLemmas.PushLemmas.{answered-append, answered_same, answered_more, sends_same}
 use Rattle.rdm_log.proofs.LogLemmas.LegalFacts.{along}
 use Rattle.rdm_log.proofs.LogLemmas.AskFacts.{AskFacts, ask_facts, unanswered_number}
 use Rattle.rdm_log.proofs.LogLemmas.RunLemmas.{not_sent, last_begun, last_run_same, last_run_sent, begun_same}
 use Rattle.rdm_log.proofs.LogLemmas.RunLemmas.{served_stays, entries_before_run_stays, run_exchanges_same}
-use Rattle.rdm_log.proofs.LogLemmas.RunFacts.{open_is, is_open, run_facts, any_from_place}
+use Rattle.rdm_log.proofs.LogLemmas.RunFacts.{open_is, is_open, run_facts, any_from_index}
 use Rattle.rdm_log.proofs.PromiseLemmas.OutcomeLemmas.{exchanges_kept, last_is_answered}
 use Rattle.rdm_lanes.specs.Views.{opening_view, last_view, last_view_run, last_number, is_last, with_run, with_found}
 use Rattle.rdm_lanes.specs.Views.{runs_found, view_of, views_found, all_views}
@@ -127,7 +127,7 @@ found_answered : (h : List Entry) → AllByRecursion (λ r. is_answered r h ≡ 
 unfolding runs_found
 found_answered h =
     all_found (λ r. is_answered r h ≡ true) [] (answers h) tt
-    (all_from_places (λ b. is_answered b.run h ≡ true) (answers h)
+    (all_from_indices (λ b. is_answered b.run h ≡ true) (answers h)
     (λ i b at. any_passes_from_place (λ (x : Answered). x.run == b.run) (answers h) i
     b at (eq-eqb b.run b.run refl)))
 
@@ -204,10 +204,10 @@ no_open h r last none = by_test (cases_Bool (is_answered r h))
     by_test (inr not) = absurd (none-some r (sym none ∙ is_open h r (record { last = last; left = not })))
 
 all_of_named : (o : Opening) (h : List Entry) (r : ℕ) → NothingDue o h → is_answered r h ≡ true → AllAnswered r h
-all_of_named o h r due is = by_place (any_from_place (λ (b : Answered). b.run == r) (answers h) is)
+all_of_named o h r due is = by_index (any_from_index (λ (b : Answered). b.run == r) (answers h) is)
   where
-    by_place : ((i : ℕ) × (b : Answered) × (slice_get (answers h) i ≡ Some b) × ((b.run == r) ≡ true)) → AllAnswered r h
-    by_place at =
+    by_index : ((i : ℕ) × (b : Answered) × (slice_get (answers h) i ≡ Some b) × ((b.run == r) ≡ true)) → AllAnswered r h
+    by_index at =
         subst (λ (q : ℕ). AllAnswered q h) (eqb-true at.1.run r at.3)
         (all_at (λ (b : Answered). AllAnswered b.run h) (answers h) due.runs_answered at.0 at.1 at.2)
 
@@ -255,15 +255,15 @@ settled o h each = along o Settled (λ r begun. absurd (false≢true begun)) (se
 -- the numbers of Answers
 number_below : (o : Opening) (h : List Entry) (n : ℕ) → AskFacts o h → has_answer n h ≡ true
     → n < o.next_ask + length (answers h)
-number_below o h n facts has = by_place (any_from_place (λ (b : Answered). b.number == n) (answers h) has)
+number_below o h n facts has = by_index (any_from_index (λ (b : Answered). b.number == n) (answers h) has)
   where
-    by_place : ((i : ℕ) × (b : Answered) × (slice_get (answers h) i ≡ Some b) × ((b.number == n) ≡ true))
+    by_index : ((i : ℕ) × (b : Answered) × (slice_get (answers h) i ≡ Some b) × ((b.number == n) ≡ true))
         → n < o.next_ask + length (answers h)
-    by_place at =
+    by_index at =
         omega (
           arith,
           facts.answer_numbers at.0 at.1 at.2,
-          place_within (answers h) at.0 at.1 at.2,
+          index_within (answers h) at.0 at.1 at.2,
           eqb-true at.1.number n at.3,
         )
 
@@ -286,12 +286,12 @@ has_served n r h is = by_test (cases_Bool (has_begun r h))
 served_answered : (n r : ℕ) (h k : List Entry) → served r k ≡ served r h
     → list_any (λ (a : AskedDiscovery). a.number == n) (served r k) ≡ true → AllAnswered r h → has_answer n h ≡ true
 served_answered n r h k same is all =
-    by_place (any_from_place (λ (a : AskedDiscovery). a.number == n) (served r h)
+    by_index (any_from_index (λ (a : AskedDiscovery). a.number == n) (served r h)
     (sym (ap (list_any (λ (a : AskedDiscovery). a.number == n)) same) ∙ is))
   where
-    by_place : ((i : ℕ) × (a : AskedDiscovery) × (slice_get (served r h) i ≡ Some a) × ((a.number == n) ≡ true))
+    by_index : ((i : ℕ) × (a : AskedDiscovery) × (slice_get (served r h) i ≡ Some a) × ((a.number == n) ≡ true))
         → has_answer n h ≡ true
-    by_place at =
+    by_index at =
         subst (λ (m : ℕ). has_answer m h ≡ true) (eqb-true at.1.number n at.3)
         (all_at (λ (a : AskedDiscovery). has_answer a.number h ≡ true) (served r h) all at.0 at.1 at.2)
 
@@ -354,14 +354,14 @@ found_before o h n r each may apart = by_last (last_run_without_fault h) refl
     below : (q : ℕ) → last_run_without_fault h ≡ Some q → q ≢ r → q < r
     below zero is other = omega (arith, not_zero)
     below (suc q) is other =
-        by_place (any_from_place (λ (b : Answered). b.run == suc q) (answers h) (last_is_answered h (suc q) is))
+        by_index (any_from_index (λ (b : Answered). b.run == suc q) (answers h) (last_is_answered h (suc q) is))
       where
         begun : (b : Answered) → b.run ≡ suc q → has_begun b.run h ≡ true → suc q < r
         begun b same has = omega (arith, (run_facts o h each).begun_below b.run has, same, facts, other)
 
-        by_place : ((i : ℕ) × (b : Answered) × (slice_get (answers h) i ≡ Some b) × ((b.run == suc q) ≡ true))
+        by_index : ((i : ℕ) × (b : Answered) × (slice_get (answers h) i ≡ Some b) × ((b.run == suc q) ≡ true))
             → suc q < r
-        by_place at =
+        by_index at =
             begun at.1 (eqb-true at.1.run (suc q) at.3)
             ((run_facts o h each).named at.0 at.1 at.2
             (λ none. absurd (omega (arith, none, eqb-true at.1.run (suc q) at.3))))

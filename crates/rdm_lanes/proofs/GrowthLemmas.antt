@@ -17,7 +17,7 @@ use Rattle.rdm_log.specs.log.Clients.{collected, uncollected, outstanding_reques
 use Rattle.rdm_log.specs.log.Legal.{MayFollow}
 use Rattle.rdm_log.specs.promises.Outcomes.{OutcomeValue, outcome_of, told, is_client, is_closed_refusal, closed_number}
 use Rattle.rdm_log.proofs.LogLemmas.Grows.{front}
-use Rattle.rdm_log.proofs.LogLemmas.Places.{filter_map_has, filter_agree_on}
+use Rattle.rdm_log.proofs.LogLemmas.Indices.{filter_map_has, filter_agree_on}
 use Rattle.rdm_log.proofs.LogLemmas.LegalFacts.{LogFacts, legal_facts}
 use Rattle.rdm_log.proofs.LogLemmas.AskFacts.{ask_facts}
 use Rattle.rdm_log.proofs.LogLemmas.ClientLemmas.{client_stays, asker_stays, answer_asked}
@@ -49,12 +49,12 @@ finish_accepted : (o : Opening) (h : List Entry) → LogFacts o h → (i n : ℕ
     → slice_get h i ≡ Some (Finish n status len) → n - o.next_request < length (accepts h)
 unfolding finishes
 finish_accepted o h facts i n status len at =
-    by_place (filter_map_has finished_of h i (Finish n status len)
+    by_index (filter_map_has finished_of h i (Finish n status len)
     (record { number = n; status = status; len = len }) at refl)
   where
-    by_place : (j : ℕ) × (slice_get (finishes h) j ≡ Some (record { number = n; status = status; len = len }))
+    by_index : (j : ℕ) × (slice_get (finishes h) j ≡ Some (record { number = n; status = status; len = len }))
         → n - o.next_request < length (accepts h)
-    by_place found =
+    by_index found =
         omega (
           arith,
           facts.finish_numbers found.0 _ found.1,

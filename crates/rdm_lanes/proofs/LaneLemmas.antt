@@ -49,12 +49,12 @@ pub fits_waits : (pending : List ClientCall) (c : ℕ) (old new : LogState) (lan
     → IsOnlyTold c old new → FitsBut pending c new lane
 fits_waits pending c old new lane f w = record {
   calls_are = f.calls_are ∙ ap (λ (xs : List ClientCall). xs ++ pending) (sym w.calls_are);
-  told_are =
+  moved_are =
       ap (λ (vs : List (Option OutcomeValue)). map (λ (v : OutcomeValue). Some v) (values_in (pushed lane.replies))
       ++ vs) w.uncollected_more
       ∙ sym (append_assoc (map (λ (v : OutcomeValue). Some v) (values_in (pushed lane.replies)))
       (uncollected_values old.opening c old.entries) w.more)
-      ∙ ap (λ (vs : List (Option OutcomeValue)). vs ++ w.more) f.told_are
+      ∙ ap (λ (vs : List (Option OutcomeValue)). vs ++ w.more) f.moved_are
       ∙ sym w.told_more;
   requests_are = f.requests_are ∙ sym w.requests_are;
   asks_are = f.asks_are ∙ sym w.asks_are;
@@ -103,7 +103,7 @@ all_wait old new lanes all same w = record {
   nobody_else = λ c out. (w c).calls_are ∙ all.nobody_else c out;
 }
 
--- a place of a list that was written
+-- an index of a list that was written
 pub get-set : {X : Type 0} (xs : List X) (at i : ℕ) (y x : X) → slice_get (slice_set xs at y) i ≡ Some x
     → ((i ≡ at) × (y ≡ x)) ⊎ ((i ≢ at) × (slice_get xs i ≡ Some x))
 get-set [] at i y x e = let out = slice_get_within (slice_set [] at y) i x e in absurd (omega (arith, out))

@@ -20,7 +20,7 @@ use Rattle.rdm_log.specs.log.History.{paused_after as paused_by}
 use Rattle.rdm_log.specs.log.LogState.{LogState, grown}
 use Rattle.rdm_log.specs.promises.Blocks.{is_result, AllResults}
 use Rattle.rdm_log.proofs.LogLemmas.PushLemmas.{awaited-push, is_closed-push, is_paused-push}
-use Rattle.rdm_log.proofs.LogLemmas.Places.{zip_both_more}
+use Rattle.rdm_log.proofs.LogLemmas.Indices.{zip_both_more}
 use Rattle.rdm_lanes.specs.Lines.{SameSwitches, IsBetweenTurns, NoCallLost, may_refuse}
 use Rattle.rdm_lanes.specs.Operators.{switch_of, switches}
 use Rattle.rdm_lanes.specs.body.Quiet.{NoExchange}

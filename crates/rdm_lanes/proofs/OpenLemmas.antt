@@ -27,7 +27,7 @@ use Rattle.rdm_log.specs.log.Refusals.{join_fault_at}
 use Rattle.rdm_log.specs.log.LogState.{LogState, grown, opened, is_full_log, free_entries}
 use Rattle.rdm_log.specs.log.Legal.{Legal}
 use Rattle.rdm_log.specs.promises.Blocks.{GrowsBy, JoinLogs, JoinAdds, UnlessFull}
-use Rattle.rdm_log.proofs.LogLemmas.Places.{slice_get-push}
+use Rattle.rdm_log.proofs.LogLemmas.Indices.{slice_get-push}
 use Rattle.rdm_lanes.specs.declared.views.history.ViewHistory.{Ghosts}
 use Rattle.rdm_lanes.specs.declared.call.ClientCall.{ClientCall}
 use Rattle.rdm_lanes.specs.declared.ring_outcome.RingOutcome.{RingOutcome}
@@ -96,7 +96,7 @@ at_end xs y i x is e =
 before_end : {X : Type 0} (xs : List X) (y : X) (i : ℕ) (x : X) → i < length xs → slice_get (xs ++ y ∷ []) i ≡ Some x
     → slice_get xs i ≡ Some x
 before_end xs y i x low e =
-    elim (slice_get-push xs y i x e) [ inl h ↦ h | inr p ↦ absurd (omega (arith, p.place, low)) ]
+    elim (slice_get-push xs y i x e) [ inl h ↦ h | inr p ↦ absurd (omega (arith, p.index, low)) ]
 
 module _ {J : Type 0} {h : Ghosts J} {C A : Type 0} where
   -- a client more
@@ -115,8 +115,8 @@ module _ {J : Type 0} {h : Ghosts J} {C A : Type 0} where
               all.each i q c l h (before_end clients client i c (omega (arith, low, all.clients_long)) in_clients)
               (before_end lanes lane i l (omega (arith, low, all.lanes_long)) in_lanes)
           | inr e ↦
-              let cs = at_end clients client i c (e.place ∙ sym all.clients_long) in_clients in
-              let ls = at_end lanes lane i l (e.place ∙ sym all.lanes_long) in_lanes in
+              let cs = at_end clients client i c (e.index ∙ sym all.clients_long) in_clients in
+              let ls = at_end lanes lane i l (e.index ∙ sym all.lanes_long) in_lanes in
               rw (e.is, cs, ls) new
         ];
   }
@@ -219,7 +219,7 @@ nothing_seen : views_found [] ≡ []
 unfolding runs_found answers
 nothing_seen = refl
 
--- readers may take the opening view, which is all that there is
+-- readers may read the opening view, which is all that there is
 pub publishes_opened : (setup : Setup) (room : ℕ) (ps : List ℕ) (p : Publishing) → p.shown ≡ opening_view ∷ []
     → p.added ≡ opening_view ∷ [] → Publishes (opened_with setup room ps) p
 publishes_opened setup room ps p shown added = record {
@@ -305,9 +305,9 @@ no_exchanges_opened setup room ps =
 fits_empty : (c p : ℕ) (setup : Setup) (room : ℕ) (lane : Lane) → popped lane.calls ≡ [] → pushed lane.replies ≡ []
     → lane.requests ≡ 0 → lane.asks ≡ 0 → lane.left ≡ false → Fits c (empty_log setup room) lane
 unfolding work_in calls_by told_values uncollected_values values_in answers_to accepts asks finishes answers collectors
-fits_empty c p setup room lane got told no_requests no_asks left = record {
+fits_empty c p setup room lane got pushed_none no_requests no_asks left = record {
   calls_are = rw got refl;
-  told_are = rw told refl;
+  moved_are = rw pushed_none refl;
   requests_are = no_requests;
   asks_are = no_asks;
   left_is = rw got left;
@@ -344,7 +344,7 @@ fits_opened setup room ring ps clients lanes legal all = record {
       let client = within_get clients i (omega (arith, low, all.lanes_long, all.clients_long)) in
       let new = all.each i p.0 client.0 lane p.1 client.1 here in
       fits_waits [] i (empty_log setup room) (opened_with setup room ps) lane
-      (fits_empty i p.0 setup room lane new.nothing_received new.nothing_told new.no_requests new.no_asks
+      (fits_empty i p.0 setup room lane new.nothing_received new.nothing_moved new.no_requests new.no_asks
       new.not_received)
       (waits i (empty_log setup room) (opened_with setup room ps) (join_entries 0 ps) refl legal
       (joins_untouched i 0 ps));

@@ -90,7 +90,7 @@ begin_one_list shown read all a b p q = record {
         absurd (omega (arith, few, later_longer shown read between.0 between.1 a b less))
     by_length few (inr fits) = prefix_shorter read shown all q p fits
 
--- what readers may take begins all views of the log
+-- what readers may read begins all views of the log
 pub take_prefix : (xs ys : List DeviceView) → xs ≡ take (length xs) ys → IsPrefix xs ys
 take_prefix [] ys is = (ys, refl)
 take_prefix (x ∷ xs) [] is = absurd (omega (arith, ap length is))

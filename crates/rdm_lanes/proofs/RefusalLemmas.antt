@@ -21,7 +21,7 @@ use Rattle.rdm_log.specs.promises.Blocks.{GrowsBy, SubmitLogs, SubmitAdds, Disco
 use Rattle.rdm_lanes.specs.declared.call.ClientCall.TheVariants.{Submit, Discover}
 use Rattle.rdm_lanes.specs.declared.worker.lane.Lane.{Lane}
 use Rattle.rdm_lanes.specs.Lanes.{FitsBut}
-use Rattle.rdm_lanes.specs.body.Serving.{MayTell, MayMake}
+use Rattle.rdm_lanes.specs.body.Serving.{HasRefusalSlot, MayMake}
 use Rattle.rdm_lanes.proofs.LineLemmas.{AllRightly}
 use Rattle.rdm_lanes.proofs.FitLemmas.{submit_adds, ask_adds}
 
@@ -32,11 +32,11 @@ not_at_most m n less is = absurd (omega (arith, less, at_most m n is))
     at_most : (m n : ℕ) → nat_le m n ≡ true → m ≤ n
     at_most m n is = grind (arith, nat_tests)
 
-submit_cause : (b : Bool) (ps : List ℕ) (outstanding next c mine : ℕ) (fault : SubmitFault) (told : Type 0)
-    → slice_get ps c ≡ Some mine → MatchBool b told (outstanding < mine)
+submit_cause : (b : Bool) (ps : List ℕ) (outstanding next c mine : ℕ) (fault : SubmitFault) (when_closed : Type 0)
+    → slice_get ps c ≡ Some mine → MatchBool b when_closed (outstanding < mine)
     → submit_fault_at b ps outstanding next c ≡ Some fault → (b || nat_le 18446744073709551615 next) ≡ true
-submit_cause true ps outstanding next c mine fault told known may is = refl
-submit_cause false ps outstanding next c mine fault told known may is =
+submit_cause true ps outstanding next c mine fault when_closed known may is = refl
+submit_cause false ps outstanding next c mine fault when_closed known may is =
     by_tests (nat_le (length ps) c) (nat_le (slice_index ps c) outstanding) (nat_le 18446744073709551615 next) refl refl
     refl is
   where
@@ -52,11 +52,11 @@ submit_cause false ps outstanding next c mine fault told known may is =
     by_tests false false true p q r e = r
     by_tests false false false p q r e = cc
 
-ask_cause : (b : Bool) (ps : List ℕ) (outstanding next c mine : ℕ) (fault : AskFault) (told : Type 0)
-    → slice_get ps c ≡ Some mine → MatchBool b told (outstanding < 4)
+ask_cause : (b : Bool) (ps : List ℕ) (outstanding next c mine : ℕ) (fault : AskFault) (when_closed : Type 0)
+    → slice_get ps c ≡ Some mine → MatchBool b when_closed (outstanding < 4)
     → ask_fault_at b ps outstanding next c ≡ Some fault → (b || nat_le 18446744073709551614 next) ≡ true
-ask_cause true ps outstanding next c mine fault told known may is = refl
-ask_cause false ps outstanding next c mine fault told known may is =
+ask_cause true ps outstanding next c mine fault when_closed known may is = refl
+ask_cause false ps outstanding next c mine fault when_closed known may is =
     by_tests (nat_le (length ps) c) (nat_le 4 outstanding) (nat_le 18446744073709551614 next) refl refl refl is
   where
     by_tests : (x y z : Bool) → nat_le (length ps) c ≡ x → nat_le 4 outstanding ≡ y
@@ -89,7 +89,7 @@ submit_rightly k d request lane (Err e) block known counted may adds =
           (nat_le 18446744073709551614 (next_ask o h))
           (submit_cause (is_closed o h) (places o h) (outstanding_requests o d.0 h) (next_request o h) d.0 lane.places
           e.0
-          (MayTell d.0 k lane) known (rw counted at may) adds.0),
+          (HasRefusalSlot d.0 k lane) known (rw counted at may) adds.0),
       tt,
     )
   where
@@ -109,7 +109,7 @@ ask_rightly k d kind lane (Err fault) block known counted may adds =
       or_later (is_closed o h) (nat_le 18446744073709551615 (next_request o h))
           (nat_le 18446744073709551614 (next_ask o h))
           (ask_cause (is_closed o h) (places o h) (outstanding_discoveries o d.0 h) (next_ask o h) d.0 lane.places fault
-          (MayTell d.0 k lane) known (rw counted at may) adds.0),
+          (HasRefusalSlot d.0 k lane) known (rw counted at may) adds.0),
       tt,
     )
   where

@@ -33,8 +33,8 @@ use Rattle.rdm_scenes.proofs.SceneLemmas.{are_the_devices, follow_the_devices}
 use Rattle.rdm_scenes.proofs.CalmLemmas.{faults_follow, follow_by_default}
 use Rattle.rdm_lanes.specs.declared.views.history.ViewHistory.{Ghosts}
 use Rattle.rdm_lanes.specs.declared.client.ends.ClientEnd.{ClientEnd}
-use Rattle.rdm_lanes.specs.OverThreads.{IsEnough, IsByDefault, HasGot, IsEndOver, TellsTheDevices, TellsNoFault}
-use Rattle.rdm_lanes.specs.OverThreads.{TellsTheChanging}
+use Rattle.rdm_lanes.specs.OverThreads.{IsEnough, IsByDefault, HasGot, IsEndOver, GetsTheDevices, GetsNoFault}
+use Rattle.rdm_lanes.specs.OverThreads.{GetsTheChanging}
 use Rattle.rdm_lanes.proofs.GrowthLemmas.{tells}
 use Rattle.rdm_lanes.proofs.ToldLemmas.{IsToldBy, told_by, IsAnswered, IsRefusedByClose, discovery_of}
 
@@ -115,8 +115,8 @@ module _ {J : Type 0} {h : Ghosts J} {C A : Type 0} (setup : Setup) (room : ℕ)
       whole ∙ ap (λ (f : Option AgentFault). front ++ Answer n r f ∷ back) none
 
   -- exactly the devices
-  pub tells_devices : IsStayingScene s → TellsTheDevices s e
-  tells_devices is number done got fault = by_outcome number done got
+  pub gets_devices : IsStayingScene s → GetsTheDevices s e
+  gets_devices is number done got fault = by_outcome number done got
       (λ front back n r whole devices. ap uids_of devices
       ∙ exact.exactly front back n r (without_fault front back n r done.fault fault whole))
       (λ never. absurd (begun done fault never))
@@ -125,8 +125,8 @@ module _ {J : Type 0} {h : Ghosts J} {C A : Type 0} (setup : Setup) (room : ℕ)
       exact = are_the_devices s t k log_over is
 
   -- those that are always there, and none that never is
-  pub tells_changing : IsLossyScene s → TellsTheChanging s e
-  tells_changing is = record {
+  pub gets_changing : IsLossyScene s → GetsTheChanging s e
+  gets_changing is = record {
     staying = λ number done u got fault always. by_outcome number done got
         (λ front back n r whole devices. ap (λ (ds : List Device). has (uids_of ds) u) devices
         ∙ follow.staying front back n r u (without_fault front back n r done.fault fault whole) always)
@@ -144,8 +144,8 @@ module _ {J : Type 0} {h : Ghosts J} {C A : Type 0} (setup : Setup) (room : ℕ)
       nobody u e = cc
 
   -- Nobody closes a session in threads. So no outcome has a fault, if only a close causes one.
-  tells_no_other : FaultsFollowAClose k → TellsNoFault e
-  tells_no_other follow number done got =
+  gets_no_other : FaultsFollowAClose k → GetsNoFault e
+  gets_no_other follow number done got =
       by_kind (discovery_of k.entries told.front told.back told.entry number done told.is)
     where
       told : IsToldBy k.opening k.entries c (DiscoveryValue number done)
@@ -192,15 +192,15 @@ module _ {J : Type 0} {h : Ghosts J} {C A : Type 0} (setup : Setup) (room : ℕ)
   budget_is : k.opening.budget ≡ setup.config.budget
   budget_is = ap (λ (o : Opening). o.budget) over.session.opening_is
 
-  pub tells_no_fault : IsCalmScene s → IsEnough setup s → TellsNoFault e
-  tells_no_fault is enough = tells_no_other (faults_follow s t k log_over is over.session.promised.in_bound (record {
+  pub gets_no_fault : IsCalmScene s → IsEnough setup s → GetsNoFault e
+  gets_no_fault is enough = gets_no_other (faults_follow s t k log_over is over.session.promised.in_bound (record {
     few = few;
     budgeted = rw (over.session.search_is, budget_is) enough;
   }))
 
-  pub tells_none_by_default : IsCalmScene s → IsByDefault setup → TellsNoFault e
-  tells_none_by_default is default =
-      tells_no_other (follow_by_default s t k log_over is over.session.promised.in_bound (record {
+  pub gets_none_by_default : IsCalmScene s → IsByDefault setup → GetsNoFault e
+  gets_none_by_default is default =
+      gets_no_other (follow_by_default s t k log_over is over.session.promised.in_bound (record {
         few = few;
         budget = budget_is ∙ default.0;
         search = over.session.search_is ∙ default.1;

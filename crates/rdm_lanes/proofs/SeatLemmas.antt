@@ -14,7 +14,7 @@ use Rattle.rdm_lanes.specs.declared.client.ends.ClientEnd.{ClientEnd}
 use Rattle.rdm_lanes.specs.Clients.{SameClient}
 use Rattle.rdm_lanes.specs.Lanes.{SameLane, SameLanes}
 use Rattle.rtrb.specs.Ring.{producer_capacity, consumer_capacity}
-use Rattle.rdm_lanes.specs.Ends.{end_rings, AllHaveSlots, AllTold}
+use Rattle.rdm_lanes.specs.Ends.{end_rings, AllHaveSlots, AllShowSame}
 use Rattle.rdm_lanes.specs.Opened.{AreNew}
 use Rattle.rdm_lanes.specs.Pairs.{Rings, ArePair, client_rings}
 use Rattle.rdm_lanes.specs.body.Seats.{seat_rings, SeatsPair, SameSeats, RingsHaveSlots}
@@ -184,12 +184,13 @@ module _ {J : Type 0} {h : Ghosts J} {B C A : Type 0} where
   -- the rings of new clients keep as many slots to their ends
   pub slots_kept : (n : ℕ) (clients : List (RingClient J C A h)) (seats left : List (Seat J B C A h))
       (before after : List (ClientEnd J C A h)) → map seat_rings seats ≡ map client_rings clients → SameSeats seats left
-      → map end_rings before ≡ map seat_rings left → AllTold before after → RingsHaveSlots n (map client_rings clients)
+      → map end_rings before ≡ map seat_rings left → AllShowSame before after
+      → RingsHaveSlots n (map client_rings clients)
       → AllHaveSlots n after
-  slots_kept n clients seats left before after seated same ends told has = record {
+  slots_kept n clients seats left before after seated same ends show_same has = record {
     each = λ i e here.
-        let b = within_get before i (omega (arith, slice_get_within after i e here, told.long)) in
-        let kept = told.each i b.0 e b.1 here in
+        let b = within_get before i (omega (arith, slice_get_within after i e here, show_same.long)) in
+        let kept = show_same.each i b.0 e b.1 here in
         let found = map_get seat_rings left i (end_rings b.0)
         (subst (λ (rs : List Rings). slice_get rs i ≡ Some (end_rings b.0)) ends
         (get_map end_rings before i b.0 b.1)) in

@@ -27,10 +27,10 @@ Calls = Consumer ClientCall Global AnyItems
 pub popped_more : (xs ys : List ClientCall) (x : ClientCall) → ys ≡ xs ++ x ∷ [] → ys ≡ xs → ⊥
 popped_more xs ys x more same = omega (arith, ap length more ∙ length-append xs (x ∷ []), ap length same)
 
--- the front item, once it is popped
-pub front_of : {X : Type 0} (P : X → Type 0) (known rest : List X) (x : X) → known ≡ x ∷ rest
+-- the first item, once it is popped
+pub at_first : {X : Type 0} (P : X → Type 0) (known rest : List X) (x : X) → known ≡ x ∷ rest
     → MatchOption (slice_get known 0) ⊤ P → P x
-front_of P known rest x is may = rw is at may
+at_first P known rest x is may = rw is at may
 
 -- the client's leave among what was received
 leave_same : (xs : List ClientCall) (x : ClientCall) → is_work x ≡ true
@@ -50,7 +50,7 @@ leave_there (y ∷ xs) = ap (λ (b : Bool). is_leave y || b) (leave_there xs) �
 
 -- what stays where a call is popped
 pub record SameCounts (old new : Lane) : Type 0 where
-  pub told_are : pushed new.replies ≡ pushed old.replies
+  pub moved_are : pushed new.replies ≡ pushed old.replies
   pub requests_are : new.requests ≡ old.requests
   pub asks_are : new.asks ≡ old.asks
 
@@ -60,7 +60,7 @@ pub fits_popped : (c : ℕ) (k : LogState) (lane next : Lane) (x : ClientCall) �
 fits_popped c k lane next x f got work same left = record {
   calls_are = ap work_in got ∙ work_more (popped lane.calls) x work
       ∙ ap (λ (xs : List ClientCall). xs ++ x ∷ []) (f.calls_are ∙ append-nil _);
-  told_are = rw same.told_are f.told_are;
+  moved_are = rw same.moved_are f.moved_are;
   requests_are = same.requests_are ∙ f.requests_are;
   asks_are = same.asks_are ∙ f.asks_are;
   left_is = left ∙ f.left_is ∙ sym (ap (list_any is_leave) got ∙ leave_same (popped lane.calls) x work);
@@ -70,18 +70,18 @@ pub fits_left : (c : ℕ) (k : LogState) (lane next : Lane) → Fits c k lane
     → popped next.calls ≡ popped lane.calls ++ Leave ∷ [] → SameCounts lane next → next.left ≡ true → Fits c k next
 fits_left c k lane next f got same left = record {
   calls_are = ap work_in got ∙ leave_more (popped lane.calls) ∙ f.calls_are;
-  told_are = rw same.told_are f.told_are;
+  moved_are = rw same.moved_are f.moved_are;
   requests_are = same.requests_are ∙ f.requests_are;
   asks_are = same.asks_are ∙ f.asks_are;
   left_is = left ∙ sym (ap (list_any is_leave) got ∙ leave_there (popped lane.calls));
 }
 
--- the lane of a client of which nothing was taken
+-- the lane of a client from whose ring of calls nothing was popped
 pub fits_looked : (c : ℕ) (k : LogState) (lane next : Lane) → Fits c k lane → popped next.calls ≡ popped lane.calls
     → SameCounts lane next → next.left ≡ lane.left → Fits c k next
 fits_looked c k lane next f got same left = record {
   calls_are = ap work_in got ∙ f.calls_are;
-  told_are = rw same.told_are f.told_are;
+  moved_are = rw same.moved_are f.moved_are;
   requests_are = same.requests_are ∙ f.requests_are;
   asks_are = same.asks_are ∙ f.asks_are;
   left_is = left ∙ f.left_is ∙ sym (ap (list_any is_leave) got);
@@ -91,7 +91,7 @@ pub fits_slot : (c : ℕ) (k : LogState) (lane next : Lane) → Fits c k lane �
 fits_slot c k lane next f look =
     fits_looked c k lane next f (ap (λ (l : Lane). popped l.calls) look.rest)
     (record {
-      told_are = look.looked.1;
+      moved_are = look.looked.1;
       requests_are = ap (λ (l : Lane). l.requests) look.rest;
       asks_are = ap (λ (l : Lane). l.asks) look.rest;
     }) (ap (λ (l : Lane). l.left) look.rest)
@@ -105,7 +105,7 @@ pub looked_at : (c : ℕ) (k : LogState) (lane next : Lane) (calls : Calls) → 
     → ConsumerLooked lane.calls calls → LooksForSlot (record lane { calls = calls }) next → IsLookedAt c k lane next
 looked_at c k lane next calls f look slot = record {
   fits = fits_slot c k mid next
-      (fits_looked c k lane mid f look.1 (record { told_are = refl; requests_are = refl; asks_are = refl }) refl) slot;
+      (fits_looked c k lane mid f look.1 (record { moved_are = refl; requests_are = refl; asks_are = refl }) refl) slot;
   rings = (
     subst (λ (q : Calls). SameConsumer lane.calls q) (sym (ap (λ (l : Lane). l.calls) slot.rest)) look.0,
     slot.looked.0,

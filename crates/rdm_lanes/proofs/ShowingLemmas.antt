@@ -53,7 +53,7 @@ but_last {X} (x ∷ xs) (y ∷ ys) is few = onward (but_last xs ys (cc is) (omeg
     onward (inl e) = inl (rw (same, e) refl)
     onward (inr more) = inr (more.0, rw (same, more.1) refl)
 
--- readers may take all, and all were added
+-- readers may read all, and all were added
 pub showing_all : (all : List DeviceView) (p : Publishing) → NoneLater all → p.shown ≡ all → p.added ≡ all
     → IsShowing all p
 showing_all all p none shown added = record {
@@ -65,7 +65,7 @@ showing_all all p none shown added = record {
   later = λ less. absurd (omega (arith, ap length added, less));
 }
 
--- an exchange was made where readers may take all
+-- an exchange was made when readers may read all
 showing_found : (before after : List DeviceView) (p : Publishing) → NoneLater (opening_view ∷ before)
     → p.shown ≡ opening_view ∷ before → p.added ≡ opening_view ∷ before → GainOneAtMost before after
     → IsShowing (opening_view ∷ after) p

@@ -15,7 +15,7 @@ use Rattle.rdm_log.specs.log.LogState.{LogState}
 use Rattle.rdm_log.specs.promises.Outcomes.{OutcomeValue, Discovered, discovered_by, never_begun, refused_outcome}
 use Rattle.rdm_log.specs.promises.Outcomes.{outcome_of, told}
 use Rattle.rdm_log.specs.promises.Outcomes.OutcomeValue.{DiscoveryValue}
-use Rattle.rdm_log.proofs.LogLemmas.Places.{slice_get-append_left}
+use Rattle.rdm_log.proofs.LogLemmas.Indices.{slice_get-append_left}
 use Rattle.rdm_log.proofs.PromiseLemmas.StableResults.{filter_has}
 use Rattle.rdm_scenes.proofs.SceneLemmas.{split_at}
 use Rattle.rdm_lanes.specs.declared.views.history.ViewHistory.{Ghosts}
@@ -45,9 +45,9 @@ told_in o h c values v i tells_all at =
     let in_told : slice_get (told_values o c h) i
     ≡ Some (Some v) = ap (λ (vs : List (Option OutcomeValue)). slice_get vs i) (sym tells_all) ∙ all in
     let found = map_get (outcome_of h) (told o c h) i (Some v) (values_are o c h i (Some v) in_told) in
-    let place = filter_has (tells o c h) h i found.0 found.1 in
-    let parts = split_at h place.0 found.0 place.1 in
-    record { entry = found.0; front = parts.0; back = parts.1; whole = parts.2; is = found.2; own = place.2 }
+    let index = filter_has (tells o c h) h i found.0 found.1 in
+    let parts = split_at h index.0 found.0 index.1 in
+    record { entry = found.0; front = parts.0; back = parts.1; whole = parts.2; is = found.2; own = index.2 }
   where
     values_are : (o : Opening) (c : ℕ) (h : List Entry) (i : ℕ) (v : Option OutcomeValue)
         → slice_get (told_values o c h) i ≡ Some v → slice_get (map (outcome_of h) (told o c h)) i ≡ Some v

@@ -4,7 +4,7 @@ use Rattle.std.proofs.Common.{fold, inl, inr, arith}
 use Rattle.std.specs.Prelude.{◌⊎◌}
 use Rattle.std.proofs.lemmas.Grind.{fold-append}
 use Rattle.rdm_client.specs.declared.view.DeviceView.{DeviceView}
-use Rattle.rdm_log.proofs.LogLemmas.Places.{IsPushed, slice_get-push}
+use Rattle.rdm_log.proofs.LogLemmas.Indices.{IsPushed, slice_get-push}
 use Rattle.rdm_lanes.specs.Views.{opening_view, last_view, last_view_run, RisesAbove, AreViews}
 use Rattle.rdm_lanes.specs.body.Showing.{NoneLater}
 
@@ -46,14 +46,14 @@ none_later_opening (suc i) v at = absurd (no_view at)
 
 pub none_later_more : (views : List DeviceView) (v : DeviceView) → NoneLater views → last_view_run views < v.run
     → NoneLater (views ++ v ∷ [])
-none_later_more views v none less i w at = by_place (slice_get-push views v i w at)
+none_later_more views v none less i w at = by_index (slice_get-push views v i w at)
   where
     last : last_view_run (views ++ v ∷ []) ≡ v.run
     last = ap (λ (x : DeviceView). x.run) (last_added views v)
 
-    by_place : (slice_get views i ≡ Some w) ⊎ IsPushed views v i w → w.run ≤ last_view_run (views ++ v ∷ [])
-    by_place (inl before) = omega (arith, none i w before, less, last)
-    by_place (inr here) = omega (arith, ap (λ (x : DeviceView). x.run) here.is, last)
+    by_index : (slice_get views i ≡ Some w) ⊎ IsPushed views v i w → w.run ≤ last_view_run (views ++ v ∷ [])
+    by_index (inl before) = omega (arith, none i w before, less, last)
+    by_index (inr here) = omega (arith, ap (λ (x : DeviceView). x.run) here.is, last)
 
 pub last_opening : last_view (opening_view ∷ []) ≡ opening_view
 unfolding last_view

@@ -42,7 +42,7 @@ module _ {J : Type 0} {h : Ghosts J} {C A : Type 0} where
   pub record AllHaveSlots (slots : ℕ) (ends : List (ClientEnd J C A h)) : Type 0 where
     pub each : (i : ℕ) (e : ClientEnd J C A h) → slice_get ends i ≡ Some e → end_slots e ≡ (slots, slots)
 
-  -- the ends are those of the lanes, each in its place
+  -- the ends are those of the lanes, each at its index
   abbrev pub PairUp : List Lane → List (ClientEnd J C A h) → Type 0
   PairUp lanes ends = RingsPair lanes (map end_rings ends)
 
@@ -67,7 +67,7 @@ module _ {J : Type 0} {h : Ghosts J} {C A : Type 0} where
         → HoldsItsOwn (end_sent e) (end_got e) e.unspent.requests e.unspent.asks
 
   -- both ends show the same
-  pub record SameTold (a b : ClientEnd J C A h) : Type 0 where
+  pub record ShowsSame (a b : ClientEnd J C A h) : Type 0 where
     pub sent_are : pushed b.calls ≡ pushed a.calls
     pub got_are : popped b.replies ≡ popped a.replies
     pub unspent_is : b.unspent ≡ a.unspent
@@ -76,7 +76,7 @@ module _ {J : Type 0} {h : Ghosts J} {C A : Type 0} where
     pub replies_slots : consumer_capacity b.replies ≡ consumer_capacity a.replies
 
   -- each end shows the same before and after
-  pub record AllTold (before after : List (ClientEnd J C A h)) : Type 0 where
+  pub record AllShowSame (before after : List (ClientEnd J C A h)) : Type 0 where
     pub long : length after ≡ length before
     pub each : (i : ℕ) (a b : ClientEnd J C A h) → slice_get before i ≡ Some a → slice_get after i ≡ Some b
-        → SameTold a b
+        → ShowsSame a b

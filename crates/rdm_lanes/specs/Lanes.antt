@@ -21,7 +21,7 @@ pub record FitsBut (pending : List ClientCall) (c : ℕ) (k : LogState) (lane : 
   -- what was received is what the client called, in order
   pub calls_are : work_in (popped lane.calls) ≡ calls_by c k.entries ++ pending
   -- what was moved to its ring, and then what it hasn't collected, is every outcome that the log has for it
-  pub told_are : TellsAll k.opening c k.entries (values_in (pushed lane.replies))
+  pub moved_are : TellsAll k.opening c k.entries (values_in (pushed lane.replies))
   -- the counts of what is outstanding
   pub requests_are : lane.requests ≡ outstanding_requests k.opening c k.entries
   pub asks_are : lane.asks ≡ outstanding_discoveries k.opening c k.entries

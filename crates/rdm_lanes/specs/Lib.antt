@@ -13,6 +13,7 @@ pub mod Turns
 pub mod ViewsRead
 pub mod Ends
 pub mod Opened
+pub mod SessionEnds
 pub mod Sessions
 pub mod OverThreads
 pub mod Ended

@@ -38,17 +38,17 @@ module _ {J : Type 0} {h : Ghosts J} {C A : Type 0} where
     pub agrees : Agrees c k e
 
   -- each discovery's outcome without fault has exactly the line's devices
-  abbrev pub TellsTheDevices : SimState → ClientEnd J C A h → Type 0
-  TellsTheDevices s e = (number : Option ℕ) (done : Discovered) → HasGot e number done → done.fault ≡ None
+  abbrev pub GetsTheDevices : SimState → ClientEnd J C A h → Type 0
+  GetsTheDevices s e = (number : Option ℕ) (done : Discovered) → HasGot e number done → done.fault ≡ None
       → uids_of done.devices ≡ uids_of_scene s.devices
 
-  -- without fault
-  abbrev pub TellsNoFault : ClientEnd J C A h → Type 0
-  TellsNoFault e = (number : Option ℕ) (done : Discovered) → HasGot e number done → done.fault ≡ None
+  -- each discovery's outcome is without fault
+  abbrev pub GetsNoFault : ClientEnd J C A h → Type 0
+  GetsNoFault e = (number : Option ℕ) (done : Discovered) → HasGot e number done → done.fault ≡ None
 
   -- if devices come and leave: an outcome without fault has each that is always there, and no outcome has one that
   -- never is
-  pub record TellsTheChanging (s : SimState) (e : ClientEnd J C A h) : Type 0 where
+  pub record GetsTheChanging (s : SimState) (e : ClientEnd J C A h) : Type 0 where
     pub staying : (number : Option ℕ) (done : Discovered) (u : ℕ) → HasGot e number done → done.fault ≡ None
         → ((i : ℕ) → has (present_at s.devices i) u ≡ true) → has (uids_of done.devices) u ≡ true
     pub no_stranger : (number : Option ℕ) (done : Discovered) (u : ℕ) → HasGot e number done

@@ -19,7 +19,7 @@ Rings = Producer ClientCall Global AnyItems × Consumer RingOutcome Global AnyIt
 abbrev pub ArePair : Rings → Lane → Type 0
 ArePair rings lane = IsPair rings.0 lane.calls × IsPair lane.replies rings.1
 
--- the same for each lane and the client's ends in its place
+-- each lane has the other ends of the rings at its index
 pub record RingsPair (lanes : List Lane) (all : List Rings) : Type 0 where
   pub long : length all ≡ length lanes
   pub each : (i : ℕ) (lane : Lane) (rings : Rings) → slice_get lanes i ≡ Some lane → slice_get all i ≡ Some rings
@@ -30,6 +30,6 @@ module _ {J : Type 0} {h : Ghosts J} {C A : Type 0} where
   abbrev pub client_rings : RingClient J C A h → Rings
   client_rings client = (client.calls, client.replies)
 
-  -- the clients' rings are those of the lanes, each in its place
+  -- the clients' rings are those of the lanes, each at its index
   abbrev pub ClientsPair : List Lane → List (RingClient J C A h) → Type 0
   ClientsPair lanes clients = RingsPair lanes (map client_rings clients)

@@ -46,7 +46,7 @@ is_last (Some q) r = q == r
 abbrev pub with_run : List ℕ → ℕ → List ℕ
 with_run runs r = if is_last (last_number runs) r then runs else runs ++ r ∷ []
 
--- the same with the run of an Answer without fault
+-- these runs, and then the run of an Answer without fault, unless it is the last of them
 abbrev pub with_found : List ℕ → Option AgentFault → ℕ → List ℕ
 with_found runs None r = with_run runs r
 with_found runs (Some fault) r = runs

@@ -62,6 +62,6 @@ called_by operator = pushed operator.calls
 abbrev pub has_left : Operator → Bool
 has_left operator = operator.left
 
--- which history it is
+-- the book of a history in which nothing was shown yet
 abbrev pub book_of : BlankHistory → Book
 book_of history = history.seen.book

@@ -6,8 +6,8 @@ ghost use Rattle.rdm_log.specs.declared.config.Setup.{Setup};
 ghost use Rattle.rdm_log.specs.log.LogState.{LogState};
 ghost use Rattle.rdm_lanes.specs.declared.client.ends.ClientEnd.{ClientEnd};
 ghost use Rattle.rdm_scenes.specs.Scenes.{IsLossyScene, IsStayingScene, IsCalmScene};
-ghost use Rattle.rdm_lanes.specs.OverThreads.{IsEndOver, TellsTheDevices, TellsTheChanging};
-ghost use Rattle.rdm_lanes.specs.OverThreads.{IsEnough, IsByDefault, TellsNoFault};
+ghost use Rattle.rdm_lanes.specs.OverThreads.{IsEndOver, GetsTheDevices, GetsTheChanging};
+ghost use Rattle.rdm_lanes.specs.OverThreads.{IsEnough, IsByDefault, GetsNoFault};
 
 use crate::views::history::ViewHistory;
 
@@ -17,7 +17,7 @@ use crate::views::history::ViewHistory;
 pub fn clients_get_the_devices<J: ViewHistory, C, A>()
     ensures { (setup : Setup) (room : ℕ) (places : List ℕ) (s t : SimState) (k : LogState)
         (c : ℕ) (e : ClientEnd J C A (record { book = J.book })) → IsEndOver setup room places s t k c e
-        → IsStayingScene s → TellsTheDevices s e }
+        → IsStayingScene s → GetsTheDevices s e }
 {}
 
 /// If, in addition, no exchange fails and the budget suffices for the search's bound on frames, no discovery's outcome
@@ -26,10 +26,10 @@ pub fn clients_get_the_devices<J: ViewHistory, C, A>()
 pub fn clients_get_no_fault<J: ViewHistory, C, A>()
     ensures enough { (setup : Setup) (room : ℕ) (places : List ℕ) (s t : SimState) (k : LogState)
         (c : ℕ) (e : ClientEnd J C A (record { book = J.book })) → IsEndOver setup room places s t k c e
-        → IsCalmScene s → IsEnough setup s → TellsNoFault e }
+        → IsCalmScene s → IsEnough setup s → GetsNoFault e }
     ensures by_default { (setup : Setup) (room : ℕ) (places : List ℕ) (s t : SimState)
         (k : LogState) (c : ℕ) (e : ClientEnd J C A (record { book = J.book }))
-        → IsEndOver setup room places s t k c e → IsCalmScene s → IsByDefault setup → TellsNoFault e }
+        → IsEndOver setup room places s t k c e → IsCalmScene s → IsByDefault setup → GetsNoFault e }
 {}
 
 /// If devices come and leave, each outcome without fault has each device that is always there. No outcome has a device
@@ -37,5 +37,5 @@ pub fn clients_get_no_fault<J: ViewHistory, C, A>()
 pub fn clients_get_no_stranger<J: ViewHistory, C, A>()
     ensures { (setup : Setup) (room : ℕ) (places : List ℕ) (s t : SimState) (k : LogState)
         (c : ℕ) (e : ClientEnd J C A (record { book = J.book })) → IsEndOver setup room places s t k c e
-        → IsLossyScene s → TellsTheChanging s e }
+        → IsLossyScene s → GetsTheChanging s e }
 {}

@@ -13,7 +13,7 @@ pub mod laws;
 mod opening;
 mod ring_outcome;
 mod session;
-mod views;
+pub mod views;
 mod worker;
 
 // What a program calls, and what the calls return.
@@ -28,9 +28,3 @@ pub use session::{run_session, run_session_with};
 pub use worker::compared::Compared;
 pub use worker::operator::Operator;
 pub use worker::view_worker::ViewWorker;
-
-// What the types above are made of. A program names the history by `ViewHistory`, begins it with `BlankHistory`, and
-// writes `Shown` as the worker's published value. Only measurements use a publisher and a reader directly.
-pub use views::history::{BlankHistory, ViewHistory};
-pub use views::publishing::{Publisher, Shown};
-pub use views::reading::ViewReader;

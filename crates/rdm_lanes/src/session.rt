@@ -1,13 +1,9 @@
 //! A whole session: clients, each with what it does, and a worker over a line, in threads.
-ghost use Rattle.std.specs.Prelude.{◌≡◌, ◌≤◌, length, IfOk, IfErr};
+ghost use Rattle.std.specs.Prelude.{◌≡◌, length, IfOk, IfErr};
 ghost use Rattle.rdm_log.specs.log.Config.{steady};
 ghost use Rattle.rdm_log.specs.log.LogState.{blank_log};
-ghost use Rattle.rdm_client.specs.declared.worker_end.WorkerEnd.TheVariants.{Turns};
-ghost use Rattle.rdm_lanes.specs.Ended.{IsEnded};
-ghost use Rattle.rdm_lanes.specs.Ends.{AllHaveSlots};
-ghost use Rattle.rdm_lanes.specs.Lines.{exchange_count};
 ghost use Rattle.rdm_lanes.specs.Opened.{MayOpen, HasFirstFault};
-ghost use Rattle.rdm_lanes.specs.Sessions.{SessionOver};
+ghost use Rattle.rdm_lanes.specs.SessionEnds.{IsSessionEnd};
 ghost use Rattle.rdm_lanes.specs.Workers.{book_of};
 
 pub(crate) mod body;
@@ -18,7 +14,7 @@ use crate::fault::OpenFault;
 use crate::opening::rooms::rooms_for;
 use crate::opening::{fault_of_places, open_lanes_with};
 use crate::session::body::{Body, Gate};
-use crate::session::together::{LanesEnd, run_lanes};
+use crate::session::together::{LanesEnd, lanes_in_threads};
 use crate::views::history::{BlankHistory, ViewHistory};
 use rdm_client::{Tells, TellsAsk};
 use rdm_line::Line;
@@ -65,13 +61,7 @@ pub fn run_session<
 ) -> Result<LanesEnd<J, B, X, C, A>, (OpenFault, Log, Vec<B>, X, BlankHistory)>
     requires may_open { MayOpen J.book history config log ring }
     requires one_each { length bodies.items ≡ length places.now }
-    ensures session { IfOk result (λ end. SessionOver X.step (steady config) log.room places.now line
-        end.line end.session) }
-    ensures ended { IfOk result (IsEnded (length places.now)) }
-    ensures slots { IfOk result (λ end. AllHaveSlots ring end.ends.items) }
-    ensures turns { IfOk result (λ end. (end.turns ≤ turns) × (turns ≡ 0 → end.worker ≡ Turns)) }
-    ensures all_turns { IfOk result (λ end. end.worker ≡ Turns → end.turns ≡ turns) }
-    ensures exchanges { IfOk result (λ end. exchange_count end.session ≤ end.turns) }
+    ensures over { IfOk result (IsSessionEnd X.step (steady config) log.room ring places.now line turns) }
     ensures fault { HasFirstFault config.places log.room places.now (λ e. e.0) result }
     ensures back { IfErr result (λ e. (e.1 ≡ blank_log log.room) × (e.2 ≡ bodies) × (e.3 ≡ line)
         × (book_of e.4 ≡ J.book)) }
@@ -115,13 +105,7 @@ pub fn run_session_with<
 ) -> Result<LanesEnd<J, B, X, C, A>, (OpenFault, Log, Vec<B>, X, BlankHistory)>
     requires may_open { MayOpen J.book history setup.config log ring }
     requires one_each { length bodies.items ≡ length places.now }
-    ensures session { IfOk result (λ end. SessionOver X.step setup log.room places.now line
-        end.line end.session) }
-    ensures ended { IfOk result (IsEnded (length places.now)) }
-    ensures slots { IfOk result (λ end. AllHaveSlots ring end.ends.items) }
-    ensures turns { IfOk result (λ end. (end.turns ≤ turns) × (turns ≡ 0 → end.worker ≡ Turns)) }
-    ensures all_turns { IfOk result (λ end. end.worker ≡ Turns → end.turns ≡ turns) }
-    ensures exchanges { IfOk result (λ end. exchange_count end.session ≤ end.turns) }
+    ensures over { IfOk result (IsSessionEnd X.step setup log.room ring places.now line turns) }
     ensures fault { HasFirstFault setup.config.places log.room places.now (λ e. e.0) result }
     ensures back { IfErr result (λ e. (e.1 ≡ blank_log log.room) × (e.2 ≡ bodies) × (e.3 ≡ line)
         × (book_of e.4 ≡ J.book)) }
@@ -133,7 +117,7 @@ pub fn run_session_with<
         return Err((OpenFault::NoMemory, log.cleared(), bodies, line, history));
     };
     match open_lanes_with(rt, alloc, history, setup, log, ring, places) {
-        Ok(lanes) => Ok(run_lanes(rt, alloc, lanes, rooms, bodies, gate, line, turns)),
+        Ok(lanes) => Ok(lanes_in_threads(rt, alloc, lanes, rooms, bodies, gate, line, turns)),
         Err((fault, log, history)) => {
             rooms.give_up();
             Err((fault, log, bodies, line, history))

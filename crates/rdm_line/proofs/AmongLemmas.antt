@@ -7,7 +7,7 @@ use Rattle.std.proofs.lemmas.Bool.{eq-eqb, lt-ltb}
 use Rattle.std.proofs.lemmas.List.Folds.{list_any_at}
 use Rattle.std.proofs.lemmas.List.Sorted.{searched}
 use Rattle.rdm_wire.specs.Uid.{has}
-use Rattle.rdm_wire.proofs.SetLemmas.{has-at_place}
+use Rattle.rdm_wire.proofs.SetLemmas.{has-at_insertion}
 use Rattle.rdm_line.specs.Sim.{is_among, last_exchange}
 
 -- what a search by halves says
@@ -21,7 +21,7 @@ has-searched numbers u (Err i) ascending found =
     let at : (i ≤ length numbers) × ((k : ℕ) → k < i → get_or numbers k 0 < u)
     × ((k : ℕ) → i ≤ k → k < length numbers → u < get_or numbers k 0) =
     searched numbers u (Err i) found (λ j k. ascending j k 0) in
-    has-at_place u numbers i (record { within = at.0; below = at.1; above = at.2 })
+    has-at_insertion u numbers i (record { within = at.0; below = at.1; above = at.2 })
 
 pub among-searched : (numbers : List ℕ) (u : ℕ) (r : Result ℕ ℕ) → IsNonDecreasing numbers
     → IsBinarySearchResult (λ v. nat_cmp v u) numbers r → u < last_exchange → is_ok r ≡ is_among u numbers

@@ -15,7 +15,7 @@ use Rattle.rdm_join.specs.Exchange.{bytes_heard}
 use Rattle.rdm_line.specs.Scenes.{IsScene, device_at, is_present, is_before, present_at}
 use Rattle.rdm_line.specs.Sim.{SimState, IsSoundState, FailsOnly, Exchanges, is_among, next_exchange, last_exchange}
 use Rattle.rdm_line.specs.SimSound.{from_of}
-use Rattle.rdm_line.specs.SimRuns.{Step, IsRun, present_in, seen_in, LosesBranch, LosesMute, NeverFive, LosesFew}
+use Rattle.rdm_line.specs.SimSteps.{Step, AreSteps, present_in, seen_in, LosesBranch, LosesMute, NeverFive, LosesFew}
 use Rattle.rdm_line.specs.declared.scene.SceneDevice.{SceneDevice}
 use Rattle.rdm_line.proofs.SoundLemmas.{IsDeviceAt, device_at_is}
 use Rattle.rdm_line.proofs.PresenceLemmas.{present_set, present_is, muted_among}
@@ -209,7 +209,8 @@ tracks_after done x next k earlier last ls sound t leaves after = record {
 }
 
 -- the rest of a run
-chain : (done rest : List Step) (s new : SimState) (k : ℕ) (earlier last : List ℕ) (ls : LineState) → IsRun s rest new
+chain : (done rest : List Step) (s new : SimState) (k : ℕ) (earlier last : List ℕ) (ls : LineState)
+    → AreSteps s rest new
     → LosesFew (done ++ rest) → Tracks done s k earlier last ls
     → ChainOver earlier last ls (map present_in rest) (map seen_in rest)
 chain done [] s new k earlier last ls run few t = tt
@@ -256,12 +257,12 @@ chain done (x ∷ rest) s new k earlier last ls run few t =
         )
 
 -- each set is a device set
-sets_of_run : (xs : List Step) (s new : SimState) → IsRun s xs new → AllByRecursion IsDeviceSet (map present_in xs)
+sets_of_run : (xs : List Step) (s new : SimState) → AreSteps s xs new → AllByRecursion IsDeviceSet (map present_in xs)
 sets_of_run [] s new run = tt
 sets_of_run (x ∷ xs) s new run =
     (present_set x.before.devices x.before.exchanges run.2.sound.scene, sets_of_run xs run.1 new run.3)
 
-pub honest_run : (s new : SimState) (xs : List Step) → IsRun s xs new → LosesFew xs
+pub honest_run : (s new : SimState) (xs : List Step) → AreSteps s xs new → LosesFew xs
     → HonestOver (map present_in xs) (map seen_in xs)
 honest_run s new [] run few = record {
   one_each = refl;

@@ -34,7 +34,7 @@ use Rattle.rdm_join.specs.declared.event.LineEvent.TheVariants.{Reply}
 use Rattle.rdm_line.specs.Scenes.{IsSceneDevice, uids_of_scene, device_at}
 use Rattle.rdm_line.specs.Sim.{SimState, IsSoundState, Exchanges, Acts, ActsOn, AnswersBranch, KeepsSilent, Mutes}
 use Rattle.rdm_line.specs.Sim.{answering, is_among, counted}
-use Rattle.rdm_line.specs.SimRuns.{Step, present_in, seen_in, LosesBranch, LosesMute}
+use Rattle.rdm_line.specs.SimSteps.{Step, present_in, seen_in, LosesBranch, LosesMute}
 use Rattle.rdm_line.specs.declared.scene.SceneDevice.{SceneDevice}
 use Rattle.rdm_line.proofs.AnsweringLemmas.{reply_some}
 use Rattle.rdm_line.proofs.SoundLemmas.{IsDeviceAt, device_at_is, has-with_uid}
@@ -231,7 +231,7 @@ acknowledged d u so tn same in_range from_range tn_range = record {
       dest = from_range;
       source = subst (λ v. v < 2 ^ 48) (sym same) in_range;
       tn = tn_range;
-      port = omega arith;
+      port_or_type = omega arith;
       count = omega arith;
       sub_device = omega arith;
       class = omega arith;

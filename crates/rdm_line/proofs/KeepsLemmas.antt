@@ -22,7 +22,7 @@ use Rattle.rdm_join.specs.declared.event.LineEvent.TheVariants.{Reply, Failed}
 use Rattle.rdm_line.specs.Events.{Exchange, Makes}
 use Rattle.rdm_line.specs.Scenes.{IsScene, Stays, present_at, uids_of_scene}
 use Rattle.rdm_line.specs.Sim.{SimState, SimStep, FailsOnly, Exchanges, is_among, counted}
-use Rattle.rdm_line.specs.SimRuns.{Step, IsRun, LosesFew, KeepsScene, FailsAsNamed, present_in, seen_in}
+use Rattle.rdm_line.specs.SimSteps.{Step, AreSteps, LosesFew, KeepsScene, FailsAsNamed, present_in, seen_in}
 use Rattle.rdm_line.specs.declared.scene.SceneDevice.{SceneDevice}
 use Rattle.rdm_line.proofs.HonestRuns.{honest_run}
 use Rattle.rdm_line.proofs.LeavesLemmas.{acts_leave}
@@ -54,13 +54,13 @@ step_keeps s x next step = by_rule (is_among s.exchanges s.fails) step.rule
         }
 
 -- so does a run, at its end and before each step
-pub run_keeps : (s new : SimState) (xs : List Step) → IsRun s xs new → KeepsScene s new
+pub run_keeps : (s new : SimState) (xs : List Step) → AreSteps s xs new → KeepsScene s new
 run_keeps s new [] run = subst (KeepsScene s) (sym run) (keeps_itself s)
 run_keeps s new (x ∷ xs) run =
     keeps_on s run.1 new (subst (λ t. KeepsScene t run.1) run.0 (step_keeps x.before x.exchange run.1 run.2))
     (run_keeps run.1 new xs run.3)
 
-keeps_from : (first s new : SimState) (xs : List Step) → KeepsScene first s → IsRun s xs new
+keeps_from : (first s new : SimState) (xs : List Step) → KeepsScene first s → AreSteps s xs new
     → AllByRecursion (λ x. KeepsScene first x.before) xs
 keeps_from first s new [] k run = tt
 keeps_from first s new (x ∷ xs) k run =
@@ -70,7 +70,8 @@ keeps_from first s new (x ∷ xs) k run =
           (keeps_on first x.before run.1 here (step_keeps x.before x.exchange run.1 run.2)) run.3,
     )
 
-pub each_keeps : (s new : SimState) (xs : List Step) → IsRun s xs new → AllByRecursion (λ x. KeepsScene s x.before) xs
+pub each_keeps : (s new : SimState) (xs : List Step) → AreSteps s xs new
+    → AllByRecursion (λ x. KeepsScene s x.before) xs
 each_keeps s new xs run = keeps_from s s new xs (keeps_itself s) run
 
 -- an exchange fails exactly when its number is named
@@ -88,7 +89,7 @@ step_fails s x next step = by_rule (is_among s.exchanges s.fails) step.rule
     by_rule true h = (λ failed. refl, λ named. h.failed)
     by_rule false h = (λ failed. absurd (reply_is x.1 false h failed), λ named. absurd (true≢false (sym named)))
 
-fails_from : (first : List ℕ) (s new : SimState) (xs : List Step) → s.fails ≡ first → IsRun s xs new
+fails_from : (first : List ℕ) (s new : SimState) (xs : List Step) → s.fails ≡ first → AreSteps s xs new
     → AllByRecursion (FailsAsNamed first) xs
 fails_from first s new [] same run = tt
 fails_from first s new (x ∷ xs) same run =
@@ -97,7 +98,7 @@ fails_from first s new (x ∷ xs) same run =
       fails_from first run.1 new xs ((step_keeps x.before x.exchange run.1 run.2).fails ∙ here) run.3,
     )
 
-pub run_fails : (s new : SimState) (xs : List Step) → IsRun s xs new → AllByRecursion (FailsAsNamed s.fails) xs
+pub run_fails : (s new : SimState) (xs : List Step) → AreSteps s xs new → AllByRecursion (FailsAsNamed s.fails) xs
 run_fails s new xs run = fails_from s.fails s new xs refl run
 
 -- bytes that came are never heard as a failure
@@ -132,7 +133,7 @@ sound_from (x ∷ xs) all = (
   sound_from xs all.1,
 )
 
-pub run_sound : (s new : SimState) (xs : List Step) → IsRun s xs new → s.fails ≡ []
+pub run_sound : (s new : SimState) (xs : List Step) → AreSteps s xs new → s.fails ≡ []
     → AllByRecursion (λ x. (seen_in x).heard ≢ HeardFailed) xs
 run_sound s new xs run none =
     sound_from xs (subst (λ named. AllByRecursion (FailsAsNamed named) xs) none (run_fails s new xs run))
@@ -156,7 +157,7 @@ each_present devices first (x ∷ xs) all = (all.0.present, each_present devices
 
 -- so such a line is the honest one of its devices
 pub staying_honest : (s new : SimState) (xs : List Step) → IsScene s.devices → AllByRecursion Stays s.devices
-    → IsRun s xs new → LosesFew xs → HonestTrace (uids_of_scene s.devices) (map seen_in xs)
+    → AreSteps s xs new → LosesFew xs → HonestTrace (uids_of_scene s.devices) (map seen_in xs)
 staying_honest s new xs scene stay run few =
     (trace-over (uids_of_scene s.devices) (map seen_in xs) scene.uids).1
     (subst (λ n. HonestOver (replicate n (uids_of_scene s.devices)) (map seen_in xs)) (sym (length-map xs seen_in))
@@ -164,9 +165,9 @@ staying_honest s new xs scene stay run few =
     (same_sets s.devices xs stay (each_present s.devices s xs (each_keeps s new xs run)))
     (honest_run s new xs run few)))
 
--- the steps that a line made one after another are a run
+-- what a line did one after another are its steps
 pub made_run : (s new : SimState) (xs : List Exchange) → Makes SimState SimStep s xs new → (steps : List Step)
-    × IsRun s steps new × (map (λ x. x.exchange) steps ≡ xs)
+    × AreSteps s steps new × (map (λ x. x.exchange) steps ≡ xs)
 made_run s new [] made = ([], made, refl)
 made_run s new (x ∷ xs) made =
     let later = made_run made.0 new xs made.2 in

@@ -10,12 +10,12 @@ use Rattle.rdm_line.specs.Parameters.{ParameterState, parameter_of, part_of, ack
 use Rattle.rdm_line.specs.body.Parts.{index_of, AnswersPart}
 
 -- where there is none, and where it stands
-pub record IsPlace (pid : ℕ) (ps : List ParameterState) (i : ℕ) : Type 0 where
+pub record IsIndexOf (pid : ℕ) (ps : List ParameterState) (i : ℕ) : Type 0 where
   pub absent : length ps ≤ i → (parameter_of pid ps ≡ None) × (sent_of pid ps ≡ ps)
   pub found : (d : ParameterState) → i < length ps → (parameter_of pid ps ≡ Some (get_or ps i d))
       × (sent_of pid ps ≡ set ps i (part_sent (get_or ps i d)))
 
-pub index_is : (pid : ℕ) (ps : List ParameterState) → IsPlace pid ps (index_of pid ps)
+pub index_is : (pid : ℕ) (ps : List ParameterState) → IsIndexOf pid ps (index_of pid ps)
 index_is pid [] = record { absent = λ p. (refl, refl); found = λ d p. absurd (omega arith) }
 index_is pid (p ∷ ps) = after (index_is pid ps) (p.pid == pid) refl
   where
@@ -25,13 +25,13 @@ index_is pid (p ∷ ps) = after (index_is pid ps) (p.pid == pid) refl
     first : (p.pid == pid) ≡ true → index_of pid (p ∷ ps) ≡ 0
     first is = rw is refl
 
-    after : IsPlace pid ps (index_of pid ps) → (t : Bool) → (p.pid == pid) ≡ t
-        → IsPlace pid (p ∷ ps) (index_of pid (p ∷ ps))
-    after rest true is = subst (IsPlace pid (p ∷ ps)) (sym (first is)) (record {
+    after : IsIndexOf pid ps (index_of pid ps) → (t : Bool) → (p.pid == pid) ≡ t
+        → IsIndexOf pid (p ∷ ps) (index_of pid (p ∷ ps))
+    after rest true is = subst (IsIndexOf pid (p ∷ ps)) (sym (first is)) (record {
       absent = λ q. absurd (omega arith);
       found = λ d q. rw is (refl, refl);
     })
-    after rest false is = subst (IsPlace pid (p ∷ ps)) (sym (later is)) (record {
+    after rest false is = subst (IsIndexOf pid (p ∷ ps)) (sym (later is)) (record {
       absent = λ q. let none = rest.absent (omega arith) in rw is (none.0, ap (λ l. p ∷ l) none.1);
       found = λ d q. let some = rest.found d (omega arith) in rw is (some.0, ap (λ l. p ∷ l) some.1);
     })

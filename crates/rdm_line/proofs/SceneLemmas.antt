@@ -21,13 +21,13 @@ abbrev pub with_params : SceneDevice → List ParameterState → SceneDevice
 with_params d ps = record d { params = ps }
 
 -- the index in a list with one more device in front
-place_after : (d : SceneDevice) (ds : List SceneDevice) (u : ℕ) → nat_lt d.device.uid u ≡ true
+index_after : (d : SceneDevice) (ds : List SceneDevice) (u : ℕ) → nat_lt d.device.uid u ≡ true
     → index_in (d ∷ ds) u ≡ suc (index_in ds u)
-place_after d ds u is = rw is (omega arith)
+index_after d ds u is = rw is (omega arith)
 
-place_first : (d : SceneDevice) (ds : List SceneDevice) (u : ℕ) → nat_lt d.device.uid u ≡ false
+index_first : (d : SceneDevice) (ds : List SceneDevice) (u : ℕ) → nat_lt d.device.uid u ≡ false
     → index_in (d ∷ ds) u ≡ 0
-place_first d ds u is = rw is refl
+index_first d ds u is = rw is refl
 
 -- the device that stands at its index is found there
 record Stands (ds : List SceneDevice) (u i : ℕ) : Type 0 where
@@ -61,12 +61,12 @@ stands (d ∷ ds) u h = by_test (nat_lt d.device.uid u) refl (stands ds u)
     by_test : (t : Bool) → nat_lt d.device.uid u ≡ t
         → (has_at (index_in ds u) u ds ≡ true → Stands ds u (index_in ds u)) → Stands (d ∷ ds) u (index_in (d ∷ ds) u)
     by_test true is rest =
-        let at = place_after d ds u is in
+        let at = index_after d ds u is in
         subst (Stands (d ∷ ds) u) (sym at)
         (stands-after d ds u (index_in ds u) (ltb-true d.device.uid u is)
         (rest (subst (λ i. has_at i u (d ∷ ds) ≡ true) at h)))
     by_test false is rest =
-        let at = place_first d ds u is in
+        let at = index_first d ds u is in
         subst (Stands (d ∷ ds) u) (sym at) (stands-first d ds u (subst (λ i. has_at i u (d ∷ ds) ≡ true) at h))
 
 pub found_at : (ds : List SceneDevice) (u i : ℕ) → i ≡ index_in ds u → has_at i u ds ≡ true → (i < length ds)
@@ -108,13 +108,13 @@ absent (d ∷ ds) u a h = by_test (nat_lt d.device.uid u) refl (absent ds u a.1)
         → IsAbsent (d ∷ ds) u
     by_test true is rest =
         let below : d.device.uid < u = ltb-true d.device.uid u is in
-        let later = rest (subst (λ i. has_at i u (d ∷ ds) ≡ false) (place_after d ds u is) h) in
+        let later = rest (subst (λ i. has_at i u (d ∷ ds) ≡ false) (index_after d ds u is) h) in
         record {
           none = rw (ne_eqb d.device.uid u (omega arith)) later.none;
           not_there = rw (ne_eqb u d.device.uid (omega arith)) later.not_there;
         }
     by_test false is rest =
-        let other : (d.device.uid == u) ≡ false = subst (λ i. has_at i u (d ∷ ds) ≡ false) (place_first d ds u is) h in
+        let other : (d.device.uid == u) ≡ false = subst (λ i. has_at i u (d ∷ ds) ≡ false) (index_first d ds u is) h in
         let at_least : u ≤ d.device.uid = ltb-false d.device.uid u is in
         let differs : d.device.uid ≢ u = eqb-false d.device.uid u other in
         let above : u < d.device.uid = grind (arith, differs) in
@@ -136,8 +136,8 @@ inserted d (e ∷ es) = by_test (nat_lt e.device.uid d.device.uid) refl (inserte
     by_test : (t : Bool) → nat_lt e.device.uid d.device.uid ≡ t
         → insert es (index_in es d.device.uid) d ≡ with_scene_device d es
         → insert (e ∷ es) (index_in (e ∷ es) d.device.uid) d ≡ cond t (e ∷ with_scene_device d es) (d ∷ e ∷ es)
-    by_test true is rest = rw (place_after e es d.device.uid is) (ap (λ l. e ∷ l) rest)
-    by_test false is rest = rw (place_first e es d.device.uid is) refl
+    by_test true is rest = rw (index_after e es d.device.uid is) (ap (λ l. e ∷ l) rest)
+    by_test false is rest = rw (index_first e es d.device.uid is) refl
 
 pub insert_is : (d : SceneDevice) (ds : List SceneDevice) (i : ℕ) → i ≡ index_in ds d.device.uid
     → insert ds i d ≡ with_scene_device d ds
@@ -157,10 +157,10 @@ uids-with d (e ∷ es) h = by_test (nat_lt e.device.uid d.device.uid) refl (uids
         let below : e.device.uid < d.device.uid = ltb-true e.device.uid d.device.uid is in
         rw (le-ltb d.device.uid e.device.uid (omega arith), ne_eqb d.device.uid e.device.uid (omega arith))
         (ap (λ l. e.device.uid ∷ l)
-        (rest (subst (λ i. has_at i d.device.uid (e ∷ es) ≡ false) (place_after e es d.device.uid is) h)))
+        (rest (subst (λ i. has_at i d.device.uid (e ∷ es) ≡ false) (index_after e es d.device.uid is) h)))
     by_test false is rest =
         let other : (e.device.uid == d.device.uid)
-        ≡ false = subst (λ i. has_at i d.device.uid (e ∷ es) ≡ false) (place_first e es d.device.uid is) h in
+        ≡ false = subst (λ i. has_at i d.device.uid (e ∷ es) ≡ false) (index_first e es d.device.uid is) h in
         let at_least : d.device.uid ≤ e.device.uid = ltb-false e.device.uid d.device.uid is in
         let differs : e.device.uid ≢ d.device.uid = eqb-false e.device.uid d.device.uid other in
         let above : d.device.uid < e.device.uid = grind (arith, differs) in

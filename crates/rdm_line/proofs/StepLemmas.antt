@@ -33,15 +33,15 @@ pub answered : (o : Option ParameterState) (answer : Option (ArrayVec ℕ × Ack
     }
     → (o ≡ None → sent_by r.target r.pid s.devices ≡ s.devices)
     → MatchOption o (Refuses s r source tn responses.Get reply new) (λ p. AnswersGet s r source tn p reply new)
-answered None None s new r source tn reply part tells sent none = record {
-  bytes = tells;
+answered None None s new r source tn reply part bytes_are sent none = record {
+  bytes = bytes_are;
   same = sent ∙ ap (λ ds. record s { devices = ds }) (none refl);
 }
-answered None (Some a) s new r source tn reply part tells sent none = absurd (let wrong : ⊥ = cc in wrong)
-answered (Some p) None s new r source tn reply part tells sent none = absurd (let wrong : ⊥ = cc in wrong)
-answered (Some p) (Some a) s new r source tn reply part tells sent none = record {
+answered None (Some a) s new r source tn reply part bytes_are sent none = absurd (let wrong : ⊥ = cc in wrong)
+answered (Some p) None s new r source tn reply part bytes_are sent none = absurd (let wrong : ⊥ = cc in wrong)
+answered (Some p) (Some a) s new r source tn reply part bytes_are sent none = record {
   bytes =
-      tells ∙ ap (λ k. packet (fields_of (response_to r source tn responses.Get k a.0.items))) part.0.1
+      bytes_are ∙ ap (λ k. packet (fields_of (response_to r source tn responses.Get k a.0.items))) part.0.1
       ∙ ap (λ b. packet (fields_of (response_to r source tn responses.Get (ack_of_part p) b))) part.0.0;
   sent = sent;
 }

@@ -1,4 +1,4 @@
--- What is taken byte by byte, and which lines say a reply.
+-- What is consumed byte by byte, and which lines say a reply.
 use Rattle.std.proofs.Common.{◌≡◌, ◌≢◌, ◌⊎◌, inl, inr, ℕ, ◌+◌, ◌-◌, ◌*◌, ◌/◌, ◌≤◌, List, [], ◌∷◌, ◌++◌, All, Option}
 use Rattle.std.proofs.Common.{None, Some, Bor, Result, Ok, Err, false, length, take, drop, nat_eq, unwrap_or, refl}
 use Rattle.std.proofs.Common.{subst, sym, ◌∙◌, ap, append_assoc, arith, true, true≢false}
@@ -14,13 +14,13 @@ use Rattle.std.proofs.lemmas.Slice.Eq.{strip_suffix_is}
 use Rattle.hex.specs.Hex.{decode_of, decode_sized, is_hex_digit}
 use Rattle.hex.specs.declared.error.FromHexError.{FromHexError}
 use Rattle.hex.proofs.HexLemmas.{decode_of-ok, IsOk-decode_sized, IsOk-written}
-use Rattle.rdm_line.specs.Streams.{SaysReply, TakesNoReply, frame_line}
-use Rattle.rdm_line.specs.body.Taking.{IsTextOf, TakesWithin}
+use Rattle.rdm_line.specs.Streams.{SaysReply, ReadsNoReply, frame_line}
+use Rattle.rdm_line.specs.body.LineReading.{IsTextOf, ReadsWithin}
 
 -- one more byte, which is no newline
-pub takes_more : (a b c : Option (List ℕ)) (text : List ℕ) (x : ℕ) → All (λ y. y ≢ 10) text → x ≢ 10
+pub reads_more : (a b c : Option (List ℕ)) (text : List ℕ) (x : ℕ) → All (λ y. y ≢ 10) text → x ≢ 10
     → Consumes a b text → Consumes b c (x ∷ []) → All (λ y. y ≢ 10) (text ++ x ∷ []) × Consumes a c (text ++ x ∷ [])
-takes_more a b c text x all other first then = (
+reads_more a b c text x all other first then = (
   All-append (λ y. y ≢ 10) text (x ∷ []) all (All-cons (λ y. y ≢ 10) x [] other (All-nil (λ y. y ≢ 10))),
   Consumes-trans a b c text (x ∷ []) first then,
 )
@@ -35,11 +35,11 @@ says_length line bytes (text, ends, decodes, few) =
     ]
 
 -- a line that is too long says no reply, whatever follows
-pub takes_long : (a b c d : Option (List ℕ)) (text : List ℕ) (x : ℕ) → 515 ≤ length text → All (λ y. y ≢ 10) text
+pub reads_long : (a b c d : Option (List ℕ)) (text : List ℕ) (x : ℕ) → 515 ≤ length text → All (λ y. y ≢ 10) text
     → x ≢ 10
-    → Consumes a b text → Consumes b c (x ∷ []) → TakesWithin c d → TakesNoReply a d
-takes_long a b c d text x long all other first then (rest, others, ends) =
-    let more = takes_more a b c text x all other first then in
+    → Consumes a b text → Consumes b c (x ∷ []) → ReadsWithin c d → ReadsNoReply a d
+reads_long a b c d text x long all other first then (rest, others, ends) =
+    let more = reads_more a b c text x all other first then in
     let line : List ℕ = text ++ x ∷ [] in (
       line ++ rest,
       All-append (λ y. y ≢ 10) line rest more.0 others,
@@ -82,11 +82,11 @@ pub reads_none : (line text : List ℕ) (n : ℕ) (r : Result Unit FromHexError)
     → n ≡ length text / 2
     → MatchResult (decode_sized text n) (λ bytes. (r ≡ Ok tt) × (out ≡ bytes)) (λ e. r ≡ Err e) → (IsOk r → ⊥)
     → (bytes : List ℕ) → SaysReply line bytes → ⊥
-reads_none line text n r out is half told bad =
+reads_none line text n r out is half decoded bad =
     says_none line text is (λ bytes decodes.
     let digits = decode_of-ok text bytes decodes in
     let twice : length text ≡ 2 * n = omega (arith, digits.2, half) in
-    bad ((IsOk-written (decode_sized text n) r out told).1 ((IsOk-decode_sized text n).1 (twice, digits.1))))
+    bad ((IsOk-written (decode_sized text n) r out decoded).1 ((IsOk-decode_sized text n).1 (twice, digits.1))))
 
 -- what `strip_suffix` leaves of a line is its text
 pub text_is : (line : Bor (List ℕ)) (r : Option (Bor (List ℕ)))
@@ -102,7 +102,7 @@ pub unanswered : {X : Type 0} (r : Option X) (left after held holds : Option (Li
     → text ≡ line
     → Appends held holds (frame_line frame) → All (λ y. y ≢ 10) line → Consumes left after (line ++ 10 ∷ [])
     → IfNone r ((bytes : List ℕ) → SaysReply text bytes → ⊥)
-    → IfNone r ((after ≡ left) ⊎ (Appends held holds (frame_line frame) × TakesNoReply left after))
-unanswered None left after held holds frame line text same written all taken none =
-    inr (written, (line, all, inr (taken, subst (λ l. (bytes : List ℕ) → SaysReply l bytes → ⊥) same none)))
-unanswered (Some x) left after held holds frame line text same written all taken none = tt
+    → IfNone r ((after ≡ left) ⊎ (Appends held holds (frame_line frame) × ReadsNoReply left after))
+unanswered None left after held holds frame line text same written all consumed none =
+    inr (written, (line, all, inr (consumed, subst (λ l. (bytes : List ℕ) → SaysReply l bytes → ⊥) same none)))
+unanswered (Some x) left after held holds frame line text same written all consumed none = tt

@@ -5,6 +5,6 @@ pub mod Scenes
 pub mod Tape
 pub mod Sim
 pub mod SimSound
-pub mod SimRuns
+pub mod SimSteps
 pub mod Streams
 pub mod body

@@ -25,13 +25,13 @@ SaysReply line bytes =
     × (length bytes ≤ 257)
 
 -- one line was read with its newline, and it encodes these bytes
-abbrev pub TakesReply : Option (List ℕ) → Option (List ℕ) → List ℕ → Type 0
-TakesReply left after bytes =
+abbrev pub ReadsReply : Option (List ℕ) → Option (List ℕ) → List ℕ → Type 0
+ReadsReply left after bytes =
     (line : List ℕ) × All (λ b. b ≢ 10) line × Consumes left after (line ++ 10 ∷ []) × SaysReply line bytes
 
 -- a part of a line was read, or one line with its newline, which encodes no bytes
-abbrev pub TakesNoReply : Option (List ℕ) → Option (List ℕ) → Type 0
-TakesNoReply left after =
+abbrev pub ReadsNoReply : Option (List ℕ) → Option (List ℕ) → Type 0
+ReadsNoReply left after =
     (line : List ℕ)
     × All (λ b. b ≢ 10) line
     × (Consumes left after line
@@ -40,12 +40,12 @@ TakesNoReply left after =
 -- no reply came to this frame: nothing was read, or the frame's line was written first
 abbrev pub GoesUnanswered : StreamState → List ℕ → StreamState → Type 0
 GoesUnanswered old frame new =
-    (new.left ≡ old.left) ⊎ (Appends old.held new.held (frame_line frame) × TakesNoReply old.left new.left)
+    (new.left ≡ old.left) ⊎ (Appends old.held new.held (frame_line frame) × ReadsNoReply old.left new.left)
 
 -- A reply is read from one line, after the frame's line was written. A failure reads no reply. At the greatest count of
 -- failures a failure is silence.
 abbrev pub StreamStep : StreamState → Exchange → StreamState → Type 0
 StreamStep old (frame, Failed) new = GoesUnanswered old frame.items new
 StreamStep old (frame, Reply reply) new =
-    (Appends old.held new.held (frame_line frame.items) × TakesReply old.left new.left reply.items)
+    (Appends old.held new.held (frame_line frame.items) × ReadsReply old.left new.left reply.items)
     ⊎ ((old.failures ≡ 2 ^ 64 - 1) × (reply.items ≡ []) × GoesUnanswered old frame.items new)

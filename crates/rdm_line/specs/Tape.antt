@@ -10,9 +10,9 @@ pub record TapeState : Type 0 where
   pub failures : ℕ
 
 -- the next event; after the last one each exchange fails
-abbrev pub front_event : List LineEvent → LineEvent
-front_event [] = Failed
-front_event (event ∷ events) = event
+abbrev pub first_event : List LineEvent → LineEvent
+first_event [] = Failed
+first_event (event ∷ events) = event
 
 -- the events after the next one
 abbrev pub later_events : List LineEvent → List LineEvent
@@ -20,14 +20,14 @@ later_events [] = []
 later_events (event ∷ events) = events
 
 -- what an exchange returns for an event, and the count of failures after it. At the greatest count a failure is silence
-abbrev pub IsTold : LineEvent → ℕ → LineEvent → ℕ → Type 0
-IsTold (Reply reply) failures told counted = (told ≡ Reply reply) × (counted ≡ failures)
-IsTold Failed failures told counted =
+abbrev pub IsReturned : LineEvent → ℕ → LineEvent → ℕ → Type 0
+IsReturned (Reply reply) failures returned counted = (returned ≡ Reply reply) × (counted ≡ failures)
+IsReturned Failed failures returned counted =
     MatchBool (failures == 0xffffffffffffffff)
-    ((told ≡ Reply (record { items = [] })) × (counted ≡ failures))
-    ((told ≡ Failed) × (counted ≡ failures + 1))
+    ((returned ≡ Reply (record { items = [] })) × (counted ≡ failures))
+    ((returned ≡ Failed) × (counted ≡ failures + 1))
 
 -- the events come in order, whatever the frames are
 pub record TapeStep (old : TapeState) (x : Exchange) (new : TapeState) : Type 0 where
-  pub told : IsTold (front_event old.left) old.failures x.1 new.failures
+  pub returned : IsReturned (first_event old.left) old.failures x.1 new.failures
   pub left : new.left ≡ later_events old.left

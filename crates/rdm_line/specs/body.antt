@@ -1,4 +1,4 @@
 -- What only the proofs need.
-pub mod Taking
+pub mod LineReading
 pub mod SceneIndices
 pub mod Parts

@@ -2,8 +2,8 @@
 ghost use Rattle.std.specs.Prelude.{◌≡◌, ◌≢◌, ◌≤◌, ℕ, List, [], ◌∷◌, ◌++◌, length};
 ghost use Rattle.std.specs.Prelude.{OnOk, OnSome, IfSome, IfNone, All};
 ghost use Rattle.std.specs.Io.KnownBytes.{Appends, Consumes};
-ghost use Rattle.rdm_line.specs.Streams.{StreamStep, SaysReply, TakesReply, TakesNoReply, GoesUnanswered, frame_line};
-ghost use Rattle.rdm_line.specs.body.Taking.{IsTextOf, TakesWithin};
+ghost use Rattle.rdm_line.specs.Streams.{StreamStep, SaysReply, ReadsReply, ReadsNoReply, GoesUnanswered, frame_line};
+ghost use Rattle.rdm_line.specs.body.LineReading.{IsTextOf, ReadsWithin};
 
 use crate::line::{Line, LineFault};
 use arrayvec::ArrayVec;
@@ -77,7 +77,7 @@ impl<R: Read, W: Write> StreamLine<R, W> {
     // Writes the frame and reads its reply; None if the exchange failed.
     fn ask(&mut self, frame: &Frame) -> Option<LineReply>
         ensures written { OnSome result (Appends self.old.held self.new.held (frame_line frame.now.items)) }
-        ensures taken { IfSome result (λ reply. TakesReply self.old.left self.new.left reply.items) }
+        ensures consumed { IfSome result (λ reply. ReadsReply self.old.left self.new.left reply.items) }
         ensures none { IfNone result (GoesUnanswered self.old frame.now.items self.new) }
         ensures failures { self.new.failures ≡ self.old.failures }
     {
@@ -140,10 +140,10 @@ fn next_byte<R: Read>(reader: &mut R) -> Option<u8>
 // The next line, without its newline; None if it is longer than a reply's may be, has no newline, or if the reader
 // fails. A line that is too long is read to its end.
 fn read_line<R: Read>(reader: &mut R) -> Option<Text>
-    ensures taken { IfSome result (λ line. Consumes (R.remaining reader.old) (R.remaining reader.new)
+    ensures consumed { IfSome result (λ line. Consumes (R.remaining reader.old) (R.remaining reader.new)
         (line.items ++ 10 ∷ [])) }
     ensures one { IfSome result (λ line. All (λ b. b ≢ 10) line.items) }
-    ensures none { IfNone result (TakesNoReply (R.remaining reader.old) (R.remaining reader.new)) }
+    ensures none { IfNone result (ReadsNoReply (R.remaining reader.old) (R.remaining reader.new)) }
 {
     let mut line = ArrayVec::new();
     'bytes: for _ in 0..MOST_LINE_BYTES + 1 {
@@ -162,7 +162,7 @@ fn read_line<R: Read>(reader: &mut R) -> Option<Text>
 
 // Reads up to the end of the line.
 fn skip_line<R: Read>(reader: &mut R)
-    ensures { TakesWithin (R.remaining reader.old) (R.remaining reader.new) }
+    ensures { ReadsWithin (R.remaining reader.old) (R.remaining reader.new) }
 {
     'rest: for _ in 0..u64::MAX {
         match next_byte(reader) {

@@ -1,6 +1,6 @@
 //! A line that replays events.
 ghost use Rattle.std.specs.Prelude.{◌≡◌};
-ghost use Rattle.rdm_line.specs.Tape.{TapeStep, front_event, later_events};
+ghost use Rattle.rdm_line.specs.Tape.{TapeStep, first_event, later_events};
 
 use crate::line::{Line, LineFault};
 use arrayvec::ArrayVec;
@@ -40,7 +40,7 @@ impl TapeLine {
 
     // Takes the next event off the tape. After the last one the line fails.
     fn next_event(&mut self) -> LineEvent
-        ensures event { result ≡ front_event self.old.left }
+        ensures event { result ≡ first_event self.old.left }
         ensures rest { self.new ≡ record self.old { left = later_events self.old.left } }
     {
         let Some(event) = self.events.get(self.next) else {

@@ -14,14 +14,14 @@ module _ {C A : Type 0} where
       (new : Held C A) : Type 0 where
     pub called : OldestCalled calls old.requests told.done told
     pub tells : spent tag_of old.requests told.done ≡ Some told
-    pub taken : new ≡ record old { requests = drop 1 old.requests }
+    pub removed : new ≡ record old { requests = drop 1 old.requests }
 
   -- the same for a discovery's
   pub record CollectsDiscovery (calls : A → AskCompletion → AskTold → Type 0) (tag_of : A → ℕ) (old : Held C A)
       (told : AskTold) (new : Held C A) : Type 0 where
     pub called : OldestCalled calls old.asks told.done told
     pub tells : ask_spent tag_of old.asks told.done ≡ Some told
-    pub taken : new ≡ record old { asks = drop 1 old.asks }
+    pub removed : new ≡ record old { asks = drop 1 old.asks }
 
   -- the oldest callback of one kind was called, returned this, and is no longer held
   abbrev pub Collects : (C → Completion → Told → Type 0) → (C → ℕ) → (A → AskCompletion → AskTold → Type 0) → (A → ℕ)

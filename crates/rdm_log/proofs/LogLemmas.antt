@@ -1,6 +1,6 @@
 -- How what a log says changes with each entry, and what holds for each legal log.
 pub mod Grows
-pub mod Places
+pub mod Indices
 pub mod Counts
 pub mod PushLemmas
 pub mod ExchangeLemmas

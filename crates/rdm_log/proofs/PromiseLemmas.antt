@@ -12,7 +12,7 @@ pub mod OneRunServes
 pub mod RunsAnswer
 pub mod OutcomeLemmas
 pub mod StableOutcomes
-pub mod TellsTheLine
+pub mod AnswersReportTheLine
 pub mod AnsweredInOrder
 pub mod OwnDiscoveries
 pub mod Promises

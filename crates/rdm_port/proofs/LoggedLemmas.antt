@@ -1,4 +1,4 @@
--- What a log has got while a command was answered, and what is told of it.
+-- What a log has got while a command was answered, and what is printed of it.
 use Rattle.std.proofs.Common.{◌≡◌, ◌⊎◌, inl, inr, ℕ, Bool, true, false, List, [], Option, None, Result, Ok, Err, refl}
 use Rattle.std.proofs.Common.{sym, ap, subst, ◌∙◌}
 use Rattle.std.specs.Prelude.{IfOk, IfErr, OnErr}
@@ -10,7 +10,7 @@ use Rattle.rdm_reports.proofs.WritingLemmas.{kept_appends}
 use Rattle.rdm_port.specs.Fault.{fault_line, fault_status}
 use Rattle.rdm_port.specs.Outcome.{Answers, IsLogUnreported, IsLogged, IsLoggedWith, IsPrinted, has_log}
 use Rattle.rdm_words.specs.Words.{keeps_log}
-use Rattle.rdm_port.specs.body.Logged.{IsOpened, IsTold, HasLogged, failed_or, status_after}
+use Rattle.rdm_port.specs.body.Logged.{IsOpened, HasTextAndStatus, HasLogged, failed_or, status_after}
 use Rattle.rdm_port.specs.body.Texts.{answer_bytes}
 use Rattle.rdm_port.specs.declared.answer.Answered.{Answered}
 use Rattle.rdm_port.specs.declared.fault.Fault.{Fault}
@@ -85,10 +85,11 @@ pub printed_after : {E : Type 0} (r : Result Answered (Fault × E)) (Done : List
     → IfErr r (λ e. (logged : List ℕ) × With e.0 logged × HasLogged wanted old new logged)
     → IfOk r (λ a. IsPrinted was is (answer_bytes a.text) (status_after new a.status) result)
     → IfErr r (λ e. IsPrinted was is (line_of (fault_line e.0)) (status_after new (fault_status e.0)) result)
-    → (text logged : List ℕ) × (status told : ℕ)
+    → (text logged : List ℕ) × (status status_printed : ℕ)
     × (Done text logged status ⊎ ((fault : Fault) × Failed fault × (text ≡ line_of (fault_line fault))
     × With fault logged × (status ≡ fault_status fault)))
-    × IsLogged wanted old.contents new.contents logged status told × IsPrinted was is text told result
+    × IsLogged wanted old.contents new.contents logged status status_printed
+    × IsPrinted was is text status_printed result
 printed_after (Ok a) Done Failed With wanted old new was is result (logged, done, has) _ _ printed _ = (
   answer_bytes a.text,
   logged,
@@ -174,36 +175,37 @@ fault_logged (Err e) command job known wanted old new is keeps (logged, kept, ha
   subst (λ c. HasLogged (has_log c) old new logged) (sym is) (subst (λ w. HasLogged w old new logged) keeps has),
 )
 
--- what is told of an answer, and then printed
-pub told_printed : (told after : Answered) (log : LogState) (was is : Option (List ℕ)) (text : List ℕ)
-    (status result : ℕ) → IsTold told text status
-    → answer_bytes after.text ≡ answer_bytes told.text → after.status ≡ status_after log told.status
+-- what is printed of an answer
+pub text_printed : (to_print after : Answered) (log : LogState) (was is : Option (List ℕ)) (text : List ℕ)
+    (status result : ℕ) → HasTextAndStatus to_print text status
+    → answer_bytes after.text ≡ answer_bytes to_print.text → after.status ≡ status_after log to_print.status
     → IsPrinted was is (answer_bytes after.text) after.status result
     → IsPrinted was is text (status_after log status) result
-told_printed told after log was is text status result of text_kept status_kept printed =
+text_printed to_print after log was is text status result of text_kept status_kept printed =
     subst (λ t. IsPrinted was is t (status_after log status) result) (text_kept ∙ of.text_is)
     (subst (λ s. IsPrinted was is (answer_bytes after.text) s result) (status_kept ∙ ap (status_after log) of.status_is)
     printed)
 
-pub answer_printed : {E : Type 0} (r : Result Answered (Fault × E)) (told after : Answered) (log : LogState)
+pub answer_printed : {E : Type 0} (r : Result Answered (Fault × E)) (to_print after : Answered) (log : LogState)
     (was is : Option (List ℕ)) (result : ℕ)
-    → IfOk r (λ a. IsTold told (answer_bytes a.text) a.status) → answer_bytes after.text ≡ answer_bytes told.text
-    → after.status ≡ status_after log told.status
+    → IfOk r (λ a. HasTextAndStatus to_print (answer_bytes a.text) a.status)
+    → answer_bytes after.text ≡ answer_bytes to_print.text
+    → after.status ≡ status_after log to_print.status
     → IsPrinted was is (answer_bytes after.text) after.status result
     → IfOk r (λ a. IsPrinted was is (answer_bytes a.text) (status_after log a.status) result)
-answer_printed (Err e) told after log was is result of text_kept status_kept printed = tt
-answer_printed (Ok a) told after log was is result of text_kept status_kept printed =
-    told_printed told after log was is (answer_bytes a.text) a.status result of text_kept status_kept printed
+answer_printed (Err e) to_print after log was is result of text_kept status_kept printed = tt
+answer_printed (Ok a) to_print after log was is result of text_kept status_kept printed =
+    text_printed to_print after log was is (answer_bytes a.text) a.status result of text_kept status_kept printed
 
-pub fault_printed : {E : Type 0} (r : Result Answered (Fault × E)) (told after : Answered) (log : LogState)
+pub fault_printed : {E : Type 0} (r : Result Answered (Fault × E)) (to_print after : Answered) (log : LogState)
     (was is : Option (List ℕ)) (result : ℕ)
-    → IfErr r (λ e. IsTold told (line_of (fault_line e.0)) (fault_status e.0))
-    → answer_bytes after.text ≡ answer_bytes told.text → after.status ≡ status_after log told.status
+    → IfErr r (λ e. HasTextAndStatus to_print (line_of (fault_line e.0)) (fault_status e.0))
+    → answer_bytes after.text ≡ answer_bytes to_print.text → after.status ≡ status_after log to_print.status
     → IsPrinted was is (answer_bytes after.text) after.status result
     → IfErr r (λ e. IsPrinted was is (line_of (fault_line e.0)) (status_after log (fault_status e.0)) result)
-fault_printed (Ok a) told after log was is result of text_kept status_kept printed = tt
-fault_printed (Err e) told after log was is result of text_kept status_kept printed =
-    told_printed told after log was is (line_of (fault_line e.0)) (fault_status e.0) result of text_kept status_kept
+fault_printed (Ok a) to_print after log was is result of text_kept status_kept printed = tt
+fault_printed (Err e) to_print after log was is result of text_kept status_kept printed =
+    text_printed to_print after log was is (line_of (fault_line e.0)) (fault_status e.0) result of text_kept status_kept
     printed
 
 -- a discovery that fails before its log is opened

@@ -14,7 +14,7 @@ use Rattle.rdm_agent.specs.declared.search.Search.{Search}
 use Rattle.rdm_agent.specs.declared.search.Search.TheVariants.{Steady, Quick}
 use Rattle.rdm_agent.specs.declared.kind.Kind.{Kind}
 use Rattle.rdm_agent.specs.declared.kind.Kind.TheVariants.{Full, Incremental}
-use Rattle.rdm_line.specs.SimRuns.{NoFiveSuccessive}
+use Rattle.rdm_line.specs.SimSteps.{NoFiveSuccessive}
 use Rattle.rdm_words.specs.declared.job.Job.{Job}
 use Rattle.rdm_words.specs.declared.job.Job.TheVariants.{Decode, Encode, Discover, Run}
 use Rattle.rdm_words.specs.declared.job.WordsFault.{WordsFault}
@@ -142,7 +142,7 @@ abbrev pub IsPrinted : Option (List ℕ) → Option (List ℕ) → List ℕ → 
 IsPrinted old new text status result =
     ((result ≡ status) × Appends old new text) ⊎ ((result ≡ 1) × IsCutShort old new text)
 
--- the same for a log, if there is one; if there is none, nothing is written
+-- a log is written like a text, if there is one; if there is none, nothing is written, and the result is the status
 abbrev pub IsLogged : Bool → Option (List ℕ) → Option (List ℕ) → List ℕ → ℕ → ℕ → Type 0
 IsLogged false old new text status result = (result ≡ status) × Keeps old new
 IsLogged true old new text status result = IsPrinted old new text status result

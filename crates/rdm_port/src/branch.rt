@@ -22,14 +22,14 @@ pub fn decode<'a>(alloc: Global, digits: &'a str) -> Result<Answered<'a>, Refuse
     ensures fault { IfErr result (λ e. IsDecodeFault digits.now e.0) }
 {
     match hex::decode(alloc, digits) {
-        Ok(bytes) => Ok(told(read_branch_reply(&bytes))),
+        Ok(bytes) => Ok(to_print(read_branch_reply(&bytes))),
         Err(FromHexError::OutOfMemory) => Err((Fault::Memory, None)),
         Err(_) => Err((Fault::Hex, Some(Reason::NoBytes(digits)))),
     }
 }
 
 // How a reply to a branch is printed.
-fn told<'a>(reply: BranchReply) -> Answered<'a>
+fn to_print<'a>(reply: BranchReply) -> Answered<'a>
     ensures text { answer_bytes result.text ≡ line_of (reply_text reply) }
     ensures status { result.status ≡ 0 }
 {

@@ -1,6 +1,5 @@
 //! Answers the command that discovers the devices of a scene.
 ghost use Rattle.std.specs.Prelude.{◌≡◌, ◌⊎◌, ℕ, List, IfOk, IfErr, false, is_some};
-ghost use Rattle.serde_json.specs.Errors.{IsMemory};
 ghost use Rattle.rdm_port.specs.Fault.{ReadsScene, SaysScene, IsFileFault, IsTextFault};
 ghost use Rattle.rdm_port.specs.Outcome.{Discovers, IsLogUnreported, kind_of, search_of};
 ghost use Rattle.rdm_port.specs.body.Logged.{HasLogged};
@@ -9,16 +8,14 @@ ghost use Rattle.rdm_reports.specs.Report.{report_text, report_status};
 
 use crate::answer::{Answer, Answered, Refused};
 use crate::fault::Fault;
+use crate::input::{bytes_of_file, no_json};
 use crate::logging::open_log;
-use crate::place::Place;
 use crate::reason::Reason;
 use crate::remark::remark_on;
 use rdm_agent::{Kind, Search};
-use rdm_files::{
-    FileFault, FileKind, SceneFault, SceneFile, read_file, read_scene, unknown_in_scene,
-};
+use rdm_files::{FileKind, SceneFault, SceneFile, read_scene, unknown_in_scene};
 use rdm_serving::{Discovery, LogOutput, OpensLog, Progress, discover_in, report};
-use serde_json::{Category, Value};
+use serde_json::Value;
 use std::alloc::Global;
 use std::io::Read;
 
@@ -95,10 +92,9 @@ fn scene_file<'a, R: Read, P: Progress>(
     ensures ok { IfOk result (λ f. ReadsScene (R.remaining reader.old) f) }
     ensures fault { IfErr result (λ e. (e.0 ≡ Fault.Memory) ⊎ IsFileFault (R.remaining reader.old) e.0) }
 {
-    let bytes = match read_file(alloc, reader) {
+    let bytes = match bytes_of_file(alloc, path, reader) {
         Ok(bytes) => bytes,
-        Err(FileFault::NoMemory) => return Err((Fault::Memory, None)),
-        Err(fault) => return Err((Fault::File, Reason::of_file(path, fault))),
+        Err(refused) => return Err(refused),
     };
     scene_of(alloc, &bytes, progress)
 }
@@ -127,33 +123,6 @@ fn scene_of<'a, P: Progress>(
             Err((Fault::Scene, Some(reason)))
         }
         Err(SceneFault::NoMemory) => Err((Fault::Memory, None)),
-    }
-}
-
-// Some editors put it before a text, where it is invisible.
-const BYTE_ORDER_MARK: &[u8] = b"\xef\xbb\xbf";
-
-/// Why bytes weren't read as JSON.
-pub(crate) fn no_json<'a>(bytes: &[u8], error: &serde_json::Error) -> Refused<'a>
-    ensures memory { IsMemory error.now → result.0 ≡ Fault.Memory }
-    ensures text { ¬ IsMemory error.now → result.0 ≡ Fault.Json }
-{
-    match error.classify() {
-        Category::Memory => (Fault::Memory, None),
-        Category::Eof => (Fault::Json, Some(cut_short(bytes))),
-        _ if bytes.starts_with(BYTE_ORDER_MARK) => (Fault::Json, Some(Reason::ByteOrderMark)),
-        _ => {
-            let place = Place::of_byte(bytes, error.line(), error.column());
-            (Fault::Json, Some(Reason::NoJson(place)))
-        }
-    }
-}
-
-// Why bytes that end before their JSON does weren't read.
-fn cut_short<'a>(bytes: &[u8]) -> Reason<'a> {
-    match Place::of_last(bytes) {
-        Some(place) => Reason::CutShort(place),
-        None => Reason::Empty,
     }
 }
 

@@ -1,6 +1,6 @@
 //! What the program `wurstlinen` does. It reads and writes the replies of RDM devices to a branch of the discovery
 //! tree. It discovers devices, and runs sessions of clients, on a simulated line or on one that another program serves.
-//! What is marked as the profile of this project is a rule or a limit of this program, not of E1.20.
+//! All of it is the profile of this project.
 //!
 //! [`parse_words`] finds the [`Job`] that arguments give, and [`perform`] prints its answer. [`carry_out`] also keeps
 //! its log. [`parse_line_words`] finds a [`LineJob`], which [`carry_out_on_line`] or [`run_on_line`] does. A session
@@ -15,23 +15,24 @@ mod answer;
 mod branch;
 mod discovering;
 mod fault;
+mod input;
 pub mod laws;
 mod line_performing;
 mod line_run;
 mod line_values;
 mod logging;
 mod performing;
-mod place;
+mod position;
 mod reason;
 mod remark;
 mod run;
-mod telling;
+mod standard_error;
 
 pub use fault::Fault;
 pub use line_performing::{Opens, Unopened, carry_out_on_line, run_on_line};
 pub use line_values::LineValues;
 pub use performing::{Silent, carry_out, perform};
-pub use place::Place;
+pub use position::Position;
 pub use rdm_files::{
     ClientCall, ClientFile, FileFault, FileKind, Found, LineSessionFile, MOST_BYTES, Mismatch,
     Path, Remark, SceneFault, SceneFile, SessionFile, Step, UnknownKey, discovery_command,
@@ -46,4 +47,4 @@ pub use rdm_words::{
     complaint_of, parse_line_words, parse_words,
 };
 pub use reason::Reason;
-pub use telling::{Progressing, tell, tell_usage};
+pub use standard_error::{Progressing, print_reason, print_usage};

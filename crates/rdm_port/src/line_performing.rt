@@ -65,10 +65,10 @@ pub fn carry_out_on_line<'a, L: Line + Drop, O: Opens<L>, G: OpensLog, W: Write,
     requires few { length job.now.known.items ≤ MOST_DEVICES }
     requires closed { log.old.is_open ≡ false }
     requires sound { log.old.is_failed ≡ false }
-    ensures { (text logged : List ℕ) × (status told : ℕ)
+    ensures { (text logged : List ℕ) × (status status_printed : ℕ)
         × IsLineOutcome L L.step (O.opens opener.old) job.now text logged status
-        × IsLogged (is_some job.now.log) log.old.contents log.new.contents logged status told
-        × IsPrinted (W.contents writer.old) (W.contents writer.new) text told result.0 }
+        × IsLogged (is_some job.now.log) log.old.contents log.new.contents logged status status_printed
+        × IsPrinted (W.contents writer.old) (W.contents writer.new) text status_printed result.0 }
 {
     let answer = answer_on_line(alloc, job, opener, log, progress);
     print(writer, log, job.log, answer)
@@ -105,10 +105,10 @@ pub fn run_on_line<
 ) -> (u8, Option<Reason<'a>>)
     requires closed { log.old.is_open ≡ false }
     requires sound { log.old.is_failed ≡ false }
-    ensures { (text logged : List ℕ) × (status told : ℕ)
+    ensures { (text logged : List ℕ) × (status status_printed : ℕ)
         × IsLineRunOutcome L (O.opens opener.old) job.now (R.remaining reader.old) text logged status
-        × IsLogged (is_some job.now.log) log.old.contents log.new.contents logged status told
-        × IsPrinted (W.contents writer.old) (W.contents writer.new) text told result.0 }
+        × IsLogged (is_some job.now.log) log.old.contents log.new.contents logged status status_printed
+        × IsPrinted (W.contents writer.old) (W.contents writer.new) text status_printed result.0 }
 {
     let answer = answer_run_on_line(rt, alloc, job, reader, opener, log, progress);
     print(writer, log, job.log, answer)

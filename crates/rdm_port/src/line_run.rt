@@ -11,14 +11,14 @@ ghost use Rattle.rdm_serving.specs.Serving.{IsServedBy};
 
 use crate::answer::{Answered, Refused};
 use crate::fault::Fault;
+use crate::input::bytes_of_file;
 use crate::line_performing::Opens;
 use crate::logging::open_log;
 use crate::reason::Reason;
 use crate::remark::remark_on_key;
 use crate::run::{answer_served, refused, session_value};
 use rdm_files::{
-    FileFault, FileKind, LineSessionFile, SceneFault, read_file, read_line_session,
-    unknown_in_line_session,
+    FileKind, LineSessionFile, SceneFault, read_line_session, unknown_in_line_session,
 };
 use rdm_line::Line;
 use rdm_serving::{LogOutput, OpensLog, Progress, Served, serve_on_line};
@@ -127,10 +127,9 @@ fn line_session_file<'a, R: Read, P: Progress>(
     ensures log { IfOk result (λ f. f.log ≤ 1000000) }
     ensures fault { IfErr result (λ e. IsRunFault LineSessionState IsLineSessionFile (R.remaining reader.old) e.0) }
 {
-    let bytes = match read_file(alloc, reader) {
+    let bytes = match bytes_of_file(alloc, path, reader) {
         Ok(bytes) => bytes,
-        Err(FileFault::NoMemory) => return Err((Fault::Memory, None)),
-        Err(fault) => return Err((Fault::File, Reason::of_file(path, fault))),
+        Err(refused) => return Err(refused),
     };
     line_session_of(alloc, &bytes, progress)
 }

@@ -3,7 +3,7 @@ ghost use Rattle.std.specs.Prelude.{◌≡◌, ℕ, List, None, Ok, IfOk, IfErr,
 ghost use Rattle.rdm_port.specs.Fault.{IsFaultOf, fault_line, fault_status};
 ghost use Rattle.rdm_reports.specs.Report.{line_of};
 ghost use Rattle.rdm_port.specs.Outcome.{Answers, IsLogged, IsLoggedWith, IsOutcome, IsPrinted, has_log};
-ghost use Rattle.rdm_port.specs.body.Logged.{HasLogged, IsTold, status_after};
+ghost use Rattle.rdm_port.specs.body.Logged.{HasLogged, HasTextAndStatus, status_after};
 ghost use Rattle.rdm_port.specs.body.Texts.{answer_bytes};
 
 use crate::answer::{Answer, Answered, Refused};
@@ -42,10 +42,10 @@ pub fn perform<R: Read, W: Write, T: Threads + Wait + Sync>(
     reader: &mut R,
     writer: &mut W,
 ) -> u8
-    ensures { (text logged : List ℕ) × (status told : ℕ)
+    ensures { (text logged : List ℕ) × (status status_printed : ℕ)
         × IsOutcome job.entry (R.remaining reader.old) text logged status
-        × IsLogged (has_log job.entry) None None logged status told
-        × IsPrinted (W.contents writer.old) (W.contents writer.new) text told result }
+        × IsLogged (has_log job.entry) None None logged status status_printed
+        × IsPrinted (W.contents writer.old) (W.contents writer.new) text status_printed result }
 {
     let mut log = LogOutput::new(NoLog);
     let (status, _) = carry_out(rt, alloc, job, reader, &mut log, writer, &mut Silent);
@@ -72,10 +72,10 @@ pub fn carry_out<'a, R: Read, G: OpensLog, W: Write, P: Progress + Send, T: Thre
 ) -> (u8, Option<Reason<'a>>)
     requires closed { log.old.is_open ≡ false }
     requires sound { log.old.is_failed ≡ false }
-    ensures { (text logged : List ℕ) × (status told : ℕ)
+    ensures { (text logged : List ℕ) × (status status_printed : ℕ)
         × IsOutcome job.entry (R.remaining reader.old) text logged status
-        × IsLogged (has_log job.entry) log.old.contents log.new.contents logged status told
-        × IsPrinted (W.contents writer.old) (W.contents writer.new) text told result.0 }
+        × IsLogged (has_log job.entry) log.old.contents log.new.contents logged status status_printed
+        × IsPrinted (W.contents writer.old) (W.contents writer.new) text status_printed result.0 }
 {
     let path = match &job {
         Ok(job) => job.log(),
@@ -98,14 +98,14 @@ pub(crate) fn print<'a, G: Write, W: Write>(
     ensures fault { IfErr answer.entry (λ e. IsPrinted (W.contents writer.old) (W.contents writer.new)
         (line_of (fault_line e.0)) (status_after log.now (fault_status e.0)) result.0) }
 {
-    let told = told(answer);
-    write_answer(writer, after_log(told, log, path))
+    let to_print = to_print(answer);
+    write_answer(writer, after_log(to_print, log, path))
 }
 
 // The answer, or the line of its fault.
-fn told<'a>(answer: Result<Answered<'a>, Refused<'a>>) -> Answered<'a>
-    ensures ok { IfOk answer.entry (λ a. IsTold result (answer_bytes a.text) a.status) }
-    ensures fault { IfErr answer.entry (λ e. IsTold result (line_of (fault_line e.0)) (fault_status e.0)) }
+fn to_print<'a>(answer: Result<Answered<'a>, Refused<'a>>) -> Answered<'a>
+    ensures ok { IfOk answer.entry (λ a. HasTextAndStatus result (answer_bytes a.text) a.status) }
+    ensures fault { IfErr answer.entry (λ e. HasTextAndStatus result (line_of (fault_line e.0)) (fault_status e.0)) }
 {
     match answer {
         Ok(answered) => answered,
@@ -139,7 +139,7 @@ pub struct Silent;
 impl Progress for Silent {
     fn remark(&mut self, _remark: &Remark) {}
 
-    fn tell(&mut self, _exchanges: usize) {}
+    fn report_exchanges(&mut self, _exchanges: usize) {}
 }
 
 // The answer to a command.

@@ -1,5 +1,5 @@
 //! Why something isn't done, for people.
-use crate::place::Place;
+use crate::position::Position;
 use rdm_agent::AgentFault;
 use rdm_files::{FileFault, FileKind, MOST_BYTES, Mismatch, SceneFault, looks_like};
 use rdm_serving::{Discovered, Outcomes, device_lines};
@@ -34,9 +34,9 @@ pub enum Reason<'a> {
     /// The file is empty, or has nothing but white space.
     Empty,
     /// The file ends before its JSON does. This is its last character, apart from white space.
-    CutShort(Place),
+    CutShort(Position),
     /// The file isn't JSON from this position on.
-    NoJson(Place),
+    NoJson(Position),
     /// The file isn't JSON, since it begins with a byte order mark.
     ByteOrderMark,
     /// The file's JSON isn't a scene, or isn't a session.
@@ -126,8 +126,11 @@ impl fmt::Display for Reason<'_> {
             }
             Reason::Unreadable(path, kind) => write_unreadable(f, path, *kind),
             Reason::Empty => write!(f, "the file is empty"),
-            Reason::CutShort(place) => write!(f, "the file ends before its JSON does, at {place}"),
-            Reason::NoJson(place) => write!(f, "the file's JSON is wrong at {place}"),
+            Reason::CutShort(position) => write!(
+                f,
+                "the file ends before its JSON does, at {position}"
+            ),
+            Reason::NoJson(position) => write!(f, "the file's JSON is wrong at {position}"),
             Reason::ByteOrderMark => {
                 write!(
                     f,
@@ -166,7 +169,7 @@ impl fmt::Display for Reason<'_> {
 // If all characters are digits, their number is odd.
 fn write_no_bytes<W: fmt::Write>(f: &mut fmt::Formatter<W>, text: &str) -> fmt::Result {
     match no_digit(text, None) {
-        Some(place) => write_no_digit(f, place),
+        Some(found) => write_no_digit(f, found),
         None => write!(f, "the number of hexadecimal digits is odd"),
     }
 }
@@ -188,7 +191,7 @@ fn write_no_uid<W: fmt::Write>(f: &mut fmt::Formatter<W>, text: &str) -> fmt::Re
         );
     }
     match no_digit(text, Some(COLON_AT)) {
-        Some(place) => write_no_digit(f, place),
+        Some(found) => write_no_digit(f, found),
         None => write!(f, "a UID has hexadecimal digits"),
     }
 }

@@ -15,14 +15,13 @@ ghost use Rattle.rdm_reports.specs.SessionReport.{session_text};
 ghost use Rattle.rdm_serving.specs.Serving.{IsServedBy};
 
 use crate::answer::{Answer, Answered, Refused};
-use crate::discovering::no_json;
 use crate::fault::Fault;
+use crate::input::{bytes_of_file, no_json};
 use crate::logging::open_log;
 use crate::reason::Reason;
 use crate::remark::remark_on;
 use rdm_files::{
-    FileFault, FileKind, SceneFault, SessionFile, discovery_command, read_file, read_session,
-    unknown_in_session,
+    FileKind, SceneFault, SessionFile, discovery_command, read_session, unknown_in_session,
 };
 use rdm_serving::{
     LogOutput, OpensLog, Progress, ServeFault, Served, serve, session_text, write_entries,
@@ -163,10 +162,9 @@ fn session_file<'a, R: Read, P: Progress>(
     ensures log { IfOk result (λ f. f.log ≤ 1000000) }
     ensures fault { IfErr result (λ e. IsRunFault SessionState IsSessionFile (R.remaining reader.old) e.0) }
 {
-    let bytes = match read_file(alloc, reader) {
+    let bytes = match bytes_of_file(alloc, path, reader) {
         Ok(bytes) => bytes,
-        Err(FileFault::NoMemory) => return Err((Fault::Memory, None)),
-        Err(fault) => return Err((Fault::File, Reason::of_file(path, fault))),
+        Err(refused) => return Err(refused),
     };
     session_of(alloc, &bytes, progress)
 }

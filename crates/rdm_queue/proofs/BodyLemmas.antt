@@ -3,7 +3,7 @@ pub mod MergedLemmas
 pub mod ValueLemmas
 pub mod RingLemmas
 pub mod RingSteps
-pub mod FrontLemmas
+pub mod OldestLemmas
 pub mod OutstandingLemmas
 pub mod FieldLemmas
 pub mod RingFields

@@ -162,7 +162,7 @@ impl Client {
     /// Takes its oldest outcome out, if that is a request's.
     pub(crate) fn collect_request(&mut self) -> Option<(u64, Completion)>
         requires { HasSets self.old }
-        ensures taken { IfSome result (λ r. ClientCollects self.old (outcome_value (request_outcome r)) self.new) }
+        ensures removed { IfSome result (λ r. ClientCollects self.old (outcome_value (request_outcome r)) self.new) }
         ensures none { IfNone result (first_kind_owed self.old ≢ Some kinds.Request) }
         ensures unchanged { IfNone result (self.new ≡ self.old) }
     {
@@ -178,7 +178,7 @@ impl Client {
     /// Takes its oldest outcome out, if that is a discovery's, and writes its set into `set`.
     pub(crate) fn collect_discovery(&mut self, set: &mut DeviceSet) -> Option<DiscoveryEnd>
         requires { HasSets self.old }
-        ensures taken { IfSome result (λ end. ClientCollects self.old (outcome_value (discovery_outcome end set.new))
+        ensures removed { IfSome result (λ end. ClientCollects self.old (outcome_value (discovery_outcome end set.new))
             self.new) }
         ensures none { IfNone result (first_kind_owed self.old ≢ Some kinds.Discovery) }
         ensures unchanged { IfNone result ((self.new ≡ self.old) × (set.new ≡ set.old)) }
@@ -189,11 +189,11 @@ impl Client {
         let Owed::Discovery { number, run, fault } = self.outcomes.pop_front()? else {
             unreachable!();
         };
-        let Some(found) = self.sets.front() else {
+        let Some(found) = self.sets.oldest() else {
             unreachable!();
         };
         set.copy_from(found);
-        self.sets.drop_front();
+        self.sets.drop_oldest();
         Some(DiscoveryEnd { number, run, fault })
     }
 }

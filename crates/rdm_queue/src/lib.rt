@@ -4,15 +4,15 @@
 //! # What calls cost
 //!
 //! A [`Controller`] keeps three rings for each client: its unfinished requests, its uncollected outcomes, and the sets
-//! of devices of the discoveries among these. The oldest request is the one with the lowest number among the rings'
-//! fronts.
+//! of devices of the discoveries among these. The oldest request of all is the one with the lowest number among the
+//! clients' oldest requests.
 //!
-//! - `take` and `deliver` look at the clients' fronts, 16 at most; `submit` and the calls that collect look at one
-//!   client. So none of them takes longer if more requests wait.
+//! - `take` and `deliver` look at the clients' oldest requests, 16 at most; `submit` and the calls that collect look at
+//!   one client. So none of them takes longer if more requests wait.
 //! - `next_completion` moves no set of devices, and `next_discovery` writes one into the caller's. `next_outcome`
 //!   returns a value that could hold a set, 32 KB, even for a request. `answer` and `run` move no set for a request,
 //!   and allocate memory for the set of each discovery that is collected.
-//! - `close`, and the reply after it, look at the fronts once for each request that they finish.
+//! - `close`, and the reply after it, look at the clients' oldest requests once for each request that they finish.
 //! - `join_client` adds up the queue depths of the clients, 16 at most, and reserves the memory of the client's rings.
 //!   No later call allocates, except for the joined data of a request, and for what `answer` and `run` return.
 //! - `is_idle`, and a [`Session`]'s test before a call whether its log is full, add up what each client has.

@@ -84,7 +84,7 @@ impl Queue {
     ghost use Rattle.rdm_queue.specs.body.State.{QueueState, first_state, first_join_fault, first_submit_fault};
     ghost use Rattle.rdm_queue.specs.body.State.{first_ask_fault, asked_of, joins_client, accepts_request};
     ghost use Rattle.rdm_queue.specs.body.State.{asks_discovery, collects_oldest, owed_to, uncollected, first_kind};
-    ghost use Rattle.rdm_queue.specs.body.State.{TakesOldest, opening_of};
+    ghost use Rattle.rdm_queue.specs.body.State.{CollectsOldest, opening_of};
     ghost use Rattle.rdm_queue.specs.body.Sending.{to_send, request_to_send, run_to_send, IsGiven, GivesRequest};
     ghost use Rattle.rdm_queue.specs.body.Sending.{GivesRun, begun, kind_of};
 
@@ -374,7 +374,7 @@ impl Queue {
     /// Takes a client's oldest outcome out, which is then no longer outstanding.
     pub(crate) fn next_outcome(&mut self, client: ClientId) -> Option<Outcome>
         ensures outcome { option_map outcome_value result ≡ slice_get (owed_to client.0 self.old) 0 }
-        ensures taken { OnSome result (self.new ≡ collects_oldest self.old client.0) }
+        ensures removed { OnSome result (self.new ≡ collects_oldest self.old client.0) }
         ensures none { IfNone result (self.new ≡ self.old) }
     {
         match self.oldest_outcome(client)? {
@@ -398,7 +398,7 @@ impl Queue {
 
     /// Takes a client's oldest outcome out, if that is a request's.
     pub(crate) fn next_completion(&mut self, client: ClientId) -> Option<(u64, Completion)>
-        ensures taken { IfSome result (λ r. TakesOldest self.old client.0
+        ensures removed { IfSome result (λ r. CollectsOldest self.old client.0
             (outcome_value (request_outcome r)) self.new) }
         ensures none { IfNone result (first_kind client.0 self.old ≢ Some kinds.Request) }
         ensures unchanged { IfNone result (self.new ≡ self.old) }
@@ -414,7 +414,7 @@ impl Queue {
         client: ClientId,
         set: &mut DeviceSet,
     ) -> Option<DiscoveryEnd>
-        ensures taken { IfSome result (λ end. TakesOldest self.old client.0
+        ensures removed { IfSome result (λ end. CollectsOldest self.old client.0
             (outcome_value (discovery_outcome end set.new)) self.new) }
         ensures none { IfNone result (first_kind client.0 self.old ≢ Some kinds.Discovery) }
         ensures unchanged { IfNone result ((self.new ≡ self.old) × (set.new ≡ set.old)) }

@@ -64,7 +64,7 @@ impl SetRing {
     }
 
     /// The oldest.
-    pub(crate) fn front(&self) -> Option<&DeviceSet>
+    pub(crate) fn oldest(&self) -> Option<&DeviceSet>
         ensures { option_map (λ s. s.now) result ≡ slice_get self.now.items 0 }
     {
         if self.count == 0 {
@@ -78,13 +78,13 @@ impl SetRing {
         requires { length self.old.items < self.old.room }
         ensures { self.new ≡ record self.old { items = self.old.items ++ set.now ∷ [] } }
     {
-        let place = (self.first + self.count) % MOST_DISCOVERIES;
-        self.sets[place].copy_from(set);
+        let index = (self.first + self.count) % MOST_DISCOVERIES;
+        self.sets[index].copy_from(set);
         self.count += 1;
     }
 
     /// Removes the oldest.
-    pub(crate) fn drop_front(&mut self)
+    pub(crate) fn drop_oldest(&mut self)
         requires { 0 < length self.old.items }
         ensures { self.new ≡ record self.old { items = drop 1 self.old.items } }
     {

@@ -16,4 +16,4 @@ mod rotating;
 mod run_ends;
 mod running;
 mod searching;
-mod told;
+mod summary;

@@ -35,7 +35,7 @@ use Rattle.rdm_agent.proofs.BoundRuns.{ends_in_bound_by}
 use Rattle.rdm_line.specs.Events.{Exchange}
 use Rattle.rdm_line.specs.Scenes.{IsScene, Stays, present_at, uids_of_scene}
 use Rattle.rdm_line.specs.Sim.{SimState, SimStep, FailsOnly, Exchanges, is_among, counted, next_exchange, last_exchange}
-use Rattle.rdm_line.specs.SimRuns.{Step, IsRun, LosesFew, NoFiveSuccessive, present_in, seen_in}
+use Rattle.rdm_line.specs.SimSteps.{Step, AreSteps, LosesFew, NoFiveSuccessive, present_in, seen_in}
 use Rattle.rdm_line.specs.declared.scene.Scene.{Scene}
 use Rattle.rdm_line.specs.declared.scene.SceneDevice.{SceneDevice}
 use Rattle.rdm_line.proofs.LeavesLemmas.{Leaves, acts_leave}
@@ -50,16 +50,16 @@ use Rattle.rdm_reports.specs.SceneDiscovery.{HasNoFault, IsHonestReport}
 -- the steps that the line made
 pub record IsTraced (s : SimState) (xs : List Exchange) (new : SimState) : Type 0 where
   pub steps : List Step
-  pub runs : IsRun s steps new
+  pub steps_are : AreSteps s steps new
   pub same : map (λ (x : Step). x.exchange) steps ≡ xs
 
 pub traced : (source n : ℕ) (a b : AgentState) (s new : SimState) (xs : List Exchange)
     → Drives SimState SimStep source n a s xs b new → IsTraced s xs new
-traced source n a b s new [] d = record { steps = []; runs = d.1; same = refl }
+traced source n a b s new [] d = record { steps = []; steps_are = d.1; same = refl }
 traced source n a b s new (x ∷ xs) d =
     let rest = traced source (n + 1) d.0 b d.1 new xs d.4 in record {
       steps = record { before = s; exchange = x } ∷ rest.steps;
-      runs = (refl, d.1, subst (λ y. SimStep s y d.1) d.3 d.2.steps, rest.runs);
+      steps_are = (refl, d.1, subst (λ y. SimStep s y d.1) d.3 d.2.steps, rest.steps_are);
       same = ap (λ ys. x ∷ ys) rest.same;
     }
 
@@ -86,7 +86,7 @@ same_during : (ds es : List SceneDevice) (i n : ℕ) → ((k : ℕ) → present_
 same_during ds es i zero same = refl
 same_during ds es i (suc n) same = rw (same i) (ap (λ l. present_at es i ∷ l) (same_during ds es (i + 1) n same))
 
-present_steps : (steps : List Step) (s new : SimState) (i : ℕ) → IsRun s steps new → s.exchanges ≡ i
+present_steps : (steps : List Step) (s new : SimState) (i : ℕ) → AreSteps s steps new → s.exchanges ≡ i
     → i + length steps < 2 ^ 64 → map present_in steps ≡ present_during s.devices i (length steps)
 present_steps [] s new i run is few = refl
 present_steps (x ∷ steps) s new i run is few =
@@ -135,7 +135,7 @@ staying_during devices i (suc n) all =
     rw (all_present devices i all) (ap (λ l. uids_of_scene devices ∷ l) (staying_during devices (i + 1) n all))
 
 -- a run that made an exchange was made on a scene's devices
-scene_of : (steps : List Step) (s new : SimState) → IsRun s steps new → (length steps ≡ 0 → ⊥) → IsScene s.devices
+scene_of : (steps : List Step) (s new : SimState) → AreSteps s steps new → (length steps ≡ 0 → ⊥) → IsScene s.devices
 scene_of [] s new run some = absurd (some refl)
 scene_of (x ∷ steps) s new run some = subst (λ (t : SimState). IsScene t.devices) run.0 run.2.sound.scene
 
@@ -156,7 +156,7 @@ no_failure_heard s tn Unmute (b ∷ bs) h = cc
 no_failure_heard s tn Other (b ∷ bs) h = cc
 
 -- where nothing is to fail, nothing fails
-never_fails : (steps : List Step) (s new : SimState) → IsRun s steps new → s.fails ≡ []
+never_fails : (steps : List Step) (s new : SimState) → AreSteps s steps new → s.fails ≡ []
     → AllByRecursion (λ (e : Seen). e.heard ≢ Failed) (map seen_in steps)
 never_fails [] s new run none = tt
 never_fails (x ∷ steps) s new run none =
@@ -225,10 +225,10 @@ module _ (scene : Scene) (search : Search) (kind : Kind) (known : List ℕ) (bud
 
   over : LosesFew d.steps → HonestOver (present_during scene.devices 0 n) seen
   over few = subst (HonestOver (present_during scene.devices 0 n)) seen_is
-      (subst (λ sets. HonestOver sets (map seen_in d.steps)) sets (honest_run d.before d.after d.steps d.runs few))
+      (subst (λ sets. HonestOver sets (map seen_in d.steps)) sets (honest_run d.before d.after d.steps d.steps_are few))
     where
       sets : map present_in d.steps ≡ present_during scene.devices 0 n
-      sets = present_steps d.steps d.before d.after 0 d.runs d.begins.exchanges
+      sets = present_steps d.steps d.before d.after 0 d.steps_are d.begins.exchanges
           (let count : length d.steps ≡ n = many in let most : n < 2 ^ 64 = d.countable in omega arith)
           ∙ ap (present_during d.before.devices 0) many ∙ ap (λ ds. present_during ds 0 n) d.begins.devices
 
@@ -251,7 +251,7 @@ module _ (scene : Scene) (search : Search) (kind : Kind) (known : List ℕ) (bud
       first (x ∷ xs) drives none = cc
 
   scene_is : (length d.steps ≡ 0 → ⊥) → IsScene scene.devices
-  scene_is some = subst IsScene d.begins.devices (scene_of d.steps d.before d.after d.runs some)
+  scene_is some = subst IsScene d.begins.devices (scene_of d.steps d.before d.after d.steps_are some)
 
   trace : LosesFew d.steps → AllByRecursion Stays scene.devices → IsScene scene.devices
       → HonestTrace (uids_of_scene scene.devices) seen
@@ -336,7 +336,7 @@ module _ (scene : Scene) (search : Search) (kind : Kind) (known : List ℕ) (bud
             omega (arith, length-map scene.devices (λ (e : SceneDevice). e.device.uid));
         no_failure =
             subst (AllByRecursion (λ (e : Seen). e.heard ≢ Failed)) seen_is
-            (never_fails d.steps d.before d.after d.runs
+            (never_fails d.steps d.before d.after d.steps_are
             (empty scene.fails.items d.before.fails d.begins.fails no_fails));
       }
 
@@ -361,7 +361,7 @@ on_scene scene search kind known budget n found before after begins discovery co
       discovery = discovery;
       countable = countable;
       steps = steps.steps;
-      runs = steps.runs;
+      steps_are = steps.steps_are;
       exchanges = steps.same;
     }
 
@@ -376,11 +376,11 @@ unfolding on_scene
 on_scene_with scene search kind known budget n found before after P begins (discovery, holds) countable =
     (on_scene scene search kind known budget n found before after begins discovery countable, holds)
 
--- losses without five successive numbers are few
+-- losses without five numbers in a row are few
 pub loses_few : (scene : Scene) (search : Search) (kind : Kind) (known : List ℕ) (budget n : ℕ)
     (found : Result (List Device) (AgentFault × List Device))
     (d : IsSceneDiscovery scene search kind known budget found n) → NoFiveSuccessive scene.losses.items
     → LosesFew d.steps
 loses_few scene search kind known budget n found d few =
-    few_losses d.before d.after d.steps d.runs (λ i all. few i
+    few_losses d.before d.after d.steps d.steps_are (λ i all. few i
     (λ j lt. list_any-IsPermutation (λ v. (i + j) == v) scene.losses.items d.before.losses d.begins.losses ∙ all j lt))

@@ -38,7 +38,7 @@ abbrev pub found_text : Result (List Device) (AgentFault × List Device) → Lis
 found_text (Ok devices) = flat_map device_line devices
 found_text (Err fault) = line_of (fault_text fault.0)
 
--- the whole report
+-- a report: the devices or the fault, and then the number of frames
 abbrev pub report_text : Result (List Device) (AgentFault × List Device) → ℕ → List ℕ
 report_text found frames = found_text found ++ line_of (codes "frames " ++ decimal frames)
 

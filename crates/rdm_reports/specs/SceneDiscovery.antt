@@ -11,7 +11,7 @@ use Rattle.rdm_agent.specs.declared.search.Search.{Search}
 use Rattle.rdm_agent.specs.declared.fault.AgentFault.{AgentFault}
 use Rattle.rdm_line.specs.Scenes.{Stays, present_at, uids_of_scene}
 use Rattle.rdm_line.specs.Sim.{SimState, SimStep}
-use Rattle.rdm_line.specs.SimRuns.{Step, IsRun}
+use Rattle.rdm_line.specs.SimSteps.{Step, AreSteps}
 use Rattle.rdm_line.specs.declared.scene.Scene.{Scene}
 use Rattle.rdm_line.specs.declared.scene.SceneDevice.{SceneDevice}
 use Rattle.rdm_reports.specs.Discovery.{IsDiscovery}
@@ -36,7 +36,7 @@ pub record IsSceneDiscovery (scene : Scene) (search : Search) (kind : Kind) (kno
   pub countable : frames < 2 ^ 64
   -- the run's exchanges are those of the line's steps
   pub steps : List Step
-  pub runs : IsRun before steps after
+  pub steps_are : AreSteps before steps after
   pub exchanges : map (λ (x : Step). x.exchange) steps ≡ discovery.driven.exchanges
 
 -- the device is on the line at each of the first n exchanges

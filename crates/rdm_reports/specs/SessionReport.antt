@@ -37,13 +37,13 @@ data_text [] = codes "-"
 data_text (byte ∷ bytes) = encode_lower (byte ∷ bytes)
 
 -- the type and the data of the reply, if the request is completed
-abbrev pub reply_told : Status → Option ReplyHead → List ℕ → List ℕ
-reply_told Completed (Some head) bytes = type_text head.ack ++ data_text bytes
-reply_told _ _ bytes = []
+abbrev pub completed_text : Status → Option ReplyHead → List ℕ → List ℕ
+completed_text Completed (Some head) bytes = type_text head.ack ++ data_text bytes
+completed_text _ _ bytes = []
 
 -- a request's status, and the reply
 abbrev pub completion_text : Completion → List ℕ
-completion_text done = decimal (number_of_status done.status) ++ reply_told done.status done.reply done.bytes.items
+completion_text done = decimal (number_of_status done.status) ++ completed_text done.status done.reply done.bytes.items
 
 -- the line of a request: its client, its number, its status and the reply
 abbrev pub request_line : ℕ → ℕ → Told → List ℕ
@@ -95,17 +95,17 @@ is_ask (Submit request) = false
 is_ask (Discover kind) = true
 
 -- the indices of the calls of one kind, counted from n
-abbrev pub places_of : (ClientCall → Bool) → ℕ → List ClientCall → List ℕ
-places_of is_of_kind n [] = []
-places_of is_of_kind n (call ∷ calls) =
-    if is_of_kind call then n ∷ places_of is_of_kind (n + 1) calls
-    else places_of is_of_kind (n + 1) calls
+abbrev pub indices_of : (ClientCall → Bool) → ℕ → List ClientCall → List ℕ
+indices_of is_of_kind n [] = []
+indices_of is_of_kind n (call ∷ calls) =
+    if is_of_kind call then n ∷ indices_of is_of_kind (n + 1) calls
+    else indices_of is_of_kind (n + 1) calls
 
 -- Each request has one outcome, in the order of the calls, with its callback's tag. So has each discovery. A callback's
 -- tag is the index of its call.
 pub record IsSettled (calls : List ClientCall) (o : Outcomes) : Type 0 where
-  pub requests : map (λ (t : Told). t.tag) o.requests.items ≡ places_of is_request 0 calls
-  pub discoveries : map (λ (d : Discovered). d.tag) o.discoveries.items ≡ places_of is_ask 0 calls
+  pub requests : map (λ (t : Told). t.tag) o.requests.items ≡ indices_of is_request 0 calls
+  pub discoveries : map (λ (d : Discovered). d.tag) o.discoveries.items ≡ indices_of is_ask 0 calls
 
 -- there are outcomes for each client, and each client is settled
 abbrev pub AllSettled : List ClientFile → List Outcomes → Type 0

@@ -8,7 +8,7 @@ ghost use Rattle.rdm_agent.specs.OpFrames.{op_frame};
 ghost use Rattle.rdm_agent.specs.Run.{heard_by};
 ghost use Rattle.rdm_line.specs.Events.{event_of};
 ghost use Rattle.rdm_agent.specs.declared.op.Op.TheVariants.{End};
-ghost use Rattle.rdm_line.specs.SimRuns.{NoFiveSuccessive};
+ghost use Rattle.rdm_line.specs.SimSteps.{NoFiveSuccessive};
 ghost use Rattle.rdm_reports.specs.Discovery.{GoesOn, IsDiscovery};
 ghost use Rattle.rdm_reports.specs.SceneDiscovery.{IsSceneDiscovery, IsHonestReport};
 ghost use Rattle.rdm_reports.specs.Writing.{Logs};

@@ -4,7 +4,7 @@ ghost use Rattle.rdm_wire.specs.declared.device.Device.{Device};
 ghost use Rattle.rdm_agent.specs.declared.fault.AgentFault.{AgentFault};
 ghost use Rattle.rdm_agent.specs.declared.kind.Kind.{Kind};
 ghost use Rattle.rdm_agent.specs.declared.search.Search.{Search};
-ghost use Rattle.rdm_line.specs.SimRuns.{LosesFew};
+ghost use Rattle.rdm_line.specs.SimSteps.{LosesFew};
 ghost use Rattle.rdm_line.specs.declared.scene.Scene.{Scene};
 ghost use Rattle.rdm_reports.specs.SceneDiscovery.{IsSceneDiscovery, IsHonestReport};
 

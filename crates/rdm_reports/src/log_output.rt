@@ -70,7 +70,7 @@ impl<W: Write> LogOutput<W> {
     }
 
     /// Whether something would be written: the log is open, and its writer hasn't failed.
-    pub(crate) fn takes(&self) -> bool
+    pub(crate) fn would_write(&self) -> bool
         ensures is_open { result ≡ true → self.now.is_open ≡ true }
         ensures is_failed { result ≡ true → self.now.is_failed ≡ false }
         ensures none { result ≡ false → self.now.is_open ≡ true → self.now.is_failed ≡ true }
@@ -82,7 +82,7 @@ impl<W: Write> LogOutput<W> {
     pub(crate) fn write(&mut self, text: &[u8])
         ensures { Logs self.old self.new text.now }
     {
-        if !self.takes() {
+        if !self.would_write() {
             return;
         }
         if let Err(kind) = write_all(&mut self.writer, text) {

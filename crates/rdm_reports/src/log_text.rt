@@ -33,7 +33,7 @@ pub fn write_entries<W: Write>(alloc: Global, log: &mut LogOutput<W>, entries: &
 fn write_entry<W: Write>(alloc: Global, log: &mut LogOutput<W>, entry: &Entry)
     ensures { Logs log.old log.new (entry_line entry.now) }
 {
-    if !log.takes() {
+    if !log.would_write() {
         return;
     }
     match entry_line(alloc, entry) {
@@ -52,7 +52,7 @@ pub(crate) fn write_exchange<W: Write>(
 )
     ensures { Logs log.old log.new (exchange_line number (frame.now, event_of answer.now)) }
 {
-    if !log.takes() {
+    if !log.would_write() {
         return;
     }
     match exchange_line(alloc, number, frame, answer) {

@@ -3,7 +3,7 @@ ghost use Rattle.std.specs.Prelude.{◌≡◌, ◌++◌, [], IfOk, OnOk};
 ghost use Rattle.rdm_wire.specs.Devices.{uids_of};
 ghost use Rattle.rdm_reports.specs.SessionReport.{session_text, client_text, request_lines, discovery_lines};
 ghost use Rattle.rdm_reports.specs.SessionReport.{request_line, discovery_line, whose};
-ghost use Rattle.rdm_reports.specs.SessionReport.{reply_told, type_text, uids_text};
+ghost use Rattle.rdm_reports.specs.SessionReport.{completed_text, type_text, uids_text};
 
 use crate::reporting::{write_fault, write_uid};
 use itoa::Buffer;
@@ -179,7 +179,7 @@ fn write_reply(
     reply: &Option<ReplyHead>,
     bytes: &[u8],
 ) -> Result<(), AllocError>
-    ensures { OnOk result (text.new.items ≡ text.old.items ++ reply_told status reply.now bytes.now) }
+    ensures { OnOk result (text.new.items ≡ text.old.items ++ completed_text status reply.now bytes.now) }
 {
     let (Status::Completed, Some(head)) = (status, reply) else {
         return Ok(());

@@ -10,12 +10,12 @@ pub trait Progress {
     fn remark(&mut self, remark: &Remark);
 
     /// This many exchanges were made.
-    fn tell(&mut self, exchanges: usize);
+    fn report_exchanges(&mut self, exchanges: usize);
 }
 
 /// Reports how many exchanges were made, if that is a multiple of 100 and not 0.
 pub fn write_often<P: Progress>(progress: &mut P, made: usize) {
     if made > 0 && made % OFTEN == 0 {
-        progress.tell(made);
+        progress.report_exchanges(made);
     }
 }

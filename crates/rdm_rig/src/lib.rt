@@ -25,7 +25,7 @@ pub use act::{Act, Driver, Move, Mover, Stage, Step, moved};
 pub use device::{Who, device_of};
 pub use found::{Ending, Found, ending_by, found_in};
 pub use heard::{Heard, Stop, boxed_told, completion_told, outcome_told, told};
-pub use line::{LineOf, Meeting, Placed, line_of, one_device, two_devices};
+pub use line::{LineOf, Meeting, TimedDevice, line_of, one_device, two_devices};
 pub use note::{AskNote, Note, cancels};
 pub use refusal::Refusal;
 pub use said::{Said, log_of, says, says_at, says_run};

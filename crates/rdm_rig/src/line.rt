@@ -13,7 +13,7 @@ use std::alloc::Global;
 
 /// A device of a scene, and when it is there.
 #[derive(Clone, Copy, Debug)]
-pub struct Placed {
+pub struct TimedDevice {
     /// The device.
     pub who: Who,
     /// The exchange at which it comes, 0 to 1,000,000,000.
@@ -22,10 +22,10 @@ pub struct Placed {
     pub until: Option<u64>,
 }
 
-impl Placed {
+impl TimedDevice {
     /// A device that is there from the start and never leaves.
-    pub fn stays(who: Who) -> Placed {
-        Placed {
+    pub fn stays(who: Who) -> TimedDevice {
+        TimedDevice {
             who,
             from: 0,
             until: None,
@@ -49,7 +49,7 @@ pub enum Meeting {
 #[derive(Clone, Copy, Debug)]
 pub struct LineOf<'a> {
     /// The devices.
-    pub devices: &'a [Placed],
+    pub devices: &'a [TimedDevice],
     /// What the line carries if replies collide.
     pub meeting: Meeting,
     /// The exchanges whose reply is lost.
@@ -79,7 +79,7 @@ fn is_of(scene: &Scene, of: LineOf) -> bool {
 
 /// A line with only [`Who::First`], which fails at these exchanges.
 pub fn one_device(alloc: Global, fails: &[u64]) -> Result<SimLine, Wrong> {
-    let devices = [Placed::stays(Who::First)];
+    let devices = [TimedDevice::stays(Who::First)];
     line_of(
         alloc,
         LineOf {
@@ -94,7 +94,7 @@ pub fn one_device(alloc: Global, fails: &[u64]) -> Result<SimLine, Wrong> {
 /// A line with these two devices, whose colliding replies spell no UID.
 pub fn two_devices(alloc: Global, devices: [Who; 2]) -> Result<SimLine, Wrong> {
     let [one, other] = devices;
-    let devices = [Placed::stays(one), Placed::stays(other)];
+    let devices = [TimedDevice::stays(one), TimedDevice::stays(other)];
     line_of(
         alloc,
         LineOf {
@@ -108,8 +108,8 @@ pub fn two_devices(alloc: Global, devices: [Who; 2]) -> Result<SimLine, Wrong> {
 
 fn scene_of(alloc: Global, of: LineOf) -> Result<Scene, Wrong> {
     let mut devices = SceneDevices::new(alloc);
-    for placed in of.devices {
-        add(alloc, &mut devices, *placed)?;
+    for timed in of.devices {
+        add(alloc, &mut devices, *timed)?;
     }
     let mut collisions = Vec::new(alloc);
     if collisions.push(collision_of(of.meeting)?).is_err() {
@@ -149,18 +149,18 @@ fn noise() -> Result<Collision, Wrong> {
 }
 
 // Puts a device into a scene.
-fn add(alloc: Global, devices: &mut SceneDevices, placed: Placed) -> Result<(), Wrong> {
+fn add(alloc: Global, devices: &mut SceneDevices, timed: TimedDevice) -> Result<(), Wrong> {
     let params = params_of(alloc)?;
-    let device = device_of(placed.who);
-    if device.uid.is_broadcast() || placed.from > 1_000_000_000 {
+    let device = device_of(timed.who);
+    if device.uid.is_broadcast() || timed.from > 1_000_000_000 {
         return Err(Wrong::Device);
     }
     let added = devices.add(SceneDevice {
         device,
         preamble: 7,
         params,
-        from: placed.from,
-        until: placed.until,
+        from: timed.from,
+        until: timed.until,
     });
     match added {
         Ok(()) => Ok(()),

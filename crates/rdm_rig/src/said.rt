@@ -85,24 +85,24 @@ pub fn says(log: &[Said], wanted: &[Said]) -> Result<(), Wrong> {
 
 /// The log says this from the entry with this number on. Err: the first entry that differs.
 pub fn says_at(log: &[Said], at: usize, wanted: &[Said]) -> Result<(), Wrong> {
-    let mut place = at;
+    let mut index = at;
     for wanted in wanted {
-        let said = log.get(place).copied();
+        let said = log.get(index).copied();
         if said != Some(*wanted) {
-            return Err(Wrong::Entry(place, said));
+            return Err(Wrong::Entry(index, said));
         }
-        place = place.saturating_add(1);
+        index = index.saturating_add(1);
     }
     Ok(())
 }
 
 /// The log has the exchanges of this run from this entry on, with these transaction numbers; none failed.
 pub fn says_run(log: &[Said], at: usize, run: u64, first: u8, last: u8) -> Result<(), Wrong> {
-    let mut place = at;
+    let mut index = at;
     for tn in first..=last {
         let exchange = [Said::Send(Owner::Run(run), Some(tn)), Said::Came(true)];
-        says_at(log, place, &exchange)?;
-        place = place.saturating_add(2);
+        says_at(log, index, &exchange)?;
+        index = index.saturating_add(2);
     }
     Ok(())
 }

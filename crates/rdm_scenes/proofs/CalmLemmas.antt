@@ -23,7 +23,7 @@ use Rattle.rdm_line.specs.Events.{Makes}
 use Rattle.rdm_line.specs.Scenes.{uids_of_scene}
 use Rattle.rdm_line.specs.declared.scene.SceneDevice.{SceneDevice}
 use Rattle.rdm_line.specs.Sim.{SimState, SimStep}
-use Rattle.rdm_line.specs.SimRuns.{Step, seen_in}
+use Rattle.rdm_line.specs.SimSteps.{Step, seen_in}
 use Rattle.rdm_log.specs.declared.entry.Opening.{Opening}
 use Rattle.rdm_log.specs.declared.entry.Entry.{Entry}
 use Rattle.rdm_log.specs.declared.entry.Entry.TheVariants.{Send, Answer}
@@ -36,10 +36,10 @@ use Rattle.rdm_log.specs.log.Due.{NothingDue}
 use Rattle.rdm_log.specs.log.MayAnswer.{MayAnswer}
 use Rattle.rdm_log.specs.promises.InBound.{IsCalmRun}
 use Rattle.rdm_log.specs.promises.LogInBound.{InBound}
-use Rattle.rdm_log.specs.promises.Discoveries.{TellsTheLine}
+use Rattle.rdm_log.specs.promises.Discoveries.{AnswersReportTheLine}
 use Rattle.rdm_log.proofs.LogLemmas.RunLemmas.{before_first-cons, entries_before_run_stays, served_stays}
 use Rattle.rdm_log.proofs.PromiseLemmas.RunsAnswer.{named_begun, ended}
-use Rattle.rdm_log.proofs.PromiseLemmas.TellsTheLine.{tells_the_line}
+use Rattle.rdm_log.proofs.PromiseLemmas.AnswersReportTheLine.{all_report_the_line}
 use Rattle.rdm_log.specs.log.Entries.{exchanges}
 use Rattle.rdm_scenes.specs.Scenes.{IsStayingScene, IsCalmScene}
 use Rattle.rdm_scenes.specs.Reports.{IsLogOver, IsEnough, IsByDefault, FaultsFollowAClose}
@@ -121,8 +121,8 @@ module _ (o : Opening) (h : List Entry) (s t : SimState) (legal : Legal o h)
       → length (uids_of (known_devices o p)) ≤ length (uids_of_scene s.devices)
   few_known r p ys legal_p whole = by_last (last_run_without_fault p) refl
     where
-      line : TellsTheLine o p
-      line = tells_the_line o p legal_p
+      line : AnswersReportTheLine o p
+      line = all_report_the_line o p legal_p
 
       by_last : (last : Option ℕ) → last_run_without_fault p ≡ last
           → length (uids_of (known_devices o p)) ≤ length (uids_of_scene s.devices)

@@ -6,7 +6,7 @@ use Rattle.std.specs.List.Sorted.{IsPermutation}
 use Rattle.std.proofs.lemmas.List.Sorted.{list_any-IsPermutation, length_permutation}
 use Rattle.rdm_line.specs.Scenes.{Stays}
 use Rattle.rdm_line.specs.Sim.{SimState}
-use Rattle.rdm_line.specs.SimRuns.{NoFiveSuccessive}
+use Rattle.rdm_line.specs.SimSteps.{NoFiveSuccessive}
 use Rattle.rdm_line.specs.declared.scene.Scene.{Scene}
 use Rattle.rdm_scenes.specs.Scenes.{IsNewLine, IsLossyScene, IsStayingScene, IsCalmScene}
 

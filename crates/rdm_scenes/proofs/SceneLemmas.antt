@@ -14,7 +14,7 @@ use Rattle.rdm_agent.specs.Statements.{IsInEach, IsInOne}
 use Rattle.rdm_line.specs.Events.{Exchange, Makes}
 use Rattle.rdm_line.specs.Scenes.{Stays, present_at, uids_of_scene}
 use Rattle.rdm_line.specs.Sim.{SimState, SimStep}
-use Rattle.rdm_line.specs.SimRuns.{Step, NoFiveSuccessive, KeepsScene, present_in, seen_in}
+use Rattle.rdm_line.specs.SimSteps.{Step, NoFiveSuccessive, KeepsScene, present_in, seen_in}
 use Rattle.rdm_line.proofs.KeepsLemmas.{run_keeps, each_keeps, made_run, run_sound}
 use Rattle.rdm_line.proofs.HonestRuns.{honest_run}
 use Rattle.rdm_line.proofs.LossLemmas.{few_losses}
@@ -24,8 +24,8 @@ use Rattle.rdm_log.specs.declared.entry.Entry.{Entry}
 use Rattle.rdm_log.specs.log.Runs.{run_exchanges}
 use Rattle.rdm_log.specs.log.LogState.{LogState}
 use Rattle.rdm_log.specs.log.Legal.{MayFollow}
-use Rattle.rdm_log.specs.promises.Discoveries.{TellsTheLine}
-use Rattle.rdm_log.proofs.PromiseLemmas.TellsTheLine.{tells_the_line}
+use Rattle.rdm_log.specs.promises.Discoveries.{AnswersReportTheLine}
+use Rattle.rdm_log.proofs.PromiseLemmas.AnswersReportTheLine.{all_report_the_line}
 use Rattle.rdm_log.specs.log.Entries.{exchanges}
 use Rattle.rdm_scenes.specs.Scenes.{IsLossyScene, IsStayingScene}
 use Rattle.rdm_scenes.specs.Reports.{IsLogOver, IsHonestRun, AnswersAreTheDevices, AnswersFollowTheDevices}
@@ -107,7 +107,7 @@ staying_trace s x is run =
     (sym (length-map run.steps seen_in) ∙ ap length run.seen)
     (subst (λ (sets : List (List ℕ)). HonestOver sets x) (same_sets s run.steps is.stay run.keeps) run.honest))
 
--- the place of an entry
+-- the index of an entry
 pub split_at : {X : Type 0} (xs : List X) (i : ℕ) (x : X) → slice_get xs i ≡ Some x → (front : List X) × (back : List X)
     × (xs ≡ front ++ x ∷ back)
 split_at [] i x e = absurd (no_item e)
@@ -136,8 +136,8 @@ in_one s u (y ∷ ys) all (inr later) = in_one s u ys all.1 later
 
 -- the runs of a log
 module _ (s t : SimState) (k : LogState) (over : IsLogOver s t k) where
-  line : TellsTheLine k.opening k.entries
-  line = tells_the_line k.opening k.entries over.legal
+  line : AnswersReportTheLine k.opening k.entries
+  line = all_report_the_line k.opening k.entries over.legal
 
   pub run_of : IsLossyScene s → (r : ℕ) → HonestRunOf s (run_exchanges r k.entries)
   run_of is r = honest_in_log k.opening k.entries s t r over.legal.each is.few_losses over.steps

@@ -4,10 +4,10 @@ use Rattle.std.specs.List.{AllByRecursion}
 use Rattle.std.specs.List.Sorted.{IsPermutation}
 use Rattle.rdm_line.specs.Scenes.{IsScene, Stays}
 use Rattle.rdm_line.specs.Sim.{SimState}
-use Rattle.rdm_line.specs.SimRuns.{NoFiveSuccessive}
+use Rattle.rdm_line.specs.SimSteps.{NoFiveSuccessive}
 use Rattle.rdm_line.specs.declared.scene.Scene.{Scene}
 
--- a simulated line of which no five successive exchanges are lost
+-- a simulated line of which no five consecutive exchanges are lost
 pub record IsLossyScene (s : SimState) : Type 0 where
   pub scene : IsScene s.devices
   pub few_losses : NoFiveSuccessive s.losses

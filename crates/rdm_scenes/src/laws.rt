@@ -17,7 +17,7 @@ ghost use Rattle.rdm_wire.specs.Honest.{HonestTrace};
 ghost use Rattle.rdm_line.specs.Events.{Exchange, Makes};
 ghost use Rattle.rdm_line.specs.Scenes.{Stays, uids_of_scene};
 ghost use Rattle.rdm_line.specs.Sim.{SimState};
-ghost use Rattle.rdm_line.specs.SimRuns.{NoFiveSuccessive};
+ghost use Rattle.rdm_line.specs.SimSteps.{NoFiveSuccessive};
 ghost use Rattle.rdm_line.specs.declared.scene.Scene.{Scene};
 ghost use Rattle.rdm_log.specs.declared.entry.Opening.{Opening};
 ghost use Rattle.rdm_log.specs.declared.entry.Entry.{Entry};

@@ -11,7 +11,7 @@ ghost use Rattle.rdm_agent.specs.declared.limits.TheConstants.{DEFAULT_BUDGET as
 ghost use Rattle.rdm_agent.specs.declared.search.Search.TheVariants.{Steady};
 ghost use Rattle.rdm_line.specs.Scenes.{Stays, present_at, uids_of_scene};
 ghost use Rattle.rdm_line.specs.Sim.{SimState};
-ghost use Rattle.rdm_line.specs.SimRuns.{NoFiveSuccessive};
+ghost use Rattle.rdm_line.specs.SimSteps.{NoFiveSuccessive};
 ghost use Rattle.rdm_log.specs.declared.entry.Entry.{Entry};
 ghost use Rattle.rdm_log.specs.declared.entry.Entry.TheVariants.{Answer};
 ghost use Rattle.rdm_log.specs.log.Runs.{answer_devices, run_exchanges};
@@ -43,7 +43,7 @@ enum With {
 }
 
 // Runs a session over this line. Returns the client's report, and the session after its end. None: out of memory.
-fn runs<R: Threads + Wait + Sync>(
+fn serves<R: Threads + Wait + Sync>(
     rt: &R,
     alloc: Global,
     with: With,
@@ -52,8 +52,8 @@ fn runs<R: Threads + Wait + Sync>(
     ensures { IfSome result (λ ran. (t : SimState) × IsLogOver line t ran.1) }
 {
     match with {
-        With::Mutex => mutex::runs(rt, alloc, line),
-        With::Rings => rings::runs(rt, alloc, line),
+        With::Mutex => mutex::serves(rt, alloc, line),
+        With::Rings => rings::serves(rt, alloc, line),
     }
 }
 
@@ -97,7 +97,7 @@ fn stays<R: Threads + Wait + Sync>(
     let Ok(line) = SimLine::new(alloc, scene) else {
         return None;
     };
-    let ran = runs(rt, alloc, with, line)?;
+    let ran = serves(rt, alloc, with, line)?;
     if is_by_default(&ran.1) {
         Some(ran)
     } else {
@@ -129,7 +129,7 @@ fn changes<R: Threads + Wait + Sync>(
     let Ok(line) = SimLine::new(alloc, scene) else {
         return None;
     };
-    runs(rt, alloc, with, line)
+    serves(rt, alloc, with, line)
 }
 
 #[test]

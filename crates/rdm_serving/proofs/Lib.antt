@@ -1,5 +1,5 @@
 pub mod SettledLemmas
-pub mod PlaceLemmas
+pub mod IndexLemmas
 pub mod LoggedLemmas
 pub mod CalledLemmas
 pub mod RingLemmas

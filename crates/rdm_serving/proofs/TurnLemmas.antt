@@ -8,26 +8,26 @@ use Rattle.rdm_files.specs.declared.session.call.ClientCall.{ClientCall}
 use Rattle.rdm_files.specs.declared.session.call.ClientCall.TheVariants.{Submit, Discover}
 use Rattle.rdm_files.specs.declared.session.client.ClientFile.{ClientFile}
 use Rattle.rdm_serving.specs.Serving.{IsInTurns}
-use Rattle.rdm_reports.specs.SessionReport.{AllSettled, IsSettled, is_request, is_ask, places_of}
+use Rattle.rdm_reports.specs.SessionReport.{AllSettled, IsSettled, is_request, is_ask, indices_of}
 use Rattle.rdm_reports.specs.declared.outcomes.Discovered.{Discovered}
 use Rattle.rdm_reports.specs.declared.outcomes.Outcomes.{Outcomes}
 
 -- the requests and the discoveries are all calls
-all_places : (n : ℕ) (calls : List ClientCall)
-    → length (places_of is_request n calls) + length (places_of is_ask n calls) ≡ length calls
-all_places n [] = refl
-all_places n (Submit request ∷ calls) = let rest = all_places (n + 1) calls in omega (arith, rest)
-all_places n (Discover kind ∷ calls) = let rest = all_places (n + 1) calls in omega (arith, rest)
+all_indices : (n : ℕ) (calls : List ClientCall)
+    → length (indices_of is_request n calls) + length (indices_of is_ask n calls) ≡ length calls
+all_indices n [] = refl
+all_indices n (Submit request ∷ calls) = let rest = all_indices (n + 1) calls in omega (arith, rest)
+all_indices n (Discover kind ∷ calls) = let rest = all_indices (n + 1) calls in omega (arith, rest)
 
 -- a settled client has as many outcomes as calls
 one_outcome_each : (calls : List ClientCall) (o : Outcomes) → IsSettled calls o
     → length o.requests.items + length o.discoveries.items ≡ length calls
 one_outcome_each calls o settled =
-    let requests : length o.requests.items ≡ length (places_of is_request 0 calls) =
+    let requests : length o.requests.items ≡ length (indices_of is_request 0 calls) =
     sym (length-map o.requests.items (λ (t : Told). t.tag)) ∙ ap length settled.requests in
-    let discoveries : length o.discoveries.items ≡ length (places_of is_ask 0 calls) =
+    let discoveries : length o.discoveries.items ≡ length (indices_of is_ask 0 calls) =
     sym (length-map o.discoveries.items (λ (d : Discovered). d.tag)) ∙ ap length settled.discoveries in
-    let all = all_places 0 calls in
+    let all = all_indices 0 calls in
     omega (arith, requests, discoveries, all)
 
 pub calls_in_turns : (clients : List ClientFile) (outcomes : List Outcomes) (turns : ℕ) → AllSettled clients outcomes

@@ -40,7 +40,8 @@ pub record AreLogged (o : Opening) (h : List Entry) (c : ℕ) (told : Outcomes) 
   pub requests : ends_logged o c h ≡ map end_told told.requests.items
   pub discoveries : faults_logged o c h ≡ map (λ (d : Discovered). d.fault) told.discoveries.items
 
--- the same for each of these clients, which are numbered from c on
+-- each of these clients, numbered from c on, received the outcomes of all its requests and discoveries that ended in
+-- the log, in order
 abbrev pub AllLogged : Opening → List Entry → ℕ → List Outcomes → Type 0
 AllLogged o h c [] = Unit {0}
 AllLogged o h c (told ∷ later) = AreLogged o h c told × AllLogged o h (c + 1) later

@@ -15,7 +15,7 @@ use Rattle.rdm_serving.specs.declared.serving.Served.{Served}
 
 -- The blank is that of the book with this name and these parts, which are 17: one for each client, and one for the
 -- rest. The source is a device's UID, the budget is at least one exchange, and each ring has at least one slot. The log
--- has at most 1,000,000 free entries (profile of this project).
+-- has at most 1,000,000 free entries.
 pub record MayServe (name parts : ℕ) (blank : Blank) (source budget ring log : ℕ) : Type 0 where
   pub named : blank.name ≡ name
   pub cut : (blank.parts ≡ parts) × (parts ≡ 17)

@@ -8,7 +8,7 @@ ghost use Rattle.rdm_client.specs.declared.told.Told.{Told};
 ghost use Rattle.rdm_serving.specs.Serving.{MayServe, IsInTurns, IsServedBy};
 ghost use Rattle.rdm_serving.specs.LoggedOutcomes.{IsLogOf};
 ghost use Rattle.rdm_serving.specs.LoggedCalls.{HasCalls};
-ghost use Rattle.rdm_reports.specs.SessionReport.{AllSettled, IsSettled, is_request, is_ask, places_of};
+ghost use Rattle.rdm_reports.specs.SessionReport.{AllSettled, IsSettled, is_request, is_ask, indices_of};
 ghost use Rattle.rdm_reports.specs.declared.outcomes.Discovered.{Discovered};
 
 mod called;
@@ -16,17 +16,17 @@ mod calls;
 mod locked;
 mod logged;
 mod playing;
+mod progress_line;
 mod rings;
 mod script;
 mod ticket;
-mod told_line;
 
 use crate::serving::called::has_calls;
 use crate::serving::locked::serve_locked;
 pub use crate::serving::logged::are_logged;
 pub use crate::serving::playing::{Player, play};
+use crate::serving::progress_line::ProgressLine;
 use crate::serving::rings::serve_rings;
-use crate::serving::told_line::ToldLine;
 use rdm_agent::Search;
 use rdm_client::Told;
 use rdm_files::{ClientCall, ClientFile, LineSessionFile, SceneFile, SessionFile};
@@ -156,7 +156,7 @@ pub fn serve_on_line<
     let Ok(log) = Log::new(alloc, log as usize) else {
         return Err(ServeFault::Memory);
     };
-    let line = ToldLine::new(line, progress);
+    let line = ProgressLine::new(line, progress);
     let set_up = SetUp {
         search,
         config,
@@ -260,13 +260,13 @@ fn is_settled(calls: &[ClientCall], outcomes: &Outcomes) -> bool
 
 // Whether these are the outcomes of the requests among the calls, in order.
 fn are_of_requests(calls: &[ClientCall], outcomes: &[Told]) -> bool
-    ensures { OnTrue result (map (λ (t : Told). t.tag) outcomes.now ≡ places_of is_request 0 calls.now) }
+    ensures { OnTrue result (map (λ (t : Told). t.tag) outcomes.now ≡ indices_of is_request 0 calls.now) }
 {
     let mut count = 0;
-    'calls: for place in 0..calls.len() {
-        match &calls[place] {
+    'calls: for call_index in 0..calls.len() {
+        match &calls[call_index] {
             ClientCall::Submit(_) => {
-                if count == outcomes.len() || outcomes[count].tag != place as u64 {
+                if count == outcomes.len() || outcomes[count].tag != call_index as u64 {
                     return false;
                 }
                 count += 1;
@@ -279,13 +279,13 @@ fn are_of_requests(calls: &[ClientCall], outcomes: &[Told]) -> bool
 
 // Whether these are the outcomes of the discoveries among the calls, in order.
 fn are_of_discoveries(calls: &[ClientCall], outcomes: &[Discovered]) -> bool
-    ensures { OnTrue result (map (λ (d : Discovered). d.tag) outcomes.now ≡ places_of is_ask 0 calls.now) }
+    ensures { OnTrue result (map (λ (d : Discovered). d.tag) outcomes.now ≡ indices_of is_ask 0 calls.now) }
 {
     let mut count = 0;
-    'calls: for place in 0..calls.len() {
-        match &calls[place] {
+    'calls: for call_index in 0..calls.len() {
+        match &calls[call_index] {
             ClientCall::Discover(_) => {
-                if count == outcomes.len() || outcomes[count].tag != place as u64 {
+                if count == outcomes.len() || outcomes[count].tag != call_index as u64 {
                     return false;
                 }
                 count += 1;

@@ -10,9 +10,10 @@ use crate::setup::Setup;
 use left_right::Absorb;
 use rdm_agent::Kind;
 use rdm_client::DeviceView;
+use rdm_lanes::views::{BlankHistory, Shown, ViewHistory};
 use rdm_lanes::{
-    BlankHistory, ClientEnd, Compared, Lanes, OpenFault, Operator, RingClient, RingFault, RingFull,
-    Shown, ViewHistory, ViewWorker, WorkerEnd, open_lanes, open_lanes_with,
+    ClientEnd, Compared, Lanes, OpenFault, Operator, RingClient, RingFault, RingFull, ViewWorker,
+    WorkerEnd, open_lanes, open_lanes_with,
 };
 use rdm_line::{Line, TapeLine};
 use rdm_queue::{Log, Setup as SessionSetup};

@@ -22,8 +22,8 @@ pub use player::{MOST_NOTED, Play, Player, Points, TRIES, waits};
 pub use port::{PortOver, PortSetup, PortStage, drive_port, play_port};
 pub use port_job::{PortClient, PortJob, on_port, play_port_again};
 pub use port_line::{ClosingLine, PortNote};
-pub use port_threads::run_port;
+pub use port_threads::serve_port;
 pub use setup::Setup;
 pub use threads::{
-    NotRun, PlayersOver, play_threads, player_heard, run_beside, run_bodies, run_players,
+    NotServed, PlayersOver, play_threads, player_heard, serve_beside, serve_bodies, serve_players,
 };

@@ -2,7 +2,8 @@
 ghost use Rattle.rdm_lanes.specs.Clients.{SameClient};
 
 use crate::lanes::makes;
-use rdm_lanes::{Body, Gate, RingClient, ViewHistory, WORKER_STOPPED};
+use rdm_lanes::views::ViewHistory;
+use rdm_lanes::{Body, Gate, RingClient, WORKER_STOPPED};
 use rdm_rig::{AskNote, Heard, Note, Refusal, Step};
 use std::sync::atomic::{AtomicU64, Ordering};
 use std::thread;
@@ -135,8 +136,8 @@ fn plays<J: ViewHistory, G: Gate>(
     for play in script {
         let came = does(client, gate, *play, tries);
         if let Some(came) = came {
-            if let Some(place) = heard.get_mut(noted) {
-                *place = came;
+            if let Some(item) = heard.get_mut(noted) {
+                *item = came;
             }
             noted = noted.saturating_add(1);
         }

@@ -17,7 +17,7 @@ pub type PortClient<'a, L> = LockedClient<'a, L, Note, AskNote>;
 /// What a test does with a port that has one client.
 pub trait PortJob {
     /// Does the job, and lets a worker write this record.
-    fn run<L: Ledger, R: Wait>(
+    fn perform<L: Ledger, R: Wait>(
         &mut self,
         rt: &R,
         alloc: Global,
@@ -65,7 +65,7 @@ fn does_on<L: Ledger, J: PortJob, R: Wait>(
         return Err(Failed::Rig(Wrong::NoMemory));
     };
     let mut record = Vec::new(alloc);
-    job.run(rt, alloc, port, &mut client, &mut record);
+    job.perform(rt, alloc, port, &mut client, &mut record);
     let Left { unspent, calls } = client.leave(rt);
     let held = cancels(alloc, unspent);
     let mut shares = Vec::new(alloc);

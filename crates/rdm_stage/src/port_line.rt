@@ -29,7 +29,7 @@ pub struct PortNote<'a, L: Ledger, R> {
 
 impl<L: Ledger, R: Wait> PortNote<'_, L, R> {
     // Pauses the port if `pauses` is set.
-    fn run(&self) {
+    fn pause_if_set(&self) {
         if self.pauses {
             let _ = self.port.pause(self.rt);
         }
@@ -42,7 +42,7 @@ impl<L: Ledger, R: Wait> Tells for PortNote<'_, L, R> {
     ghost calls = { λ callback done t. t ≡ told callback.tag done };
 
     fn spend(self, done: Completion) -> Told {
-        self.run();
+        self.pause_if_set();
         Told {
             tag: self.tag,
             done,
@@ -65,7 +65,7 @@ impl<L: Ledger, R: Wait> TellsAsk for PortNote<'_, L, R> {
     ghost calls = { λ callback done t. t ≡ ask_told callback.tag done };
 
     fn spend(self, done: BoxedAsk) -> AskTold {
-        self.run();
+        self.pause_if_set();
         AskTold {
             tag: self.tag,
             done,

@@ -28,7 +28,7 @@ struct Seat<'a, L: Ledger> {
 /// beside the worker. Each client submits this many requests, with tags from 0 on, and collects their outcomes. Returns
 /// why the worker stopped, how many outcomes came in order with the data 1 and 2, and what is left.
 #[inline(never)]
-pub fn run_port<X: Line + Send + Drop, R: Threads + Wait + Sync>(
+pub fn serve_port<X: Line + Send + Drop, R: Threads + Wait + Sync>(
     rt: &R,
     alloc: Global,
     setup: PortSetup,
@@ -36,10 +36,10 @@ pub fn run_port<X: Line + Send + Drop, R: Threads + Wait + Sync>(
     requests: u64,
     line: X,
 ) -> Result<(Stop, u64, PortOver), Failed> {
-    runs::<Brand, X, R>(rt, alloc, Blank::new(17), setup, places, requests, line)
+    serves::<Brand, X, R>(rt, alloc, Blank::new(17), setup, places, requests, line)
 }
 
-fn runs<L: Ledger + Send + Sync, X: Line + Send + Drop, R: Threads + Wait + Sync>(
+fn serves<L: Ledger + Send + Sync, X: Line + Send + Drop, R: Threads + Wait + Sync>(
     rt: &R,
     alloc: Global,
     blank: Blank,

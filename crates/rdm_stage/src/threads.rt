@@ -8,9 +8,10 @@ use crate::failed::Failed;
 use crate::lanes::{LanesOver, LanesStage, Left, all_left, not_opened, opened, stop_of};
 use crate::player::{Play, Player, Points, TRIES, waits};
 use crate::setup::Setup;
+use rdm_lanes::views::{BlankHistory, Shown, ViewHistory};
 use rdm_lanes::{
-    BlankHistory, Body, Gate, LanesEnd, OpenFault, Operator, RingClient, Shown, ViewHistory,
-    ViewWorker, run_session, run_session_with,
+    Body, Gate, LanesEnd, OpenFault, Operator, RingClient, ViewWorker, run_session,
+    run_session_with,
 };
 use rdm_line::Line;
 use rdm_queue::{Log, Setup as SessionSetup};
@@ -51,60 +52,60 @@ pub struct PlayersOver {
     pub log: Vec<Said>,
 }
 
-/// Why a session of players wasn't run.
+/// Why a session of players wasn't held.
 #[derive(Debug, Drop)]
-pub enum NotRun {
+pub enum NotServed {
     /// It was refused: the fault, and the players that were returned. The log was returned like a new one.
     Refused(OpenFault, Vec<Player>),
     /// Something else failed.
     Failed(Failed),
 }
 
-// Why a session wasn't run, and what was returned.
+// Why a session wasn't held, and what was returned.
 type Back<X> = (OpenFault, Log, Vec<Player>, X, BlankHistory);
 
-// How a session ends, or why it wasn't run.
+// How a session ends, or why it wasn't held.
 type Ended<J, X> = Result<LanesEnd<J, Player, X, Note, AskNote>, Back<X>>;
 
-/// Runs a session with this setup over this line. For each script, a player runs in a thread of its own, beside the
-/// worker.
+/// Holds a session in threads with this setup over this line. For each script, a player runs in a thread of its own,
+/// beside the worker.
 #[inline(never)]
-pub fn run_players<X: Line + Send + Drop, R: Threads + Wait + Sync>(
+pub fn serve_players<X: Line + Send + Drop, R: Threads + Wait + Sync>(
     rt: &R,
     alloc: Global,
     setup: Setup,
     scripts: &[&'static [Play]],
     line: X,
-) -> Result<PlayersOver, NotRun> {
+) -> Result<PlayersOver, NotServed> {
     match players_of(alloc, scripts) {
-        Ok(players) => run_bodies(rt, alloc, setup, players, TURNS, line),
-        Err(wrong) => Err(NotRun::Failed(wrong)),
+        Ok(players) => serve_bodies(rt, alloc, setup, players, TURNS, line),
+        Err(wrong) => Err(NotServed::Failed(wrong)),
     }
 }
 
-/// The same with these players, and this many turns of the worker. If an allocation fails, the session is run with what
-/// was returned.
-pub fn run_bodies<X: Line + Send + Drop, R: Threads + Wait + Sync>(
+/// The same with these players, and this many turns of the worker. If an allocation fails, the session is held with
+/// what was returned.
+pub fn serve_bodies<X: Line + Send + Drop, R: Threads + Wait + Sync>(
     rt: &R,
     alloc: Global,
     setup: Setup,
     players: Vec<Player>,
     turns: u64,
     line: X,
-) -> Result<PlayersOver, NotRun> {
+) -> Result<PlayersOver, NotServed> {
     if players.len() != setup.places.len() {
-        return Err(NotRun::Failed(Failed::Players));
+        return Err(NotServed::Failed(Failed::Players));
     }
     let log = match log(alloc, setup.free) {
         Ok(log) => log,
-        Err(wrong) => return Err(NotRun::Failed(Failed::Rig(wrong))),
+        Err(wrong) => return Err(NotServed::Failed(Failed::Rig(wrong))),
     };
     let new = BlankHistory::new();
-    runs_twice::<Brand, X, R>(rt, alloc, new, &setup, log, players, turns, line)
+    serves_twice::<Brand, X, R>(rt, alloc, new, &setup, log, players, turns, line)
 }
 
-// Runs the session. If there is no memory for it, it is run with what came back, the history too.
-fn runs_twice<J: ViewHistory + Send + Sync, X: Line + Send + Drop, R: Threads + Wait + Sync>(
+// Holds the session. If there is no memory for it, it is held with what came back, the history too.
+fn serves_twice<J: ViewHistory + Send + Sync, X: Line + Send + Drop, R: Threads + Wait + Sync>(
     rt: &R,
     alloc: Global,
     history: BlankHistory,
@@ -113,25 +114,25 @@ fn runs_twice<J: ViewHistory + Send + Sync, X: Line + Send + Drop, R: Threads + 
     players: Vec<Player>,
     turns: u64,
     line: X,
-) -> Result<PlayersOver, NotRun>
+) -> Result<PlayersOver, NotServed>
     requires name { book_of history ≡ J.book }
     requires empty { log.entries ≡ [] }
     requires one_each { length players.items ≡ length setup.now.places.now }
 {
-    let first = runs::<J, X, R>(rt, alloc, history, setup, log, players, turns, line);
+    let first = serves::<J, X, R>(rt, alloc, history, setup, log, players, turns, line);
     let (fault, log, players, line, history) = match first {
         Ok(over) => return over,
         Err(back) => back,
     };
     if !is_blank(&log) {
-        return Err(NotRun::Failed(Failed::Rig(Wrong::NotAgain)));
+        return Err(NotServed::Failed(Failed::Rig(Wrong::NotAgain)));
     }
     if fault != OpenFault::NoMemory {
-        return Err(NotRun::Refused(fault, players));
+        return Err(NotServed::Refused(fault, players));
     }
-    match runs::<J, X, R>(rt, alloc, history, setup, log, players, turns, line) {
+    match serves::<J, X, R>(rt, alloc, history, setup, log, players, turns, line) {
         Ok(over) => over,
-        Err(_) => Err(NotRun::Failed(Failed::Rig(Wrong::NotAgain))),
+        Err(_) => Err(NotServed::Failed(Failed::Rig(Wrong::NotAgain))),
     }
 }
 
@@ -144,10 +145,10 @@ pub fn play_threads<X: Line + Send + Drop, R: Threads + Wait + Sync>(
     line: X,
     heard: &[&[Heard]],
 ) -> Result<PlayersOver, Failed> {
-    let over = match run_players(rt, alloc, setup, scripts, line) {
+    let over = match serve_players(rt, alloc, setup, scripts, line) {
         Ok(over) => over,
-        Err(NotRun::Refused(fault, _)) => return Err(Failed::Open(fault)),
-        Err(NotRun::Failed(failed)) => return Err(failed),
+        Err(NotServed::Refused(fault, _)) => return Err(Failed::Open(fault)),
+        Err(NotServed::Failed(failed)) => return Err(failed),
     };
     if over.stop != Stop::AllLeft {
         return Err(Failed::Stop(over.stop));
@@ -192,7 +193,7 @@ fn players_of(alloc: Global, scripts: &[&'static [Play]]) -> Result<Vec<Player>,
     Ok(players)
 }
 
-fn runs<J: ViewHistory + Send + Sync, X: Line + Send + Drop, R: Threads + Wait + Sync>(
+fn serves<J: ViewHistory + Send + Sync, X: Line + Send + Drop, R: Threads + Wait + Sync>(
     rt: &R,
     alloc: Global,
     history: BlankHistory,
@@ -201,7 +202,7 @@ fn runs<J: ViewHistory + Send + Sync, X: Line + Send + Drop, R: Threads + Wait +
     players: Vec<Player>,
     turns: u64,
     line: X,
-) -> Result<Result<PlayersOver, NotRun>, Back<X>>
+) -> Result<Result<PlayersOver, NotServed>, Back<X>>
     requires name { book_of history ≡ J.book }
     requires empty { log.entries ≡ [] }
     requires one_each { length players.items ≡ length setup.now.places.now }
@@ -209,12 +210,12 @@ fn runs<J: ViewHistory + Send + Sync, X: Line + Send + Drop, R: Threads + Wait +
     ensures one_each { IfErr result (λ back. length back.2.items ≡ length setup.now.places.now) }
     ensures same_name { IfErr result (λ back. book_of back.4 ≡ J.book) }
 {
-    let end = run::<J, X, R>(rt, alloc, history, setup, log, players, turns, line)?;
+    let end = served::<J, X, R>(rt, alloc, history, setup, log, players, turns, line)?;
     Ok(over_of(alloc, end))
 }
 
 #[inline(never)]
-fn run<J: ViewHistory + Send + Sync, X: Line + Send, R: Threads + Wait + Sync>(
+fn served<J: ViewHistory + Send + Sync, X: Line + Send, R: Threads + Wait + Sync>(
     rt: &R,
     alloc: Global,
     history: BlankHistory,
@@ -256,7 +257,7 @@ fn run<J: ViewHistory + Send + Sync, X: Line + Send, R: Threads + Wait + Sync>(
 fn over_of<J: ViewHistory, X: Drop>(
     alloc: Global,
     end: LanesEnd<J, Player, X, Note, AskNote>,
-) -> Result<PlayersOver, NotRun> {
+) -> Result<PlayersOver, NotServed> {
     let LanesEnd {
         session,
         line: _,
@@ -268,10 +269,10 @@ fn over_of<J: ViewHistory, X: Drop>(
         published,
     } = end;
     let (Ok(left), Ok(log)) = (all_left(alloc, ends), log_of(alloc, &session)) else {
-        return Err(NotRun::Failed(Failed::Rig(Wrong::NoMemory)));
+        return Err(NotServed::Failed(Failed::Rig(Wrong::NoMemory)));
     };
     if !matched {
-        return Err(NotRun::Failed(Failed::Unmatched));
+        return Err(NotServed::Failed(Failed::Unmatched));
     }
     Ok(PlayersOver {
         players: bodies,
@@ -287,17 +288,17 @@ fn over_of<J: ViewHistory, X: Drop>(
 /// in a thread of its own. The worker waits for point 2. The operator waits for point 0, closes and leaves, and then
 /// arrives at point 1. Returns why the worker stopped, and what is left.
 #[inline(never)]
-pub fn run_beside<X: Line + Send + Drop, R: Threads + Wait + Sync>(
+pub fn serve_beside<X: Line + Send + Drop, R: Threads + Wait + Sync>(
     rt: &R,
     alloc: Global,
     setup: Setup,
     line: X,
     player: &mut Player,
 ) -> Result<(Stop, LanesOver), Failed> {
-    runs_beside::<Brand, X, R>(rt, alloc, BlankHistory::new(), setup, line, player)
+    serves_beside::<Brand, X, R>(rt, alloc, BlankHistory::new(), setup, line, player)
 }
 
-fn runs_beside<J: ViewHistory + Send + Sync, X: Line + Send + Drop, R: Threads + Wait + Sync>(
+fn serves_beside<J: ViewHistory + Send + Sync, X: Line + Send + Drop, R: Threads + Wait + Sync>(
     rt: &R,
     alloc: Global,
     history: BlankHistory,

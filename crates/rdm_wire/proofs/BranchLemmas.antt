@@ -21,7 +21,7 @@ abbrev pub after_separator : List ℕ → Option (List ℕ)
 after_separator [] = None
 after_separator (x ∷ xs) = cond (x == 0xaa) (Some xs) None
 
--- a preamble that is too long isn't taken off
+-- a preamble that is too long isn't removed
 pub preamble_too_long : (n : ℕ) (b : List ℕ) → n < prefix_len is_fe b → after_preamble n b ≡ None
 preamble_too_long n [] h = refl
 preamble_too_long n (x ∷ xs) h = of_byte n (is_fe x) refl h (λ m more. preamble_too_long m xs more)
@@ -50,7 +50,7 @@ after_preamble-short n (x ∷ xs) h = of_byte n (is_fe x) refl h (λ m short. af
         let one_more : 1 + prefix_len is_fe xs ≡ suc (prefix_len is_fe xs) = omega arith in
         rw (one_more, eqb-true x 0xfe is, lt-ltb 0 (suc m) (omega arith), one_less) (rest m (omega arith))
 
--- the pairs by their places
+-- the pairs by their indices
 pub ands_is : (xs ys : List ℕ) → length xs ≡ 2 * length ys
     → ((i : ℕ) → i < length ys → get_or ys i 0 ≡ bit_and (get_or xs (2 * i) 0) (get_or xs (2 * i + 1) 0))
     → ys ≡ ands xs

@@ -13,7 +13,7 @@ use Rattle.rdm_wire.specs.declared.request.ReqClass.TheVariants.{Get, Set}
 use Rattle.rdm_wire.proofs.BytesLemmas.{number_of-uid_bytes}
 use Rattle.rdm_wire.proofs.PacketLemmas.{fields_at-packet}
 
--- the class of a request is none of discovery, and its code tells it
+-- the class of a request is none of discovery, and its code determines it
 no_discovery : (c : ReqClass) → code_of_request_class c ≡ 0x10 → ⊥
 no_discovery Get h = omega arith
 no_discovery Set h = omega arith
@@ -53,7 +53,7 @@ same_request r q s m t n h =
         }) q
     made target sub_device class pid items h1 h2 h3 h4 h5 = rw (h1, h2, h3, h4, h5) refl
 
--- the fields tell the command
+-- the fields determine the command
 same_command : (c d : Command) (s m t n : ℕ) → HasUids c → HasUids d → command_fields c s m ≡ command_fields d t n
     → c ≡ d
 same_command asks.Unmute asks.Unmute s m t n h k e = refl
@@ -71,7 +71,7 @@ same_command c d s m t n h k e = absurd (other_pid (ap (λ f. f.pid) e))
     other_pid : (command_fields c s m).pid ≡ (command_fields d t n).pid → ⊥
     other_pid p = omega arith
 
--- a frame tells its command, its source and its number
+-- a frame determines its command, its source and its number
 pub one_command : (c d : Command) (s m t n : ℕ) → FitsFrame c s m → FitsFrame d t n
     → command_frame c s m ≡ command_frame d t n → (c ≡ d) × (s ≡ t) × (m ≡ n)
 one_command c d s m t n can could same = (

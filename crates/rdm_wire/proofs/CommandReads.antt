@@ -158,7 +158,7 @@ discovery_fits f dest pid param fits d p few = record {
   dest = d;
   source = fits.source;
   tn = fits.tn;
-  port = omega arith;
+  port_or_type = omega arith;
   count = omega arith;
   sub_device = omega arith;
   class = omega arith;
@@ -192,7 +192,7 @@ request_sendable f c class fits h =
           dest = fits.dest;
           source = fits.source;
           tn = fits.tn;
-          port = omega arith;
+          port_or_type = omega arith;
           count = omega arith;
           sub_device = fits.sub_device;
           class = code class;
@@ -283,7 +283,7 @@ none_unless_long b bytes not = by_option (command_read b) refl
         let byte : slice_index b 2 < 256 = bytes 2 in
         absurd (not form.size (omega (arith, form.size, form.message)))
 
--- a value that is what the bytes are read as tells exactly what was written
+-- a value that is what the bytes are read as determines exactly what was written
 pub reads_exactly : (b : List ℕ) (x : Option (asked.Command × ℕ × ℕ)) → IsBytes b → x ≡ command_read b
     → (c : asked.Command) (s tn : ℕ) → (x ≡ Some (c, s, tn)) ↔ Writes c s tn b
 reads_exactly b x bytes value c s tn =

@@ -12,7 +12,8 @@ use Rattle.std.proofs.lemmas.Bool.{cases_order, ne_eqb, eq-eqb, lt-ltb, le-ltb}
 use Rattle.rdm_wire.specs.Uid.{has, IsAscending, with_uid}
 use Rattle.rdm_wire.specs.Devices.{uids_of, device_with, with_device}
 use Rattle.rdm_wire.specs.declared.device.Device.{Device}
-use Rattle.rdm_wire.proofs.SetLemmas.{IsPlace, place-rest, above-at, ascending-at, has-at_place, place-before}
+use Rattle.rdm_wire.proofs.SetLemmas.{IsInsertionIndex, insertion-rest, above-at, ascending-at}
+use Rattle.rdm_wire.proofs.SetLemmas.{has-at_insertion, insertion-before}
 use Rattle.rdm_wire.proofs.SetLemmas.{search-there, search-absent}
 
 abbrev no_device : Device
@@ -42,10 +43,10 @@ device-there ds u i p found a = search-there (uids_of ds) u i (search-uids ds u 
 
 pub device-absent : (ds : List Device) (u i : ℕ) → IsSearchInRange (Err i) (length ds)
     → IsBinarySearchResult (λ d. nat_cmp d.uid u) ds (Err i)
-    → IsAscending (uids_of ds) → IsPlace (uids_of ds) u i
+    → IsAscending (uids_of ds) → IsInsertionIndex (uids_of ds) u i
 device-absent ds u i p found a = search-absent (uids_of ds) u i (search-uids ds u (Err i) p found) a
 
--- the device at u's place is the one with u
+-- the device at u's index is the one with u
 device_at : (ds : List Device) (u i : ℕ) → IsAscending (uids_of ds) → i < length ds → (get_or ds i no_device).uid ≡ u
     → slice_get ds i ≡ device_with ds u
 device_at [] u i a lt same = absurd (omega arith)
@@ -76,17 +77,17 @@ no-device_with (d ∷ ds) u h = by_test (u == d.uid) (no-device_with ds u) h
     by_test true rest h = absurd (true≢false h)
     by_test false rest h = rest h
 
--- the set with one more is the list with it at its place
-pub with_device-insert : (d : Device) (ds : List Device) (i : ℕ) → IsPlace (uids_of ds) d.uid i
+-- the set with one more is the list with it at its index
+pub with_device-insert : (d : Device) (ds : List Device) (i : ℕ) → IsInsertionIndex (uids_of ds) d.uid i
     → with_device d ds ≡ insert ds i d
-with_device-insert d [] zero place = refl
-with_device-insert d [] (suc i) place = let p : suc i ≤ 0 = place.within in absurd (omega arith)
-with_device-insert d (e ∷ ds) zero place =
-    let p : d.uid < e.uid = place.above 0 (omega arith) (omega arith) in rw (lt-ltb d.uid e.uid p) refl
-with_device-insert d (e ∷ ds) (suc i) place =
-    let p : e.uid < d.uid = place.below 0 (omega arith) in
+with_device-insert d [] zero insertion = refl
+with_device-insert d [] (suc i) insertion = let p : suc i ≤ 0 = insertion.within in absurd (omega arith)
+with_device-insert d (e ∷ ds) zero insertion =
+    let p : d.uid < e.uid = insertion.above 0 (omega arith) (omega arith) in rw (lt-ltb d.uid e.uid p) refl
+with_device-insert d (e ∷ ds) (suc i) insertion =
+    let p : e.uid < d.uid = insertion.below 0 (omega arith) in
     rw (le-ltb d.uid e.uid (omega arith), ne_eqb d.uid e.uid (omega arith))
-    (ap (λ l. e ∷ l) (with_device-insert d ds i (place-rest d.uid e.uid (uids_of ds) i place)))
+    (ap (λ l. e ∷ l) (with_device-insert d ds i (insertion-rest d.uid e.uid (uids_of ds) i insertion)))
 
 -- its UIDs are the UIDs with one more
 pub uids_of-with_device : (d : Device) (ds : List Device) → uids_of (with_device d ds) ≡ with_uid d.uid (uids_of ds)
@@ -109,7 +110,7 @@ with_device-present d (e ∷ ds) a h =
       | inl same ↦ rw (le-ltb d.uid e.uid (omega arith), eq-eqb d.uid e.uid same) refl
       | inr (inl less)
           ↦ absurd (true≢false
-          (sym h ∙ has-at_place d.uid (e.uid ∷ uids_of ds) zero (place-before d.uid e.uid (uids_of ds) a less)))
+          (sym h ∙ has-at_insertion d.uid (e.uid ∷ uids_of ds) zero (insertion-before d.uid e.uid (uids_of ds) a less)))
       | inr (inr more) ↦ rw (le-ltb d.uid e.uid (omega arith), ne_eqb d.uid e.uid (omega arith))
           (ap (λ l. e ∷ l) (with_device-present d ds a.1 (rw (ne_eqb d.uid e.uid (omega arith)) at h)))
     ]
@@ -133,11 +134,15 @@ searched-device ds u (Ok i) p found a = record {
   index = tt;
 }
 searched-device ds u (Err i) p found a =
-    let place = device-absent ds u i p found a in
+    let insertion = device-absent ds u i p found a in
     record {
       there = tt;
       found = tt;
-      absent = has-at_place u (uids_of ds) i place;
-      none = no-device_with ds u (has-at_place u (uids_of ds) i place);
-      index = (p, λ d same. with_device-insert d ds i (subst (λ v. IsPlace (uids_of ds) v i) (sym same) place));
+      absent = has-at_insertion u (uids_of ds) i insertion;
+      none = no-device_with ds u (has-at_insertion u (uids_of ds) i insertion);
+      index = (
+        p,
+        λ d same. with_device-insert d ds i
+            (subst (λ v. IsInsertionIndex (uids_of ds) v i) (sym same) insertion),
+      );
     }

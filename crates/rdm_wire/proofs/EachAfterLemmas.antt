@@ -20,12 +20,13 @@ no_more : {X : Type 0} (front back : List X) (x : X) → [] ≡ front ++ x ∷ b
 no_more [] back x h = cc
 no_more (f ∷ front) back x h = cc
 
-place_of : {X : Type 0} (xs front back : List X) (e x : X) → xs ++ e ∷ [] ≡ front ++ x ∷ back → IsLast xs e front x
+last_or_before : {X : Type 0} (xs front back : List X) (e x : X) → xs ++ e ∷ [] ≡ front ++ x ∷ back
+    → IsLast xs e front x
     ⊎ ((rest : List X) × (xs ≡ front ++ x ∷ rest))
-place_of [] [] back e x w = inl (record { front_is = refl; is = sym (ap (head_or e) w) })
-place_of [] (f ∷ front) back e x w = absurd (no_more front back x (ap tail_of w))
-place_of (a ∷ xs) [] back e x w = inr (xs, ap (λ y. y ∷ xs) (ap (head_or a) w))
-place_of {X} (a ∷ xs) (f ∷ front) back e x w = onward (place_of xs front back e x (ap tail_of w))
+last_or_before [] [] back e x w = inl (record { front_is = refl; is = sym (ap (head_or e) w) })
+last_or_before [] (f ∷ front) back e x w = absurd (no_more front back x (ap tail_of w))
+last_or_before (a ∷ xs) [] back e x w = inr (xs, ap (λ y. y ∷ xs) (ap (head_or a) w))
+last_or_before {X} (a ∷ xs) (f ∷ front) back e x w = onward (last_or_before xs front back e x (ap tail_of w))
   where
     first : f ≡ a
     first = sym (ap (head_or a) w)
@@ -41,11 +42,12 @@ place_of {X} (a ∷ xs) (f ∷ front) back e x w = onward (place_of xs front bac
 -- it holds of a list with one more, where it holds of the list and of the one after it
 pub EachAfter-push : {X : Type 0} (P : List X → X → Type 0) (xs : List X) (e : X) → EachAfter P xs → P xs e
     → EachAfter P (xs ++ e ∷ [])
-EachAfter-push {X} P xs e all last = λ front back x w. of_place front x (place_of xs front back e x w)
+EachAfter-push {X} P xs e all last = λ front back x w. of_either front x (last_or_before xs front back e x w)
   where
-    of_place : (front : List X) (x : X) → IsLast xs e front x ⊎ ((rest : List X) × (xs ≡ front ++ x ∷ rest)) → P front x
-    of_place front x (inl l) = subst (λ f. P f x) (sym l.front_is) (subst (λ y. P xs y) (sym l.is) last)
-    of_place front x (inr inner) = all front inner.0 x inner.1
+    of_either : (front : List X) (x : X) → IsLast xs e front x ⊎ ((rest : List X) × (xs ≡ front ++ x ∷ rest))
+        → P front x
+    of_either front x (inl l) = subst (λ f. P f x) (sym l.front_is) (subst (λ y. P xs y) (sym l.is) last)
+    of_either front x (inr inner) = all front inner.0 x inner.1
 
 -- it holds of a front of the list
 pub EachAfter-front : {X : Type 0} (P : List X → X → Type 0) (xs ys : List X) → EachAfter P (xs ++ ys) → EachAfter P xs

@@ -45,20 +45,21 @@ param_at f rest = counted (24 + length f.param - 24) (omega arith)
 
 pub fields_back : (f : Fields) (rest : List ℕ) → Fits f → fields_at (packet f ++ rest) ≡ f
 fields_back f rest fits = same _ _ _ _ _ _ _ _ _ (number_of-uid_bytes f.dest fits.dest)
-    (number_of-uid_bytes f.source fits.source) (one_spell f.tn) (one_spell f.port) (one_spell f.count)
+    (number_of-uid_bytes f.source fits.source) (one_spell f.tn) (one_spell f.port_or_type) (one_spell f.count)
     (number_of-two_bytes f.sub_device fits.sub_device) (one_spell f.class) (number_of-two_bytes f.pid fits.pid)
     (param_at f rest)
   where
     one_spell : (n : ℕ) → 0 + n ≡ n
     one_spell n = omega arith
 
-    same : (d s t o c b k p : ℕ) (data_ : List ℕ) → d ≡ f.dest → s ≡ f.source → t ≡ f.tn → o ≡ f.port → c ≡ f.count
+    same : (d s t o c b k p : ℕ) (data_ : List ℕ) → d ≡ f.dest → s ≡ f.source → t ≡ f.tn → o ≡ f.port_or_type
+        → c ≡ f.count
         → b ≡ f.sub_device → k ≡ f.class → p ≡ f.pid → data_ ≡ f.param
         → ◌≡◌ {A = Fields} (record {
           dest = d;
           source = s;
           tn = t;
-          port = o;
+          port_or_type = o;
           count = c;
           sub_device = b;
           class = k;

@@ -128,14 +128,16 @@ is_at b r (Some class) (Some ack) h = subst (IsAt b (Some class) (Some ack)) sam
 
 -- a list whose parts follow one another
 joined : (b t1 t2 t3 t9 t15 t16 t17 t18 t20 t21 t23 t24 : List ℕ)
-    (l dest source tn port count sub_device class pid n : ℕ)
+    (l dest source tn port_or_type count sub_device class pid n : ℕ)
     → b ≡ 0xcc ∷ t1 → t1 ≡ 0x01 ∷ t2 → t2 ≡ l ∷ t3 → t3 ≡ uid_bytes dest ++ t9 → t9 ≡ uid_bytes source ++ t15
-    → t15 ≡ tn ∷ t16 → t16 ≡ port ∷ t17
+    → t15 ≡ tn ∷ t16 → t16 ≡ port_or_type ∷ t17
     → t17 ≡ count ∷ t18 → t18 ≡ two_bytes sub_device ++ t20 → t20 ≡ class ∷ t21 → t21 ≡ two_bytes pid ++ t23
     → t23 ≡ n ∷ t24
-    → b ≡ 0xcc ∷ 0x01 ∷ l ∷ uid_bytes dest ++ uid_bytes source ++ tn ∷ port ∷ count ∷ two_bytes sub_device
+    → b ≡ 0xcc ∷ 0x01 ∷ l ∷ uid_bytes dest ++ uid_bytes source ++ tn ∷ port_or_type ∷ count ∷ two_bytes sub_device
     ++ class ∷ two_bytes pid ++ n ∷ t24
-joined b t1 t2 t3 t9 t15 t16 t17 t18 t20 t21 t23 t24 l dest source tn port count sub_device class pid n h0 h1 h2 h3 h9
+joined b t1 t2 t3 t9 t15 t16 t17 t18 t20 t21 t23 t24 l dest source tn port_or_type count sub_device class pid n h0 h1
+    h2 h3
+    h9
     h15 h16 h17 h18 h20 h21 h23 =
     rw (h0, h1, h2, h3, h9, h15, h16, h17, h18, h20, h21, h23) refl
 
@@ -152,7 +154,7 @@ has_body b bytes start sub_start len long = record {
     dest = (uid_at 3 b bytes (omega arith)).below;
     source = (uid_at 9 b bytes (omega arith)).below;
     tn = (one_at 15 b bytes (omega arith)).below;
-    port = (one_at 16 b bytes (omega arith)).below;
+    port_or_type = (one_at 16 b bytes (omega arith)).below;
     count = (one_at 17 b bytes (omega arith)).below;
     sub_device = (two_at 18 b bytes (omega arith)).below;
     class = (one_at 20 b bytes (omega arith)).below;
@@ -217,9 +219,9 @@ fields_are : (b : List ℕ) (class : RespClass) (ack : AckType) → 24 ≤ lengt
 fields_are b class ack long class_is ack_is =
     same _ _ (ack_is ∙ sym (number_of-one 16 b (omega arith))) (class_is ∙ sym (number_of-one 20 b (omega arith)))
   where
-    same : (port code : ℕ) → port ≡ (fields_at b).port → code ≡ (fields_at b).class
-        → ◌≡◌ {A = Fields} (record (fields_at b) { port = port; class = code }) (fields_at b)
-    same port code p q = rw (p, q) refl
+    same : (port_or_type code : ℕ) → port_or_type ≡ (fields_at b).port_or_type → code ≡ (fields_at b).class
+        → ◌≡◌ {A = Fields} (record (fields_at b) { port_or_type = port_or_type; class = code }) (fields_at b)
+    same port_or_type code p q = rw (p, q) refl
 
 -- bytes that decode to a response begin with its packet
 pub read_back : (b : List ℕ) (r : Response) → IsBytes b → decoded b ≡ Ok r → Reads r b

@@ -23,48 +23,48 @@ ascending-at (u ∷ us) a zero (suc j) p q = let h : u < get_or us j 0 = above-a
 ascending-at (u ∷ us) a (suc i) zero p q = absurd (omega arith)
 ascending-at (u ∷ us) a (suc i) (suc j) p q = ascending-at us a.1 i j (omega arith) (omega arith)
 
--- i is u's place: what is before it is below u, and the others are above
-pub record IsPlace (us : List ℕ) (u i : ℕ) : Type 0 where
+-- i is u's insertion index: what is before it is below u, and the others are above
+pub record IsInsertionIndex (us : List ℕ) (u i : ℕ) : Type 0 where
   pub within : i ≤ length us
   pub below : (k : ℕ) → k < i → get_or us k 0 < u
   pub above : (k : ℕ) → i ≤ k → k < length us → u < get_or us k 0
 
-pub place-rest : (u v : ℕ) (us : List ℕ) (i : ℕ) → IsPlace (v ∷ us) u (suc i) → IsPlace us u i
-place-rest u v us i place = record {
-  within = let p : suc i ≤ suc (length us) = place.within in omega arith;
-  below = λ k p. place.below (suc k) (omega arith);
-  above = λ k p q. place.above (suc k) (omega arith) (omega arith);
+pub insertion-rest : (u v : ℕ) (us : List ℕ) (i : ℕ) → IsInsertionIndex (v ∷ us) u (suc i) → IsInsertionIndex us u i
+insertion-rest u v us i insertion = record {
+  within = let p : suc i ≤ suc (length us) = insertion.within in omega arith;
+  below = λ k p. insertion.below (suc k) (omega arith);
+  above = λ k p q. insertion.above (suc k) (omega arith) (omega arith);
 }
 
-pub place-first : (u v : ℕ) (us : List ℕ) → IsPlace (v ∷ us) u zero → IsPlace us u zero
-place-first u v us place = record {
+pub insertion-first : (u v : ℕ) (us : List ℕ) → IsInsertionIndex (v ∷ us) u zero → IsInsertionIndex us u zero
+insertion-first u v us insertion = record {
   within = omega arith;
   below = λ k p. absurd (omega arith);
-  above = λ k p q. place.above (suc k) (omega arith) (omega arith);
+  above = λ k p q. insertion.above (suc k) (omega arith) (omega arith);
 }
 
-pub has-at_place : (u : ℕ) (us : List ℕ) (i : ℕ) → IsPlace us u i → has us u ≡ false
-has-at_place u [] i place = refl
-has-at_place u (v ∷ us) zero place =
-    let p : u < v = place.above 0 (omega arith) (omega arith) in
-    rw (ne_eqb u v (omega arith)) (has-at_place u us zero (place-first u v us place))
-has-at_place u (v ∷ us) (suc i) place =
-    let p : v < u = place.below 0 (omega arith) in
-    rw (ne_eqb u v (omega arith)) (has-at_place u us i (place-rest u v us i place))
+pub has-at_insertion : (u : ℕ) (us : List ℕ) (i : ℕ) → IsInsertionIndex us u i → has us u ≡ false
+has-at_insertion u [] i insertion = refl
+has-at_insertion u (v ∷ us) zero insertion =
+    let p : u < v = insertion.above 0 (omega arith) (omega arith) in
+    rw (ne_eqb u v (omega arith)) (has-at_insertion u us zero (insertion-first u v us insertion))
+has-at_insertion u (v ∷ us) (suc i) insertion =
+    let p : v < u = insertion.below 0 (omega arith) in
+    rw (ne_eqb u v (omega arith)) (has-at_insertion u us i (insertion-rest u v us i insertion))
 
-pub with_uid-insert : (u : ℕ) (us : List ℕ) (i : ℕ) → IsPlace us u i → with_uid u us ≡ insert us i u
-with_uid-insert u [] zero place = refl
-with_uid-insert u [] (suc i) place = let p : suc i ≤ 0 = place.within in absurd (omega arith)
-with_uid-insert u (v ∷ us) zero place =
-    let p : u < v = place.above 0 (omega arith) (omega arith) in rw (lt-ltb u v p) refl
-with_uid-insert u (v ∷ us) (suc i) place =
-    let p : v < u = place.below 0 (omega arith) in
+pub with_uid-insert : (u : ℕ) (us : List ℕ) (i : ℕ) → IsInsertionIndex us u i → with_uid u us ≡ insert us i u
+with_uid-insert u [] zero insertion = refl
+with_uid-insert u [] (suc i) insertion = let p : suc i ≤ 0 = insertion.within in absurd (omega arith)
+with_uid-insert u (v ∷ us) zero insertion =
+    let p : u < v = insertion.above 0 (omega arith) (omega arith) in rw (lt-ltb u v p) refl
+with_uid-insert u (v ∷ us) (suc i) insertion =
+    let p : v < u = insertion.below 0 (omega arith) in
     rw (le-ltb u v (omega arith), ne_eqb u v (omega arith))
-    (ap (λ l. v ∷ l) (with_uid-insert u us i (place-rest u v us i place)))
+    (ap (λ l. v ∷ l) (with_uid-insert u us i (insertion-rest u v us i insertion)))
 
 -- what is below the first stands before it
-pub place-before : (u : ℕ) (v : ℕ) (vs : List ℕ) → IsAscending (v ∷ vs) → u < v → IsPlace (v ∷ vs) u zero
-place-before u v vs a less = record {
+pub insertion-before : (u : ℕ) (v : ℕ) (vs : List ℕ) → IsAscending (v ∷ vs) → u < v → IsInsertionIndex (v ∷ vs) u zero
+insertion-before u v vs a less = record {
   within = omega arith;
   below = λ k p. absurd (omega arith);
   above = λ k p q. let least : v ≤ get_or (v ∷ vs) k 0 = ascending-at (v ∷ vs) a 0 k (omega arith) q in omega arith;
@@ -76,7 +76,7 @@ with_uid-present u [] a h = absurd (true≢false (sym h))
 with_uid-present u (v ∷ us) a h =
     elim (cases_order u v) [
       | inl same ↦ rw (le-ltb u v (omega arith), eq-eqb u v same) refl
-      | inr (inl less) ↦ absurd (true≢false (sym h ∙ has-at_place u (v ∷ us) zero (place-before u v us a less)))
+      | inr (inl less) ↦ absurd (true≢false (sym h ∙ has-at_insertion u (v ∷ us) zero (insertion-before u v us a less)))
       | inr (inr more) ↦ rw (le-ltb u v (omega arith), ne_eqb u v (omega arith))
           (ap (λ l. v ∷ l) (with_uid-present u us a.1 (rw (ne_eqb u v (omega arith)) at h)))
     ]
@@ -121,7 +121,7 @@ search-there us u i found a =
     list_any_at (λ v. u == v) us i 0 at.0 (eq-eqb u (get_or us i 0) (sym at.1))
 
 pub search-absent : (us : List ℕ) (u i : ℕ) → IsBinarySearchResult (λ v. nat_cmp v u) us (Err i) → IsAscending us
-    → IsPlace us u i
+    → IsInsertionIndex us u i
 search-absent us u i found a =
     let at : (i ≤ length us) × ((k : ℕ) → k < i → get_or us k 0 < u)
     × ((k : ℕ) → i ≤ k → k < length us → u < get_or us k 0) = searched us u (Err i) found (ascending-at us a) in

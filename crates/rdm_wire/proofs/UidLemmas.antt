@@ -17,7 +17,7 @@ use Rattle.rdm_wire.specs.Uid.{manufacturer_of, device_of}
 use Rattle.rdm_wire.specs.UidText.{UidText, uid_text, colon}
 use Rattle.rdm_wire.proofs.BytesLemmas.{number_of-uid_bytes, IsBytes-two_bytes, IsBytes-four_bytes}
 
--- a text whose fifth byte is a colon, at its places
+-- a text whose fifth byte is a colon, at its indices
 pub text_parts : (text : List ℕ) → length text ≡ 13 → get_or text 4 0 ≡ colon
     → text ≡ take 4 text ++ colon ∷ drop 5 text
 text_parts text len is_colon =
@@ -25,9 +25,9 @@ text_parts text len is_colon =
     sym (take-append-drop 4 text)
     ∙ ap (λ (xs : List ℕ). take 4 text ++ xs) (drop_more text 4 0 within ∙ ap (λ (x : ℕ). x ∷ drop 5 text) is_colon)
 
--- the places of a text's parts
-text_places : (text : List ℕ) (u : ℕ) (f : UidText text u) → (take 4 text ≡ f.manufacturer) × (drop 5 text ≡ f.device)
-text_places text u f =
+-- the indices of a text's parts
+text_slices : (text : List ℕ) (u : ℕ) (f : UidText text u) → (take 4 text ≡ f.manufacturer) × (drop 5 text ≡ f.device)
+text_slices text u f =
     let front : length (f.manufacturer ++ colon ∷ [])
     ≡ 5 = omega (arith, length-append f.manufacturer (colon ∷ []), f.manufacturer_length) in (
       ap (take 4) f.parts ∙ take_at f.manufacturer _ 4 f.manufacturer_length,
@@ -39,8 +39,8 @@ text_places text u f =
 pub text_digits : (text : List ℕ) (u : ℕ) (f : UidText text u)
     → (decode_of (take 4 text) ≡ Ok (take 2 (uid_bytes u))) × (decode_of (drop 5 text) ≡ Ok (drop 2 (uid_bytes u)))
 text_digits text u f =
-    let places = text_places text u f in
-    (ap decode_of places.0 ∙ f.manufacturer_digits, ap decode_of places.1 ∙ f.device_digits)
+    let slices = text_slices text u f in
+    (ap decode_of slices.0 ∙ f.manufacturer_digits, ap decode_of slices.1 ∙ f.device_digits)
 
 -- a text is of one UID
 pub text_once : (text : List ℕ) (u v : ℕ) → UidText text u → UidText text v → u ≡ v

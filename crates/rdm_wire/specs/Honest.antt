@@ -94,7 +94,8 @@ HonestStep present old (Mute u) heard new =
 HonestStep present old Unmute heard new = ((u : ℕ) → UnmuteMoves u old new) × Counts new 0 0 (old.unmutes + 1)
 HonestStep present old Other heard new = ((u : ℕ) → KeepsMuted u old new) × Counts new 0 0 0
 
--- the same for one device, whatever the others do
+-- a line on which only this device has to follow the rules, whatever the others do, may answer like this, and then be
+-- in the state new
 abbrev pub HonestToStep : ℕ → LineState → Asked → Heard → LineState → Type 0
 HonestToStep u old (Branch lo hi) heard new =
     KeepsMuted u old new × Counts new (lost_after (due_in (u ∷ []) old.muted lo hi) heard old.lost_branches) 0 0

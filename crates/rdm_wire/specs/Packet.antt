@@ -7,7 +7,7 @@ pub record Fields : Type 0 where
   pub dest : ℕ
   pub source : ℕ
   pub tn : ℕ
-  pub port : ℕ  -- port id, or response type
+  pub port_or_type : ℕ  -- port id, or response type
   pub count : ℕ
   pub sub_device : ℕ
   pub class : ℕ
@@ -19,7 +19,7 @@ pub record Fits (f : Fields) : Type 0 where
   pub dest : f.dest < 2 ^ 48
   pub source : f.source < 2 ^ 48
   pub tn : f.tn < 2 ^ 8
-  pub port : f.port < 2 ^ 8
+  pub port_or_type : f.port_or_type < 2 ^ 8
   pub count : f.count < 2 ^ 8
   pub sub_device : f.sub_device < 2 ^ 16
   pub class : f.class < 2 ^ 8
@@ -30,7 +30,7 @@ pub record Fits (f : Fields) : Type 0 where
 abbrev pub header_of : Fields → List ℕ
 header_of f =
     0xcc ∷ 0x01 ∷ (24 + length f.param) ∷ uid_bytes f.dest ++ uid_bytes f.source
-    ++ f.tn ∷ f.port ∷ f.count ∷ two_bytes f.sub_device ++ f.class ∷ two_bytes f.pid ++ length f.param ∷ []
+    ++ f.tn ∷ f.port_or_type ∷ f.count ∷ two_bytes f.sub_device ++ f.class ∷ two_bytes f.pid ++ length f.param ∷ []
 
 -- header and data
 abbrev pub body_of : Fields → List ℕ
@@ -50,7 +50,7 @@ fields_at b = record {
   dest = number_at 3 6 b;
   source = number_at 9 6 b;
   tn = number_at 15 1 b;
-  port = number_at 16 1 b;
+  port_or_type = number_at 16 1 b;
   count = number_at 17 1 b;
   sub_device = number_at 18 2 b;
   class = number_at 20 1 b;

@@ -59,7 +59,7 @@ fn discovery_header(dest: Uid, source: Uid, tn: u8, pid: u16) -> Header
         dest,
         source,
         tn,
-        port: PORT_ID,
+        port_or_type: PORT_ID,
         count: NO_MESSAGES,
         sub_device: ROOT_DEVICE,
         class: class::DISCOVERY_COMMAND,

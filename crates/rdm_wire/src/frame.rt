@@ -56,7 +56,7 @@ pub(crate) mod offset {
     /// The transaction number: 1 byte.
     pub(crate) const TRANSACTION_NUMBER: usize = 15;
     /// The port id of a command, the response type of a response: 1 byte.
-    pub(crate) const PORT: usize = 16;
+    pub(crate) const PORT_OR_TYPE: usize = 16;
     /// The message count: 1 byte.
     pub(crate) const MESSAGE_COUNT: usize = 17;
     /// The sub-device: 2 bytes.
@@ -107,7 +107,7 @@ pub(crate) struct Header {
     /// The transaction number.
     pub(crate) tn: u8,
     /// The port id of a command, the response type of a response.
-    pub(crate) port: u8,
+    pub(crate) port_or_type: u8,
     /// The message count.
     pub(crate) count: u8,
     /// The sub-device.
@@ -128,7 +128,7 @@ impl Header {
             dest: uid_at(bytes, offset::DESTINATION),
             source: uid_at(bytes, offset::SOURCE),
             tn: bytes[offset::TRANSACTION_NUMBER],
-            port: bytes[offset::PORT],
+            port_or_type: bytes[offset::PORT_OR_TYPE],
             count: bytes[offset::MESSAGE_COUNT],
             sub_device: u16_at(bytes, offset::SUB_DEVICE),
             class: bytes[offset::COMMAND_CLASS],
@@ -178,7 +178,7 @@ impl Header {
             s4,
             s5,
             self.tn,
-            self.port,
+            self.port_or_type,
             self.count,
             sub_high,
             sub_low,

@@ -50,14 +50,14 @@ pub fn responses_decode()
 {}
 
 /// A packet determines its fields, which are at the table's offsets; no packet begins with another.
-pub fn packets_tell_fields()
+pub fn packets_determine_fields()
     ensures fields { (f : Fields) → Fits f → fields_at (packet f) ≡ f }
     ensures one { (f g : Fields) (rest more : List ℕ) → Fits f → Fits g
         → packet f ++ rest ≡ packet g ++ more → f ≡ g }
 {}
 
 /// What one of the four encoders writes, none writes with other arguments.
-pub fn frames_tell_commands()
+pub fn frames_determine_commands()
     ensures { (c d : Command) (s m t n : ℕ) → FitsFrame c s m → FitsFrame d t n
         → command_frame c s m ≡ command_frame d t n → (c ≡ d) × (s ≡ t) × (m ≡ n) }
 {}

@@ -71,7 +71,7 @@ pub fn encode_request(request: &Request, source: Uid, tn: u8) -> Frame
         dest: request.target,
         source,
         tn,
-        port: PORT_ID,
+        port_or_type: PORT_ID,
         count: NO_MESSAGES,
         sub_device: request.sub_device,
         class: request.class.code(),

@@ -152,7 +152,7 @@ pub fn decode_response(bytes: &[u8]) -> Result<Response, PacketFault>
     let Some(class) = RespClass::from_code(header.class) else {
         return Err(PacketFault::InvalidClass);
     };
-    let Some(ack) = AckType::from_code(header.port) else {
+    let Some(ack) = AckType::from_code(header.port_or_type) else {
         return Err(PacketFault::InvalidResponseType);
     };
     let mut param = ArrayVec::new();
@@ -181,7 +181,7 @@ pub fn encode_response(response: &Response) -> Frame
         dest: response.dest,
         source: response.source,
         tn: response.tn,
-        port: response.ack.code(),
+        port_or_type: response.ack.code(),
         count: response.count,
         sub_device: response.sub_device,
         class: response.class.code(),
@@ -194,7 +194,8 @@ pub fn encode_response(response: &Response) -> Frame
 fn message_length(bytes: &[u8]) -> Result<usize, PacketFault>
     ensures fault { IfErr result (λ fault. decoded bytes.now ≡ Err fault) }
     ensures packet { IfOk result (λ n. decoded bytes.now
-        ≡ response_of bytes.now (class_of_code (fields_at bytes.now).class) (ack_of_code (fields_at bytes.now).port)) }
+        ≡ response_of bytes.now (class_of_code (fields_at bytes.now).class)
+        (ack_of_code (fields_at bytes.now).port_or_type)) }
     ensures length { IfOk result (λ n. n ≡ 24 + slice_index bytes.now 23) }
     ensures fits { IfOk result (λ n. n ≤ 255) }
     ensures within { IfOk result (λ n. n + 2 ≤ length bytes.now) }

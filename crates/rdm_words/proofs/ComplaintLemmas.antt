@@ -17,21 +17,22 @@ only word other (k, below, is) = let first : k ≡ 0 = omega arith in rw first a
 
 pub among : (name : Text) (word : Bor Text) (words : List (Bor Text)) (complaint : Complaint) → Contains words word
     → IsTrueAfter name (word ∷ []) complaint → IsTrueAfter name words complaint
-among name word words (UnknownOption command option) has told = (told.0, rw (only word option told.1) at has, told.2)
-among name word words (Repeated option) has told = tt
-among name word words (HasValue option) has told = tt
-among name word words NoPort has told = tt
-among name word words (UnknownPort port) has told = told
-among name word words (NoArgument command argument) has told = told
-among name word words (OneTooMany other) has told = rw (only word other told) at has
-among name word words Words has told = tt
-among name word words Help has told = told
-among name word words Version has told = told
-among name word words NoCommand has told = told
-among name word words (UnknownCommand other) has told = told
-among name word words NoText has told = told
-among name word words (NoValue option) has told = tt
-among name word words (NoOption command option) has told = told
-among name word words (NeedsLine option) has told = tt
-among name word words TooManyKnown has told = tt
-among name word words (UnknownBudget text) has told = told
+among name word words (UnknownOption command option) has true_after
+    = (true_after.0, rw (only word option true_after.1) at has, true_after.2)
+among name word words (Repeated option) has true_after = tt
+among name word words (HasValue option) has true_after = tt
+among name word words NoPort has true_after = tt
+among name word words (UnknownPort port) has true_after = true_after
+among name word words (NoArgument command argument) has true_after = true_after
+among name word words (OneTooMany other) has true_after = rw (only word other true_after) at has
+among name word words Words has true_after = tt
+among name word words Help has true_after = true_after
+among name word words Version has true_after = true_after
+among name word words NoCommand has true_after = true_after
+among name word words (UnknownCommand other) has true_after = true_after
+among name word words NoText has true_after = true_after
+among name word words (NoValue option) has true_after = tt
+among name word words (NoOption command option) has true_after = true_after
+among name word words (NeedsLine option) has true_after = tt
+among name word words TooManyKnown has true_after = tt
+among name word words (UnknownBudget text) has true_after = true_after

@@ -26,11 +26,11 @@ line_devices =
     (with_needed (line_streams (codes "discover")) (codes "source"))
     (record (new_rule (codes "known")) { long = Some (codes "known"); action = Some Append })
 
--- the same with its budget
+-- the command that discovers the devices of a line, with the option of a budget
 abbrev pub line_budget : App
 line_budget = with_option line_devices (codes "budget")
 
--- the whole command
+-- the command that discovers the devices of a line, with all its options
 abbrev pub line_discover : App
 line_discover = with_run_options line_budget
 

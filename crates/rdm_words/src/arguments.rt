@@ -17,7 +17,7 @@ pub(crate) fn complaint_after<'a>(command: Command, words: &[&'a str]) -> Compla
 {
     let mut given = Given::new(command);
     'words: for word in words {
-        if let Some(complaint) = given.take(word) {
+        if let Some(complaint) = given.read_word(word) {
             return complaint;
         }
     }
@@ -97,7 +97,7 @@ impl Command {
         }
     }
 
-    fn takes(self, choice: Choice) -> bool {
+    fn allows(self, choice: Choice) -> bool {
         match choice {
             Choice::Incremental | Choice::Quick => {
                 matches!(self, Command::Discover | Command::DiscoverOnLine)
@@ -262,25 +262,25 @@ impl Given {
     }
 
     // Takes the next word, or says what is wrong with it.
-    fn take<'a>(&mut self, word: &'a str) -> Option<Complaint<'a>>
-        ensures told { IfSome result (IsTrueAfter (command_name self.old.command) (word.entry ∷ [])) }
+    fn read_word<'a>(&mut self, word: &'a str) -> Option<Complaint<'a>>
+        ensures true_after { IfSome result (IsTrueAfter (command_name self.old.command) (word.entry ∷ [])) }
         ensures kept { self.new.command ≡ self.old.command }
     {
         if let Some(choice) = mem::replace(&mut self.wants, None) {
             return value_after(choice, word);
         }
         if self.is_past_options || !is_option(word) {
-            return self.take_argument(word);
+            return self.read_argument(word);
         }
         if word == "--" {
             self.is_past_options = true;
             return None;
         }
-        self.take_option(word)
+        self.read_option(word)
     }
 
-    fn take_argument<'a>(&mut self, word: &'a str) -> Option<Complaint<'a>>
-        ensures told { IfSome result (λ c. c ≡ Complaint.OneTooMany word.entry) }
+    fn read_argument<'a>(&mut self, word: &'a str) -> Option<Complaint<'a>>
+        ensures true_after { IfSome result (λ c. c ≡ Complaint.OneTooMany word.entry) }
         ensures kept { self.new.command ≡ self.old.command }
     {
         if self.has_argument || self.command.argument().is_none() {
@@ -290,16 +290,16 @@ impl Given {
         None
     }
 
-    fn take_option<'a>(&mut self, word: &'a str) -> Option<Complaint<'a>>
+    fn read_option<'a>(&mut self, word: &'a str) -> Option<Complaint<'a>>
         requires { is_plain word.now ≡ false }
-        ensures told { IfSome result (IsTrueAfter (command_name self.old.command) (word.entry ∷ [])) }
+        ensures true_after { IfSome result (IsTrueAfter (command_name self.old.command) (word.entry ∷ [])) }
         ensures kept { self.new.command ≡ self.old.command }
     {
         let Some(choice) = Choice::named(name_of(word)) else {
             return Some(self.unknown(word));
         };
-        if !self.command.takes(choice) {
-            return if self.command.on_line().takes(choice) {
+        if !self.command.allows(choice) {
+            return if self.command.on_line().allows(choice) {
                 Some(Complaint::NeedsLine(choice.name()))
             } else {
                 Some(self.unknown(word))
@@ -332,7 +332,7 @@ impl Given {
 
     // Records an option, or says what is wrong if it was given too often.
     fn note<'a>(&mut self, choice: Choice) -> Option<Complaint<'a>>
-        ensures told { (command : Text) (words : List (Bor Text)) → IfSome result (IsTrueAfter command words) }
+        ensures true_after { (command : Text) (words : List (Bor Text)) → IfSome result (IsTrueAfter command words) }
         ensures kept { self.new.command ≡ self.old.command }
     {
         let bit = choice.bit();

@@ -13,8 +13,8 @@ use crate::log_file::LogFile;
 use crate::opening::{FileOpener, TextLine};
 use rdm_port::{
     Complaint, Job, LineDiscovery, LineJob, LineRun, LogOutput, Progressing, Reason, WordsFault,
-    carry_out, carry_out_on_line, complaint_of, parse_line_words, parse_words, run_on_line, tell,
-    tell_usage,
+    carry_out, carry_out_on_line, complaint_of, parse_line_words, parse_words, print_reason,
+    print_usage, run_on_line,
 };
 use std::alloc::{AllocError, Global};
 use std::fs::File;
@@ -79,7 +79,7 @@ fn discover_on_line<T: Runtime + Files<File = File>>(
         &mut io::writer(rt),
         &mut progress,
     );
-    tell_if_any(rt, reason);
+    print_if_any(rt, reason);
     status
 }
 
@@ -114,14 +114,14 @@ fn run_from<R: Read, T: Runtime + Threads + Wait + Sync + Files<File = File>>(
         &mut io::writer(rt),
         &mut progress,
     );
-    tell_if_any(rt, reason);
+    print_if_any(rt, reason);
     status
 }
 
 // If standard error fails too, the status shows it.
-fn tell_if_any(rt: &impl Eprint, reason: Option<Reason<'_>>) {
+fn print_if_any(rt: &impl Eprint, reason: Option<Reason<'_>>) {
     let _ = match reason {
-        Some(reason) => tell(rt, &reason),
+        Some(reason) => print_reason(rt, &reason),
         None => Ok(()),
     };
 }
@@ -160,8 +160,8 @@ fn print_from<R: Read, T: Runtime + Threads + Wait + Sync + Files<File = File>>(
     let (status, reason) = carry_out(rt, alloc, job, reader, &mut log, &mut writer, &mut progress);
     // If standard error fails too, the status shows it.
     let _ = match reason {
-        Some(Reason::Usage) => tell_usage(rt, complaint),
-        Some(reason) => tell(rt, &reason),
+        Some(Reason::Usage) => print_usage(rt, complaint),
+        Some(reason) => print_reason(rt, &reason),
         None => Ok(()),
     };
     status

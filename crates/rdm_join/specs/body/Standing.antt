@@ -47,7 +47,7 @@ stage_with_part (Joining first parts) head =
 stage_with_part (Ended last) head = None
 
 -- whether a whole reply with this head joins with the parts before it
-abbrev pub takes_whole : Stage → ReplyHead → Bool
-takes_whole Waiting head = true
-takes_whole (Joining first parts) head = not (differs first head) && (code_of_ack head.ack == 0)
-takes_whole (Ended last) head = false
+abbrev pub allows_whole : Stage → ReplyHead → Bool
+allows_whole Waiting head = true
+allows_whole (Joining first parts) head = not (differs first head) && (code_of_ack head.ack == 0)
+allows_whole (Ended last) head = false

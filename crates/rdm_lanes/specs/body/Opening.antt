@@ -13,7 +13,7 @@ module _ {J : Type 0} {h : Ghosts J} {C A : Type 0} where
   pub record IsNewWith (ring places : ℕ) (client : RingClient J C A h) (lane : Lane) : Type 0 where
     pub new : IsNew ring places client
     pub nothing_received : popped lane.calls ≡ []
-    pub nothing_told : pushed lane.replies ≡ []
+    pub nothing_moved : pushed lane.replies ≡ []
     pub has_places : lane.places ≡ places
     pub no_requests : lane.requests ≡ 0
     pub no_asks : lane.asks ≡ 0

@@ -22,7 +22,7 @@ module _ {J : Type 0} {h : Ghosts J} {B C A : Type 0} where
   abbrev pub seat_rings : Seat J B C A h → Rings
   seat_rings seat = client_rings seat.client
 
-  -- the rings of the clients beside their bodies are those of the lanes, each in its place
+  -- the rings of the clients beside their bodies are those of the lanes, each at its index
   abbrev pub SeatsPair : List Lane → List (Seat J B C A h) → Type 0
   SeatsPair lanes seats = RingsPair lanes (map seat_rings seats)
 

@@ -43,15 +43,15 @@ pub record ServesClient (c : ℕ) (old : LogState) (lane : Lane) (new : LogState
   pub rings : SameLane lane next
 
 -- all outcomes of client c are on its ring, which has a free slot
-abbrev pub MayTell : ℕ → LogState → Lane → Type 0
-MayTell c k lane = (uncollected k.opening c k.entries ≡ []) × (0 < known_free lane.replies)
+abbrev pub HasRefusalSlot : ℕ → LogState → Lane → Type 0
+HasRefusalSlot c k lane = (uncollected k.opening c k.entries ≡ []) × (0 < known_free lane.replies)
 
 -- The call of client c may be made. A leave always may. A submit or a discover may if the client has capacity for it,
 -- or, after a close, if its ring can take the refusal.
 abbrev pub MayMake : ℕ → LogState → Lane → ClientCall → Type 0
 MayMake c k lane (Submit request) =
-    MatchBool (is_closed k.opening k.entries) (MayTell c k lane) (lane.requests < lane.places)
-MayMake c k lane (Discover kind) = MatchBool (is_closed k.opening k.entries) (MayTell c k lane) (lane.asks < 4)
+    MatchBool (is_closed k.opening k.entries) (HasRefusalSlot c k lane) (lane.requests < lane.places)
+MayMake c k lane (Discover kind) = MatchBool (is_closed k.opening k.entries) (HasRefusalSlot c k lane) (lane.asks < 4)
 MayMake c k lane Leave = Unit {0}
 
 -- The call was taken from the ring of client c, and may be made now. The log isn't full, and the lane fits the log
@@ -99,10 +99,10 @@ AfterDiscover old (Ok n) new = new ≡ record old { asks = old.asks + 1 }
 AfterDiscover old (Err fault) new = AfterAskFault old fault new
 
 -- the lane has capacity for that
-abbrev pub CanTakeSubmit : Lane → Result ℕ (SubmitFault × Request) → Type 0
-CanTakeSubmit lane (Ok n) = lane.requests < lane.places
-CanTakeSubmit lane (Err e) = e.0 ≡ submit_faults.Closed → 0 < known_free lane.replies
+abbrev pub FitsSubmitAnswer : Lane → Result ℕ (SubmitFault × Request) → Type 0
+FitsSubmitAnswer lane (Ok n) = lane.requests < lane.places
+FitsSubmitAnswer lane (Err e) = e.0 ≡ submit_faults.Closed → 0 < known_free lane.replies
 
-abbrev pub CanTakeDiscover : Lane → Result ℕ AskFault → Type 0
-CanTakeDiscover lane (Ok n) = lane.asks < 4
-CanTakeDiscover lane (Err fault) = fault ≡ ask_faults.Closed → 0 < known_free lane.replies
+abbrev pub FitsDiscoverAnswer : Lane → Result ℕ AskFault → Type 0
+FitsDiscoverAnswer lane (Ok n) = lane.asks < 4
+FitsDiscoverAnswer lane (Err fault) = fault ≡ ask_faults.Closed → 0 < known_free lane.replies

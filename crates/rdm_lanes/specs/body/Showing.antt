@@ -1,4 +1,4 @@
--- What a publisher of views has, and which of it readers may take.
+-- What a publisher of views has, and which of it readers may read.
 use Rattle.std.specs.Prelude.{◌≡◌, ◌≢◌, ◌+◌, ◌<◌, ◌≤◌, ℕ, Bool, true, false, List, [], length, take, Option, Some, None}
 use Rattle.std.specs.Prelude.{slice_get}
 use Rattle.std.specs.List.{AllByRecursion}
@@ -11,7 +11,7 @@ use Rattle.rdm_lanes.specs.declared.worker.lane.Lane.{Lane}
 use Rattle.rdm_lanes.specs.Told.{values_in}
 use Rattle.rdm_lanes.specs.Views.{last_view_run, all_views}
 
--- the views that readers may take, and those that were added
+-- the views that readers may read, and those that were added
 pub record Publishing : Type 0 where
   pub shown : List DeviceView
   pub added : List DeviceView
@@ -20,7 +20,7 @@ pub record Publishing : Type 0 where
 abbrev pub AreAll : List DeviceView → List (List DeviceView) → Type 0
 AreAll added pending = AllByRecursion (λ views. views ≡ added) pending
 
--- Readers may take all that was added, unless a publication is still to be made: then they lack something. What is to
+-- Readers may read all that was added, unless a publication is still to be made: then they lack something. What is to
 -- be published is all that was added.
 pub record IsPublishing (waiting : Bool) (shown added : List DeviceView) (pending : List (List DeviceView))
     : Type 0 where
@@ -32,8 +32,8 @@ pub record IsPublishing (waiting : Bool) (shown added : List DeviceView) (pendin
 abbrev pub NoneLater : List DeviceView → Type 0
 NoneLater views = (i : ℕ) (v : DeviceView) → slice_get views i ≡ Some v → v.run ≤ last_view_run views
 
--- Of all views of a log, readers may take all, or all but the last, which is of the latest run. All that readers may
--- take was added. A view that wasn't added is of a later run than those that were.
+-- Of all views of a log, readers may read all, or all but the last, which is of the latest run. All that readers may
+-- read was added. A view that wasn't added is of a later run than those that were.
 pub record IsShowing (all : List DeviceView) (p : Publishing) : Type 0 where
   pub none_later : NoneLater all
   pub begin : p.shown ≡ take (length p.shown) all
@@ -48,7 +48,7 @@ pub record Publishes (k : LogState) (p : Publishing) : Type 0 where
   pub no_devices : k.opening.devices ≡ []
   pub showing : IsShowing (all_views k.entries) p
 
--- all views of the log were added, and readers may take them
+-- all views of the log were added, and readers may read them
 pub record AllPublished (k : LogState) (p : Publishing) : Type 0 where
   pub shown : p.shown ≡ all_views k.entries
   pub added : p.added ≡ all_views k.entries

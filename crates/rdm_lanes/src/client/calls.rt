@@ -135,7 +135,7 @@ impl<J: ViewHistory, C: Tells, A: TellsAsk> RingClient<J, C, A> {
         Some(told)
     }
 
-    // Collects the outcome at the front, if it is a discovery's and a callback is held for it.
+    // Collects the oldest outcome, if it is a discovery's and a callback is held for it.
     fn collect_discovery(&mut self) -> Option<Collected>
         requires known { 0 < length (known_items self.old.replies) }
         ensures got { IfSome result (λ told. Collects C.calls C.tag_of A.calls A.tag_of self.old told self.new) }
@@ -214,7 +214,7 @@ impl<J: ViewHistory, C: Tells, A: TellsAsk> RingClient<J, C, A> {
         Ok(())
     }
 
-    // Whether the front outcome is a request's, and a callback is held for it.
+    // Whether the oldest outcome is a request's, and a callback is held for it.
     fn holds_for_request(&self) -> bool
         requires { 0 < length (known_items self.now.replies) }
         ensures { result ≡ true
@@ -226,7 +226,7 @@ impl<J: ViewHistory, C: Tells, A: TellsAsk> RingClient<J, C, A> {
         }
     }
 
-    // Whether the front outcome is a discovery's, and a callback is held for it.
+    // Whether the oldest outcome is a discovery's, and a callback is held for it.
     fn holds_for_discovery(&self) -> bool
         requires { 0 < length (known_items self.now.replies) }
         ensures { result ≡ true

@@ -13,7 +13,7 @@ pub fn settle_request<C: Tells, A: TellsAsk>(desk: &mut Desk<C, A>, item: RingOu
     requires { HoldsForRequest desk.old item }
     ensures called { Called C.calls A.calls desk.old (outcome_in item) (RequestTold result) }
     ensures told { settled C.tag_of A.tag_of desk.old (outcome_in item) ≡ Some (RequestTold result) }
-    ensures taken { desk.new ≡ without_oldest desk.old (outcome_in item) }
+    ensures removed { desk.new ≡ without_oldest desk.old (outcome_in item) }
 {
     match item {
         RingOutcome::Request { number: _, done } => match desk.settle_request(done) {
@@ -32,7 +32,7 @@ pub fn settle_discovery<C: Tells, A: TellsAsk>(
     requires { HoldsForDiscovery desk.old item }
     ensures called { Called C.calls A.calls desk.old (outcome_in item) result }
     ensures told { settled C.tag_of A.tag_of desk.old (outcome_in item) ≡ Some result }
-    ensures taken { desk.new ≡ without_oldest desk.old (outcome_in item) }
+    ensures removed { desk.new ≡ without_oldest desk.old (outcome_in item) }
 {
     match item {
         RingOutcome::Request { .. } => unreachable!(),

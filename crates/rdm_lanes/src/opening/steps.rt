@@ -53,7 +53,7 @@ pub fn open_client<J: ViewHistory, C: Tells, A: TellsAsk, R: Wait + Drop>(
     let Ok((calls, heard)) = RingBuffer::new(alloc, usize::from(ring)) else {
         return None;
     };
-    let Ok((told, replies)) = RingBuffer::new(alloc, usize::from(ring)) else {
+    let Ok((outcomes, replies)) = RingBuffer::new(alloc, usize::from(ring)) else {
         return None;
     };
     let Ok(desk) = Desk::new(alloc, places) else {
@@ -71,7 +71,7 @@ pub fn open_client<J: ViewHistory, C: Tells, A: TellsAsk, R: Wait + Drop>(
     };
     let lane = Lane {
         calls: heard,
-        replies: told,
+        replies: outcomes,
         places: usize::from(places),
         requests: 0,
         asks: 0,

@@ -22,7 +22,7 @@ use std::thread;
 use std::thread::Threads;
 
 /// Runs each body in a thread of its own, if one can be made.
-pub fn run_bodies<
+pub fn call_bodies<
     J: ViewHistory + Send + Sync,
     B: Body<C, A> + Send,
     C: Send,
@@ -42,7 +42,7 @@ pub fn run_bodies<
 
 /// Runs the worker beside the bodies, and waits for all of them. The worker arrives at its point once it has stopped.
 #[tactic(auto, using(crate::proofs::SeatLemmas::same_seats_in))]
-pub fn run_together<
+pub fn all_in_threads<
     J: ViewHistory + Send + Sync,
     B: Body<C, A> + Send,
     C: Send,
@@ -87,7 +87,7 @@ pub fn run_together<
         end
     };
     let all = seats.as_mut_slice();
-    let mut play = || run_bodies(rt, all, gate);
+    let mut play = || call_bodies(rt, all, gate);
     let (end, _) = thread::join_mut(rt, &mut serve, &mut play);
     (worker, seats, line, end)
 }

@@ -17,7 +17,7 @@ use crate::client::ends::ClientEnd;
 use crate::opening::Lanes;
 use crate::opening::rooms::{Rooms, seated, unseated};
 use crate::session::body::{Body, Gate};
-use crate::session::threads::run_together;
+use crate::session::threads::all_in_threads;
 use crate::views::history::{Front, ViewHistory};
 use crate::views::publishing::Shown;
 use crate::worker::compared::Compared;
@@ -49,7 +49,7 @@ pub struct LanesEnd<J: ViewHistory, B, X, C = Callback, A = AskCallback> {
 }
 
 /// Runs the bodies beside the worker, without an operator, and compares both ends of all rings.
-pub fn run_lanes<
+pub fn lanes_in_threads<
     J: ViewHistory + Send + Sync,
     B: Body<C, A> + Send,
     C: Tells + Send,
@@ -95,9 +95,9 @@ pub fn run_lanes<
         ends,
         bodies: back,
     } = rooms;
-    let taken = seated(bodies, clients, seats);
+    let paired = seated(bodies, clients, seats);
     let alone = worker.without_operator();
-    let (worker, left, line, end) = run_together(rt, alloc, alone, taken, gate, line, turns);
+    let (worker, left, line, end) = all_in_threads(rt, alloc, alone, paired, gate, line, turns);
     let (bodies, ends) = unseated(left, back, ends);
     let turns = worker.turns_made;
     let Compared {

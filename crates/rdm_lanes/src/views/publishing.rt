@@ -17,7 +17,7 @@ use std::sync::{Arc, Wait};
 // At most this many views are added; no session makes as many.
 const MOST_VIEWS: u64 = 1 << 32;
 
-/// What readers take: a view, and the views up to it. Contracts see the views.
+/// What readers read: a view, and the views up to it. Contracts see the views.
 #[derive(Drop)]
 pub struct Shown<J: ViewHistory> {
     /// The last view.
@@ -92,7 +92,7 @@ impl<J: ViewHistory> Absorb<Shown<J>> for Shown<J> {
     }
 }
 
-/// Publishes views. Contracts see the views that were added, and those that readers may take. These are the same,
+/// Publishes views. Contracts see the views that were added, and those that readers may read. These are the same,
 /// unless the last one isn't published yet. Dropping it waits for the reads that are under way.
 #[derive(Drop)]
 pub struct Publisher<
@@ -221,8 +221,8 @@ impl<J: ViewHistory, R: Wait + Drop> Publisher<J, Shown<J>, R> {
         true
     }
 
-    /// What readers take now. None: the view has as many owners as can be counted.
-    pub fn taken(&self) -> Option<Shown<J>>
+    /// What readers read now. None: the view has as many owners as can be counted.
+    pub fn shown_now(&self) -> Option<Shown<J>>
         ensures { IfSome result (λ s. s ≡ self.now.shown) }
     {
         self.shown.published().again()
@@ -234,7 +234,7 @@ impl<J: ViewHistory, R: Wait + Drop> Publisher<J, Shown<J>, R> {
         self.shown.handle()
     }
 
-    /// The views that readers may take.
+    /// The views that readers may read.
     pub fn front(&self) -> &Front<J>
         ensures { result.now ≡ self.now.shown }
     {

@@ -1,7 +1,7 @@
 //! How a client reads the views that the worker publishes.
 ghost use Rattle.std.specs.Prelude.{◌≡◌, IfOk};
 ghost use mathlib.Core.List.{IsPrefix};
-ghost use Rattle.rdm_lanes.specs.Views.{last_view, last_view_run, AreViews};
+ghost use Rattle.rdm_lanes.specs.Views.{last_view, last_view_run};
 
 use crate::views::history::{Front, ViewHistory};
 use crate::views::publishing::{Publisher, Shown};
@@ -64,7 +64,7 @@ impl<J: ViewHistory, R: Wait + Drop> Publisher<J, Shown<J>, R> {
         ensures { IfOk result (λ r. r ≡ self.now.shown) }
     {
         let handle = self.handle()?;
-        let Some(read) = self.taken() else {
+        let Some(read) = self.shown_now() else {
             return Err(AllocError);
         };
         Ok(ViewReader { handle, read })

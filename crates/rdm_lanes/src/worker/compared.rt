@@ -8,7 +8,7 @@ ghost use mathlib.Core.List.{IsPrefix};
 ghost use Rattle.rdm_lanes.specs.Operators.{switches, effective};
 ghost use Rattle.rdm_lanes.specs.Workers.{session_of, lanes_of, published_by, operator_has_left};
 ghost use Rattle.rdm_lanes.specs.Workers.{received_by, called_by, has_left, OperatorPairs};
-ghost use Rattle.rdm_lanes.specs.Ends.{PairUp, AllAgree, AllRead, AllTold, AllHoldTheirOwn};
+ghost use Rattle.rdm_lanes.specs.Ends.{PairUp, AllAgree, AllRead, AllShowSame, AllHoldTheirOwn};
 ghost use Rattle.rdm_lanes.specs.Views.{all_views};
 ghost use Rattle.rdm_lanes.specs.Publishing.{IsPublished, BeginOne};
 ghost use Rattle.rdm_lanes.specs.ViewsRead.{AllViewsRead, AllShownFirst};
@@ -66,7 +66,7 @@ impl<J: ViewHistory, R: Wait + Drop> ViewWorker<J, Shown<J>, R> {
         ensures promised { Promised (session_of self) }
         ensures agree { AllAgree (session_of self) result.ends.items }
         ensures read { AllHaveLeft (lanes_of self) → AllRead result.ends.items }
-        ensures told { AllTold ends.items result.ends.items }
+        ensures show_same { AllShowSame ends.items result.ends.items }
         ensures unspent { AllHoldTheirOwn result.ends.items }
         ensures matched { result.matched ≡ true }
         ensures shown { result.published ≡ published_by self }

@@ -7,7 +7,7 @@ ghost use Rattle.rdm_log.specs.promises.Promised.{Promised};
 ghost use Rattle.rdm_lanes.specs.Lines.{IsBetweenTurns};
 ghost use Rattle.rdm_lanes.specs.Lanes.{AllFit, AllHaveLeft};
 ghost use Rattle.rdm_lanes.specs.Pairs.{ArePair};
-ghost use Rattle.rdm_lanes.specs.Ends.{end_rings, left_in, PairUp, AllAgree, AllRead, AllTold, SameTold};
+ghost use Rattle.rdm_lanes.specs.Ends.{end_rings, left_in, PairUp, AllAgree, AllRead, AllShowSame, ShowsSame};
 
 use crate::client::ends::ClientEnd;
 use crate::views::history::ViewHistory;
@@ -31,7 +31,7 @@ impl Worker {
         ensures promised { Promised self.session }
         ensures agree { AllAgree self.session result.1.items }
         ensures read { AllHaveLeft self.lanes.items → AllRead result.1.items }
-        ensures told { AllTold ends.items result.1.items }
+        ensures show_same { AllShowSame ends.items result.1.items }
         ensures matched { result.2 ≡ true }
     {
         let Worker { session, lanes, .. } = self;
@@ -64,7 +64,7 @@ fn compare<J: ViewHistory, C: Tells, A: TellsAsk>(lane: &mut Lane, end: &mut Cli
     requires { ArePair (end_rings end.old) lane.old }
     ensures calls { pushed end.new.calls ≡ popped lane.old.calls ++ left_in end.new.calls }
     ensures replies { popped end.new.replies ++ known_items end.new.replies ≡ pushed lane.old.replies }
-    ensures told { SameTold end.old end.new }
+    ensures show_same { ShowsSame end.old end.new }
     ensures left { lane.new.left ≡ lane.old.left }
 {
     lane.calls.slots_beside(&mut end.calls);

@@ -6,8 +6,8 @@ ghost use Rattle.rdm_lanes.specs.declared.call.ClientCall.TheVariants.{Submit, D
 ghost use Rattle.rdm_lanes.specs.body.Doing.{IsServed, MayNotMakeNext};
 ghost use Rattle.rdm_lanes.specs.Lines.{IsBetweenTurns};
 ghost use Rattle.rdm_lanes.specs.Lanes.{Fits, SameLane};
-ghost use Rattle.rdm_lanes.specs.body.Serving.{IsReadyFor, ServesClient, MayTell, MayMake, LooksForSlot};
-ghost use Rattle.rdm_lanes.specs.body.Serving.{AfterSubmit, AfterDiscover, CanTakeSubmit, CanTakeDiscover};
+ghost use Rattle.rdm_lanes.specs.body.Serving.{IsReadyFor, ServesClient, HasRefusalSlot, MayMake, LooksForSlot};
+ghost use Rattle.rdm_lanes.specs.body.Serving.{AfterSubmit, AfterDiscover, FitsSubmitAnswer, FitsDiscoverAnswer};
 
 use crate::call::ClientCall;
 use crate::ring_outcome::RingOutcome;
@@ -55,16 +55,16 @@ fn may_make(session: &Session, client: ClientId, lane: &mut Lane) -> bool
     ensures lane { LooksForSlot lane.old lane.new }
 {
     let closed = session.is_closed();
-    let told = may_tell(session, client, lane);
+    let has_slot = has_refusal_slot(session, client, lane);
     match lane.calls.peek_known() {
         ClientCall::Leave => true,
         ClientCall::Submit(_) => if closed {
-            told
+            has_slot
         } else {
             lane.requests < lane.places
         },
         ClientCall::Discover(_) => if closed {
-            told
+            has_slot
         } else {
             lane.asks < MOST_DISCOVERIES
         },
@@ -73,9 +73,9 @@ fn may_make(session: &Session, client: ClientId, lane: &mut Lane) -> bool
 
 // Whether all outcomes of the client are on its ring, which has a free slot.
 #[tactic(auto, using(rdm_log::proofs::PromiseLemmas::OutcomeLemmas::nothing_uncollected))]
-fn may_tell(session: &Session, client: ClientId, lane: &mut Lane) -> bool
-    ensures may { result ≡ true → MayTell client.0 session.now lane.new }
-    ensures may_not { result ≡ false → MayTell client.0 session.now lane.new → ⊥ }
+fn has_refusal_slot(session: &Session, client: ClientId, lane: &mut Lane) -> bool
+    ensures may { result ≡ true → HasRefusalSlot client.0 session.now lane.new }
+    ensures may_not { result ≡ false → HasRefusalSlot client.0 session.now lane.new → ⊥ }
     ensures lane { LooksForSlot lane.old lane.new }
 {
     lane.replies.slots() > 0 && session.oldest(client).is_none()
@@ -94,12 +94,12 @@ fn make_submit(
     ensures calls { lane.new.calls ≡ lane.old.calls }
 {
     let answer = session.submit(client, request);
-    take_submit(alloc, lane, answer);
+    apply_submit_answer(alloc, lane, answer);
 }
 
 // Counts an accepted request, or puts the outcome of one that a close refused on the ring.
-fn take_submit(alloc: Global, lane: &mut Lane, answer: Result<u64, (SubmitFault, Request)>)
-    requires { CanTakeSubmit lane.old answer }
+fn apply_submit_answer(alloc: Global, lane: &mut Lane, answer: Result<u64, (SubmitFault, Request)>)
+    requires { FitsSubmitAnswer lane.old answer }
     ensures after { AfterSubmit lane.old answer lane.new }
     ensures lane { SameLane lane.old lane.new }
     ensures calls { lane.new.calls ≡ lane.old.calls }
@@ -125,12 +125,12 @@ fn make_discover(session: &mut Session, client: ClientId, lane: &mut Lane, kind:
     ensures calls { lane.new.calls ≡ lane.old.calls }
 {
     let answer = session.discover(client, kind);
-    take_discover(lane, answer);
+    apply_discover_answer(lane, answer);
 }
 
 // Counts an accepted discovery, or puts the outcome of one that a close refused on the ring.
-fn take_discover(lane: &mut Lane, answer: Result<u64, AskFault>)
-    requires { CanTakeDiscover lane.old answer }
+fn apply_discover_answer(lane: &mut Lane, answer: Result<u64, AskFault>)
+    requires { FitsDiscoverAnswer lane.old answer }
     ensures after { AfterDiscover lane.old answer lane.new }
     ensures lane { SameLane lane.old lane.new }
     ensures calls { lane.new.calls ≡ lane.old.calls }

@@ -2,7 +2,7 @@
 use rdm_join::Status;
 use rdm_lanes::{OpenFault, WORKER_STOPPED};
 use rdm_rig::{Heard, Step, silent};
-use rdm_stage::{NotRun, Play, Setup, counts_are, play_threads, run_players};
+use rdm_stage::{NotServed, Play, Setup, counts_are, play_threads, serve_players};
 use std::alloc::Global;
 use std::sync::Wait;
 use std::test::Fail;
@@ -116,8 +116,8 @@ fn refused<R: Threads + Wait + Sync>(
     let all: [&'static [Play]; 17] = [&WAITS_FIRST; 17];
     let count = setup.places.len();
     let scripts = all.get(..count).ok_or("too many clients")?;
-    match run_players(rt, alloc, setup, scripts, silent(alloc, 4)?) {
-        Err(NotRun::Refused(fault, players)) => {
+    match serve_players(rt, alloc, setup, scripts, silent(alloc, 4)?) {
+        Err(NotServed::Refused(fault, players)) => {
             let is_whole = players.len() == count && players.iter().all(|player| player.runs == 0);
             if is_whole {
                 Ok(fault)

@@ -4,9 +4,8 @@ ghost use Rattle.rdm_lanes.specs.Workers.{book_of};
 
 use rdm_agent::Kind;
 use rdm_client::{Unfinished, Unspent};
-use rdm_lanes::{
-    BlankHistory, Body, ClientEnd, Gate, LanesEnd, RingClient, ViewHistory, run_session,
-};
+use rdm_lanes::views::{BlankHistory, ViewHistory};
+use rdm_lanes::{Body, ClientEnd, Gate, LanesEnd, RingClient, run_session};
 use rdm_rig::{AskNote, Note, config, log, request, silent};
 use std::alloc::Global;
 use std::marker::Brand;

@@ -2,10 +2,10 @@
 use rdm_agent::{Kind, Search};
 use rdm_line::SimLine;
 use rdm_rig::{
-    Ending, Found, Heard, LineOf, Meeting, Placed, Step, Who, Wrong, line_of, one_device,
+    Ending, Found, Heard, LineOf, Meeting, Step, TimedDevice, Who, Wrong, line_of, one_device,
     two_devices,
 };
-use rdm_stage::{Failed, Play, Setup, counts_are, play_threads, player_heard, run_players};
+use rdm_stage::{Failed, Play, Setup, counts_are, play_threads, player_heard, serve_players};
 use std::alloc::Global;
 use std::sync::Wait;
 use std::test::Fail;
@@ -45,7 +45,10 @@ fn seeks<R: Threads + Wait + Sync>(
 
 // A line with both devices, whose colliding replies spell a third one.
 fn lying_line(alloc: Global) -> Result<SimLine, Wrong> {
-    let devices = [Placed::stays(Who::First), Placed::stays(Who::Second)];
+    let devices = [
+        TimedDevice::stays(Who::First),
+        TimedDevice::stays(Who::Second),
+    ];
     let of = LineOf {
         devices: &devices,
         meeting: Meeting::Phantom,
@@ -100,7 +103,7 @@ static FINDER_HEARD: [Heard; 4] = [
 // read the last view.
 fn views<R: Threads + Wait + Sync>(rt: &R, alloc: Global, line: SimLine) -> Result<Heard, Fail> {
     let setup = Setup::new(1000, 4, &[1, 1]);
-    let over = run_players(rt, alloc, setup, &[&FINDER, &VIEWER], line)?;
+    let over = serve_players(rt, alloc, setup, &[&FINDER, &VIEWER], line)?;
     let (Some(finder), Some(viewer)) = (over.players.first(), over.players.get(1)) else {
         return Err("a player is missing")?;
     };

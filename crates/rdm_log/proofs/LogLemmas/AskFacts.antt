@@ -17,7 +17,7 @@ use Rattle.rdm_log.specs.log.Legal.{MayFollow}
 use Rattle.rdm_log.proofs.LogLemmas.PushLemmas.{joins-append, asks_same, asks_more, answered_same, answered_more}
 use Rattle.rdm_log.proofs.LogLemmas.RefusalLemmas.{ask_passes}
 use Rattle.rdm_log.proofs.LogLemmas.LegalFacts.{along}
-use Rattle.rdm_log.proofs.LogLemmas.Places.{slice_get-drop, each_place_push}
+use Rattle.rdm_log.proofs.LogLemmas.Indices.{slice_get-drop, each_index_push}
 
 pub record AskFacts (o : Opening) (h : List Entry) : Type 0 where
   -- no more Answers than Asks
@@ -28,18 +28,18 @@ pub record AskFacts (o : Opening) (h : List Entry) : Type 0 where
   -- each discovery is of a client that had joined
   pub askers : (i : ℕ) (a : AskedDiscovery) → slice_get (asks h) i ≡ Some a → a.client < next_client o h
 
--- the i-th unanswered discovery: its place among the Asks, and its number
-pub unanswered_place : (h : List Entry) (i : ℕ) (a : AskedDiscovery) → slice_get (unanswered h) i ≡ Some a
+-- the i-th unanswered discovery: its index among the Asks, and its number
+pub unanswered_index : (h : List Entry) (i : ℕ) (a : AskedDiscovery) → slice_get (unanswered h) i ≡ Some a
     → slice_get (asks h) (length (answers h) + i) ≡ Some a
-unanswered_place h i a at = sym (slice_get-drop (length (answers h)) (asks h) i) ∙ at
+unanswered_index h i a at = sym (slice_get-drop (length (answers h)) (asks h) i) ∙ at
 
 pub unanswered_within : (h : List Entry) (i : ℕ) (a : AskedDiscovery) → slice_get (unanswered h) i ≡ Some a
     → length (answers h) + i < length (asks h)
-unanswered_within h i a at = slice_get_within (asks h) (length (answers h) + i) a (unanswered_place h i a at)
+unanswered_within h i a at = slice_get_within (asks h) (length (answers h) + i) a (unanswered_index h i a at)
 
 pub unanswered_number : (o : Opening) (h : List Entry) → AskFacts o h → (i : ℕ) (a : AskedDiscovery)
     → slice_get (unanswered h) i ≡ Some a → a.number ≡ o.next_ask + (length (answers h) + i)
-unanswered_number o h facts i a at = facts.ask_numbers (length (answers h) + i) a (unanswered_place h i a at)
+unanswered_number o h facts i a at = facts.ask_numbers (length (answers h) + i) a (unanswered_index h i a at)
 
 facts_of_empty : (o : Opening) → AskFacts o []
 unfolding asks answers
@@ -74,10 +74,10 @@ facts_ask : (o : Opening) (h : List Entry) (c : ClientId) (n : ℕ) (kind : Kind
     → MayFollow o h (Ask c n kind) → AskFacts o (h ++ Ask c n kind ∷ [])
 facts_ask o h c n kind facts may = record {
   answered_within = rw (more, answered_same h e refl) (omega (arith, facts.answered_within, length_push (asks h) a));
-  ask_numbers = rw more (each_place_push (λ i b. b.number ≡ o.next_ask + i) (asks h) a facts.ask_numbers may.2);
+  ask_numbers = rw more (each_index_push (λ i b. b.number ≡ o.next_ask + i) (asks h) a facts.ask_numbers may.2);
   answer_numbers = rw (answered_same h e refl) facts.answer_numbers;
   askers = rw more
-      (each_place_push (λ i b. b.client < next_client o (h ++ e ∷ [])) (asks h) a
+      (each_index_push (λ i b. b.client < next_client o (h ++ e ∷ [])) (asks h) a
       (λ i b at. omega (arith, facts.askers i b at, more_clients o h e))
       (omega (arith, (ask_passes o h c.0 may.1).known, more_clients o h e)));
 }
@@ -99,7 +99,7 @@ facts_answer o h n r fault facts may = record {
       (omega (arith, length_push (answers h) b, unanswered_within h 0 may.asked may.oldest));
   ask_numbers = rw (asks_same h e refl) facts.ask_numbers;
   answer_numbers =
-      rw more (each_place_push (λ i x. x.number ≡ o.next_ask + i) (answers h) b facts.answer_numbers
+      rw more (each_index_push (λ i x. x.number ≡ o.next_ask + i) (answers h) b facts.answer_numbers
       (omega (arith, may.number, unanswered_number o h facts 0 may.asked may.oldest)));
   askers = rw (asks_same h e refl) (λ i a at. omega (arith, facts.askers i a at, more_clients o h e));
 }

@@ -20,8 +20,8 @@ use Rattle.rdm_log.specs.log.Runs.{unserved, sends_run}
 use Rattle.rdm_log.specs.log.Due.{has_answer, AllAnswered}
 use Rattle.rdm_log.specs.log.MaySend.{MayBegin}
 use Rattle.rdm_log.specs.log.Legal.{MayFollow}
-use Rattle.rdm_log.proofs.LogLemmas.Places.{all_from_places, slice_get-drop, slice_get-append_left, place_within}
-use Rattle.rdm_log.proofs.LogLemmas.Places.{within_some}
+use Rattle.rdm_log.proofs.LogLemmas.Indices.{all_from_indices, slice_get-drop, slice_get-append_left, index_within}
+use Rattle.rdm_log.proofs.LogLemmas.Indices.{within_some}
 use Rattle.rdm_log.proofs.LogLemmas.PushLemmas.{asks-append, sends_same}
 use Rattle.rdm_log.proofs.LogLemmas.LegalFacts.{along}
 use Rattle.rdm_log.proofs.LogLemmas.AskFacts.{AskFacts}
@@ -217,33 +217,33 @@ all_answered o h q facts fewer = by_begun (cases_Bool (has_begun q h))
 
     answered : (has_begun q h ≡ true) → (i : ℕ) (a : AskedDiscovery) → slice_get (unserved early) i ≡ Some a
         → has_answer a.number h ≡ true
-    answered begun i a at = by_answer (slice_get (answers h) place) refl
+    answered begun i a at = by_answer (slice_get (answers h) index) refl
       where
-        place : ℕ
-        place = length (answers early) + (skipped + i)
+        index : ℕ
+        index = length (answers early) + (skipped + i)
 
-        early_at : slice_get (asks early) place ≡ Some a
+        early_at : slice_get (asks early) index ≡ Some a
         early_at = sym (slice_get-drop (length (answers early)) (asks early) (skipped + i))
             ∙ (sym (slice_get-drop skipped (unanswered early) i) ∙ at)
 
         rest : (ys : List Entry) × (h ≡ early ++ ys)
         rest = before_front q h
 
-        number : a.number ≡ o.next_ask + place
-        number = facts.ask_numbers place a
-            (ap (λ l. slice_get l place) (ap (λ l. asks l) rest.1 ∙ asks-append early rest.0)
-            ∙ slice_get-append_left (asks early) (asks rest.0) place a early_at)
+        number : a.number ≡ o.next_ask + index
+        number = facts.ask_numbers index a
+            (ap (λ l. slice_get l index) (ap (λ l. asks l) rest.1 ∙ asks-append early rest.0)
+            ∙ slice_get-append_left (asks early) (asks rest.0) index a early_at)
 
-        within : place < length (answers h)
-        within = let inside = place_within (asks early) place a early_at in let all = fewer begun in omega arith
+        within : index < length (answers h)
+        within = let inside = index_within (asks early) index a early_at in let all = fewer begun in omega arith
 
-        by_answer : (b : Option Answered) → slice_get (answers h) place ≡ b → has_answer a.number h ≡ true
-        by_answer None none = absurd (within_some (answers h) place within none)
+        by_answer : (b : Option Answered) → slice_get (answers h) index ≡ b → has_answer a.number h ≡ true
+        by_answer None none = absurd (within_some (answers h) index within none)
         by_answer (Some b) is =
-            any_passes_from_place (λ (x : Answered). x.number == a.number) (answers h) place b is
-            (eq-eqb b.number a.number (facts.answer_numbers place b is ∙ sym number))
+            any_passes_from_place (λ (x : Answered). x.number == a.number) (answers h) index b is
+            (eq-eqb b.number a.number (facts.answer_numbers index b is ∙ sym number))
 
     by_begun : (has_begun q h ≡ true) ⊎ (has_begun q h ≡ false) → AllAnswered q h
     by_begun (inl begun) =
-        rw begun (all_from_places (λ a. has_answer a.number h ≡ true) (unserved early) (answered begun))
+        rw begun (all_from_indices (λ a. has_answer a.number h ≡ true) (unserved early) (answered begun))
     by_begun (inr not) = rw not tt

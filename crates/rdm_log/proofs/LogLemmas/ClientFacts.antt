@@ -25,14 +25,14 @@ use Rattle.rdm_log.specs.log.Clients.{outstanding_discoveries}
 use Rattle.rdm_log.specs.log.MayFinish.{MayFinish}
 use Rattle.rdm_log.specs.log.MayAnswer.{MayAnswer}
 use Rattle.rdm_log.specs.log.Legal.{MayFollow}
-use Rattle.rdm_log.proofs.LogLemmas.Places.{slice_get_first, drop_some_within}
+use Rattle.rdm_log.proofs.LogLemmas.Indices.{slice_get_first, drop_some_within}
 use Rattle.rdm_log.proofs.LogLemmas.Counts.{count, count-map, length_filter_push, length_filter_cons, no_longer}
 use Rattle.rdm_log.proofs.LogLemmas.PushLemmas.{accepts_same, accepts_more, asks_same, asks_more, finishes_same}
 use Rattle.rdm_log.proofs.LogLemmas.PushLemmas.{finishes_more, finishes-append, answered_same, answered_more}
 use Rattle.rdm_log.proofs.LogLemmas.PushLemmas.{answered-append, collectors_same, collectors_more, unfinished_accept}
 use Rattle.rdm_log.proofs.LogLemmas.PushLemmas.{unfinished_finish, unanswered_ask, unanswered_answer}
-use Rattle.rdm_log.proofs.LogLemmas.LegalFacts.{LogFacts, along, legal_facts, unfinished_place}
-use Rattle.rdm_log.proofs.LogLemmas.AskFacts.{AskFacts, ask_facts, unanswered_place}
+use Rattle.rdm_log.proofs.LogLemmas.LegalFacts.{LogFacts, along, legal_facts, unfinished_index}
+use Rattle.rdm_log.proofs.LogLemmas.AskFacts.{AskFacts, ask_facts, unanswered_index}
 use Rattle.rdm_log.proofs.LogLemmas.ClientLemmas.{brings_work, ends_work, no_accept, no_ask, no_finish, no_reply}
 use Rattle.rdm_log.proofs.LogLemmas.ClientLemmas.{client_of_accepted, client_of_asked, answers_same, answers_finish_own}
 use Rattle.rdm_log.proofs.LogLemmas.ClientLemmas.{answers_finish_other, answers_answer_own, answers_answer_other}
@@ -146,7 +146,7 @@ facts_finish o h n status len log may facts = record {
     client : client_of_request o h n ≡ Some may.accepted.client
     client = rw may.number
         (client_of_accepted o h log (length (finishes h) + 0) may.accepted
-        (unfinished_place h 0 may.accepted may.oldest))
+        (unfinished_index h 0 may.accepted may.oldest))
 
     first : (c : ℕ)
         → length (unfinished_by c h)
@@ -205,7 +205,7 @@ facts_answer o h n r fault asked may facts = record {
 
     client : client_of_discovery o h n ≡ Some may.asked.client
     client = rw may.number
-        (client_of_asked o h asked (length (answers h) + 0) may.asked (unanswered_place h 0 may.asked may.oldest))
+        (client_of_asked o h asked (length (answers h) + 0) may.asked (unanswered_index h 0 may.asked may.oldest))
 
     first : (c : ℕ)
         → length (unanswered_by c h)

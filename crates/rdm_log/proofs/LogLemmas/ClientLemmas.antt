@@ -17,19 +17,19 @@ use Rattle.rdm_log.specs.log.Entries.{Accepted, AskedDiscovery, accepted_of, ask
 use Rattle.rdm_log.specs.log.Entries.{accepts, asks, finishes, answers}
 use Rattle.rdm_log.specs.log.History.{unfinished, unanswered}
 use Rattle.rdm_log.specs.log.Clients.{client_of_request, client_of_discovery, is_client_of, is_answer_to, answers_to}
-use Rattle.rdm_log.proofs.LogLemmas.Places.{slice_get_append_within, filter_map_has, filter_agree_on}
+use Rattle.rdm_log.proofs.LogLemmas.Indices.{slice_get_append_within, filter_map_has, filter_agree_on}
 use Rattle.rdm_log.proofs.LogLemmas.PushLemmas.{accepts-append, accepts_same, asks-append, asks_same}
-use Rattle.rdm_log.proofs.LogLemmas.LegalFacts.{LogFacts, unfinished_place}
-use Rattle.rdm_log.proofs.LogLemmas.AskFacts.{AskFacts, unanswered_place}
+use Rattle.rdm_log.proofs.LogLemmas.LegalFacts.{LogFacts, unfinished_index}
+use Rattle.rdm_log.proofs.LogLemmas.AskFacts.{AskFacts, unanswered_index}
 
 -- an accepted request's client, even if more was accepted since
 pub client_of_accepted : (o : Opening) (h : List Entry) → LogFacts o h → (i : ℕ) (a : Accepted)
     → slice_get (accepts h) i ≡ Some a → client_of_request o h a.number ≡ Some a.client
 client_of_accepted o h facts i a at =
-    slice_get-map (λ b. b.client) (accepts h) (a.number - o.next_request) ∙ rw (place, at) refl
+    slice_get-map (λ b. b.client) (accepts h) (a.number - o.next_request) ∙ rw (index_is, at) refl
   where
-    place : a.number - o.next_request ≡ i
-    place = omega (arith, facts.accept_numbers i a at)
+    index_is : a.number - o.next_request ≡ i
+    index_is = omega (arith, facts.accept_numbers i a at)
 
 pub client_stays : (o : Opening) (h k : List Entry) (n : ℕ) → n - o.next_request < length (accepts h)
     → client_of_request o (h ++ k) n ≡ client_of_request o h n
@@ -41,10 +41,11 @@ client_stays o h k n within =
 -- a discovery's client likewise
 pub client_of_asked : (o : Opening) (h : List Entry) → AskFacts o h → (i : ℕ) (a : AskedDiscovery)
     → slice_get (asks h) i ≡ Some a → client_of_discovery o h a.number ≡ Some a.client
-client_of_asked o h facts i a at = slice_get-map (λ b. b.client) (asks h) (a.number - o.next_ask) ∙ rw (place, at) refl
+client_of_asked o h facts i a at = slice_get-map (λ b. b.client) (asks h) (a.number - o.next_ask)
+    ∙ rw (index_is, at) refl
   where
-    place : a.number - o.next_ask ≡ i
-    place = omega (arith, facts.ask_numbers i a at)
+    index_is : a.number - o.next_ask ≡ i
+    index_is = omega (arith, facts.ask_numbers i a at)
 
 pub asker_stays : (o : Opening) (h k : List Entry) (n : ℕ) → n - o.next_ask < length (asks h)
     → client_of_discovery o (h ++ k) n ≡ client_of_discovery o h n
@@ -141,12 +142,12 @@ finish_accepted : (o : Opening) (h : List Entry) → LogFacts o h → (i n : ℕ
     → slice_get h i ≡ Some (Finish n status len) → n - o.next_request < length (accepts h)
 unfolding finishes
 finish_accepted o h facts i n status len at =
-    by_place (filter_map_has finished_of h i (Finish n status len)
+    by_index (filter_map_has finished_of h i (Finish n status len)
     (record { number = n; status = status; len = len }) at refl)
   where
-    by_place : (j : ℕ) × (slice_get (finishes h) j ≡ Some (record { number = n; status = status; len = len }))
+    by_index : (j : ℕ) × (slice_get (finishes h) j ≡ Some (record { number = n; status = status; len = len }))
         → n - o.next_request < length (accepts h)
-    by_place found =
+    by_index found =
         omega (
           arith,
           facts.finish_numbers found.0 _ found.1,
@@ -158,11 +159,11 @@ pub answer_asked : (o : Opening) (h : List Entry) → AskFacts o h → (i n r : 
     → slice_get h i ≡ Some (Answer n r fault) → n - o.next_ask < length (asks h)
 unfolding answers
 answer_asked o h facts i n r fault at =
-    by_place (filter_map_has answered_of h i (Answer n r fault) (record { number = n; run = r; fault = fault }) at refl)
+    by_index (filter_map_has answered_of h i (Answer n r fault) (record { number = n; run = r; fault = fault }) at refl)
   where
-    by_place : (j : ℕ) × (slice_get (answers h) j ≡ Some (record { number = n; run = r; fault = fault }))
+    by_index : (j : ℕ) × (slice_get (answers h) j ≡ Some (record { number = n; run = r; fault = fault }))
         → n - o.next_ask < length (asks h)
-    by_place found =
+    by_index found =
         omega (
           arith,
           facts.answer_numbers found.0 _ found.1,
@@ -200,8 +201,8 @@ answers_ask o c h facts asked d n kind = answers_kept o c h (Ask d n kind) facts
 pub client_of_unfinished : (o : Opening) (h : List Entry) → LogFacts o h → (i : ℕ) (a : Accepted)
     → slice_get (unfinished h) i ≡ Some a → client_of_request o h a.number ≡ Some a.client
 client_of_unfinished o h facts i a at =
-    client_of_accepted o h facts (length (finishes h) + i) a (unfinished_place h i a at)
+    client_of_accepted o h facts (length (finishes h) + i) a (unfinished_index h i a at)
 
 pub client_of_unanswered : (o : Opening) (h : List Entry) → AskFacts o h → (i : ℕ) (a : AskedDiscovery)
     → slice_get (unanswered h) i ≡ Some a → client_of_discovery o h a.number ≡ Some a.client
-client_of_unanswered o h facts i a at = client_of_asked o h facts (length (answers h) + i) a (unanswered_place h i a at)
+client_of_unanswered o h facts i a at = client_of_asked o h facts (length (answers h) + i) a (unanswered_index h i a at)

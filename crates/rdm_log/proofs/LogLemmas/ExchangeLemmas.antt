@@ -11,7 +11,7 @@ use Rattle.rdm_log.specs.declared.entry.Entry.{Entry}
 use Rattle.rdm_log.specs.declared.entry.Entry.TheVariants.{Send, Came}
 use Rattle.rdm_log.specs.log.Entries.{Sending, traded_of, is_request, verdict_on, sends, cames, traded, of_request}
 use Rattle.rdm_log.specs.log.Entries.{verdicts, result}
-use Rattle.rdm_log.proofs.LogLemmas.Places.{zip_first_more, zip_both_more}
+use Rattle.rdm_log.proofs.LogLemmas.Indices.{zip_first_more, zip_both_more}
 use Rattle.rdm_log.proofs.LogLemmas.PushLemmas.{sends_same, sends_more, cames_same, cames_more}
 
 -- nothing sent and nothing come: the same exchanges

@@ -26,7 +26,7 @@ use Rattle.rdm_log.specs.log.Due.{NothingDue, AllAnswered, GoesOn}
 use Rattle.rdm_log.specs.log.MaySend.{MaySendRequest, MayBegin, MaySendRun, NoSend}
 use Rattle.rdm_log.specs.log.Legal.{MayFollow, Legal}
 use Rattle.rdm_log.proofs.LogLemmas.Grows.{pushed}
-use Rattle.rdm_log.proofs.LogLemmas.Places.{all_at, all_from_places, each_place_push}
+use Rattle.rdm_log.proofs.LogLemmas.Indices.{all_at, all_from_indices, each_index_push}
 use Rattle.rdm_log.proofs.LogLemmas.PushLemmas.{unfinished_accept, SameRequests, same_after, accepts_same}
 use Rattle.rdm_log.proofs.LogLemmas.PushLemmas.{finishes_same, sends_same, cames_same, asks_same, answered_same}
 use Rattle.rdm_log.proofs.LogLemmas.PushLemmas.{is_closed-push}
@@ -83,7 +83,7 @@ goes_on_empty o h r none some = record {
 pub runs_settled : (o : Opening) (h k : List Entry) → SameRuns h k → NothingDue o h → RunsSettled o k
 runs_settled o h k same due = record {
   runs_answered =
-      all_from_places (λ b. AllAnswered b.run k) (answers k)
+      all_from_indices (λ b. AllAnswered b.run k) (answers k)
       (λ i b at. all_answered_same h k b.run (same.same_served b.run) same.same_answers
       (all_at (λ x. AllAnswered x.run h) (answers h) due.runs_answered i b
       (sym (ap (λ l. slice_get l i) same.same_answers) ∙ at)));
@@ -101,7 +101,7 @@ runs_settled o h k same due = record {
 pub settled_open : (o : Opening) (h : List Entry) → is_closed o h ≡ false → RunsSettled o h
     → ((i : ℕ) (a : Accepted) → slice_get (unfinished h) i ≡ Some a → result a.number h ≡ None) → NothingDue o h
 settled_open o h not_closed runs at = record {
-  results_open = all_from_places (λ a. result a.number h ≡ None) (unfinished h) at;
+  results_open = all_from_indices (λ a. result a.number h ≡ None) (unfinished h) at;
   runs_answered = runs.runs_answered;
   run_goes_on = runs.run_goes_on;
   all_closed = λ closed waits. absurd (false≢true (sym not_closed ∙ closed));
@@ -113,7 +113,7 @@ due_same : (o : Opening) (h k : List Entry) → SameRequests h k → SameRuns h 
 due_same o h k same runs asked closes due = record {
   results_open =
       rw (same.same_accepts, same.same_finishes)
-      (all_from_places (λ a. result a.number k ≡ None) (unfinished h)
+      (all_from_indices (λ a. result a.number k ≡ None) (unfinished h)
       (λ i a at. result_same h k a.number same.same_sends same.same_cames ∙ due_at o h due i a at));
   runs_answered = (runs_settled o h k runs due).runs_answered;
   run_goes_on = (runs_settled o h k runs due).run_goes_on;
@@ -173,7 +173,7 @@ accept_keeps o h c n request legal passes next = record {
   each = pushed o h e legal.each (legal.settled, passes, next);
   settled = settled_open o k (is_closed-push o h e ∙ (submit_passes o h c.0 passes).not_closed)
       (runs_settled o h k (same_runs h e refl refl refl) legal.settled)
-      (rw later (each_place_push (λ i b. result b.number k ≡ None) (unfinished h) a
+      (rw later (each_index_push (λ i b. result b.number k ≡ None) (unfinished h) a
       (λ i b at. same b.number ∙ due_at o h legal.settled i b at)
       (same n ∙ result_unsent h n (unaccepted_unsent o h facts n (omega arith)))));
 }
@@ -289,7 +289,7 @@ run_send_keeps o h r frame legal may = record {
     runs : RunsSettled o k
     runs = record {
       runs_answered =
-          all_from_places (λ b. AllAnswered b.run k) (answers k)
+          all_from_indices (λ b. AllAnswered b.run k) (answers k)
           (λ i b at. let before = sym (ap (λ l. slice_get l i) (answered_same h e refl)) ∙ at in
           all_answered_same h k b.run (served_named o h r frame facts from i b before) (answered_same h e refl)
           (all_at (λ x. AllAnswered x.run h) (answers h) legal.settled.runs_answered i b before));

@@ -29,8 +29,8 @@ use Rattle.rdm_log.proofs.LogLemmas.PushLemmas.{accepts_same, sends_more, sends_
 use Rattle.rdm_log.proofs.LogLemmas.PushLemmas.{finishes_more, finishes_same, awaited-push}
 use Rattle.rdm_log.proofs.LogLemmas.ExchangeLemmas.{IsUnanswered, result_same, result_sent, result_unsent}
 use Rattle.rdm_log.proofs.LogLemmas.RefusalLemmas.{submit_passes}
-use Rattle.rdm_log.proofs.LogLemmas.Places.{slice_get-append_left, slice_get-drop, slice_get-push, IsPushed, all_at}
-use Rattle.rdm_log.proofs.LogLemmas.Places.{each_place_push}
+use Rattle.rdm_log.proofs.LogLemmas.Indices.{slice_get-append_left, slice_get-drop, slice_get-push, IsPushed, all_at}
+use Rattle.rdm_log.proofs.LogLemmas.Indices.{each_index_push}
 
 -- a fact of the empty log that each entry keeps which may follow
 pub along : (o : Opening) (Q : List Entry → Type 0) → Q []
@@ -80,18 +80,18 @@ pub record LogFacts (o : Opening) (h : List Entry) : Type 0 where
   -- each request is of a client that had joined
   pub clients : (i : ℕ) (a : Accepted) → slice_get (accepts h) i ≡ Some a → a.client < next_client o h
 
--- the i-th unfinished request: its place among the Accepts, and its number
-pub unfinished_place : (h : List Entry) (i : ℕ) (a : Accepted) → slice_get (unfinished h) i ≡ Some a
+-- the i-th unfinished request: its index among the Accepts, and its number
+pub unfinished_index : (h : List Entry) (i : ℕ) (a : Accepted) → slice_get (unfinished h) i ≡ Some a
     → slice_get (accepts h) (length (finishes h) + i) ≡ Some a
-unfinished_place h i a at = sym (slice_get-drop (length (finishes h)) (accepts h) i) ∙ at
+unfinished_index h i a at = sym (slice_get-drop (length (finishes h)) (accepts h) i) ∙ at
 
 pub unfinished_within : (h : List Entry) (i : ℕ) (a : Accepted) → slice_get (unfinished h) i ≡ Some a
     → length (finishes h) + i < length (accepts h)
-unfinished_within h i a at = slice_get_within (accepts h) (length (finishes h) + i) a (unfinished_place h i a at)
+unfinished_within h i a at = slice_get_within (accepts h) (length (finishes h) + i) a (unfinished_index h i a at)
 
 pub unfinished_number : (o : Opening) (h : List Entry) → LogFacts o h → (i : ℕ) (a : Accepted)
     → slice_get (unfinished h) i ≡ Some a → a.number ≡ o.next_request + (length (finishes h) + i)
-unfinished_number o h facts i a at = facts.accept_numbers (length (finishes h) + i) a (unfinished_place h i a at)
+unfinished_number o h facts i a at = facts.accept_numbers (length (finishes h) + i) a (unfinished_index h i a at)
 
 -- while none is awaited each frame has its answer
 pub sent_evenly : (o : Opening) (h : List Entry) → LogFacts o h → awaited h ≡ false
@@ -128,7 +128,7 @@ facts_of_empty o = record {
   clients = λ i a at. absurd (none-some a at);
 }
 
--- no entry takes a client
+-- no entry removes a client
 more_clients : (o : Opening) (h : List Entry) (e : Entry) → next_client o h ≤ next_client o (h ++ e ∷ [])
 more_clients o h e =
     rw joins-append
@@ -195,7 +195,7 @@ facts_accept o h c n request facts may = record {
   finished_within = rw (more, finishes_same h e refl) (omega (arith, facts.finished_within, length_push (accepts h) a));
   exchanges = rw (sends_same h e refl, cames_same h e refl, awaited-push h e) facts.exchanges;
   accept_numbers =
-      rw more (each_place_push (λ i b. b.number ≡ o.next_request + i) (accepts h) a facts.accept_numbers may.2);
+      rw more (each_index_push (λ i b. b.number ≡ o.next_request + i) (accepts h) a facts.accept_numbers may.2);
   finish_numbers = rw (finishes_same h e refl) facts.finish_numbers;
   sent_accepted =
       rw (sends_same h e refl, more)
@@ -203,7 +203,7 @@ facts_accept o h c n request facts may = record {
   sent_oldest = rw (sends_same h e refl, finishes_same h e refl) facts.sent_oldest;
   waits = λ waits. awaited_accept (facts.waits (sym (awaited-push h e) ∙ waits));
   clients = rw more
-      (each_place_push (λ i b. b.client < next_client o k) (accepts h) a
+      (each_index_push (λ i b. b.client < next_client o k) (accepts h) a
       (λ i b at. omega (arith, facts.clients i b at, more_clients o h e))
       (omega (arith, (submit_passes o h c.0 may.1).known, more_clients o h e)));
 }
@@ -241,13 +241,13 @@ facts_accept o h c n request facts may = record {
       run = w.run;
       frame = w.frame;
       unanswered = unanswered_same h k _ (sends_same h e refl) (cames_same h e refl) w.unanswered;
-      undecided = rw later (λ b at. by_place b (slice_get-push (unfinished h) a 0 b at));
+      undecided = rw later (λ b at. by_index b (slice_get-push (unfinished h) a 0 b at));
     })
       where
-        by_place : (b : Accepted) → (slice_get (unfinished h) 0 ≡ Some b) ⊎ IsPushed (unfinished h) a 0 b
+        by_index : (b : Accepted) → (slice_get (unfinished h) 0 ≡ Some b) ⊎ IsPushed (unfinished h) a 0 b
             → result b.number k ≡ None
-        by_place b (inl before) = same b.number ∙ w.undecided b before
-        by_place b (inr pushed) = rw pushed.is unsent
+        by_index b (inl before) = same b.number ∙ w.undecided b before
+        by_index b (inr pushed) = rw pushed.is unsent
 
 facts_send : (o : Opening) (h : List Entry) (n : ℕ) (frame : ArrayVec ℕ) → LogFacts o h → NothingDue o h
     → MaySendRequest o h n frame → LogFacts o (h ++ Send (owners.Request n) frame ∷ [])
@@ -258,7 +258,7 @@ facts_send o h n frame facts due may = record {
   finish_numbers = rw (finishes_same h e refl) facts.finish_numbers;
   sent_accepted =
       rw (more, accepts_same h e refl)
-      (each_place_push (λ i t. (m : ℕ) → is_request m t.owner ≡ true → m < next_request o h) (sends h) s
+      (each_index_push (λ i t. (m : ℕ) → is_request m t.owner ≡ true → m < next_request o h) (sends h) s
       facts.sent_accepted
       (λ m own. omega (
         arith,
@@ -269,7 +269,7 @@ facts_send o h n frame facts due may = record {
       )));
   sent_oldest =
       rw (more, finishes_same h e refl)
-      (each_place_push (λ i t. (m : ℕ) → is_request m t.owner ≡ true → m ≤ o.next_request + length (finishes h))
+      (each_index_push (λ i t. (m : ℕ) → is_request m t.owner ≡ true → m ≤ o.next_request + length (finishes h))
       (sends h) s facts.sent_oldest (λ m own. omega (arith, eqb-true m n own, may.number, number)));
   waits = λ waits. inl (record {
     accepted = may.accepted;
@@ -306,11 +306,11 @@ facts_run_send o h r frame facts due may = record {
   finish_numbers = rw (finishes_same h e refl) facts.finish_numbers;
   sent_accepted =
       rw (more, accepts_same h e refl)
-      (each_place_push (λ i t. (m : ℕ) → is_request m t.owner ≡ true → m < next_request o h) (sends h) s
+      (each_index_push (λ i t. (m : ℕ) → is_request m t.owner ≡ true → m < next_request o h) (sends h) s
       facts.sent_accepted (λ m own. absurd (false≢true own)));
   sent_oldest =
       rw (more, finishes_same h e refl)
-      (each_place_push (λ i t. (m : ℕ) → is_request m t.owner ≡ true → m ≤ o.next_request + length (finishes h))
+      (each_index_push (λ i t. (m : ℕ) → is_request m t.owner ≡ true → m ≤ o.next_request + length (finishes h))
       (sends h) s facts.sent_oldest (λ m own. absurd (false≢true own)));
   waits = λ waits. inr (record {
     run = r;
@@ -361,7 +361,7 @@ facts_finish o h n status len facts may = record {
   exchanges = rw (sends_same h e refl, cames_same h e refl, awaited-push h e) facts.exchanges;
   accept_numbers = rw (accepts_same h e refl) facts.accept_numbers;
   finish_numbers =
-      rw more (each_place_push (λ i g. g.number ≡ o.next_request + i) (finishes h) f facts.finish_numbers
+      rw more (each_index_push (λ i g. g.number ≡ o.next_request + i) (finishes h) f facts.finish_numbers
       (omega (arith, may.number, unfinished_number o h facts 0 may.accepted may.oldest)));
   sent_accepted = rw (sends_same h e refl, accepts_same h e refl) facts.sent_accepted;
   sent_oldest =

@@ -15,7 +15,7 @@ use Rattle.rdm_log.specs.log.Entries.{asked_of, sending_of, came_of, finished_of
 use Rattle.rdm_log.specs.log.Entries.{accepts, asks, sends, cames, finishes, answers, collectors}
 use Rattle.rdm_log.specs.log.History.{unfinished, unanswered, awaits_after, paused_after, closed_after, awaited}
 use Rattle.rdm_log.specs.log.History.{is_paused, is_closed}
-use Rattle.rdm_log.proofs.LogLemmas.Places.{filter_map_none, filter_map_some}
+use Rattle.rdm_log.proofs.LogLemmas.Indices.{filter_map_none, filter_map_some}
 
 -- for two parts: what the first says, and then what the second says
 pub joins-append : (h k : List Entry) → joins (h ++ k) ≡ joins h ++ joins k
@@ -148,7 +148,7 @@ same_after h e accept finish send came waits = record {
   same_awaited = awaited-push h e ∙ waits;
 }
 
--- the unfinished requests: one more at the end, or one fewer at the front
+-- the unfinished requests: one more at the end, or one fewer at the start
 pub unfinished_same : (h k : List Entry) → accepts k ≡ accepts h → finishes k ≡ finishes h → unfinished k ≡ unfinished h
 unfinished_same h k accept finish = rw (accept, finish) refl
 

@@ -1,4 +1,4 @@
--- How much of a log's room an entry takes, what is reserved for later ones among it.
+-- How much of a log's room an entry uses, what is reserved for later ones among it.
 use Rattle.std.proofs.Common.{◌≡◌, ℕ, ◌+◌, ◌<◌, ◌≤◌, true, false, Option, None, List, [], ◌∷◌, ◌++◌, length, refl}
 use Rattle.std.proofs.Common.{append_assoc, append-nil, length-drop, arith}
 use Rattle.std.proofs.lemmas.List.{length_push}
@@ -31,10 +31,10 @@ use Rattle.rdm_log.proofs.LogLemmas.PushLemmas.{collectors_more, unfinished_acce
 use Rattle.rdm_log.proofs.LogLemmas.PushLemmas.{unanswered_answer, awaited-push, is_closed-push}
 
 -- the entries and those that are reserved
-abbrev pub taken : Opening → List Entry → ℕ
-taken o h = length h + reserved o h
+abbrev pub used : Opening → List Entry → ℕ
+used o h = length h + reserved o h
 
--- what an entry takes beyond what was reserved for it
+-- what an entry uses beyond what was reserved for it
 abbrev pub added : Entry → ℕ
 added (Join c n) = 1
 added (Refuse c call cause) = 1
@@ -45,16 +45,16 @@ added Pause = 1
 added Resume = 1
 added _ = 0
 
--- what a block takes beyond what was reserved
+-- what a block uses beyond what was reserved
 abbrev pub added_by : List Entry → ℕ
 added_by [] = 0
 added_by (e ∷ block) = added e + added_by block
 
 -- each kind of entry
-taken_same : (o : Opening) (h : List Entry) (e : Entry) → SameRequests h (h ++ e ∷ []) → asked_of e ≡ None
+used_same : (o : Opening) (h : List Entry) (e : Entry) → SameRequests h (h ++ e ∷ []) → asked_of e ≡ None
     → answered_of e ≡ None → collectors (h ++ e ∷ []) ≡ collectors h → is_closed o (h ++ e ∷ []) ≡ is_closed o h
-    → taken o (h ++ e ∷ []) ≡ taken o h + 1
-taken_same o h e same ask reply collect closed =
+    → used o (h ++ e ∷ []) ≡ used o h + 1
+used_same o h e same ask reply collect closed =
     rw (
       length_push h e,
       closed,
@@ -66,9 +66,9 @@ taken_same o h e same ask reply collect closed =
       collect,
     ) (omega arith)
 
-taken_accept : (o : Opening) (h : List Entry) (c : ClientId) (n : ℕ) (request : Request)
-    → length (finishes h) ≤ length (accepts h) → taken o (h ++ Accept c n request ∷ []) ≡ taken o h + 3
-taken_accept o h c n request within =
+used_accept : (o : Opening) (h : List Entry) (c : ClientId) (n : ℕ) (request : Request)
+    → length (finishes h) ≤ length (accepts h) → used o (h ++ Accept c n request ∷ []) ≡ used o h + 3
+used_accept o h c n request within =
     let a : Accepted = record { client = c.0; number = n; request = request } in
     let e = Accept c n request in
     rw (
@@ -84,9 +84,9 @@ taken_accept o h c n request within =
     )
     (omega arith)
 
-taken_ask : (o : Opening) (h : List Entry) (c : ClientId) (n : ℕ) (kind : Kind) → length (answers h) ≤ length (asks h)
-    → taken o (h ++ Ask c n kind ∷ []) ≡ taken o h + 3
-taken_ask o h c n kind within =
+used_ask : (o : Opening) (h : List Entry) (c : ClientId) (n : ℕ) (kind : Kind) → length (answers h) ≤ length (asks h)
+    → used o (h ++ Ask c n kind ∷ []) ≡ used o h + 3
+used_ask o h c n kind within =
     let a : AskedDiscovery = record { client = c.0; number = n; kind = kind } in
     let e = Ask c n kind in
     rw (
@@ -101,9 +101,9 @@ taken_ask o h c n kind within =
       collectors_same h e refl,
     ) (omega arith)
 
-taken_send : (o : Opening) (h : List Entry) (owner : Owner) (frame : ArrayVec ℕ) → awaited h ≡ false
-    → taken o (h ++ Send owner frame ∷ []) ≡ taken o h + 2
-taken_send o h owner frame idle =
+used_send : (o : Opening) (h : List Entry) (owner : Owner) (frame : ArrayVec ℕ) → awaited h ≡ false
+    → used o (h ++ Send owner frame ∷ []) ≡ used o h + 2
+used_send o h owner frame idle =
     let e = Send owner frame in
     rw (
       length_push h e,
@@ -117,9 +117,9 @@ taken_send o h owner frame idle =
       collectors_same h e refl,
     ) (omega arith)
 
-taken_came : (o : Opening) (h : List Entry) (event : LineEvent) → awaited h ≡ true
-    → taken o (h ++ Came event ∷ []) ≡ taken o h + 0
-taken_came o h event waits =
+used_came : (o : Opening) (h : List Entry) (event : LineEvent) → awaited h ≡ true
+    → used o (h ++ Came event ∷ []) ≡ used o h + 0
+used_came o h event waits =
     let e = Came event in
     rw (
       length_push h e,
@@ -133,10 +133,10 @@ taken_came o h event waits =
       collectors_same h e refl,
     ) (omega arith)
 
-taken_finish : (o : Opening) (h : List Entry) (n : ℕ) (status : Status) (len : ℕ) → 0 < length (unfinished h)
+used_finish : (o : Opening) (h : List Entry) (n : ℕ) (status : Status) (len : ℕ) → 0 < length (unfinished h)
     → length (collectors h) ≤ length (finishes h) + length (answers h)
-    → taken o (h ++ Finish n status len ∷ []) ≡ taken o h + 0
-taken_finish o h n status len some within =
+    → used o (h ++ Finish n status len ∷ []) ≡ used o h + 0
+used_finish o h n status len some within =
     let f : Finished = record { number = n; status = status; len = len } in
     let e = Finish n status len in
     rw (
@@ -152,10 +152,10 @@ taken_finish o h n status len some within =
       collectors_same h e refl,
     ) (omega arith)
 
-taken_answer : (o : Opening) (h : List Entry) (n r : ℕ) (fault : Option AgentFault) → 0 < length (unanswered h)
+used_answer : (o : Opening) (h : List Entry) (n r : ℕ) (fault : Option AgentFault) → 0 < length (unanswered h)
     → length (collectors h) ≤ length (finishes h) + length (answers h)
-    → taken o (h ++ Answer n r fault ∷ []) ≡ taken o h + 0
-taken_answer o h n r fault some within =
+    → used o (h ++ Answer n r fault ∷ []) ≡ used o h + 0
+used_answer o h n r fault some within =
     let b : Answered = record { number = n; run = r; fault = fault } in
     let e = Answer n r fault in
     rw (
@@ -171,11 +171,11 @@ taken_answer o h n r fault some within =
       collectors_same h e refl,
     ) (omega arith)
 
-taken_collect : (o : Opening) (h : List Entry) (c : ClientId)
+used_collect : (o : Opening) (h : List Entry) (c : ClientId)
     → length (collectors (h ++ Collect c ∷ []))
     ≤ length (finishes (h ++ Collect c ∷ [])) + length (answers (h ++ Collect c ∷ []))
-    → taken o (h ++ Collect c ∷ []) ≡ taken o h + 0
-taken_collect o h c within =
+    → used o (h ++ Collect c ∷ []) ≡ used o h + 0
+used_collect o h c within =
     let e = Collect c in
     let more = length_push (collectors h) c.0 in
     let fewer = rw (collectors_more h e c.0 refl, finishes_same h e refl, answered_same h e refl) at within in
@@ -190,8 +190,8 @@ taken_collect o h c within =
       collectors_more h e c.0 refl,
     ) (omega arith)
 
-taken_close : (o : Opening) (h : List Entry) → is_closed o h ≡ false → taken o (h ++ Close ∷ []) ≡ taken o h + 0
-taken_close o h not_closed =
+used_close : (o : Opening) (h : List Entry) → is_closed o h ≡ false → used o (h ++ Close ∷ []) ≡ used o h + 0
+used_close o h not_closed =
     rw (
       length_push h Close,
       is_closed-push o h Close,
@@ -210,33 +210,33 @@ collects_fit : (o : Opening) (h : List Entry) → EachAfter (MayFollow o) h
     → length (collectors h) ≤ length (finishes h) + length (answers h)
 collects_fit o h each = collects_within o h (legal_facts o h each) (ask_facts o h each) (client_facts o h each)
 
--- what an entry takes that may follow
-pub taken_step : (o : Opening) (h : List Entry) (e : Entry) → EachAfter (MayFollow o) h → MayFollow o h e
-    → taken o (h ++ e ∷ []) ≡ taken o h + added e
-taken_step o h (Accept c n request) each may = taken_accept o h c n request (legal_facts o h each).finished_within
-taken_step o h (Ask c n kind) each may = taken_ask o h c n kind (ask_facts o h each).answered_within
-taken_step o h (Send (owners.Request n) frame) each may = taken_send o h (owners.Request n) frame may.1.not_awaited
-taken_step o h (Send (owners.Run r) frame) each may = taken_send o h (owners.Run r) frame may.1.not_awaited
-taken_step o h (Came event) each may = taken_came o h event may.1
-taken_step o h (Finish n status len) each may =
-    taken_finish o h n status len (slice_get_within (unfinished h) 0 may.accepted may.oldest) (collects_fit o h each)
-taken_step o h (Answer n r fault) each may =
-    taken_answer o h n r fault (slice_get_within (unanswered h) 0 may.asked may.oldest) (collects_fit o h each)
-taken_step o h (Collect c) each may =
-    taken_collect o h c (collects_fit o (h ++ Collect c ∷ []) (pushed o h (Collect c) each may))
-taken_step o h Close each may = taken_close o h may.1
-taken_step o h e each may =
-    taken_same o h e (same_after h e refl refl refl refl refl) refl refl (collectors_same h e refl)
+-- what an entry uses that may follow
+pub used_step : (o : Opening) (h : List Entry) (e : Entry) → EachAfter (MayFollow o) h → MayFollow o h e
+    → used o (h ++ e ∷ []) ≡ used o h + added e
+used_step o h (Accept c n request) each may = used_accept o h c n request (legal_facts o h each).finished_within
+used_step o h (Ask c n kind) each may = used_ask o h c n kind (ask_facts o h each).answered_within
+used_step o h (Send (owners.Request n) frame) each may = used_send o h (owners.Request n) frame may.1.not_awaited
+used_step o h (Send (owners.Run r) frame) each may = used_send o h (owners.Run r) frame may.1.not_awaited
+used_step o h (Came event) each may = used_came o h event may.1
+used_step o h (Finish n status len) each may =
+    used_finish o h n status len (slice_get_within (unfinished h) 0 may.accepted may.oldest) (collects_fit o h each)
+used_step o h (Answer n r fault) each may =
+    used_answer o h n r fault (slice_get_within (unanswered h) 0 may.asked may.oldest) (collects_fit o h each)
+used_step o h (Collect c) each may =
+    used_collect o h c (collects_fit o (h ++ Collect c ∷ []) (pushed o h (Collect c) each may))
+used_step o h Close each may = used_close o h may.1
+used_step o h e each may =
+    used_same o h e (same_after h e refl refl refl refl refl) refl refl (collectors_same h e refl)
     (is_closed-push o h e)
 
--- what a block takes
-pub taken_block : (o : Opening) (h block : List Entry) → EachAfter (MayFollow o) (h ++ block)
-    → taken o (h ++ block) ≡ taken o h + added_by block
-taken_block o h [] each = rw append-nil (omega arith)
-taken_block o h (e ∷ block) each =
+-- what a block uses
+pub used_block : (o : Opening) (h block : List Entry) → EachAfter (MayFollow o) (h ++ block)
+    → used o (h ++ block) ≡ used o h + added_by block
+used_block o h [] each = rw append-nil (omega arith)
+used_block o h (e ∷ block) each =
     omega (
       arith,
-      rw (append_assoc h (e ∷ []) block) at (taken_block o (h ++ e ∷ []) block
+      rw (append_assoc h (e ∷ []) block) at (used_block o (h ++ e ∷ []) block
           (rw (append_assoc h (e ∷ []) block) each)),
-      taken_step o h e (front o h (e ∷ block) each) (each h block e refl),
+      used_step o h e (front o h (e ∷ block) each) (each h block e refl),
     )

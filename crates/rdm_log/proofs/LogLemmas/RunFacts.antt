@@ -29,7 +29,7 @@ use Rattle.rdm_log.specs.log.Legal.{MayFollow}
 use Rattle.rdm_log.proofs.LogLemmas.PushLemmas.{sends_same, sends_more, cames_same, answered_same, answered_more}
 use Rattle.rdm_log.proofs.LogLemmas.PushLemmas.{awaited-push}
 use Rattle.rdm_log.proofs.LogLemmas.ExchangeLemmas.{IsUnanswered}
-use Rattle.rdm_log.proofs.LogLemmas.Places.{slice_get-push, IsPushed, all_at, each_place_push}
+use Rattle.rdm_log.proofs.LogLemmas.Indices.{slice_get-push, IsPushed, all_at, each_index_push}
 use Rattle.rdm_log.proofs.LogLemmas.LegalFacts.{along, legal_facts, IsAwaited, IsRunAwaited, sent_evenly}
 use Rattle.rdm_log.proofs.LogLemmas.RunLemmas.{not_sent, last_run_same, last_run_sent, has_begun_more, begun_stays}
 use Rattle.rdm_log.proofs.LogLemmas.RunLemmas.{begun_same, last_begun, open_run_same, run_exchanges_same}
@@ -157,10 +157,10 @@ after_begin o h r (inr is) facts =
     let last = (open_is h r is).last in ((facts.begun_below r (last_begun r h last)).0, rw last (omega arith))
 
 -- no Answer names a run that begins
-pub any_from_place : {X : Type 0} (p : X → Bool) (xs : List X) → list_any p xs ≡ true → (i : ℕ) × (x : X)
+pub any_from_index : {X : Type 0} (p : X → Bool) (xs : List X) → list_any p xs ≡ true → (i : ℕ) × (x : X)
     × (slice_get xs i ≡ Some x) × (p x ≡ true)
-any_from_place p [] e = absurd (false≢true e)
-any_from_place {X} p (x ∷ xs) e = by_test (cases_Bool (p x)) (any_from_place p xs)
+any_from_index p [] e = absurd (false≢true e)
+any_from_index {X} p (x ∷ xs) e = by_test (cases_Bool (p x)) (any_from_index p xs)
   where
     by_test : (p x ≡ true) ⊎ (p x ≡ false)
         → (list_any p xs ≡ true → (i : ℕ) × (y : X) × (slice_get xs i ≡ Some y) × (p y ≡ true)) → (i : ℕ) × (y : X)
@@ -183,7 +183,7 @@ never_named o h r facts from above = by_test (cases_Bool (is_answered r h))
         no_zero none = omega arith
 
     by_test : (is_answered r h ≡ true) ⊎ (is_answered r h ≡ false) → is_answered r h ≡ false
-    by_test (inl named) = absurd (impossible (any_from_place (λ b. b.run == r) (answers h) named))
+    by_test (inl named) = absurd (impossible (any_from_index (λ b. b.run == r) (answers h) named))
     by_test (inr left) = left
 
 pub opened_by : (o : Opening) (h : List Entry) (r : ℕ) (frame : ArrayVec ℕ) → RunFacts o h → MaySendRun o h r frame
@@ -304,7 +304,7 @@ facts_answer o h n r fault may facts = record {
       λ q begun. rw (last_run_same h k (sends_same h e refl))
       (facts.begun_below q (sym (begun_same q h e refl) ∙ begun));
   named = rw more
-      (each_place_push (λ i x. x.run ≢ 0 → has_begun x.run k ≡ true) (answers h) b
+      (each_index_push (λ i x. x.run ≢ 0 → has_begun x.run k ≡ true) (answers h) b
       (λ i x at run. begun_stays x.run h (e ∷ []) (facts.named i x at run))
       (λ run. begun_stays r h (e ∷ []) (named_begun run)));
   waits = λ still s is q own. absurd (not_awaited_true (sym (awaited-push h e) ∙ still));
@@ -347,20 +347,20 @@ facts_answer o h n r fault may facts = record {
     agree : (i j : ℕ) (x y : Answered) → slice_get (answers h ++ b ∷ []) i ≡ Some x
         → slice_get (answers h ++ b ∷ []) j ≡ Some y → x.run ≢ 0 → x.run ≡ y.run → x.fault ≡ y.fault
     agree i j x y at_i at_j run same =
-        by_places (slice_get-push (answers h) b i x at_i) (slice_get-push (answers h) b j y at_j)
+        by_indices (slice_get-push (answers h) b i x at_i) (slice_get-push (answers h) b j y at_j)
       where
-        by_places : (slice_get (answers h) i ≡ Some x) ⊎ IsPushed (answers h) b i x
+        by_indices : (slice_get (answers h) i ≡ Some x) ⊎ IsPushed (answers h) b i x
             → (slice_get (answers h) j ≡ Some y) ⊎ IsPushed (answers h) b j y → x.fault ≡ y.fault
-        by_places (inl first) (inl second) = facts.agree i j x y first second run same
-        by_places (inl first) (inr second) =
+        by_indices (inl first) (inl second) = facts.agree i j x y first second run same
+        by_indices (inl first) (inr second) =
             rw second.is
             (agree_last i x first (λ none. run (same ∙ ap (λ (z : Answered). z.run) second.is ∙ none))
             (same ∙ ap (λ (z : Answered). z.run) second.is))
-        by_places (inr first) (inl second) =
+        by_indices (inr first) (inl second) =
             rw first.is
             (sym (agree_last j y second (λ none. run (ap (λ (z : Answered). z.run) first.is ∙ none))
             (sym same ∙ ap (λ (z : Answered). z.run) first.is)))
-        by_places (inr first) (inr second) = rw (first.is, second.is) refl
+        by_indices (inr first) (inr second) = rw (first.is, second.is) refl
 
 facts_step : (o : Opening) (h : List Entry) (e : Entry) → EachAfter (MayFollow o) h → RunFacts o h → MayFollow o h e
     → RunFacts o (h ++ e ∷ [])

@@ -17,18 +17,18 @@ use Rattle.rdm_log.specs.log.Legal.{Legal}
 use Rattle.rdm_log.specs.promises.Headline.{Begins}
 use Rattle.rdm_log.specs.promises.Discoveries.{numbers_asked, numbers_answered, answer_count, OneAnswer}
 use Rattle.rdm_log.specs.promises.Discoveries.{AnsweredInOrder}
-use Rattle.rdm_log.proofs.PromiseLemmas.Numbers.{range_parts, numbers_by_place, count_outside, count_within}
+use Rattle.rdm_log.proofs.PromiseLemmas.Numbers.{range_parts, numbers_by_index, count_outside, count_within}
 use Rattle.rdm_log.proofs.PromiseLemmas.OneResult.{IsAmong, among, contains_range, range_contains}
 use Rattle.rdm_log.proofs.LogLemmas.AskFacts.{AskFacts, ask_facts}
 use Rattle.rdm_log.proofs.LogLemmas.ClientLemmas.{client_of_asked}
 
 asked_in_order : (o : Opening) (h : List Entry) → AskFacts o h
     → numbers_asked (asks h) ≡ range_with_len o.next_ask (length (asks h))
-asked_in_order o h facts = numbers_by_place (λ a. a.number) (asks h) o.next_ask facts.ask_numbers
+asked_in_order o h facts = numbers_by_index (λ a. a.number) (asks h) o.next_ask facts.ask_numbers
 
 answered_in_order : (o : Opening) (h : List Entry) → AskFacts o h
     → numbers_answered (answers h) ≡ range_with_len o.next_ask (length (answers h))
-answered_in_order o h facts = numbers_by_place (λ b. b.number) (answers h) o.next_ask facts.answer_numbers
+answered_in_order o h facts = numbers_by_index (λ b. b.number) (answers h) o.next_ask facts.answer_numbers
 
 answered_first : (o : Opening) (h : List Entry) → AskFacts o h
     → Begins (numbers_answered (answers h)) (numbers_asked (asks h))
@@ -49,32 +49,33 @@ answers_to_client o c h (Answer n run fault ∷ k) =
     b : Answered
     b = record { number = n; run = run; fault = fault }
 
-    told : List Entry
-    told = filter (is_answer_to o c h) k
+    to_client : List Entry
+    to_client = filter (is_answer_to o c h) k
 
     own : List Answered
     own = filter (λ x. is_client_of c (client_of_discovery o h x.number)) (filter_map answered_of k)
 
-    by_test : (t : Bool) → filter_map answered_of told ≡ own
-        → filter_map answered_of (if t then Answer n run fault ∷ told else told) ≡ (if t then b ∷ own else own)
+    by_test : (t : Bool) → filter_map answered_of to_client ≡ own
+        → filter_map answered_of (if t then Answer n run fault ∷ to_client else to_client) ≡
+        (if t then b ∷ own else own)
     by_test true later = ap (λ l. b ∷ l) later
     by_test false later = later
 answers_to_client o c h (Finish n status len ∷ k) =
     by_test (is_client_of c (client_of_request o h n)) (answers_to_client o c h k)
   where
-    told : List Entry
-    told = filter (is_answer_to o c h) k
+    to_client : List Entry
+    to_client = filter (is_answer_to o c h) k
 
     own : List Answered
     own = filter (λ x. is_client_of c (client_of_discovery o h x.number)) (filter_map answered_of k)
 
-    by_test : (t : Bool) → filter_map answered_of told ≡ own
-        → filter_map answered_of (if t then Finish n status len ∷ told else told) ≡ own
+    by_test : (t : Bool) → filter_map answered_of to_client ≡ own
+        → filter_map answered_of (if t then Finish n status len ∷ to_client else to_client) ≡ own
     by_test true later = later
     by_test false later = later
 answers_to_client o c h (e ∷ k) = answers_to_client o c h k
 
--- Answers and Asks that agree at each place
+-- Answers and Asks that agree at each index
 same_numbers : (p : Answered → Bool) (q : AskedDiscovery → Bool) (bs : List Answered) (rs : List AskedDiscovery)
     → length bs ≡ length rs
     → ((i : ℕ) (b : Answered) (a : AskedDiscovery) → slice_get bs i ≡ Some b → slice_get rs i ≡ Some a
@@ -94,12 +95,12 @@ same_numbers p q (b ∷ bs) (a ∷ rs) even at =
     by_test false true e n later = cc
     by_test false false e n later = later
 
-taken_place : (n : ℕ) (xs : List AskedDiscovery) (i : ℕ) (a : AskedDiscovery) → slice_get (take n xs) i ≡ Some a
+taken_index : (n : ℕ) (xs : List AskedDiscovery) (i : ℕ) (a : AskedDiscovery) → slice_get (take n xs) i ≡ Some a
     → slice_get xs i ≡ Some a
-taken_place zero xs i a e = cc
-taken_place (suc n) [] i a e = cc
-taken_place (suc n) (x ∷ xs) zero a e = e
-taken_place (suc n) (x ∷ xs) (suc i) a e = taken_place n xs i a e
+taken_index zero xs i a e = cc
+taken_index (suc n) [] i a e = cc
+taken_index (suc n) (x ∷ xs) zero a e = e
+taken_index (suc n) (x ∷ xs) (suc i) a e = taken_index n xs i a e
 
 each_client : (o : Opening) (h : List Entry) → AskFacts o h → (c : ℕ)
     → Begins (numbers_answered (answers (answers_to o c h))) (numbers_asked (asks_by c h))
@@ -126,9 +127,9 @@ each_client o h facts c = record {
         → slice_get earlier i ≡ Some a → (b.number ≡ a.number)
         × (is_client_of c (client_of_discovery o h b.number) ≡ (c == a.client))
     agree i b a at_b at_a =
-        let place = taken_place (length (answers h)) (asks h) i a at_a in
-        let number : b.number ≡ a.number = facts.answer_numbers i b at_b ∙ sym (facts.ask_numbers i a place) in
-        (number, rw (number, client_of_asked o h facts i a place) refl)
+        let asked_at = taken_index (length (answers h)) (asks h) i a at_a in
+        let number : b.number ≡ a.number = facts.answer_numbers i b at_b ∙ sym (facts.ask_numbers i a asked_at) in
+        (number, rw (number, client_of_asked o h facts i a asked_at) refl)
 
     paired : numbers_answered (filter (λ b. is_client_of c (client_of_discovery o h b.number)) (answers h))
         ≡ numbers_asked (filter (λ a. c == a.client) earlier)
@@ -150,24 +151,24 @@ not_counted : (o : Opening) (h : List Entry) → AskFacts o h → (n : ℕ) → 
 not_counted o h facts n out = rw (answered_in_order o h facts) (count_outside n o.next_ask (length (answers h)) out)
 
 at_most_one : (o : Opening) (h : List Entry) → AskFacts o h → (n : ℕ) → answer_count n h ≤ 1
-at_most_one o h facts n = by_place (among o.next_ask (length (answers h)) n)
+at_most_one o h facts n = by_index (among o.next_ask (length (answers h)) n)
   where
-    by_place : IsAmong o.next_ask (length (answers h)) n ⊎ ((n < o.next_ask) ⊎ (o.next_ask + length (answers h) ≤ n))
+    by_index : IsAmong o.next_ask (length (answers h)) n ⊎ ((n < o.next_ask) ⊎ (o.next_ask + length (answers h) ≤ n))
         → answer_count n h ≤ 1
-    by_place (inl is) = omega (arith, counted o h facts n is)
-    by_place (inr out) = omega (arith, not_counted o h facts n out)
+    by_index (inl is) = omega (arith, counted o h facts n is)
+    by_index (inr out) = omega (arith, not_counted o h facts n out)
 
 was_asked : (o : Opening) (h : List Entry) → AskFacts o h → (n : ℕ) → 0 < answer_count n h
     → Contains (numbers_asked (asks h)) n
-was_asked o h facts n some = by_place (among o.next_ask (length (answers h)) n)
+was_asked o h facts n some = by_index (among o.next_ask (length (answers h)) n)
   where
-    by_place : IsAmong o.next_ask (length (answers h)) n ⊎ ((n < o.next_ask) ⊎ (o.next_ask + length (answers h) ≤ n))
+    by_index : IsAmong o.next_ask (length (answers h)) n ⊎ ((n < o.next_ask) ⊎ (o.next_ask + length (answers h) ≤ n))
         → Contains (numbers_asked (asks h)) n
-    by_place (inl is) = rw (asked_in_order o h facts) (contains_range o.next_ask (length (asks h)) n (record {
+    by_index (inl is) = rw (asked_in_order o h facts) (contains_range o.next_ask (length (asks h)) n (record {
       from = is.from;
       to = omega (arith, is.to, facts.answered_within);
     }))
-    by_place (inr out) = absurd (omega (arith, not_counted o h facts n out))
+    by_index (inr out) = absurd (omega (arith, not_counted o h facts n out))
 
 exactly_one : (o : Opening) (h : List Entry) → Legal o h → is_closed o h ≡ true → awaited h ≡ false → (n : ℕ)
     → Contains (numbers_asked (asks h)) n → answer_count n h ≡ 1

@@ -25,12 +25,12 @@ use Rattle.rdm_log.specs.promises.Blocks.{ask_refused, DiscoverAdds}
 use Rattle.rdm_log.specs.promises.Explains.{Adds, Explains}
 use Rattle.rdm_log.specs.promises.Discoveries.{HasMostDiscoveries, numbers_asked}
 use Rattle.rdm_log.specs.promises.EventsHeadline.{AnsweredAt, MostExactly, refuses_discovery}
-use Rattle.rdm_log.proofs.LogLemmas.Places.{filter_map_has}
+use Rattle.rdm_log.proofs.LogLemmas.Indices.{filter_map_has}
 use Rattle.rdm_log.proofs.PromiseLemmas.StableResults.{contains_from_get}
 use Rattle.rdm_log.proofs.PromiseLemmas.FullRefuses.{refusal_changes_nothing}
 use Rattle.rdm_log.proofs.PromiseLemmas.OwnDiscoveries.{most_is_fault, fault_is_most}
 use Rattle.rdm_log.proofs.PromiseLemmas.BlockLemmas.{discover_ok, discover_full}
-use Rattle.rdm_log.proofs.PromiseLemmas.ExplainsLemmas.{placed, answered_at, block_contained, block_follows}
+use Rattle.rdm_log.proofs.PromiseLemmas.ExplainsLemmas.{has_block, answered_at, block_contained, block_follows}
 
 pub asked : (old : LogState) (es : List Event) (rs : List Answer) (new : LogState) → Explains old es rs new
     → (i : ℕ) (c : ClientId) (n : ℕ) (kind : Kind) → slice_get es i ≡ Some (events.Discover c kind)
@@ -38,7 +38,7 @@ pub asked : (old : LogState) (es : List Event) (rs : List Answer) (new : LogStat
 asked old es rs new explains i c n kind at_e at_r =
     let at = answered_at old es rs new explains i (events.Discover c kind) (answers.Discover (Ok n)) at_e at_r in
     block_contained new at.before at.here.block (Ask c n kind)
-    (placed old es rs new i (events.Discover c kind) (answers.Discover (Ok n)) at)
+    (has_block old es rs new i (events.Discover c kind) (answers.Discover (Ok n)) at)
     (discover_ok at.before c kind n at.here.block at.here.adds).2
 
 pub discovery_contained : (h : List Entry) (c : ClientId) (n : ℕ) (kind : Kind) → Contains h (Ask c n kind)
@@ -100,7 +100,7 @@ most old es rs new explains legal i c kind answer at_e at_r = record {
         → EachAfter (MayFollow new.opening) (at.before.entries ++ ask_refused c kind Full ∷ [])
     each is =
         block_follows new at.before at.here.block (ask_refused c kind Full ∷ [])
-        (placed old es rs new i (events.Discover c kind) answer at)
+        (has_block old es rs new i (events.Discover c kind) answer at)
         (refused_block at.before c kind answer at.here.block at.here.adds is) legal.each
 
 -- the answer of a collect is that of the client that collects

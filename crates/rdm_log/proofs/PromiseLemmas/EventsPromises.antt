@@ -29,7 +29,7 @@ use Rattle.rdm_log.specs.promises.Explains.{Adds, Explains}
 use Rattle.rdm_log.specs.promises.Headline.{IsFull, numbers_accepted}
 use Rattle.rdm_log.specs.promises.EventsHeadline.{AnsweredAt, FullExactly, refuses_full, IsOwnOutcome, ReportsTheLine}
 use Rattle.rdm_log.specs.promises.EventsHeadline.{RefusesDiscovery, EventsPromised}
-use Rattle.rdm_log.proofs.LogLemmas.Places.{filter_map_has}
+use Rattle.rdm_log.proofs.LogLemmas.Indices.{filter_map_has}
 use Rattle.rdm_log.proofs.PromiseLemmas.StableResults.{contains_from_get}
 use Rattle.rdm_log.proofs.PromiseLemmas.OneResult.{one_result}
 use Rattle.rdm_log.proofs.PromiseLemmas.AnsweredInOrder.{one_answer}
@@ -43,7 +43,8 @@ use Rattle.rdm_log.proofs.PromiseLemmas.EventsInBound.{in_bound}
 use Rattle.rdm_log.proofs.PromiseLemmas.ClosedEvents.{closes, nothing_after, nothing_closed}
 use Rattle.rdm_log.proofs.PromiseLemmas.QuietEvents.{idle_after}
 use Rattle.rdm_log.proofs.PromiseLemmas.RisingNumbers.{numbers_rise, asks_rise}
-use Rattle.rdm_log.proofs.PromiseLemmas.ExplainsLemmas.{IsPlaced, placed, one_answer_each, explained_grows, answered_at}
+use Rattle.rdm_log.proofs.PromiseLemmas.ExplainsLemmas.{HasBlock, has_block, one_answer_each}
+use Rattle.rdm_log.proofs.PromiseLemmas.ExplainsLemmas.{explained_grows, answered_at}
 use Rattle.rdm_log.proofs.PromiseLemmas.ExplainsLemmas.{block_contained, block_follows}
 
 -- a request that was accepted is in the log
@@ -53,7 +54,7 @@ accepted : (old : LogState) (es : List Event) (rs : List Answer) (new : LogState
 accepted old es rs new explains i c n request at_e at_r =
     let at = answered_at old es rs new explains i (events.Submit c request) (answers.Submit (Ok n)) at_e at_r in
     block_contained new at.before at.here.block (Accept c n request)
-    (placed old es rs new i (events.Submit c request) (answers.Submit (Ok n)) at)
+    (has_block old es rs new i (events.Submit c request) (answers.Submit (Ok n)) at)
     (submit_ok at.before c request n at.here.block at.here.adds).2
 
 number_contained : (h : List Entry) (c : ClientId) (n : ℕ) (request : Request) → Contains h (Accept c n request)
@@ -117,7 +118,7 @@ full old es rs new explains legal i c request answer at_e at_r = record {
         → EachAfter (MayFollow new.opening) (at.before.entries ++ submit_refused c request Full ∷ [])
     each is =
         block_follows new at.before at.here.block (submit_refused c request Full ∷ [])
-        (placed old es rs new i (events.Submit c request) answer at)
+        (has_block old es rs new i (events.Submit c request) answer at)
         (refused_block at.before c request answer at.here.block at.here.adds is) legal.each
 
 collected : (old : LogState) (es : List Event) (rs : List Answer) (new : LogState) → Explains old es rs new
@@ -125,17 +126,17 @@ collected : (old : LogState) (es : List Event) (rs : List Answer) (new : LogStat
     → slice_get es i ≡ Some (events.Collect c) → slice_get rs i ≡ Some (answers.Collect (Ok (Some outcome)))
     → IsOwnOutcome new.opening new.entries c.0 (unboxed outcome)
 collected old es rs new explains legal i c outcome at_e at_r =
-    rw whole (own_outcome new.opening at.before.entries (at.here.block ++ place.back) c.0 (unboxed outcome)
-    (rw whole at legal.each) (rw (← place.same_opening) at at.here.adds.0))
+    rw whole (own_outcome new.opening at.before.entries (at.here.block ++ split.back) c.0 (unboxed outcome)
+    (rw whole at legal.each) (rw (← split.same_opening) at at.here.adds.0))
   where
     at : AnsweredAt old es rs new i (events.Collect c) (answers.Collect (Ok (Some outcome)))
     at = answered_at old es rs new explains i (events.Collect c) (answers.Collect (Ok (Some outcome))) at_e at_r
 
-    place : IsPlaced new at.before at.here.block
-    place = placed old es rs new i (events.Collect c) (answers.Collect (Ok (Some outcome))) at
+    split : HasBlock new at.before at.here.block
+    split = has_block old es rs new i (events.Collect c) (answers.Collect (Ok (Some outcome))) at
 
-    whole : new.entries ≡ at.before.entries ++ (at.here.block ++ place.back)
-    whole = place.whole ∙ append_assoc at.before.entries at.here.block place.back
+    whole : new.entries ≡ at.before.entries ++ (at.here.block ++ split.back)
+    whole = split.whole ∙ append_assoc at.before.entries at.here.block split.back
 
 reported : (old : LogState) (es : List Event) (rs : List Answer) (new : LogState) → Explains old es rs new
     → Legal new.opening new.entries → (i : ℕ) (outcome : BoxedOutcome) (number : Option ℕ) (done : AskCompletion)

@@ -61,14 +61,14 @@ answered_at old [] (s ∷ rs) new is i e r at_e at_r = absurd is
 answered_at old (f ∷ es) [] new is i e r at_e at_r = absurd is
 
 -- an event's block is in the new log, between what came earlier and what came later
-pub record IsPlaced (new before : LogState) (block : List Entry) : Type 0 where
+pub record HasBlock (new before : LogState) (block : List Entry) : Type 0 where
   pub back : List Entry
   pub whole : new.entries ≡ (before.entries ++ block) ++ back
   pub same_opening : new.opening ≡ before.opening
 
-pub placed : (old : LogState) (es : List Event) (rs : List Answer) (new : LogState) (i : ℕ) (e : Event) (r : Answer)
-    → (at : AnsweredAt old es rs new i e r) → IsPlaced new at.before at.here.block
-placed old es rs new i e r at =
+pub has_block : (old : LogState) (es : List Event) (rs : List Answer) (new : LogState) (i : ℕ) (e : Event) (r : Answer)
+    → (at : AnsweredAt old es rs new i e r) → HasBlock new at.before at.here.block
+has_block old es rs new i e r at =
     let later = explained_grows at.after (drop (i + 1) es) (drop (i + 1) rs) new at.later in
     let is : new ≡ grown (grown at.before at.here.block) later.0 = later.1 ∙ ap (λ k. grown k later.0) at.here.grows in
     record { back = later.0; whole = ap (λ k. k.entries) is; same_opening = ap (λ k. k.opening) is }
@@ -85,13 +85,13 @@ contains_last : {X : Type 0} (xs : List X) (x : X) → Contains (xs ++ x ∷ [])
 contains_last xs x = Contains-append_right xs (x ∷ []) x (0, omega arith, refl)
 
 -- a block is in the new log, and each of its entries may follow those before it
-pub block_contained : (new before : LogState) (block : List Entry) (e : Entry) → IsPlaced new before block
+pub block_contained : (new before : LogState) (block : List Entry) (e : Entry) → HasBlock new before block
     → block ≡ e ∷ [] → Contains new.entries e
-block_contained new before block e place is =
-    rw (place.whole, is) (Contains-append_left (before.entries ++ e ∷ []) place.back e (contains_last before.entries e))
+block_contained new before block e split is =
+    rw (split.whole, is) (Contains-append_left (before.entries ++ e ∷ []) split.back e (contains_last before.entries e))
 
-pub block_follows : (new before : LogState) (block : List Entry) (entries : List Entry) → IsPlaced new before block
+pub block_follows : (new before : LogState) (block : List Entry) (entries : List Entry) → HasBlock new before block
     → block ≡ entries → EachAfter (MayFollow new.opening) new.entries
     → EachAfter (MayFollow new.opening) (before.entries ++ entries)
-block_follows new before block entries place is each =
-    front new.opening (before.entries ++ entries) place.back (rw (place.whole, is) at each)
+block_follows new before block entries split is each =
+    front new.opening (before.entries ++ entries) split.back (rw (split.whole, is) at each)

@@ -42,21 +42,21 @@ pub full_is_fault : (o : Opening) (h : List Entry) (c : ℕ) → submit_fault o 
 full_is_fault o h c is = record {
   not_closed = tests.0;
   known = leb-false (next_client o h) c tests.1;
-  full = by_test (or_cases places_taken numbers_out tests.2);
+  full = by_test (or_cases none_left numbers_out tests.2);
 }
   where
-    places_taken : Bool
-    places_taken = nat_le (slice_index (places o h) c) (outstanding_requests o c h)
+    none_left : Bool
+    none_left = nat_le (slice_index (places o h) c) (outstanding_requests o c h)
 
     numbers_out : Bool
     numbers_out = nat_le 18446744073709551615 (next_request o h)
 
-    tests : (is_closed o h ≡ false) × (nat_le (next_client o h) c ≡ false) × ((places_taken || numbers_out) ≡ true)
-    tests = first_two_pass (is_closed o h) (nat_le (next_client o h) c) (places_taken || numbers_out) is
+    tests : (is_closed o h ≡ false) × (nat_le (next_client o h) c ≡ false) × ((none_left || numbers_out) ≡ true)
+    tests = first_two_pass (is_closed o h) (nat_le (next_client o h) c) (none_left || numbers_out) is
 
-    by_test : (places_taken ≡ true) ⊎ (numbers_out ≡ true) → (slice_index (places o h) c ≤ outstanding_requests o c h)
+    by_test : (none_left ≡ true) ⊎ (numbers_out ≡ true) → (slice_index (places o h) c ≤ outstanding_requests o c h)
         ⊎ (18446744073709551615 ≤ next_request o h)
-    by_test (inl taken) = inl (leb-true (slice_index (places o h) c) (outstanding_requests o c h) taken)
+    by_test (inl none) = inl (leb-true (slice_index (places o h) c) (outstanding_requests o c h) none)
     by_test (inr out) = inr (leb-true 18446744073709551615 (next_request o h) out)
 
 pub fault_is_full : (o : Opening) (h : List Entry) (c : ℕ) → IsFull o h c → submit_fault o h c ≡ Some faults.Full
@@ -65,7 +65,7 @@ fault_is_full o h c is = rw (is.not_closed, lt-leb (next_client o h) c is.known,
     is_true : (slice_index (places o h) c ≤ outstanding_requests o c h) ⊎ (18446744073709551615 ≤ next_request o h)
         → (nat_le (slice_index (places o h) c) (outstanding_requests o c h)
         || nat_le 0xffffffffffffffff (next_request o h)) ≡ true
-    is_true (inl taken) = or_left _ _ (le-leb _ _ taken)
+    is_true (inl none) = or_left _ _ (le-leb _ _ none)
     is_true (inr out) = or_right _ _ (le-leb _ _ out)
 
 third_fault : (fault : Option SubmitFault) (cause : ℕ) → option_map number_of_submit_fault fault ≡ Some cause

@@ -13,17 +13,17 @@ use Rattle.rdm_log.specs.log.Clients.{accepts_by, client_of_request, client_of_d
 use Rattle.rdm_log.specs.log.Clients.{answers_to}
 use Rattle.rdm_log.specs.log.Legal.{Legal}
 use Rattle.rdm_log.specs.promises.Headline.{numbers_accepted, numbers_finished, Begins, InOrder}
-use Rattle.rdm_log.proofs.PromiseLemmas.Numbers.{range_parts, numbers_by_place}
+use Rattle.rdm_log.proofs.PromiseLemmas.Numbers.{range_parts, numbers_by_index}
 use Rattle.rdm_log.proofs.LogLemmas.LegalFacts.{LogFacts, legal_facts}
 use Rattle.rdm_log.proofs.LogLemmas.ClientLemmas.{client_of_accepted}
 
 pub accepted_in_order : (o : Opening) (h : List Entry) → LogFacts o h
     → numbers_accepted (accepts h) ≡ range_with_len o.next_request (length (accepts h))
-accepted_in_order o h facts = numbers_by_place (λ a. a.number) (accepts h) o.next_request facts.accept_numbers
+accepted_in_order o h facts = numbers_by_index (λ a. a.number) (accepts h) o.next_request facts.accept_numbers
 
 pub finished_in_order : (o : Opening) (h : List Entry) → LogFacts o h
     → numbers_finished (finishes h) ≡ range_with_len o.next_request (length (finishes h))
-finished_in_order o h facts = numbers_by_place (λ f. f.number) (finishes h) o.next_request facts.finish_numbers
+finished_in_order o h facts = numbers_by_index (λ f. f.number) (finishes h) o.next_request facts.finish_numbers
 
 finished_first : (o : Opening) (h : List Entry) → LogFacts o h
     → Begins (numbers_finished (finishes h)) (numbers_accepted (accepts h))
@@ -67,7 +67,7 @@ finishes_to o c h (Answer n run fault ∷ k) = by_test (is_client_of c (client_o
     by_test false later = later
 finishes_to o c h (e ∷ k) = finishes_to o c h k
 
--- Finishes and Accepts that agree at each place
+-- Finishes and Accepts that agree at each index
 same_numbers : (p : Finished → Bool) (q : Accepted → Bool) (fs : List Finished) (rs : List Accepted)
     → length fs ≡ length rs
     → ((i : ℕ) (f : Finished) (a : Accepted) → slice_get fs i ≡ Some f → slice_get rs i ≡ Some a → (f.number ≡ a.number)
@@ -88,12 +88,12 @@ same_numbers p q (f ∷ fs) (a ∷ rs) even at =
     by_test false true e n later = cc
     by_test false false e n later = later
 
-taken_place : (n : ℕ) (xs : List Accepted) (i : ℕ) (a : Accepted) → slice_get (take n xs) i ≡ Some a
+taken_index : (n : ℕ) (xs : List Accepted) (i : ℕ) (a : Accepted) → slice_get (take n xs) i ≡ Some a
     → slice_get xs i ≡ Some a
-taken_place zero xs i a e = cc
-taken_place (suc n) [] i a e = cc
-taken_place (suc n) (x ∷ xs) zero a e = e
-taken_place (suc n) (x ∷ xs) (suc i) a e = taken_place n xs i a e
+taken_index zero xs i a e = cc
+taken_index (suc n) [] i a e = cc
+taken_index (suc n) (x ∷ xs) zero a e = e
+taken_index (suc n) (x ∷ xs) (suc i) a e = taken_index n xs i a e
 
 each_client : (o : Opening) (h : List Entry) → LogFacts o h → (c : ℕ)
     → Begins (numbers_finished (finishes (answers_to o c h))) (numbers_accepted (accepts_by c h))
@@ -120,9 +120,9 @@ each_client o h facts c = record {
     agree : (i : ℕ) (f : Finished) (a : Accepted) → slice_get (finishes h) i ≡ Some f → slice_get earlier i ≡ Some a
         → (f.number ≡ a.number) × (is_client_of c (client_of_request o h f.number) ≡ (c == a.client))
     agree i f a at_f at_a =
-        let place = taken_place (length (finishes h)) (accepts h) i a at_a in
-        let number : f.number ≡ a.number = facts.finish_numbers i f at_f ∙ sym (facts.accept_numbers i a place) in
-        (number, rw (number, client_of_accepted o h facts i a place) refl)
+        let accepted_at = taken_index (length (finishes h)) (accepts h) i a at_a in
+        let number : f.number ≡ a.number = facts.finish_numbers i f at_f ∙ sym (facts.accept_numbers i a accepted_at) in
+        (number, rw (number, client_of_accepted o h facts i a accepted_at) refl)
 
     paired : numbers_finished (filter (λ f. is_client_of c (client_of_request o h f.number)) (finishes h))
         ≡ numbers_accepted (filter (λ a. c == a.client) earlier)

@@ -14,13 +14,13 @@ range_parts a (suc m) (suc n) within =
     let left : suc n - suc m ≡ n - m = omega arith in
     rw (left, ← next) (ap (λ l. a ∷ l) (range_parts (a + 1) m n (omega arith)))
 
--- what has its numbers by its places
-pub numbers_by_place : {X : Type 0} (f : X → ℕ) (xs : List X) (a : ℕ)
+-- what has its numbers by its indices
+pub numbers_by_index : {X : Type 0} (f : X → ℕ) (xs : List X) (a : ℕ)
     → ((i : ℕ) (x : X) → slice_get xs i ≡ Some x → f x ≡ a + i) → map f xs ≡ range_with_len a (length xs)
-numbers_by_place f [] a at = refl
-numbers_by_place f (x ∷ xs) a at =
+numbers_by_index f [] a at = refl
+numbers_by_index f (x ∷ xs) a at =
     rw (at 0 x refl, add-zero)
-    (ap (λ l. a ∷ l) (numbers_by_place f xs (a + 1) (λ i y e. omega (arith, at (suc i) y e))))
+    (ap (λ l. a ∷ l) (numbers_by_index f xs (a + 1) (λ i y e. omega (arith, at (suc i) y e))))
 
 -- how often one of them occurs there
 pub count_outside : (n a m : ℕ) → (n < a) ⊎ (a + m ≤ n) → length (filter (λ k. n == k) (range_with_len a m)) ≡ 0

@@ -53,25 +53,25 @@ not_counted o h facts n out =
     rw (finished_in_order o h facts) (count_outside n o.next_request (length (finishes h)) out)
 
 at_most_one : (o : Opening) (h : List Entry) → LogFacts o h → (n : ℕ) → result_count n h ≤ 1
-at_most_one o h facts n = by_place (among o.next_request (length (finishes h)) n)
+at_most_one o h facts n = by_index (among o.next_request (length (finishes h)) n)
   where
-    by_place : IsAmong o.next_request (length (finishes h)) n
+    by_index : IsAmong o.next_request (length (finishes h)) n
         ⊎ ((n < o.next_request) ⊎ (o.next_request + length (finishes h) ≤ n)) → result_count n h ≤ 1
-    by_place (inl is) = omega (arith, counted o h facts n is)
-    by_place (inr out) = omega (arith, not_counted o h facts n out)
+    by_index (inl is) = omega (arith, counted o h facts n is)
+    by_index (inr out) = omega (arith, not_counted o h facts n out)
 
 was_accepted : (o : Opening) (h : List Entry) → LogFacts o h → (n : ℕ) → 0 < result_count n h
     → Contains (numbers_accepted (accepts h)) n
-was_accepted o h facts n some = by_place (among o.next_request (length (finishes h)) n)
+was_accepted o h facts n some = by_index (among o.next_request (length (finishes h)) n)
   where
-    by_place : IsAmong o.next_request (length (finishes h)) n
+    by_index : IsAmong o.next_request (length (finishes h)) n
         ⊎ ((n < o.next_request) ⊎ (o.next_request + length (finishes h) ≤ n))
         → Contains (numbers_accepted (accepts h)) n
-    by_place (inl is) = rw (accepted_in_order o h facts) (contains_range o.next_request (length (accepts h)) n (record {
+    by_index (inl is) = rw (accepted_in_order o h facts) (contains_range o.next_request (length (accepts h)) n (record {
       from = is.from;
       to = omega (arith, is.to, facts.finished_within);
     }))
-    by_place (inr out) = absurd (omega (arith, not_counted o h facts n out))
+    by_index (inr out) = absurd (omega (arith, not_counted o h facts n out))
 
 exactly_one : (o : Opening) (h : List Entry) → Legal o h → is_closed o h ≡ true → awaited h ≡ false → (n : ℕ)
     → Contains (numbers_accepted (accepts h)) n → result_count n h ≡ 1

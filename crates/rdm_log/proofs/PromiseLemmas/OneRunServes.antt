@@ -22,13 +22,13 @@ use Rattle.rdm_log.specs.log.MaySend.{MayBegin}
 use Rattle.rdm_log.specs.log.MayAnswer.{MayAnswer, MayAnswerUnserved}
 use Rattle.rdm_log.specs.log.Legal.{MayFollow}
 use Rattle.rdm_log.proofs.LogLemmas.Grows.{front, pushed}
-use Rattle.rdm_log.proofs.LogLemmas.Places.{slice_get-drop, slice_get-push, IsPushed}
+use Rattle.rdm_log.proofs.LogLemmas.Indices.{slice_get-drop, slice_get-push, IsPushed}
 use Rattle.rdm_log.proofs.LogLemmas.PushLemmas.{asks-append, sends_same, answered_same, answered_more}
 use Rattle.rdm_log.proofs.LogLemmas.LegalFacts.{along}
 use Rattle.rdm_log.proofs.LogLemmas.AskFacts.{AskFacts, ask_facts, unanswered_number}
 use Rattle.rdm_log.proofs.LogLemmas.RunLemmas.{not_sent, last_run_same, last_run_sent, begun_same, last_begun}
 use Rattle.rdm_log.proofs.LogLemmas.RunLemmas.{before_first-cons, entries_before_run_stays, served_same, served_stays}
-use Rattle.rdm_log.proofs.LogLemmas.RunFacts.{run_facts, open_is, any_from_place}
+use Rattle.rdm_log.proofs.LogLemmas.RunFacts.{run_facts, open_is, any_from_index}
 
 -- the entries before a run are a prefix of the log
 before_is_front : (o : Opening) (h : List Entry) (r : ℕ) → EachAfter (MayFollow o) h
@@ -91,20 +91,20 @@ which_first : (r q : ℕ) (h : List Entry) → (r ≡ q → ⊥) → has_begun r
 unfolding has_begun entries_before_run
 which_first r q h apart begun other = one_before (sends_run r) (sends_run q) h (runs_apart r q apart) begun other
 
--- what a run serves: a place among the Asks before it, after those asked for before the previous run
+-- what a run serves: an index among the Asks before it, after those asked for before the previous run
 record IsServed (o : Opening) (h : List Entry) (r : ℕ) (a : AskedDiscovery) : Type 0 where
   begun : has_begun r h ≡ true
-  place : ℕ
-  within : place < length (asks (entries_before_run r h))
-  unanswered_there : length (answers (entries_before_run r h)) ≤ place
-  later : asked_before (last_run (entries_before_run r h)) (entries_before_run r h) ≤ place
-  number : a.number ≡ o.next_ask + place
+  index : ℕ
+  within : index < length (asks (entries_before_run r h))
+  unanswered_there : length (answers (entries_before_run r h)) ≤ index
+  later : asked_before (last_run (entries_before_run r h)) (entries_before_run r h) ≤ index
+  number : a.number ≡ o.next_ask + index
 
-unserved_place : (o : Opening) (k : List Entry) → AskFacts o k → (i : ℕ) (a : AskedDiscovery)
+unserved_index : (o : Opening) (k : List Entry) → AskFacts o k → (i : ℕ) (a : AskedDiscovery)
     → slice_get (unserved k) i ≡ Some a → (j : ℕ) × (j < length (asks k)) × (length (answers k) ≤ j)
     × (asked_before (last_run k) k ≤ j) × (a.number ≡ o.next_ask + j)
-unserved_place o k facts i a at =
-    (j, slice_get_within (asks k) j a place, omega arith, omega arith, facts.ask_numbers j a place)
+unserved_index o k facts i a at =
+    (j, slice_get_within (asks k) j a index, omega arith, omega arith, facts.ask_numbers j a index)
   where
     skipped : ℕ
     skipped = asked_before (last_run k) k - length (answers k)
@@ -112,8 +112,8 @@ unserved_place o k facts i a at =
     j : ℕ
     j = length (answers k) + (skipped + i)
 
-    place : slice_get (asks k) j ≡ Some a
-    place = sym (slice_get-drop (length (answers k)) (asks k) (skipped + i))
+    index : slice_get (asks k) j ≡ Some a
+    index = sym (slice_get-drop (length (answers k)) (asks k) (skipped + i))
         ∙ (sym (slice_get-drop skipped (unanswered k) i) ∙ at)
 
 is_served : (o : Opening) (h : List Entry) → EachAfter (MayFollow o) h → (r i : ℕ) (a : AskedDiscovery)
@@ -122,11 +122,11 @@ is_served o h each r i a at = by_begun (cases_Bool (has_begun r h))
   where
     by_begun : (has_begun r h ≡ true) ⊎ (has_begun r h ≡ false) → IsServed o h r a
     by_begun (inl begun) =
-        let found = unserved_place o (entries_before_run r h)
+        let found = unserved_index o (entries_before_run r h)
         (ask_facts o (entries_before_run r h) (before_is_front o h r each)) i a (rw begun at at) in
         record {
           begun = begun;
-          place = found.0;
+          index = found.0;
           within = found.1;
           unanswered_there = found.2;
           later = found.3;
@@ -313,7 +313,7 @@ by_one_sent o h q frame each later before i b r j a at there same = by_begun (ca
 by_one_answered : (o : Opening) (h : List Entry) (n q : ℕ) (fault : Option AgentFault) → EachAfter (MayFollow o) h
     → MayAnswer o h n q fault → ServedByOne h → ServedByOne (h ++ Answer n q fault ∷ [])
 by_one_answered o h n q fault each may before i b r j a at there same =
-    by_place (slice_get-push (answers h) x i b (rw (answered_more h e x refl) at at))
+    by_index (slice_get-push (answers h) x i b (rw (answered_more h e x refl) at at))
   where
     e : Entry
     e = Answer n q fault
@@ -355,12 +355,12 @@ by_one_answered o h n q fault each may before i b r j a at there same =
     new alike (inl none) = absurd (unserved_clash alike (may.unserved (eqb-true q 0 none)))
     new alike (inr some) =
         by_serving alike
-        (any_from_place (λ y. y.number == n) (served q h)
+        (any_from_index (λ y. y.number == n) (served q h)
         (may.by_run (λ none. false≢true (sym some ∙ eq-eqb q 0 none))).serves)
 
-    by_place : (slice_get (answers h) i ≡ Some b) ⊎ IsPushed (answers h) x i b → b.run ≡ r
-    by_place (inl earlier) = before i b r j a earlier there_h same
-    by_place (inr last) =
+    by_index : (slice_get (answers h) i ≡ Some b) ⊎ IsPushed (answers h) x i b → b.run ≡ r
+    by_index (inl earlier) = before i b r j a earlier there_h same
+    by_index (inr last) =
         ap (λ (y : Answered). y.run) last.is
         ∙ new (sym (ap (λ (y : Answered). y.number) last.is) ∙ same) (cases_Bool (q == 0))
 

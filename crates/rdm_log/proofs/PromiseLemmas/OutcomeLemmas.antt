@@ -19,7 +19,7 @@ use Rattle.rdm_log.specs.log.Runs.{is_answered, last_run_without_fault, if_witho
 use Rattle.rdm_log.specs.log.Runs.{devices_of}
 use Rattle.rdm_log.specs.log.Legal.{MayFollow}
 use Rattle.rdm_log.specs.promises.Outcomes.{outcome_of, OutcomeValue, kind_of_answer, oldest_kind}
-use Rattle.rdm_log.proofs.LogLemmas.Places.{slice_get-drop, filter_map_has}
+use Rattle.rdm_log.proofs.LogLemmas.Indices.{slice_get-drop, filter_map_has}
 use Rattle.rdm_log.proofs.LogLemmas.LegalFacts.{legal_facts}
 use Rattle.rdm_log.proofs.LogLemmas.RunFacts.{open_is}
 use Rattle.rdm_log.proofs.PromiseLemmas.StableResults.{result_step, filter_has, uncollected_answer, IsFinish, IsReply}
@@ -75,12 +75,12 @@ outcomes_step o h e each may c =
         apart : {n m : ℕ} → n ≡ m → n < m → ⊥
         apart p q = omega arith
     by_kind i x at (inr b) =
-        let place = filter_has (is_answer_to o c h) h (length (collects_by c h) + i) x
+        let index = filter_has (is_answer_to o c h) h (length (collects_by c h) + i) x
         (sym (slice_get-drop (length (collects_by c h)) (answers_to o c h) i) ∙ at) in
         rw (
           b.is,
           exchanges_kept o h e each may b.run
-              (named h place.0 b.number b.run b.fault (place.1 ∙ ap (λ y. Some y) b.is)),
+              (named h index.0 b.number b.run b.fault (index.1 ∙ ap (λ y. Some y) b.is)),
         ) refl
 
 -- the devices known are of a run that is answered

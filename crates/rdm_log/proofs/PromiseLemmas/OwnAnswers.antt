@@ -31,7 +31,7 @@ use Rattle.rdm_log.specs.declared.entry.Opening.{Opening}
 use Rattle.rdm_log.specs.declared.entry.Entry.{Entry}
 use Rattle.rdm_log.specs.declared.entry.Entry.TheVariants.{Finish}
 use Rattle.rdm_log.specs.log.Entries.{Finished, Traded, finishes, verdict_on, of_request, verdicts, result}
-use Rattle.rdm_log.specs.log.MayFinish.{Tells, IsClosing, FitsResult, MayFinish}
+use Rattle.rdm_log.specs.log.MayFinish.{FitsJoined, IsClosing, FitsResult, MayFinish}
 use Rattle.rdm_log.specs.log.Legal.{MayFollow, Legal}
 use Rattle.rdm_log.proofs.LogLemmas.Grows.{front}
 use Rattle.rdm_log.proofs.LogLemmas.PushLemmas.{finishes-append, finishes_more, sends_same, cames_same}
@@ -140,18 +140,18 @@ decided_answer before (Part r) j from e = one_or_none _ _ j e (no_answer_data _ 
 
 decided_at : (before : List Judged) (ts : List Traded) (i : ℕ) (j : Joined)
     → decides_option before (slice_get (map verdict_on ts) i) ≡ Some j → IsAnswer j
-decided_at before ts i j e = by_place (slice_get ts i) (rw (slice_get-map verdict_on ts i) at e)
+decided_at before ts i j e = by_index (slice_get ts i) (rw (slice_get-map verdict_on ts i) at e)
   where
-    by_place : (t : Option Traded) → decides_option before (option_map verdict_on t) ≡ Some j → IsAnswer j
-    by_place None e = absurd (none-some j e)
-    by_place (Some t) e = decided_answer before (verdict_on t) j (of_event (sent_by t.frame.items) t.event) e
+    by_index : (t : Option Traded) → decides_option before (option_map verdict_on t) ≡ Some j → IsAnswer j
+    by_index None e = absurd (none-some j e)
+    by_index (Some t) e = decided_answer before (verdict_on t) j (of_event (sent_by t.frame.items) t.event) e
 
 result_is_answer : (h : List Entry) (n : ℕ) (j : Joined) → IsResult (verdicts n h) j → IsAnswer j
 unfolding verdicts
 result_is_answer h n j is = decided_at (take is.at (verdicts n h)) (of_request n h) is.at j is.here
 
-told_memory : (s : Status) → is_no_memory s ≡ false → s ≡ NoMemory → ⊥
-told_memory s other is = false≢true (sym other ∙ ap is_no_memory is)
+no_memory_differs : (s : Status) → is_no_memory s ≡ false → s ≡ NoMemory → ⊥
+no_memory_differs s other is = false≢true (sym other ∙ ap is_no_memory is)
 
 fits_answer : (o : Opening) (h : List Entry) (n : ℕ) (status : Status) (len : ℕ) (r : Option Joined) → result n h ≡ r
     → FitsResult (IsClosing o h) r status len → OwnAnswer o h n status len
@@ -159,7 +159,7 @@ unfolding result
 fits_answer o h n status len None is fits = record {
   decided = λ j decides. absurd (none-some j (sym is ∙ only (verdicts n h) j decides));
   undecided = λ none. (fits.1, fits.2, fits.0.closed, fits.0.not_awaited);
-  no_memory = λ memory. absurd (told_memory FailedToSend refl (sym fits.1 ∙ memory));
+  no_memory = λ memory. absurd (no_memory_differs FailedToSend refl (sym fits.1 ∙ memory));
   no_data = λ other. fits.2;
 }
 fits_answer o h n status len (Some k) is fits = record {
@@ -175,12 +175,12 @@ fits_answer o h n status len (Some k) is fits = record {
     answer : IsAnswer k
     answer = result_is_answer h n k decides_k
 
-    by_fit_memory : Tells k status len → status ≡ NoMemory → (j : Joined) × IsResult (verdicts n h) j
+    by_fit_memory : FitsJoined k status len → status ≡ NoMemory → (j : Joined) × IsResult (verdicts n h) j
         × (j.status ≡ Completed) × (j.data_ ≢ [])
-    by_fit_memory (inl own) memory = absurd (told_memory k.status answer.remembered (sym own.0 ∙ memory))
+    by_fit_memory (inl own) memory = absurd (no_memory_differs k.status answer.remembered (sym own.0 ∙ memory))
     by_fit_memory (inr wanted) memory = (k, decides_k, wanted.1, wanted.2)
 
-    by_fit_data : Tells k status len → status ≢ Completed → len ≡ 0
+    by_fit_data : FitsJoined k status len → status ≢ Completed → len ≡ 0
     by_fit_data (inl own) other = own.1 ∙ ap length (answer.no_data (λ completed. other (own.0 ∙ completed)))
     by_fit_data (inr wanted) other = wanted.3
 
@@ -228,7 +228,7 @@ result_stays o h legal before back n status len is =
 
 pub own_answers : (o : Opening) (h : List Entry) → Legal o h → OwnAnswers o h
 own_answers o h legal = record {
-  told = λ front back n status len is. let may = legal.each front back (Finish n status len) is in
+  each = λ front back n status len is. let may = legal.each front back (Finish n status len) is in
       fits_answer o front n status len (result n front) refl may.fits;
   stays = result_stays o h legal;
 }

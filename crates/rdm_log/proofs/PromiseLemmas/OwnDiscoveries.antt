@@ -27,22 +27,22 @@ use Rattle.rdm_log.specs.promises.Outcomes.OutcomeValue.{RequestValue}
 use Rattle.rdm_log.specs.promises.Discoveries.{HasMostDiscoveries, OwnDiscoveries, FullRefusesDiscoveries}
 use Rattle.rdm_log.specs.promises.Discoveries.{DiscoveriesPromised}
 use Rattle.rdm_log.proofs.LogLemmas.AskFacts.{AskFacts, ask_facts}
-use Rattle.rdm_log.proofs.LogLemmas.Places.{filter_map_has}
+use Rattle.rdm_log.proofs.LogLemmas.Indices.{filter_map_has}
 use Rattle.rdm_log.proofs.PromiseLemmas.StableResults.{contains_from_get, IsFinish, IsReply, answer_at, filter_has}
 use Rattle.rdm_log.proofs.PromiseLemmas.StableResults.{client_is}
 use Rattle.rdm_log.proofs.PromiseLemmas.OwnAnswers.{finished_stays}
 use Rattle.rdm_log.proofs.LogLemmas.LegalFacts.{legal_facts}
 use Rattle.rdm_log.proofs.LogLemmas.Grows.{front}
 use Rattle.rdm_log.proofs.PromiseLemmas.AnsweredInOrder.{one_answer, in_order}
-use Rattle.rdm_log.proofs.PromiseLemmas.TellsTheLine.{tells_the_line}
+use Rattle.rdm_log.proofs.PromiseLemmas.AnswersReportTheLine.{all_report_the_line}
 use Rattle.rdm_log.proofs.PromiseLemmas.RunsAnswer.{runs_answer, exchanges_stay}
 
 -- an Ask of the log
 record IsAskAt (h : List Entry) (a : AskedDiscovery) : Type 0 where
-  place : ℕ
+  index : ℕ
   client : ClientId
   same_client : client.0 ≡ a.client
-  stands : slice_get h place ≡ Some (Ask client a.number a.kind)
+  stands : slice_get h index ≡ Some (Ask client a.number a.kind)
 
 record IsAsk (e : Entry) (a : AskedDiscovery) : Type 0 where
   client : ClientId
@@ -65,25 +65,25 @@ ask_in (e ∷ h) i a at = by_entry (asked_of e) refl i at (ask_in h)
         → IsAskAt (e ∷ h) a
     by_entry None is j here later =
         let rest = later j a here in
-        record { place = suc rest.place; client = rest.client; same_client = rest.same_client; stands = rest.stands }
+        record { index = suc rest.index; client = rest.client; same_client = rest.same_client; stands = rest.stands }
     by_entry (Some b) is zero here later =
         let one = ask_of e a (is ∙ here) in
         record {
-          place = 0;
+          index = 0;
           client = one.client;
           same_client = one.same_client;
           stands = ap (λ (x : Entry). Some x) one.is;
         }
     by_entry (Some b) is (suc j) here later =
         let rest = later j a here in
-        record { place = suc rest.place; client = rest.client; same_client = rest.same_client; stands = rest.stands }
+        record { index = suc rest.index; client = rest.client; same_client = rest.same_client; stands = rest.stands }
 
 -- the Ask of an Answer to a client
-mapped_place : {X Y : Type 0} (f : X → Y) (xs : List X) (i : ℕ) (y : Y) → slice_get (map f xs) i ≡ Some y → (x : X)
+mapped_index : {X Y : Type 0} (f : X → Y) (xs : List X) (i : ℕ) (y : Y) → slice_get (map f xs) i ≡ Some y → (x : X)
     × (slice_get xs i ≡ Some x) × (f x ≡ y)
-mapped_place f [] i y at = absurd (none-some y at)
-mapped_place f (x ∷ xs) zero y at = (x, refl, same_Some (f x) y at)
-mapped_place f (x ∷ xs) (suc i) y at = mapped_place f xs i y at
+mapped_index f [] i y at = absurd (none-some y at)
+mapped_index f (x ∷ xs) zero y at = (x, refl, same_Some (f x) y at)
+mapped_index f (x ∷ xs) (suc i) y at = mapped_index f xs i y at
 
 asked_by : (o : Opening) (h : List Entry) → Legal o h → (c n r : ℕ) (fault : Option AgentFault)
     → Contains (answers_to o c h) (Answer n r fault) → AskFacts o h → (client : ClientId) × (kind : Kind)
@@ -93,7 +93,7 @@ asked_by o h legal c n r fault has facts = (
   ask.client,
   a.0.kind,
   ask.same_client ∙ a.2,
-  contains_from_get h ask.place (Ask ask.client n a.0.kind)
+  contains_from_get h ask.index (Ask ask.client n a.0.kind)
       (ask.stands ∙ ap (λ m. Some (Ask ask.client m a.0.kind)) (number_is)),
 )
   where
@@ -107,34 +107,34 @@ asked_by o h legal c n r fault has facts = (
     client = client_is c (client_of_discovery o h n) own.2
 
     a : (x : AskedDiscovery) × (slice_get (asks h) (n - o.next_ask) ≡ Some x) × (x.client ≡ c)
-    a = mapped_place (λ (x : AskedDiscovery). x.client) (asks h) (n - o.next_ask) c client
+    a = mapped_index (λ (x : AskedDiscovery). x.client) (asks h) (n - o.next_ask) c client
 
     ask : IsAskAt h a.0
     ask = ask_in h (n - o.next_ask) a.0 a.1
 
     number_is : a.0.number ≡ n
     number_is =
-        by_place (filter_map_has answered_of h own.0 (Answer n r fault)
+        by_index (filter_map_has answered_of h own.0 (Answer n r fault)
         (record { number = n; run = r; fault = fault }) own.1 refl)
       where
-        by_place : (j : ℕ)
+        by_index : (j : ℕ)
             × (slice_get (filter_map answered_of h) j ≡ Some (record { number = n; run = r; fault = fault }))
             → a.0.number ≡ n
-        by_place found =
+        by_index found =
             omega (arith, facts.answer_numbers found.0 _ found.1, facts.ask_numbers (n - o.next_ask) a.0 a.1)
 
 -- a run that an Answer of the log names is answered
 answered_from : (h : List Entry) (j n r : ℕ) (fault : Option AgentFault) → slice_get h j ≡ Some (Answer n r fault)
     → is_answered r h ≡ true
 unfolding answers
-answered_from h j n r fault at = by_place (filter_map_has answered_of h j (Answer n r fault) b at refl)
+answered_from h j n r fault at = by_index (filter_map_has answered_of h j (Answer n r fault) b at refl)
   where
     b : Answered
     b = record { number = n; run = r; fault = fault }
 
-    by_place : (i : ℕ) × (slice_get (filter_map answered_of h) i ≡ Some b)
+    by_index : (i : ℕ) × (slice_get (filter_map answered_of h) i ≡ Some b)
         → list_any (λ x. x.run == r) (filter_map answered_of h) ≡ true
-    by_place found =
+    by_index found =
         list_any_at (λ x. x.run == r) (filter_map answered_of h) found.0 b
         (slice_get_within (filter_map answered_of h) found.0 b found.1)
         (rw (get_or_from_slice_get (filter_map answered_of h) found.0 b b found.1) (eq-eqb r r refl))
@@ -239,7 +239,7 @@ pub discoveries_promised : (o : Opening) (h : List Entry) → Legal o h → Disc
 discoveries_promised o h legal = record {
   one_answer = one_answer o h legal;
   in_order = in_order o h legal;
-  tells_the_line = tells_the_line o h legal;
+  all_report_the_line = all_report_the_line o h legal;
   runs_answer = runs_answer o h legal;
   own_discoveries = own_discoveries o h legal;
   full_refuses = full_refuses o h legal;

@@ -20,7 +20,7 @@ use Rattle.rdm_log.specs.promises.Blocks.{IsOldest}
 use Rattle.rdm_log.specs.promises.Outcomes.{OutcomeValue, Discovered, completion_value, discovered, outcome_value}
 use Rattle.rdm_log.specs.promises.Outcomes.{outcome_of, completion_of, discovered_by}
 use Rattle.rdm_log.specs.promises.Outcomes.OutcomeValue.{RequestValue, DiscoveryValue}
-use Rattle.rdm_log.specs.promises.Discoveries.{TellsTheLine}
+use Rattle.rdm_log.specs.promises.Discoveries.{AnswersReportTheLine}
 use Rattle.rdm_log.specs.promises.EventsHeadline.{IsOwnReport, IsOwnOutcome, ReportsTheLine}
 use Rattle.rdm_log.proofs.LogLemmas.Grows.{front}
 use Rattle.rdm_log.proofs.LogLemmas.LegalFacts.{legal_facts}
@@ -29,7 +29,7 @@ use Rattle.rdm_log.proofs.PromiseLemmas.StableResults.{contains_from_get, client
 use Rattle.rdm_log.proofs.PromiseLemmas.StableResults.{uncollected_found, uncollected_answer}
 use Rattle.rdm_log.proofs.PromiseLemmas.OwnAnswers.{finished_stays}
 use Rattle.rdm_log.proofs.PromiseLemmas.StableOutcomes.{named_in, devices_stay}
-use Rattle.rdm_log.proofs.PromiseLemmas.TellsTheLine.{tells_the_line, split_at}
+use Rattle.rdm_log.proofs.PromiseLemmas.AnswersReportTheLine.{all_report_the_line, split_at}
 
 -- an outcome's value has its parts
 same_result : (n m : Option ℕ) (i j : Joined)
@@ -131,21 +131,22 @@ pub reports_the_line : (o : Opening) (h : List Entry) → Legal o h → (c : ℕ
     → IsOwnReport o h c number done → ReportsTheLine h done
 reports_the_line o h legal c number done is = record {
   exactly = λ present none honest. rw is.told
-      (tells.exactly early late is.discovery done.run present (without_fault none) honest);
+      (answers_report.exactly early late is.discovery done.run present (without_fault none) honest);
   no_phantom =
-      λ present u honest there. tells.no_phantom early late is.discovery done.run done.fault present u parts honest
+      λ present u honest there. answers_report.no_phantom early late is.discovery done.run done.fault present u parts
+      honest
       (rw is.told at there);
   each = λ u none device honest. rw is.told
-      (tells.each early late is.discovery done.run u (without_fault none) device honest);
+      (answers_report.each early late is.discovery done.run u (without_fault none) device honest);
   staying = λ sets u none honest in_each. rw is.told
-      (tells.staying early late is.discovery done.run sets u (without_fault none) honest in_each);
+      (answers_report.staying early late is.discovery done.run sets u (without_fault none) honest in_each);
   no_stranger =
-      λ sets u honest there. tells.no_stranger early late is.discovery done.run done.fault sets u parts honest
+      λ sets u honest there. answers_report.no_stranger early late is.discovery done.run done.fault sets u parts honest
       (rw is.told at there);
 }
   where
-    tells : TellsTheLine o h
-    tells = tells_the_line o h legal
+    answers_report : AnswersReportTheLine o h
+    answers_report = all_report_the_line o h legal
 
     answer : Entry
     answer = Answer is.discovery done.run done.fault

@@ -18,12 +18,12 @@ use Rattle.rdm_log.specs.log.History.{next_tn}
 use Rattle.rdm_log.specs.log.MaySend.{MaySendRequest}
 use Rattle.rdm_log.specs.log.Legal.{MayFollow, Legal}
 use Rattle.rdm_log.specs.promises.Headline.{CarriesRequest, OwnRequests}
-use Rattle.rdm_log.proofs.LogLemmas.Places.{slice_get-append_left, each_place_push}
+use Rattle.rdm_log.proofs.LogLemmas.Indices.{slice_get-append_left, each_index_push}
 use Rattle.rdm_log.proofs.LogLemmas.PushLemmas.{accepts_same, accepts_more, sends_same, sends_more}
-use Rattle.rdm_log.proofs.LogLemmas.LegalFacts.{along, unfinished_place}
+use Rattle.rdm_log.proofs.LogLemmas.LegalFacts.{along, unfinished_index}
 use Rattle.rdm_log.proofs.PromiseLemmas.StableResults.{filter_has}
 
--- each frame that was sent for a request is its packet, numbered by its place
+-- each frame that was sent for a request is its packet, numbered by its index
 abbrev SendsCarry : Opening → List Entry → Type 0
 SendsCarry o h =
     (i : ℕ) (s : Sending) → slice_get (sends h) i ≡ Some s → (n : ℕ) → is_request n s.owner ≡ true
@@ -33,8 +33,8 @@ carries_later : (o : Opening) (h k : List Entry) (more : List Accepted) (n tn : 
     → accepts k ≡ accepts h ++ more → CarriesRequest o h n tn frame → CarriesRequest o k n tn frame
 carries_later o h k more n tn frame is carries = record {
   accepted = carries.accepted;
-  place = carries.place;
-  stands = rw is (slice_get-append_left (accepts h) more carries.place carries.accepted carries.stands);
+  index = carries.index;
+  stands = rw is (slice_get-append_left (accepts h) more carries.index carries.accepted carries.stands);
   number = carries.number;
   packet = carries.packet;
 }
@@ -43,7 +43,7 @@ carries_still : (o : Opening) (h k : List Entry) (n tn : ℕ) (frame : List ℕ)
     → CarriesRequest o h n tn frame → CarriesRequest o k n tn frame
 carries_still o h k n tn frame is carries = record {
   accepted = carries.accepted;
-  place = carries.place;
+  index = carries.index;
   stands = rw is carries.stands;
   number = carries.number;
   packet = carries.packet;
@@ -66,7 +66,7 @@ carries_send : (o : Opening) (h : List Entry) (n : ℕ) (frame : ArrayVec ℕ) �
     → SendsCarry o (h ++ Send (owners.Request n) frame ∷ [])
 carries_send o h n frame may before =
     rw (sends_more h e s refl)
-    (each_place_push
+    (each_index_push
     (λ i x. (m : ℕ) → is_request m x.owner ≡ true
     → CarriesRequest o (h ++ e ∷ []) m ((o.next_tn + i) % 256) x.frame.items) (sends h) s earlier own_frame)
   where
@@ -85,8 +85,8 @@ carries_send o h n frame may before =
         → CarriesRequest o (h ++ e ∷ []) m (next_tn o h) frame.items
     own_frame m own = record {
       accepted = may.accepted;
-      place = length (finishes h) + 0;
-      stands = rw (accepts_same h e refl) (unfinished_place h 0 may.accepted may.lowest);
+      index = length (finishes h) + 0;
+      stands = rw (accepts_same h e refl) (unfinished_index h 0 may.accepted may.lowest);
       number = sym may.number ∙ sym (eqb-true m n own);
       packet = may.packet;
     }
@@ -95,7 +95,7 @@ carries_run_send : (o : Opening) (h : List Entry) (r : ℕ) (frame : ArrayVec �
     → SendsCarry o (h ++ Send (owners.Run r) frame ∷ [])
 carries_run_send o h r frame before =
     rw (sends_more h e s refl)
-    (each_place_push
+    (each_index_push
     (λ i x. (m : ℕ) → is_request m x.owner ≡ true
     → CarriesRequest o (h ++ e ∷ []) m ((o.next_tn + i) % 256) x.frame.items) (sends h) s
     (λ i x at m own. carries_still o h (h ++ e ∷ []) m _ x.frame.items (accepts_same h e refl)

@@ -25,13 +25,13 @@ use Rattle.rdm_log.specs.log.Legal.{MayFollow, Legal}
 use Rattle.rdm_log.specs.promises.Outcomes.OutcomeValue.{DiscoveryValue}
 use Rattle.rdm_log.specs.promises.Discoveries.{RunsAnswer, numbers_asked}
 use Rattle.rdm_log.proofs.LogLemmas.Grows.{front}
-use Rattle.rdm_log.proofs.LogLemmas.Places.{all_at, slice_get-drop}
+use Rattle.rdm_log.proofs.LogLemmas.Indices.{all_at, slice_get-drop}
 use Rattle.rdm_log.proofs.LogLemmas.PushLemmas.{answered-append, answered_more, sends_same, cames_same}
 use Rattle.rdm_log.proofs.LogLemmas.ExchangeLemmas.{IsUnanswered}
 use Rattle.rdm_log.proofs.LogLemmas.LegalFacts.{legal_facts, IsAwaited, IsRunAwaited, sent_evenly}
 use Rattle.rdm_log.proofs.LogLemmas.RunLemmas.{entries_before_run_stays, run_exchanges_same, run_exchanges_sent}
 use Rattle.rdm_log.proofs.LogLemmas.RunLemmas.{run_exchanges_came_other}
-use Rattle.rdm_log.proofs.LogLemmas.RunFacts.{run_facts, open_is, any_from_place}
+use Rattle.rdm_log.proofs.LogLemmas.RunFacts.{run_facts, open_is, any_from_index}
 use Rattle.rdm_log.proofs.PromiseLemmas.OneRunServes.{served_by_one}
 use Rattle.rdm_log.proofs.PromiseLemmas.StableResults.{contains_from_get}
 
@@ -117,7 +117,7 @@ asked_first : (o : Opening) (h : List Entry) → EachAfter (MayFollow o) h
     → Contains (numbers_asked (asks (entries_before_run r h))) n
 asked_first o h each before back n r fault is run =
     rw (is, entries_before_run_stays r before (Answer n r fault ∷ back) begun)
-    (by_place (any_from_place (λ a. a.number == n) (unserved early) (rw begun at (may.by_run run).serves)))
+    (by_index (any_from_index (λ a. a.number == n) (unserved early) (rw begun at (may.by_run run).serves)))
   where
     may : MayAnswer o before n r fault
     may = each before back (Answer n r fault) is
@@ -131,25 +131,25 @@ asked_first o h each before back n r fault is run =
     skipped : ℕ
     skipped = asked_before (last_run early) early - length (answers early)
 
-    by_place : (i : ℕ) × (a : AskedDiscovery) × (slice_get (unserved early) i ≡ Some a) × ((a.number == n) ≡ true)
+    by_index : (i : ℕ) × (a : AskedDiscovery) × (slice_get (unserved early) i ≡ Some a) × ((a.number == n) ≡ true)
         → Contains (numbers_asked (asks early)) n
-    by_place found =
-        let place = sym (slice_get-drop (length (answers early)) (asks early) (skipped + found.0))
+    by_index found =
+        let dropped = sym (slice_get-drop (length (answers early)) (asks early) (skipped + found.0))
         ∙ (sym (slice_get-drop skipped (unanswered early) found.0) ∙ found.2) in
         contains_from_get (numbers_asked (asks early)) (length (answers early) + (skipped + found.0)) n
         (slice_get-map (λ a. a.number) (asks early) (length (answers early) + (skipped + found.0))
-        ∙ rw place (ap (λ m. Some m) (eqb-true found.1.number n found.3)))
+        ∙ rw dropped (ap (λ m. Some m) (eqb-true found.1.number n found.3)))
 
 -- all that it serves is answered
-contains_place : {X : Type 0} (xs : List X) (x : X) (has : Contains xs x) → slice_get xs has.0 ≡ Some x
-contains_place xs x has = slice_get-get_or xs has.0 x has.1 ∙ ap (λ y. Some y) has.2
+contains_index : {X : Type 0} (xs : List X) (x : X) (has : Contains xs x) → slice_get xs has.0 ≡ Some x
+contains_index xs x has = slice_get-get_or xs has.0 x has.1 ∙ ap (λ y. Some y) has.2
 
 all_served : (o : Opening) (h : List Entry) → Legal o h → (i : ℕ) (b : Answered) (a : AskedDiscovery)
     → slice_get (answers h) i ≡ Some b → Contains (served b.run h) a → has_answer a.number h ≡ true
 all_served o h legal i b a at has =
     all_at (λ x. has_answer x.number h ≡ true) (served b.run h)
     (all_at (λ x. AllAnswered x.run h) (answers h) legal.settled.runs_answered i b at) has.0 a
-    (contains_place (served b.run h) a has)
+    (contains_index (served b.run h) a has)
 
 -- its kind
 full : (r : ℕ) (h : List Entry) (a : AskedDiscovery) → Contains (served r h) a → a.kind ≡ kinds.Full

@@ -17,7 +17,7 @@ use Rattle.rdm_log.specs.log.Legal.{MayFollow}
 use Rattle.rdm_log.specs.promises.Outcomes.{outcome_of, completion_of}
 use Rattle.rdm_log.specs.promises.Outcomes.OutcomeValue.{RequestValue, DiscoveryValue}
 use Rattle.rdm_log.proofs.LogLemmas.Grows.{front}
-use Rattle.rdm_log.proofs.LogLemmas.Places.{filter_map_has}
+use Rattle.rdm_log.proofs.LogLemmas.Indices.{filter_map_has}
 use Rattle.rdm_log.proofs.LogLemmas.LegalFacts.{legal_facts}
 use Rattle.rdm_log.proofs.PromiseLemmas.StableResults.{contains_from_get, IsFinish, IsReply, uncollected_found}
 use Rattle.rdm_log.proofs.PromiseLemmas.StableResults.{uncollected_answer}
@@ -28,13 +28,13 @@ use Rattle.rdm_log.proofs.PromiseLemmas.RunsAnswer.{exchanges_stay}
 pub named_in : (h : List Entry) (j n r : ℕ) (fault : Option AgentFault) → slice_get h j ≡ Some (Answer n r fault)
     → is_answered r h ≡ true
 unfolding answers
-named_in h j n r fault at = by_place (filter_map_has answered_of h j (Answer n r fault) b at refl)
+named_in h j n r fault at = by_index (filter_map_has answered_of h j (Answer n r fault) b at refl)
   where
     b : Answered
     b = record { number = n; run = r; fault = fault }
 
-    by_place : (i : ℕ) × (slice_get (answers h) i ≡ Some b) → is_answered r h ≡ true
-    by_place found =
+    by_index : (i : ℕ) × (slice_get (answers h) i ≡ Some b) → is_answered r h ≡ true
+    by_index found =
         let has : Contains (answers h) b = contains_from_get (answers h) found.0 b found.1 in
         list_any_at (λ x. x.run == r) (answers h) has.0 b has.1 (rw has.2 (eq-eqb r r refl))
 

@@ -15,7 +15,7 @@ use Rattle.rdm_log.specs.log.Entries.{finished_of, sending_of, came_of, finishes
 use Rattle.rdm_log.specs.log.Clients.{is_client_of, is_answer_to, answers_to, collects_by, uncollected}
 use Rattle.rdm_log.specs.log.Legal.{MayFollow}
 use Rattle.rdm_agent.specs.declared.fault.AgentFault.{AgentFault}
-use Rattle.rdm_log.proofs.LogLemmas.Places.{slice_get-drop, filter_map_has}
+use Rattle.rdm_log.proofs.LogLemmas.Indices.{slice_get-drop, filter_map_has}
 use Rattle.rdm_log.proofs.LogLemmas.PushLemmas.{sends_same, cames_same}
 use Rattle.rdm_log.proofs.LogLemmas.ExchangeLemmas.{result_same, result_sent, result_came_other}
 use Rattle.rdm_log.proofs.LogLemmas.LegalFacts.{LogFacts, IsAwaited, IsRunAwaited, legal_facts, unfinished_number}
@@ -46,7 +46,7 @@ result_step o h (Send (owners.Run r) frame) each may n other =
     result_sent h (owners.Run r) frame n (sent_evenly o h (legal_facts o h each) may.1.not_awaited)
 result_step o h e each may n other = result_other h e n refl refl
 
--- the element at a place is contained
+-- the element at an index is contained
 pub contains_from_get : {X : Type 0} (xs : List X) (i : ℕ) (x : X) → slice_get xs i ≡ Some x → Contains xs x
 contains_from_get xs i x at = (i, slice_get_within xs i x at, get_or_from_slice_get xs i x x at)
 
@@ -65,16 +65,16 @@ filter_has {X} p (y ∷ xs) i x at = by_test (cases_Bool (p y)) (filter_has p xs
         × (p x ≡ true)
     later found = (suc found.0, found.1, found.2)
 
-    at_place : p y ≡ true → (i : ℕ) → slice_get (y ∷ filter p xs) i ≡ Some x
+    at_index : p y ≡ true → (i : ℕ) → slice_get (y ∷ filter p xs) i ≡ Some x
         → ((i : ℕ) (x : X) → slice_get (filter p xs) i ≡ Some x → (j : ℕ) × (slice_get xs j ≡ Some x) × (p x ≡ true))
         → (j : ℕ) × (slice_get (y ∷ xs) j ≡ Some x) × (p x ≡ true)
-    at_place passes zero here has = let same : y ≡ x = cc in (0, here, rw same at passes)
-    at_place passes (suc i) here has = later (has i x here)
+    at_index passes zero here has = let same : y ≡ x = cc in (0, here, rw same at passes)
+    at_index passes (suc i) here has = later (has i x here)
 
     by_test : (p y ≡ true) ⊎ (p y ≡ false)
         → ((i : ℕ) (x : X) → slice_get (filter p xs) i ≡ Some x → (j : ℕ) × (slice_get xs j ≡ Some x) × (p x ≡ true))
         → (j : ℕ) × (slice_get (y ∷ xs) j ≡ Some x) × (p x ≡ true)
-    by_test (inl passes) has = at_place passes i (rw passes at at) has
+    by_test (inl passes) has = at_index passes i (rw passes at at) has
     by_test (inr fails) has = later (has i x (rw fails at at))
 
 -- a client's answer is a Finish of a finished request, or an Answer
@@ -100,13 +100,13 @@ answer_at o h facts c j (Finish n status len) at answers = inl (record {
   len = len;
   is = refl;
   finished =
-      by_place (filter_map_has finished_of h j (Finish n status len)
+      by_index (filter_map_has finished_of h j (Finish n status len)
       (record { number = n; status = status; len = len }) at refl);
 })
   where
-    by_place : (i : ℕ) × (slice_get (finishes h) i ≡ Some (record { number = n; status = status; len = len }))
+    by_index : (i : ℕ) × (slice_get (finishes h) i ≡ Some (record { number = n; status = status; len = len }))
         → n < o.next_request + length (finishes h)
-    by_place found =
+    by_index found =
         omega (arith, facts.finish_numbers found.0 _ found.1, slice_get_within (finishes h) found.0 _ found.1)
 answer_at o h facts c j (Answer n r fault) at answers = inr (record { number = n; run = r; fault = fault; is = refl })
 answer_at o h facts c j _ at answers = absurd (false≢true answers)

@@ -14,12 +14,12 @@ accepts_by c h = filter (λ a. c == a.client) (accepts h)
 abbrev pub asks_by : ℕ → List Entry → List AskedDiscovery
 asks_by c h = filter (λ a. c == a.client) (asks h)
 
--- the client of the Accept at this place, counted from 0: the request's number less the opening's next number. In a
+-- the client of the Accept at this index, counted from 0: the request's number less the opening's next number. In a
 -- legal log numbers rise by one from there, and this Accept is the request's own. None if there is no such Accept
 abbrev pub client_of_request : Opening → List Entry → ℕ → Option ℕ
 client_of_request o h n = slice_get (map (λ a. a.client) (accepts h)) (n - o.next_request)
 
--- the client of the Ask at this place, counted from 0: the discovery's number less the opening's next number. In a
+-- the client of the Ask at this index, counted from 0: the discovery's number less the opening's next number. In a
 -- legal log numbers rise by one from there, and this Ask is the discovery's own. None if there is no such Ask
 abbrev pub client_of_discovery : Opening → List Entry → ℕ → Option ℕ
 client_of_discovery o h n = slice_get (map (λ a. a.client) (asks h)) (n - o.next_ask)

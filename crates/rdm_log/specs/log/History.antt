@@ -100,6 +100,6 @@ reserved o h =
     (if is_closed o h then 0 else 1) + (if awaited h then 1 else 0)
     + 2 * (length (unfinished h) + length (unanswered h)) + uncollected_count h
 
--- how many entries are free: neither taken nor reserved
+-- how many entries are free: neither used nor reserved
 abbrev pub free_room : ℕ → Opening → List Entry → ℕ
 free_room room o h = room - length h - reserved o h

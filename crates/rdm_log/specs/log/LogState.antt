@@ -24,7 +24,7 @@ with_entries k h = record k { entries = h }
 abbrev pub grown : LogState → List Entry → LogState
 grown k block = record k { entries = k.entries ++ block }
 
--- how many entries of a log are free: neither taken nor reserved
+-- how many entries of a log are free: neither used nor reserved
 abbrev pub free_entries : LogState → ℕ
 free_entries k = free_room k.room k.opening k.entries
 

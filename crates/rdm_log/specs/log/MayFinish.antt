@@ -16,15 +16,15 @@ pub record IsClosing (o : Opening) (h : List Entry) : Type 0 where
   pub runs_answered : unanswered h ≡ unserved h
 
 -- a status and a length report a joined result: they are its own, or there was no memory for its data
-abbrev pub Tells : Joined → Status → ℕ → Type 0
-Tells j status len =
+abbrev pub FitsJoined : Joined → Status → ℕ → Type 0
+FitsJoined j status len =
     ((status ≡ j.status) × (len ≡ length j.data_))
     ⊎ ((status ≡ NoMemory) × (j.status ≡ Completed) × (j.data_ ≢ []) × (len ≡ 0))
 
 -- they fit a decided result if they report it; an open one as FailedToSend without data, if a close ends the request
 abbrev pub FitsResult : Type 0 → Option Joined → Status → ℕ → Type 0
 FitsResult closing None status len = closing × (status ≡ FailedToSend) × (len ≡ 0)
-FitsResult closing (Some j) status len = Tells j status len
+FitsResult closing (Some j) status len = FitsJoined j status len
 
 -- the oldest unfinished request may be finished
 pub record MayFinish (o : Opening) (h : List Entry) (n : ℕ) (status : Status) (len : ℕ) : Type 0 where

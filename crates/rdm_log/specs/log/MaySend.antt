@@ -26,14 +26,15 @@ pub record MaySendRequest (o : Opening) (h : List Entry) (n : ℕ) (frame : Arra
   pub turn : (was_sent n h ≡ true) ⊎ (unserved h ≡ [])
   pub packet : Packet (request_fields accepted.request o.source (next_tn o h)) frame.items
 
--- a run may begin
+-- the run r may begin: it has the next number, a discovery waits for a run, no run is open, no request is under way,
+-- and sending isn't paused
 pub record MayBegin (o : Opening) (h : List Entry) (r : ℕ) : Type 0 where
   pub not_paused : is_paused o h ≡ false
   pub no_run : open_run h ≡ None
   pub no_request : under_way h ≡ []
   pub asked : unserved h ≢ []
-  -- runs are numbered from 1
   pub number : r ≡ next_run o h
+  -- runs are numbered from 1
   pub from_one : 1 ≤ r
 
 -- a branch of a range

@@ -112,7 +112,7 @@ abbrev pub CloseAddsWhere : Bool → List Entry → Type 0
 CloseAddsWhere true block = block ≡ []
 CloseAddsWhere false block = IsWithResults Close block
 
--- a close after h
+-- a close after h: what it adds depends on whether the queue is closed already
 abbrev pub CloseAdds : Opening → List Entry → List Entry → Type 0
 CloseAdds o h block = CloseAddsWhere (is_closed o h) block
 

@@ -53,7 +53,8 @@ pub record OneAnswer (o : Opening) (h : List Entry) : Type 0 where
   pub exactly_one : is_closed o h ≡ true → awaited h ≡ false → (n : ℕ) → Contains (numbers_asked (asks h)) n
       → answer_count n h ≡ 1
 
--- First in, first out.
+-- First in, first out: discoveries are answered in the order in which they were asked for, and so are each client's.
+-- Numbers rise by one.
 pub record AnsweredInOrder (o : Opening) (h : List Entry) : Type 0 where
   -- numbers rise by one from the opening's, so no two discoveries share one
   pub numbered : numbers_asked (asks h) ≡ range_with_len o.next_ask (length (asks h))
@@ -63,7 +64,7 @@ pub record AnsweredInOrder (o : Opening) (h : List Entry) : Type 0 where
   pub each : (c : ℕ) → Begins (numbers_answered (answers (answers_to o c h))) (numbers_asked (asks_by c h))
 
 -- The devices of an Answer are those that the line showed during its run.
-pub record TellsTheLine (o : Opening) (h : List Entry) : Type 0 where
+pub record AnswersReportTheLine (o : Opening) (h : List Entry) : Type 0 where
   -- on an honest line whose devices stay: without fault exactly these, whatever bytes colliding replies make
   pub exactly : (front back : List Entry) (n r : ℕ) (present : List ℕ) → h ≡ front ++ Answer n r None ∷ back
       → HonestTrace present (run_exchanges r h) → uids_of (answer_devices r h) ≡ present
@@ -153,7 +154,7 @@ pub record DiscoveriesPromised (o : Opening) (h : List Entry) : Type 0 where
   -- discoveries are answered in the order in which they were asked for
   pub in_order : AnsweredInOrder o h
   -- the devices of an Answer are those that the line showed during its run
-  pub tells_the_line : TellsTheLine o h
+  pub all_report_the_line : AnswersReportTheLine o h
   -- a run answers the discoveries that were asked for before it began, all alike, and nothing changes its answers later
   pub runs_answer : RunsAnswer o h
   -- a client is only answered what it asked for, and its outcomes don't change later

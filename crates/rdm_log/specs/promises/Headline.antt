@@ -10,7 +10,7 @@ use Rattle.rdm_wire.specs.CommandFrames.{request_fields}
 use Rattle.rdm_join.specs.declared.status.Status.{Status}
 use Rattle.rdm_join.specs.declared.status.Status.TheVariants.{Completed, FailedToSend, NoMemory}
 use Rattle.rdm_join.specs.Result.{Joined, IsResult}
-use Rattle.rdm_log.specs.log.MayFinish.{Tells}
+use Rattle.rdm_log.specs.log.MayFinish.{FitsJoined}
 use Rattle.rdm_log.specs.declared.entry.ClientId.{ClientId}
 use Rattle.rdm_log.specs.declared.entry.Owner.TheVariants as owners
 use Rattle.rdm_log.specs.declared.entry.Call.{Call}
@@ -56,14 +56,14 @@ pub record OneResult (o : Opening) (h : List Entry) : Type 0 where
 -- the frame is the packet, with this transaction number, of the request that was accepted under number n
 pub record CarriesRequest (o : Opening) (h : List Entry) (n tn : ℕ) (frame : List ℕ) : Type 0 where
   pub accepted : Accepted
-  pub place : ℕ
-  pub stands : slice_get (accepts h) place ≡ Some accepted
+  pub index : ℕ
+  pub stands : slice_get (accepts h) index ≡ Some accepted
   pub number : accepted.number ≡ n
   pub packet : Packet (request_fields accepted.request o.source tn) frame
 
 -- A request's frames carry that request.
 pub record OwnRequests (o : Opening) (h : List Entry) : Type 0 where
-  -- each frame that was sent for it does, with the transaction number of its place among all frames
+  -- each frame that was sent for it does, with the transaction number of its index among all frames
   pub sent : (i n : ℕ) (frame : ArrayVec ℕ)
       → slice_get (sends h) i ≡ Some (record { owner = owners.Request n; frame = frame })
       → CarriesRequest o h n ((o.next_tn + i) % 256) frame.items
@@ -74,7 +74,7 @@ pub record OwnRequests (o : Opening) (h : List Entry) : Type 0 where
 -- A Finish after h reports the joined answer of the request's own exchanges.
 pub record OwnAnswer (o : Opening) (h : List Entry) (n : ℕ) (status : Status) (len : ℕ) : Type 0 where
   -- if its exchanges decide a result, that is reported
-  pub decided : (j : Joined) → IsResult (verdicts n h) j → Tells j status len
+  pub decided : (j : Joined) → IsResult (verdicts n h) j → FitsJoined j status len
   -- if they decide none, the queue is closed, no reply is awaited, and the status is FailedToSend
   pub undecided : ((j : Joined) → IsResult (verdicts n h) j → ⊥)
       → (status ≡ FailedToSend) × (len ≡ 0) × (is_closed o h ≡ true) × (awaited h ≡ false)
@@ -85,7 +85,7 @@ pub record OwnAnswer (o : Opening) (h : List Entry) (n : ℕ) (status : Status) 
 
 -- Each request's Finish has the joined answer of that request's own exchanges.
 pub record OwnAnswers (o : Opening) (h : List Entry) : Type 0 where
-  pub told : (front back : List Entry) (n : ℕ) (status : Status) (len : ℕ) → h ≡ front ++ Finish n status len ∷ back
+  pub each : (front back : List Entry) (n : ℕ) (status : Status) (len : ℕ) → h ≡ front ++ Finish n status len ∷ back
       → OwnAnswer o front n status len
   -- nothing after it changes the result
   pub stays : (front back : List Entry) (n : ℕ) (status : Status) (len : ℕ) → h ≡ front ++ Finish n status len ∷ back
@@ -96,7 +96,8 @@ pub record Begins {X : Type 0} (firsts all : List X) : Type 0 where
   pub rest : List X
   pub whole : all ≡ firsts ++ rest
 
--- First in, first out.
+-- First in, first out: requests finish in the order in which they were accepted, and so do each client's. Numbers rise
+-- by one.
 pub record InOrder (o : Opening) (h : List Entry) : Type 0 where
   -- numbers rise by one from the opening's, so no two requests share one
   pub numbered : numbers_accepted (accepts h) ≡ range_with_len o.next_request (length (accepts h))

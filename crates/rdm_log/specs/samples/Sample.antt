@@ -94,7 +94,7 @@ sample_events =
     ∷ events.Deliver (Reply (record { items = [] }))
     ∷ events.Collect (record { 0 = 0 }) ∷ events.Close ∷ []
 
--- the answers to these events, in order: client 0 joined; request 0 was accepted; its frame; the event was taken; the
+-- the answers to these events, in order: client 0 joined; request 0 was accepted; its frame; the event was heard; the
 -- outcome of request 0, which ended with Timeout and has no reply, and these bytes; the close
 abbrev pub sample_answers : Vec ℕ → List Answer
 sample_answers none =

@@ -3,7 +3,7 @@ ghost use Rattle.std.specs.Prelude.{List};
 ghost use Rattle.rdm_log.specs.declared.entry.Opening.{Opening};
 ghost use Rattle.rdm_log.specs.declared.entry.Entry.{Entry};
 ghost use Rattle.rdm_log.specs.log.Legal.{Legal};
-ghost use Rattle.rdm_log.specs.promises.Discoveries.{OneAnswer, AnsweredInOrder, TellsTheLine, RunsAnswer};
+ghost use Rattle.rdm_log.specs.promises.Discoveries.{OneAnswer, AnsweredInOrder, AnswersReportTheLine, RunsAnswer};
 ghost use Rattle.rdm_log.specs.promises.Discoveries.{OwnDiscoveries, FullRefusesDiscoveries, DiscoveriesPromised};
 
 /// Each discovery that is asked for has exactly one answer: never two, and one once the queue is closed and no reply is
@@ -20,8 +20,8 @@ pub fn first_asked_first_answered()
 /// A discovery that ends without fault on an honest line reports exactly the devices present, whatever bytes colliding
 /// replies make; with a fault, no others. If devices come and leave, it reports without fault each that was always
 /// present, and none that never was. This holds among requests, pauses, closes and other runs.
-pub fn answers_tell_the_line()
-    ensures { (o : Opening) (h : List Entry) → Legal o h → TellsTheLine o h }
+pub fn answers_report_the_line()
+    ensures { (o : Opening) (h : List Entry) → Legal o h → AnswersReportTheLine o h }
 {}
 
 /// One run answers the discoveries that were asked for before it began, and all of them alike.

@@ -19,7 +19,7 @@ pub fn exactly_one_result()
     ensures { (o : Opening) (h : List Entry) → Legal o h → OneResult o h }
 {}
 
-/// Each frame that is sent for a request is that request's packet, with the transaction number of its place among all
+/// Each frame that is sent for a request is that request's packet, with the transaction number of its index among all
 /// frames.
 pub fn own_requests()
     ensures { (o : Opening) (h : List Entry) → Legal o h → OwnRequests o h }

@@ -1,7 +1,7 @@
 //! Lines that are made again if the allocation of their scene fails.
 use super::checks::check;
 use rdm_line::SimLine;
-use rdm_rig::{LineOf, Meeting, Placed, Who, Wrong, line_of};
+use rdm_rig::{LineOf, Meeting, TimedDevice, Who, Wrong, line_of};
 use std::alloc::Global;
 use std::process::Abort;
 
@@ -19,7 +19,7 @@ pub fn line(rt: &impl Abort, alloc: Global, of: LineOf) -> SimLine {
 /// A line with the first device, with these losses and failures.
 pub fn first_device(rt: &impl Abort, alloc: Global, losses: &[u64], fails: &[u64]) -> SimLine {
     let of = LineOf {
-        devices: &[Placed::stays(Who::First)],
+        devices: &[TimedDevice::stays(Who::First)],
         meeting: Meeting::Noise,
         losses,
         fails,

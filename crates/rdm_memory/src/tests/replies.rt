@@ -41,7 +41,7 @@ fn with_parts(rt: &impl Abort, parts: usize) -> Joiner
 }
 
 // Takes the data of this many parts and of a last reply with this many bytes, again if an allocation fails.
-fn takes(rt: &impl Abort, alloc: Global, parts: usize, last: usize, length: usize) {
+fn takes_data(rt: &impl Abort, alloc: Global, parts: usize, last: usize, length: usize) {
     let mut joiner = with_parts(rt, parts);
     let step = joiner.add(Judged::Whole(response(rt, AckType::Ack, last)));
     check(rt, step == Step::Done(Status::Completed));
@@ -60,20 +60,20 @@ fn takes(rt: &impl Abort, alloc: Global, parts: usize, last: usize, length: usiz
 
 #[test]
 fn take_data_of_no_bytes(rt: HostRuntime) {
-    takes(&rt, rt.alloc(), 0, 0, 0);
+    takes_data(&rt, rt.alloc(), 0, 0, 0);
 }
 
 #[test]
 fn take_data_of_one_byte(rt: HostRuntime) {
-    takes(&rt, rt.alloc(), 0, 1, 1);
+    takes_data(&rt, rt.alloc(), 0, 1, 1);
 }
 
 #[test]
 fn take_data_of_a_middle_length(rt: HostRuntime) {
-    takes(&rt, rt.alloc(), 17, 169, 4096);
+    takes_data(&rt, rt.alloc(), 17, 169, 4096);
 }
 
 #[test]
 fn take_data_of_the_greatest_length(rt: HostRuntime) {
-    takes(&rt, rt.alloc(), 283, 162, 65_535);
+    takes_data(&rt, rt.alloc(), 283, 162, 65_535);
 }

@@ -47,7 +47,7 @@ fn join_client_of_one_place(rt: HostRuntime) {
 
 // A client with this queue depth, which it uses up with requests. A join that runs out of memory may only change the
 // log.
-fn takes_all_places(rt: &impl Abort, alloc: Global, places: u8) {
+fn fills_queue(rt: &impl Abort, alloc: Global, places: u8) {
     let mut stage = session(rt, alloc, places, 2000);
     let join = [(Act::Join(places), Heard::Number(0))];
     moves(rt, alloc, &mut stage, &join);
@@ -69,17 +69,17 @@ fn takes_all_places(rt: &impl Abort, alloc: Global, places: u8) {
 
 #[test]
 fn join_client_of_two_places(rt: HostRuntime) {
-    takes_all_places(&rt, rt.alloc(), 2);
+    fills_queue(&rt, rt.alloc(), 2);
 }
 
 #[test]
 fn join_client_of_many_places(rt: HostRuntime) {
-    takes_all_places(&rt, rt.alloc(), 100);
+    fills_queue(&rt, rt.alloc(), 100);
 }
 
 #[test]
 fn join_client_of_the_most_places(rt: HostRuntime) {
-    takes_all_places(&rt, rt.alloc(), 255);
+    fills_queue(&rt, rt.alloc(), 255);
 }
 
 // In a log with three free entries a client joins. Then a submit is refused, its request is returned, and the close

@@ -3,7 +3,7 @@ use super::checks::check;
 use rdm_join::Status;
 use rdm_rig::{Heard, Step, Stop, Wrong, silent};
 use rdm_stage::{
-    Failed, NotRun, Play, Player, PlayersOver, Setup, counts_are, player_heard, run_bodies,
+    Failed, NotServed, Play, Player, PlayersOver, Setup, counts_are, player_heard, serve_bodies,
 };
 use std::alloc::Global;
 use std::process::Abort;
@@ -64,17 +64,17 @@ fn body(script: &'static [Play]) -> Player {
     }
 }
 
-// Runs the two bodies over a silent line. None: the rig itself ran out of memory.
-fn runs<R: Threads + Wait + Abort + Sync>(rt: &R, alloc: Global) -> Option<PlayersOver> {
+// Holds a session of the two bodies in threads, over a silent line. None: the rig itself ran out of memory.
+fn serves<R: Threads + Wait + Abort + Sync>(rt: &R, alloc: Global) -> Option<PlayersOver> {
     let line = silent(alloc, 4).ok()?;
     let bodies = Vec::from_slice(alloc, &[body(&FIRST), body(&SECOND)]).ok()?;
     let setup = Setup {
         greatest: 4,
         ..Setup::new(100, 1, &[2, 2])
     };
-    match run_bodies(rt, alloc, setup, bodies, TURNS, line) {
+    match serve_bodies(rt, alloc, setup, bodies, TURNS, line) {
         Ok(over) => Some(over),
-        Err(NotRun::Failed(Failed::Rig(Wrong::NoMemory))) => None,
+        Err(NotServed::Failed(Failed::Rig(Wrong::NoMemory))) => None,
         Err(_) => panic!(rt; "a session that isn't run"),
     }
 }
@@ -101,7 +101,7 @@ fn have_met(rt: &impl Abort, over: &PlayersOver) -> bool {
 }
 
 fn meet<R: Threads + Wait + Abort + Sync>(rt: &R, alloc: Global) -> bool {
-    match runs(rt, alloc) {
+    match serves(rt, alloc) {
         Some(over) => have_met(rt, &over),
         None => false,
     }

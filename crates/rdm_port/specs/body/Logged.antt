@@ -30,6 +30,6 @@ abbrev pub status_after : LogState → ℕ → ℕ
 status_after log status = failed_or log.is_failed status
 
 -- the answer has this text and this status
-pub record IsTold (answered : Answered) (text : List ℕ) (status : ℕ) : Type 0 where
+pub record HasTextAndStatus (answered : Answered) (text : List ℕ) (status : ℕ) : Type 0 where
   pub text_is : answer_bytes answered.text ≡ text
   pub status_is : answered.status ≡ status

@@ -11,19 +11,19 @@ use std::thread::Threads;
 /// A log in memory with a limited number of bytes.
 #[derive(Drop)]
 pub struct MemoryLog {
-    taken: Vec<u8>,
+    held: Vec<u8>,
     most: usize,
     opened: usize,
 }
 
 impl Write for MemoryLog {
     fn write(&mut self, bytes: &[u8]) -> io::Result<usize> {
-        let free = self.most.saturating_sub(self.taken.len());
+        let free = self.most.saturating_sub(self.held.len());
         if free == 0 {
             return Err(io::Error::from(ErrorKind::StorageFull));
         }
         let few = bytes.len().min(free);
-        self.taken.write(&bytes[..few])
+        self.held.write(&bytes[..few])
     }
 
     fn flush(&mut self) -> io::Result<()> {
@@ -60,7 +60,7 @@ pub fn carries<'a, R: Read, T: Threads + Wait + Sync>(
     most: usize,
 ) -> Carried<'a> {
     let mut log = LogOutput::new(MemoryLog {
-        taken: Vec::new(alloc),
+        held: Vec::new(alloc),
         most,
         opened: 0,
     });
@@ -128,11 +128,11 @@ fn ends_of_lines(bytes: &[u8]) -> usize {
 fn a_log_fails_at_each_byte(rt: HostRuntime) {
     let alloc = rt.alloc();
     let whole = logged(&rt, alloc, usize::MAX, 0);
-    let lines = ends_of_lines(&whole.taken);
+    let lines = ends_of_lines(&whole.held);
     check(&rt, lines == LINES && whole.opened == 1);
-    check(&rt, whole.taken.starts_with(FIRST.as_bytes()));
-    for most in 0..whole.taken.len() {
+    check(&rt, whole.held.starts_with(FIRST.as_bytes()));
+    for most in 0..whole.held.len() {
         let cut = logged(&rt, alloc, most, 1);
-        check_at(&rt, most, cut.taken.as_slice() == &whole.taken[..most]);
+        check_at(&rt, most, cut.held.as_slice() == &whole.held[..most]);
     }
 }

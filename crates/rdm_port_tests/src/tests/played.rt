@@ -49,7 +49,7 @@ impl Player<()> for Late {
         _alloc: Global,
         _beside: &(),
         _call: &ClientCall,
-        _place: u64,
+        _call_index: u64,
     ) -> Result<bool, ServeFault> {
         self.turns = self.turns.saturating_add(1);
         Ok(true)
@@ -60,7 +60,7 @@ impl Player<()> for Late {
         self.has_stopped
     }
 
-    fn take_outcome(&mut self, _beside: &()) -> Option<Collected> {
+    fn collect_outcome(&mut self, _beside: &()) -> Option<Collected> {
         self.turns = self.turns.saturating_add(1);
         self.collects = self.collects.saturating_sub(1);
         if self.collects > 0 || !self.has_come.load(Ordering::SeqCst) {

@@ -64,9 +64,9 @@ pub fn check(rt: &impl Abort, fact: bool)
     assert!(rt; fact);
 }
 
-/// The same. If the fact doesn't hold, it prints `place`.
-pub fn check_at(rt: &impl Abort, place: usize, fact: bool) {
-    assert!(rt; fact, "{place}");
+/// The same. If the fact doesn't hold, it prints the index.
+pub fn check_at(rt: &impl Abort, index: usize, fact: bool) {
+    assert!(rt; fact, "{index}");
 }
 
 /// This value is displayed as this text.

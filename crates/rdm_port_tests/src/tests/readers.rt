@@ -105,17 +105,17 @@ fn a_reader_of_a_session_fails(rt: HostRuntime) {
 }
 
 // The reason names the file as the arguments do.
-fn tells_the_file<T: Threads + Wait + Abort + Sync>(rt: &T, alloc: Global, command: &str) {
+fn names_the_file<T: Threads + Wait + Abort + Sync>(rt: &T, alloc: Global, command: &str) {
     let mut reader = FailingReader::new(SCENE_FILE.as_bytes(), 20, 1);
     let words = [command, "no_file.json"];
     let carried = carries(rt, alloc, &words, &mut reader, usize::MAX);
     match &carried.reason {
-        Some(reason) => tells(rt, alloc, reason),
+        Some(reason) => has_reason(rt, alloc, reason),
         None => panic!(rt; "a reason"),
     }
 }
 
-fn tells(rt: &impl Abort, alloc: Global, reason: &Reason<'_>) {
+fn has_reason(rt: &impl Abort, alloc: Global, reason: &Reason<'_>) {
     let text = "the file \"no_file.json\" can't be read: unexpected end of file";
     says(rt, alloc, reason, text);
     check(
@@ -130,6 +130,6 @@ fn tells(rt: &impl Abort, alloc: Global, reason: &Reason<'_>) {
 #[test]
 fn reports_which_file_is_not_read(rt: HostRuntime) {
     let alloc = rt.alloc();
-    tells_the_file(&rt, alloc, "discover");
-    tells_the_file(&rt, alloc, "run");
+    names_the_file(&rt, alloc, "discover");
+    names_the_file(&rt, alloc, "run");
 }

@@ -77,7 +77,7 @@ struct Reports(Vec<usize>);
 impl Progress for Reports {
     fn remark(&mut self, _remark: &Remark) {}
 
-    fn tell(&mut self, exchanges: usize) {
+    fn report_exchanges(&mut self, exchanges: usize) {
         let _ = self.0.push(exchanges);
     }
 }

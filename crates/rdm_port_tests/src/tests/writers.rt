@@ -12,7 +12,7 @@ use std::thread::Threads;
 // Takes at most this many bytes at each write, is interrupted before each, and takes none after this many.
 #[derive(Drop)]
 struct FailingWriter {
-    taken: Vec<u8>,
+    held: Vec<u8>,
     at_most: usize,
     was_interrupted: bool,
     fails_at: usize,
@@ -26,12 +26,12 @@ impl Write for FailingWriter {
         if self.was_interrupted {
             return Err(io::Error::from(ErrorKind::Interrupted));
         }
-        let free = self.fails_at.saturating_sub(self.taken.len());
+        let free = self.fails_at.saturating_sub(self.held.len());
         if free == 0 && self.fails {
             return Err(io::Error::from(ErrorKind::BrokenPipe));
         }
         let few = bytes.len().min(free).min(self.at_most);
-        self.taken.write(&bytes[..few])
+        self.held.write(&bytes[..few])
     }
 
     fn flush(&mut self) -> io::Result<()> {
@@ -64,7 +64,7 @@ fn fails_at_each_byte<T: Threads + Wait + Abort + Sync>(
     for fails_at in 0..=whole.len() {
         let mut reader = row.file.as_bytes();
         let mut writer = FailingWriter {
-            taken: Vec::new(alloc),
+            held: Vec::new(alloc),
             at_most: form.0,
             was_interrupted: false,
             fails_at,
@@ -72,7 +72,7 @@ fn fails_at_each_byte<T: Threads + Wait + Abort + Sync>(
         };
         let status = status_of(rt, alloc, row.words, &mut reader, &mut writer);
         let wanted = if fails_at == whole.len() { due } else { 1 };
-        let is_written = writer.taken.as_slice() == &whole[..fails_at];
+        let is_written = writer.held.as_slice() == &whole[..fails_at];
         check_at(rt, fails_at, is_written && status == wanted);
     }
 }

@@ -20,7 +20,7 @@ use Rattle.rdm_queue.specs.declared.pending.Awaited.{Awaited}
 use Rattle.rdm_queue.specs.declared.pending.Awaited.TheVariants as awaiting
 use Rattle.rdm_log.specs.log.Entries.{sends, verdicts, result}
 use Rattle.rdm_log.specs.log.History.{awaited, is_closed}
-use Rattle.rdm_queue.specs.body.State.{QueueState, ProgressAt, Hears, HearsRequest}
+use Rattle.rdm_queue.specs.body.State.{QueueState, StandingAt, Hears, HearsRequest}
 use Rattle.rdm_queue.specs.body.Sending.{hears_run}
 use Rattle.rdm_queue.specs.body.Agrees.{AwaitsRequest, IsPending, oldest_number, Agrees, StandsAfter, StandsAmid}
 use Rattle.rdm_log.proofs.LogLemmas.Grows.{pushed}
@@ -43,10 +43,10 @@ close_amid o h s open_ after = record {
 }
 
 -- the state of the oldest request, if its result is open
-pub open_progress : (r : Option Joined) (vs : List Judged) (decided : Option Joined) (joiner : JoinerStanding)
-    → r ≡ None → ProgressAt r vs decided joiner → (decided ≡ None) × StandsAt vs joiner
-open_progress None vs decided joiner is progress = progress
-open_progress (Some j) vs decided joiner is progress = absurd (none-some j (sym is))
+pub open_standing : (r : Option Joined) (vs : List Judged) (decided : Option Joined) (joiner : JoinerStanding)
+    → r ≡ None → StandingAt r vs decided joiner → (decided ≡ None) × StandsAt vs joiner
+open_standing None vs decided joiner is standing = standing
+open_standing (Some j) vs decided joiner is standing = absurd (none-some j (sym is))
 
 -- the result of a request that awaits its reply is open
 pub awaited_open : (o : Opening) (h : List Entry) (sent : Sent) → LogFacts o h → AwaitsRequest o h sent
@@ -87,14 +87,14 @@ came_amid o h s new event waits hears hears_by_run after = record {
     by_awaited : (w : Option Awaited) → s.awaited ≡ w → Agrees o (h ++ Came event ∷ []) new
     by_awaited None is = absurd (false≢true (sym (pending None is) ∙ waits))
     by_awaited (Some (awaiting.Request sent)) is =
-        let before = open_progress (result_of (verdicts (oldest_number o h) h)) (verdicts (oldest_number o h) h)
+        let before = open_standing (result_of (verdicts (oldest_number o h) h)) (verdicts (oldest_number o h) h)
         s.decided s.joiner (awaited_open o h sent facts (pending (Some (awaiting.Request sent)) is))
-        after.stands.progress in
+        after.stands.standing in
         let heard : Hears (verdicts (oldest_number o h) h ++ verdict sent event ∷ []) s new =
         hears sent is (verdicts (oldest_number o h) h) before.0 before.1 in
         rw heard.new_is
         (stands_came o h s sent event new.decided new.joiner after.legal.each (after.legal.settled, waits) facts is
-        heard.progress after.stands)
+        heard.standing after.stands)
     by_awaited (Some (awaiting.Run tn)) is =
         rw (hears_by_run tn is (pending (Some (awaiting.Run tn)) is).goes_on)
         (stands_run_came o h s tn event after.legal.each (after.legal.settled, waits) facts is after.stands)

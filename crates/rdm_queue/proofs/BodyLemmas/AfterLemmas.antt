@@ -91,7 +91,7 @@ first_after setup = record {
     waiting_are = refl;
     awaited_is = refl;
     under_way_is = refl;
-    progress = (refl, refl);
+    standing = (refl, refl);
     next_ask_is = refl;
     next_run_is = refl;
     asked_are = refl;
@@ -305,22 +305,22 @@ pub record IsSent (o : Opening) (h : List Entry) (owner : Owner) (frame : ArrayV
   pub after : StandsAfter o (h ++ Send owner frame ∷ []) new
 
 -- a collect: the oldest owed is the oldest answer's
-told_first : (o : Opening) (c : ℕ) (h k : List Entry) (es : List Entry) (outcome : OutcomeValue)
+first_entry : (o : Opening) (c : ℕ) (h k : List Entry) (es : List Entry) (outcome : OutcomeValue)
     → AllByRecursion (λ e. is_answer_to o c k e ≡ true) es → slice_get (filter_map (outcome_of h) es) 0 ≡ Some outcome
     → (e : Entry) × (slice_get es 0 ≡ Some e) × (outcome_of h e ≡ Some outcome)
-told_first o c h k [] outcome all first = absurd (no first)
+first_entry o c h k [] outcome all first = absurd (no first)
   where
     no : None ≡ Some outcome → ⊥
     no h = cc
-told_first o c h k (Finish n status len ∷ es) outcome all first = (Finish n status len, refl, first)
-told_first o c h k (discovery.Answer n run fault ∷ es) outcome all first = (discovery.Answer n run fault, refl, first)
-told_first o c h k (e ∷ es) outcome all first = absurd (false≢true all.0)
+first_entry o c h k (Finish n status len ∷ es) outcome all first = (Finish n status len, refl, first)
+first_entry o c h k (discovery.Answer n run fault ∷ es) outcome all first = (discovery.Answer n run fault, refl, first)
+first_entry o c h k (e ∷ es) outcome all first = absurd (false≢true all.0)
 
 pub oldest_after : (o : Opening) (h : List Entry) (s : QueueState) (c : ClientId) (outcome : Outcome)
     → option_map outcome_value (Some outcome) ≡ slice_get (owed_to c.0 s) 0 → StandsAfter o h s
     → IsOldest o h c.0 outcome
 oldest_after o h s c outcome told after =
-    let found = told_first o c.0 h h (uncollected o c.0 h) (outcome_value outcome) (answers_passed o c.0 h)
+    let found = first_entry o c.0 h h (uncollected o c.0 h) (outcome_value outcome) (answers_passed o c.0 h)
     (sym (ap (λ l. slice_get l 0) (after.stands.outcomes_are c.0)) ∙ sym told) in
     record { entry = found.0; oldest = found.1; told = found.2 }
 
@@ -346,26 +346,26 @@ collect_after o h s c outcome told after =
 pub none_owed_after : (o : Opening) (h : List Entry) (s : QueueState) (c : ℕ)
     → ◌≡◌ {A = Option OutcomeValue} None (slice_get (owed_to c s) 0) → StandsAfter o h s → uncollected o c h ≡ []
 none_owed_after o h s c none after =
-    none_told (uncollected o c h) (answers_passed o c h)
+    none_uncollected (uncollected o c h) (answers_passed o c h)
     (ap (λ l. slice_get l 0) (sym (after.stands.outcomes_are c)) ∙ sym none)
   where
-    none_told : (es : List Entry) → AllByRecursion (λ e. is_answer_to o c h e ≡ true) es
+    none_uncollected : (es : List Entry) → AllByRecursion (λ e. is_answer_to o c h e ≡ true) es
         → slice_get (filter_map (outcome_of h) es) 0 ≡ None → es ≡ []
-    none_told [] all first = refl
-    none_told (Finish n status len ∷ es) all first = absurd (none-some _ (sym first))
-    none_told (discovery.Answer n run fault ∷ es) all first = absurd (none-some _ (sym first))
-    none_told (e ∷ es) all first = absurd (false≢true all.0)
+    none_uncollected [] all first = refl
+    none_uncollected (Finish n status len ∷ es) all first = absurd (none-some _ (sym first))
+    none_uncollected (discovery.Answer n run fault ∷ es) all first = absurd (none-some _ (sym first))
+    none_uncollected (e ∷ es) all first = absurd (false≢true all.0)
 
 pub kind_after : (o : Opening) (h : List Entry) (s : QueueState) (c : ℕ) → StandsAfter o h s
     → first_kind c s ≡ oldest_kind o h c
 kind_after o h s c after =
     ap (λ l. option_map kind_of_value (slice_get l 0)) (after.stands.outcomes_are c)
-    ∙ kind_told (uncollected o c h) (answers_passed o c h)
+    ∙ kind_of_first (uncollected o c h) (answers_passed o c h)
   where
-    kind_told : (es : List Entry) → AllByRecursion (λ e. is_answer_to o c h e ≡ true) es
+    kind_of_first : (es : List Entry) → AllByRecursion (λ e. is_answer_to o c h e ≡ true) es
         → option_map kind_of_value (slice_get (filter_map (outcome_of h) es) 0)
         ≡ option_and_then kind_of_answer (slice_get es 0)
-    kind_told [] all = refl
-    kind_told (Finish n status len ∷ es) all = refl
-    kind_told (discovery.Answer n run fault ∷ es) all = refl
-    kind_told (e ∷ es) all = absurd (false≢true all.0)
+    kind_of_first [] all = refl
+    kind_of_first (Finish n status len ∷ es) all = refl
+    kind_of_first (discovery.Answer n run fault ∷ es) all = refl
+    kind_of_first (e ∷ es) all = absurd (false≢true all.0)

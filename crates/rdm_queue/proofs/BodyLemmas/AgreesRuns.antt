@@ -55,7 +55,7 @@ use Rattle.rdm_queue.specs.body.Sending.{sends_run as gives_run}
 use Rattle.rdm_queue.specs.body.Ending.{answer_of, answer_value, answers_oldest, devices_after, devices_run_after}
 use Rattle.rdm_queue.specs.body.Agrees.{AwaitsRun, IsRunning, IsPending}
 use Rattle.rdm_log.proofs.LogLemmas.PushLemmas.{answered_more, unanswered_answer}
-use Rattle.rdm_log.proofs.LogLemmas.AskFacts.{unanswered_place}
+use Rattle.rdm_log.proofs.LogLemmas.AskFacts.{unanswered_index}
 use Rattle.rdm_log.proofs.LogLemmas.ClientLemmas.{answers_answer_own, answers_answer_other, client_of_unanswered}
 use Rattle.rdm_log.proofs.LogLemmas.RunLemmas.{last_begun, served_stays, entries_before_run_stays, no_exchanges}
 use Rattle.rdm_log.proofs.LogLemmas.RunLemmas.{run_exchanges_sent, run_exchanges_came_own, run_exchanges_same}
@@ -131,8 +131,8 @@ stands_run_send o h s r frame each may even is goes frame_is asks_is stands =
       under_way_is =
           rw (sends_more h e x refl, finishes_same h e refl)
           (stands.under_way_is ∙ sym (way_same (oldest_number o h) r.number (sends h) frame));
-      progress = rw (finishes_same h e refl, verdicts_sent h (owners.Run r.number) frame (oldest_number o h) even)
-          stands.progress;
+      standing = rw (finishes_same h e refl, verdicts_sent h (owners.Run r.number) frame (oldest_number o h) even)
+          stands.standing;
       next_run_is = rw (last_run_sent h (owners.Run r.number) frame) (stands.next_run_is ∙ rw before.last refl);
       run_is = subst (λ q. RunIs o k new q) (sym is) (record {
         last = last_run_sent h (owners.Run r.number) frame;
@@ -214,8 +214,8 @@ stands_begin o h s frame each may run_facts ask_facts even none way some from st
       under_way_is =
           rw (sends_more h e x refl, finishes_same h e refl)
           (stands.under_way_is ∙ sym (way_same (oldest_number o h) r.number (sends h) frame));
-      progress = rw (finishes_same h e refl, verdicts_sent h (owners.Run r.number) frame (oldest_number o h) even)
-          stands.progress;
+      standing = rw (finishes_same h e refl, verdicts_sent h (owners.Run r.number) frame (oldest_number o h) even)
+          stands.standing;
       next_run_is = rw (last_run_sent h (owners.Run s.next_run) frame) refl;
       run_is = record {
         last = last_run_sent h (owners.Run s.next_run) frame;
@@ -290,7 +290,7 @@ stands_run_came o h s tn event each may facts was stands =
       next_tn_is = rw (sends_same h e refl) stands.next_tn_is;
       awaited_is = awaited-push h e;
       under_way_is = rw (sends_same h e refl, finishes_same h e refl) stands.under_way_is;
-      progress = rw (finishes_same h e refl, verdicts_came_other h _ event (oldest_number o h) x refl) stands.progress;
+      standing = rw (finishes_same h e refl, verdicts_came_other h _ event (oldest_number o h) x refl) stands.standing;
       next_run_is = rw (last_run_same h k (sends_same h e refl)) stands.next_run_is;
       run_is = subst (λ q. RunIs o k new q) (sym w.run_is) (record {
         last = last_run_same h k (sends_same h e refl) ∙ before.last;
@@ -386,10 +386,10 @@ stands_answer o h s a q f found run agent devices devices_from each may asked_fa
       waiting_are = stands.waiting_are ∙ sym (unfinished_same h k (accepts_same h e refl) (finishes_same h e refl));
       awaited_is = rw idle (awaited-push h e ∙ rw idle at stands.awaited_is);
       under_way_is = rw (sends_same h e refl, finishes_same h e refl) stands.under_way_is;
-      progress = rw (
+      standing = rw (
         finishes_same h e refl,
         verdicts_same h k (oldest_number o h) (sends_same h e refl) (cames_same h e refl),
-      ) stands.progress;
+      ) stands.standing;
       next_ask_is = rw (asks_same h e refl) stands.next_ask_is;
       next_run_is = rw (last_run_same h k (sends_same h e refl)) stands.next_run_is;
       asked_are = rw (unanswered_answer h e _ refl refl) (ap (drop 1) stands.asked_are);
@@ -418,7 +418,7 @@ stands_answer o h s a q f found run agent devices devices_from each may asked_fa
     k = h ++ e ∷ []
 
     within : a.client < length s.owed
-    within = rw stands.owed_for_each (asked_facts.askers (length (answers h) + 0) a (unanswered_place h 0 a oldest))
+    within = rw stands.owed_for_each (asked_facts.askers (length (answers h) + 0) a (unanswered_index h 0 a oldest))
 
     client_is : client_of_discovery o h a.number ≡ Some a.client
     client_is = client_of_unanswered o h asked_facts 0 a oldest

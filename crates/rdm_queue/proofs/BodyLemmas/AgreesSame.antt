@@ -16,7 +16,7 @@ use Rattle.rdm_log.specs.log.Clients.{answers_to}
 use Rattle.rdm_log.specs.log.Runs.{next_run, devices_run}
 use Rattle.rdm_log.specs.log.Legal.{MayFollow}
 use Rattle.rdm_log.specs.promises.Outcomes.{OutcomeValue}
-use Rattle.rdm_queue.specs.body.State.{QueueState, owed_to, IsProgress}
+use Rattle.rdm_queue.specs.body.State.{QueueState, owed_to, IsStanding}
 use Rattle.rdm_queue.specs.body.State.{uncollected as uncollected_by}
 use Rattle.rdm_queue.specs.body.Agrees.{IsLast, IsPending, RunIs, oldest_number, Agrees}
 use Rattle.rdm_log.proofs.LogLemmas.PushLemmas.{SameRequests, same_after, joins_same, accepts_same, asks_same}
@@ -98,7 +98,7 @@ pub record AgreesOnLine (o : Opening) (h : List Entry) (s : QueueState) : Type 0
   pub next_tn_is : s.next_tn ≡ next_tn o h
   pub awaited_is : IsPending o h s s.awaited
   pub under_way_is : s.under_way ≡ was_sent (oldest_number o h) h
-  pub progress : IsProgress (verdicts (oldest_number o h) h) s.decided s.joiner
+  pub standing : IsStanding (verdicts (oldest_number o h) h) s.decided s.joiner
   pub next_run_is : s.next_run ≡ next_run o h
   pub run_is : RunIs o h s s.run
 
@@ -128,8 +128,8 @@ line_same o h k s new same stands = record {
       pending_same o h k s (with_line new s) s.awaited same.same_sends same.same_awaited same.same_finishes refl refl
       stands.awaited_is;
   under_way_is = rw (same.same_sends, same.same_finishes) stands.under_way_is;
-  progress =
-      rw (same.same_finishes, verdicts_same h k (oldest_number o h) same.same_sends same.same_cames) stands.progress;
+  standing =
+      rw (same.same_finishes, verdicts_same h k (oldest_number o h) same.same_sends same.same_cames) stands.standing;
   next_run_is = rw same.running.same_last stands.next_run_is;
   run_is = run_same o h k s (with_line new s) s.run same.running refl refl (inl refl) stands.run_is;
 }
@@ -182,7 +182,7 @@ traded o h e s new each may is stands line = record {
   waiting_are = stands.waiting_are ∙ sym (unfinished_same h k accepts_are finishes_are);
   awaited_is = line.awaited_is;
   under_way_is = line.under_way_is;
-  progress = line.progress;
+  standing = line.standing;
   next_ask_is = rw asks_are stands.next_ask_is;
   next_run_is = line.next_run_is;
   asked_are = rw (asks_are, answers_are) stands.asked_are;
@@ -246,7 +246,7 @@ stands_same o h e s ps paused closed owed each may work places_are paused_is clo
       waiting_are = rw (work.requests.same_accepts, work.requests.same_finishes) stands.waiting_are;
       awaited_is = line.awaited_is;
       under_way_is = line.under_way_is;
-      progress = line.progress;
+      standing = line.standing;
       next_ask_is = rw work.same_asks stands.next_ask_is;
       next_run_is = line.next_run_is;
       asked_are = rw (work.same_asks, work.running.same_answers) stands.asked_are;

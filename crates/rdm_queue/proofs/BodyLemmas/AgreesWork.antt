@@ -32,7 +32,7 @@ use Rattle.rdm_log.specs.log.Runs.{last_run}
 use Rattle.rdm_log.specs.log.Legal.{MayFollow}
 use Rattle.rdm_log.specs.promises.Outcomes.{OutcomeValue, outcome_of, completion_of}
 use Rattle.rdm_queue.specs.body.State.{QueueState, owed_for, owed_to, owed_value, owes, accepts_request, asks_discovery}
-use Rattle.rdm_queue.specs.body.State.{collects_oldest, finishes_oldest, finish_of, IsProgress}
+use Rattle.rdm_queue.specs.body.State.{collects_oldest, finishes_oldest, finish_of, IsStanding}
 use Rattle.rdm_queue.specs.body.Sending.{sends_request, sent_for}
 use Rattle.rdm_queue.specs.body.Agrees.{IsLast, AwaitsRequest, IsNotRunning, oldest_number, Agrees}
 use Rattle.rdm_log.proofs.LogLemmas.PushLemmas.{joins_same, accepts_same, accepts_more, asks_same, asks_more}
@@ -40,10 +40,10 @@ use Rattle.rdm_log.proofs.LogLemmas.PushLemmas.{answered_same, sends_same, sends
 use Rattle.rdm_log.proofs.LogLemmas.PushLemmas.{finishes_more, collectors_same, collectors_more, awaited-push}
 use Rattle.rdm_log.proofs.LogLemmas.PushLemmas.{is_paused-push, is_closed-push, unfinished_same, unfinished_accept}
 use Rattle.rdm_log.proofs.LogLemmas.PushLemmas.{unfinished_finish, unanswered_ask}
-use Rattle.rdm_log.proofs.LogLemmas.Places.{place_within}
+use Rattle.rdm_log.proofs.LogLemmas.Indices.{index_within}
 use Rattle.rdm_log.proofs.LogLemmas.ExchangeLemmas.{IsUnanswered, verdicts_sent, verdicts_came_own}
 use Rattle.rdm_log.proofs.LogLemmas.ExchangeLemmas.{verdicts_unsent, result_same}
-use Rattle.rdm_log.proofs.LogLemmas.LegalFacts.{LogFacts, unfinished_number, unfinished_place}
+use Rattle.rdm_log.proofs.LogLemmas.LegalFacts.{LogFacts, unfinished_number, unfinished_index}
 use Rattle.rdm_log.proofs.LogLemmas.AskFacts.{AskFacts}
 use Rattle.rdm_log.proofs.LogLemmas.ClientLemmas.{answers_same, answers_accept, answers_ask, answers_finish_own}
 use Rattle.rdm_log.proofs.LogLemmas.ClientLemmas.{answers_finish_other, client_of_accepted}
@@ -51,7 +51,7 @@ use Rattle.rdm_log.proofs.LogLemmas.ClientFacts.{ClientFacts}
 use Rattle.rdm_log.proofs.LogLemmas.RunLemmas.{last_run_same, last_run_sent, SameRuns, same_runs_sent}
 use Rattle.rdm_log.proofs.PromiseLemmas.OutcomeLemmas.{outcomes_step, known_step, uncollected_more, outcomes_rest}
 use Rattle.rdm_log.proofs.PromiseLemmas.OutcomeLemmas.{answers_passed}
-use Rattle.rdm_queue.proofs.BodyLemmas.OutstandingLemmas.{in_all, in_all-cons, taken_at, put_at}
+use Rattle.rdm_queue.proofs.BodyLemmas.OutstandingLemmas.{in_all, in_all-cons, removed_at, put_at}
 use Rattle.rdm_queue.proofs.BodyLemmas.OutstandingLemmas.{owes-own, owes-other}
 use Rattle.rdm_log.proofs.LogLemmas.RunningLemmas.{same_running, same_running_came, asked_stays}
 use Rattle.rdm_queue.proofs.BodyLemmas.RunningLemmas.{run_same}
@@ -76,7 +76,7 @@ stands_accept o h s c n request each may facts ask_facts number stands = record 
       (ap (λ l. l ++ record { client = c.0; number = s.next_request; request = request } ∷ []) stands.waiting_are);
   awaited_is = line.awaited_is;
   under_way_is = line.under_way_is;
-  progress = line.progress;
+  standing = line.standing;
   next_ask_is = rw (asks_same h e refl) stands.next_ask_is;
   next_run_is = line.next_run_is;
   asked_are = rw (asks_same h e refl, answered_same h e refl) stands.asked_are;
@@ -119,7 +119,7 @@ stands_ask o h s c n kind each may facts ask_facts number stands = record {
   waiting_are = stands.waiting_are ∙ sym (unfinished_same h k (accepts_same h e refl) (finishes_same h e refl));
   awaited_is = line.awaited_is;
   under_way_is = line.under_way_is;
-  progress = line.progress;
+  standing = line.standing;
   next_ask_is = rw (asks_more h e a refl, length-append (asks h) (a ∷ [])) (omega (arith, stands.next_ask_is));
   next_run_is = line.next_run_is;
   asked_are = rw (unanswered_ask h e a refl refl ask_facts.answered_within, number)
@@ -203,8 +203,8 @@ stands_send o h s a frame each may even number sent none stands =
       };
       under_way_is =
           rw (sends_more h e x refl, finishes_same h e refl, ← number) (sym (was_sent_own a.number (sends h) frame));
-      progress = rw (finishes_same h e refl, verdicts_sent h (owners.Request a.number) frame (oldest_number o h) even)
-          stands.progress;
+      standing = rw (finishes_same h e refl, verdicts_sent h (owners.Request a.number) frame (oldest_number o h) even)
+          stands.standing;
       next_run_is = rw (last_run_sent h (owners.Request a.number) frame) stands.next_run_is;
       run_is = rw none (record {
         none_open = runs.same_open ∙ before.none_open;
@@ -241,9 +241,9 @@ unanswered_of o h x facts is = record {
 pub stands_came : (o : Opening) (h : List Entry) (s : QueueState) (sent : Sent) (event : LineEvent)
     (decided : Option Joined) (joiner : JoinerStanding) → EachAfter (MayFollow o) h → MayFollow o h (Came event)
     → LogFacts o h → s.awaited ≡ Some (awaiting.Request sent)
-    → IsProgress (verdicts (oldest_number o h) h ++ verdict sent event ∷ []) decided joiner → Agrees o h s
+    → IsStanding (verdicts (oldest_number o h) h ++ verdict sent event ∷ []) decided joiner → Agrees o h s
     → Agrees o (h ++ Came event ∷ []) (record s { awaited = None; joiner = joiner; decided = decided })
-stands_came o h s sent event decided joiner each may facts was progress stands =
+stands_came o h s sent event decided joiner each may facts was standing stands =
     traded o h e s new each may refl stands line
   where
     e : Entry
@@ -266,7 +266,7 @@ stands_came o h s sent event decided joiner each may facts was progress stands =
       next_tn_is = rw (sends_same h e refl) stands.next_tn_is;
       awaited_is = awaited-push h e;
       under_way_is = rw (sends_same h e refl, finishes_same h e refl) stands.under_way_is;
-      progress = rw (finishes_same h e refl) (rw (came_verdicts o h sent event facts w x) progress);
+      standing = rw (finishes_same h e refl) (rw (came_verdicts o h sent event facts w x) standing);
       next_run_is = rw (last_run_same h k (sends_same h e refl)) stands.next_run_is;
       run_is =
           run_same o h k s new s.run (same_running_came o h (oldest_number o h) w.frame event x) refl refl (inl refl)
@@ -274,32 +274,32 @@ stands_came o h s sent event decided joiner each may facts was progress stands =
     }
 
 -- an outcome is collected
-taken_rest : (lists : List (List OutcomeValue)) (c n : ℕ)
-    → get_or (taken_at lists c) n [] ≡ (if n == c then drop 1 (get_or lists n []) else get_or lists n [])
-taken_rest lists c n = by_client (cases_eq n c) (cases_lt c (length lists))
+removed_rest : (lists : List (List OutcomeValue)) (c n : ℕ)
+    → get_or (removed_at lists c) n [] ≡ (if n == c then drop 1 (get_or lists n []) else get_or lists n [])
+removed_rest lists c n = by_client (cases_eq n c) (cases_lt c (length lists))
   where
     none : {ds es : List OutcomeValue} → ds ≡ [] → es ≡ [] → ds ≡ drop 1 es
     none p q = p ∙ ap (drop 1) (sym q)
 
     by_client : (n ≡ c) ⊎ (n ≡ c → ⊥) → (c < length lists) ⊎ (length lists ≤ c)
-        → get_or (taken_at lists c) n [] ≡ (if n == c then drop 1 (get_or lists n []) else get_or lists n [])
+        → get_or (removed_at lists c) n [] ≡ (if n == c then drop 1 (get_or lists n []) else get_or lists n [])
     by_client (inl same) (inl within) =
         rw (eq-eqb n c same, same) (get_or-set_same lists c (drop 1 (get_or lists c [])) [] within)
     by_client (inl same) (inr past) =
         rw (eq-eqb n c same, same)
-        (none (get_or_past (taken_at lists c) c []
+        (none (get_or_past (removed_at lists c) c []
         (let long = length-set lists c (drop 1 (get_or lists c [])) in omega arith)) (get_or_past lists c [] past))
     by_client (inr other) within =
         rw (ne_eqb n c other) (get_or-set_other lists c n (drop 1 (get_or lists c [])) [] other)
 
 count_less : (lists : List (List OutcomeValue)) (c : ℕ) (d : OutcomeValue) → slice_get (get_or lists c []) 0 ≡ Some d
-    → in_all (taken_at lists c) + 1 ≡ in_all lists
+    → in_all (removed_at lists c) + 1 ≡ in_all lists
 count_less [] c d at = cc
 count_less (ds ∷ lists) zero d at =
-    let some = place_within ds 0 d at in
+    let some = index_within ds 0 d at in
     omega (arith, length-drop 1 ds, in_all-cons (drop 1 ds) lists, in_all-cons ds lists)
 count_less (ds ∷ lists) (suc c) d at =
-    omega (arith, count_less lists c d at, in_all-cons ds (taken_at lists c), in_all-cons ds lists)
+    omega (arith, count_less lists c d at, in_all-cons ds (removed_at lists c), in_all-cons ds lists)
 
 pub stands_collect : (o : Opening) (h : List Entry) (s : QueueState) (c : ClientId) (d : OutcomeValue)
     → EachAfter (MayFollow o) h → MayFollow o h (Collect c) → slice_get (owed_to c.0 s) 0 ≡ Some d → Agrees o h s
@@ -316,7 +316,7 @@ stands_collect o h s c d each may first stands = record {
   waiting_are = stands.waiting_are ∙ sym (unfinished_same h k (accepts_same h e refl) (finishes_same h e refl));
   awaited_is = line.awaited_is;
   under_way_is = line.under_way_is;
-  progress = line.progress;
+  standing = line.standing;
   next_ask_is = rw (asks_same h e refl) stands.next_ask_is;
   next_run_is = line.next_run_is;
   asked_are = rw (asks_same h e refl, answered_same h e refl) stands.asked_are;
@@ -352,7 +352,7 @@ stands_collect o h s c d each may first stands = record {
 
     outcomes : (client : ℕ)
         → owed_to client (collects_oldest s c.0) ≡ filter_map (outcome_of k) (uncollected o client k)
-    outcomes client = taken_rest s.owed c.0 client ∙ by_client (cases_Bool (client == c.0))
+    outcomes client = removed_rest s.owed c.0 client ∙ by_client (cases_Bool (client == c.0))
       where
         agree : owed_to client s ≡ filter_map (outcome_of k) (uncollected o client h)
         agree = stands.outcomes_are client ∙ sym (outcomes_step o h e each may client)
@@ -400,7 +400,7 @@ pub owed_more : (o : Opening) (h k : List Entry) (e : Entry) (s : QueueState) (c
     → ((c : ℕ) → length (collects_by c h) ≤ length (answers_to o c h)) → outcome_of k e ≡ Some d
     → ((c : ℕ) → owed_to c s ≡ filter_map (outcome_of k) (uncollected o c h)) → (c : ℕ)
     → get_or (owes client d s) c [] ≡ filter_map (outcome_of k) (uncollected o c k)
-owed_more o h k e s client d within own other same few told before c = by_client (cases_eq c client)
+owed_more o h k e s client d within own other same few outcome_is before c = by_client (cases_eq c client)
   where
     by_client : (c ≡ client) ⊎ (c ≡ client → ⊥)
         → get_or (owes client d s) c [] ≡ filter_map (outcome_of k) (uncollected o c k)
@@ -413,7 +413,7 @@ owed_more o h k e s client d within own other same few told before c = by_client
               uncollected_more o c h k e (ap (λ l. filter (λ b. c == b) l) same) (few c) grows,
               filter_map-append (outcome_of k) (uncollected o c h) (e ∷ []),
               ← before c,
-              told,
+              outcome_is,
             ) refl
     by_client (inr not) = owes-other s client c d not ∙ rw (other c (ne_eqb c client not), same) (before c)
 
@@ -442,7 +442,7 @@ stands_finish o h s a rest done each may facts clients oldest completes idle non
   waiting_are = rw (unfinished_finish h a.number done.status (length done.data_)) (ap (drop 1) stands.waiting_are);
   awaited_is = rw idle (awaited-push h e ∙ rw idle at stands.awaited_is);
   under_way_is = sym (none_sent (oldest_number o k) (sends k) unsent);
-  progress = rw (verdicts_unsent k (oldest_number o k) unsent) (refl, refl);
+  standing = rw (verdicts_unsent k (oldest_number o k) unsent) (refl, refl);
   next_ask_is = rw (asks_same h e refl) stands.next_ask_is;
   next_run_is = rw (last_run_same h k (sends_same h e refl)) stands.next_run_is;
   asked_are = rw (asks_same h e refl, answered_same h e refl) stands.asked_are;
@@ -481,7 +481,7 @@ stands_finish o h s a rest done each may facts clients oldest completes idle non
     number = unfinished_number o h facts 0 a first ∙ omega arith
 
     within : a.client < length s.owed
-    within = rw stands.owed_for_each (facts.clients (length (finishes h) + 0) a (unfinished_place h 0 a first))
+    within = rw stands.owed_for_each (facts.clients (length (finishes h) + 0) a (unfinished_index h 0 a first))
 
     unsent : (i : ℕ) (x : Sending) → slice_get (sends k) i ≡ Some x → is_request (oldest_number o k) x.owner ≡ false
     unsent i x at = by_test (cases_Bool (is_request (oldest_number o k) x.owner))
@@ -497,4 +497,4 @@ stands_finish o h s a rest done each may facts clients oldest completes idle non
             past p q = omega arith
 
     client_is : client_of_request o h a.number ≡ Some a.client
-    client_is = client_of_accepted o h facts (length (finishes h) + 0) a (unfinished_place h 0 a first)
+    client_is = client_of_accepted o h facts (length (finishes h) + 0) a (unfinished_index h 0 a first)

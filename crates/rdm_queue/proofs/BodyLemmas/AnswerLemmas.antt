@@ -17,7 +17,7 @@ use Rattle.rdm_queue.specs.body.Fields.{asked_is, state_of}
 use Rattle.rdm_queue.specs.body.QueueInvariant.{QueueInvariant, served_by}
 use Rattle.rdm_queue.specs.body.State.{QueueState, RunState}
 use Rattle.rdm_queue.specs.body.Ending.{answer_value, answers_oldest, one_less}
-use Rattle.rdm_log.proofs.LogLemmas.Places.{all_at}
+use Rattle.rdm_log.proofs.LogLemmas.Indices.{all_at}
 use Rattle.rdm_queue.proofs.BodyLemmas.FieldLemmas.{read_at}
 use Rattle.rdm_queue.proofs.BodyLemmas.RingFields.{AreClientsOf, are_clients}
 use Rattle.rdm_queue.proofs.BodyLemmas.InvariantLemmas.{asked_joined, first_counts, held-answers}
@@ -28,10 +28,10 @@ pub nonempty : (xs : List Asked) → (length xs == 0) ≡ false → 0 < length x
 nonempty [] is = absurd (false≢true (sym is))
 nonempty (x ∷ xs) is = omega arith
 
--- the discovery at the front
-pub front_asked : (c : Inside) (x : Asked) → 0 < length c.asked.items → x ≡ get_or c.asked.items 0 x
+-- the oldest discovery
+pub oldest_asked : (c : Inside) (x : Asked) → 0 < length c.asked.items → x ≡ get_or c.asked.items 0 x
     → slice_get (state_of c).asked 0 ≡ Some (asked_is x)
-front_asked c x some is =
+oldest_asked c x some is =
     first_mapped c.asked.items (slice_get-get_or c.asked.items 0 x some ∙ ap (λ y. Some y) (sym is))
   where
     first_mapped : (xs : List Asked) → slice_get xs 0 ≡ Some x → slice_get (map asked_is xs) 0 ≡ Some (asked_is x)
@@ -39,9 +39,9 @@ front_asked c x some is =
     first_mapped (y ∷ xs) at = let same : y ≡ x = cc in rw same refl
 
 -- a run serves it, if there is one
-pub front_served : (c : Inside) (x : Asked) (r : RunState) → QueueInvariant (state_of c) c.clients.items
+pub oldest_served : (c : Inside) (x : Asked) (r : RunState) → QueueInvariant (state_of c) c.clients.items
     → (state_of c).run ≡ Some r → x ≡ get_or c.asked.items 0 x → slice_get (state_of c).asked 0 ≡ Some (asked_is x)
-front_served c x r held runs is = front_asked c x some is
+oldest_served c x r held runs is = oldest_asked c x some is
   where
     left : 1 ≤ r.left
     left = rw runs at held.state.serves
@@ -55,7 +55,7 @@ front_served c x r held runs is = front_asked c x some is
 pub asked_rest : (xs ys : List Asked) → ys ≡ drop 1 xs → map asked_is ys ≡ drop 1 (map asked_is xs)
 asked_rest xs ys rest = ap (map asked_is) rest ∙ sym (drop-map asked_is 1 xs)
 
--- its client, read at its place, and the capacity for its answer
+-- its client, read at its index, and the capacity for its answer
 pub record CanAnswer (s : QueueState) (clients : List Client) (a : AskedDiscovery) (k : Client) : Type 0 where
   pub oldest : slice_get s.asked 0 ≡ Some a
   pub at : slice_get clients a.client ≡ Some k
@@ -72,7 +72,7 @@ asked_within s clients a are oldest =
 pub can_answer : (s : QueueState) (clients ys : List Client) (a : AskedDiscovery) (i : ℕ) (d : Client)
     → AreClientsOf s clients → slice_get s.asked 0 ≡ Some a → i ≡ a.client → ys ≡ clients
     → CanAnswer s clients a (get_or ys i d)
-can_answer s clients ys a i d are oldest place read = record {
+can_answer s clients ys a i d are oldest same_index read = record {
   oldest = oldest;
   at = at;
   sets = all_at HasSets clients are.kept.rings.sets a.client (get_or ys i d) at;
@@ -82,7 +82,7 @@ can_answer s clients ys a i d are oldest place read = record {
 }
   where
     at : slice_get clients a.client ≡ Some (get_or ys i d)
-    at = read_at clients ys i a.client d place read (asked_within s clients a are oldest)
+    at = read_at clients ys i a.client d same_index read (asked_within s clients a are oldest)
 
     one : 1 ≤ length (filter (λ (b : AskedDiscovery). a.client == b.client) s.asked)
     one = first_counts (λ (b : AskedDiscovery). b.client) s.asked a oldest
@@ -137,8 +137,8 @@ pub clients-answer : (s : QueueState) (clients : List Client) (i : ℕ) (k l : C
     (f : Option AgentFault) (found : List Device) (run : Option RunState) → AreClientsOf s clients
     → CanAnswer s clients a k → ServesLess s run → i ≡ a.client → ClientAnswers k a.number r f found l
     → AreClientsOf (record (answers_oldest s a r f found) { run = run }) (set clients i l)
-clients-answer s clients i k l a r f found run are can less place answers =
-    subst (λ n. AreClientsOf new (set clients n l)) (sym place) (are_clients new (set clients a.client l) kept
+clients-answer s clients i k l a r f found run are can less same_index answers =
+    subst (λ n. AreClientsOf new (set clients n l)) (sym same_index) (are_clients new (set clients a.client l) kept
     (places_stayed clients a.client k l can.at answers.rings.places ∙ are.places)
     (owed-answer s clients k l a r f found (sym are.owed) are.kept.rings can.at answers))
   where

@@ -26,7 +26,7 @@ use Rattle.rdm_log.specs.promises.Blocks.{DiscoverAdds, SwitchAdds, CloseAdds, C
 use Rattle.rdm_log.specs.promises.Blocks.{AllResults}
 use Rattle.rdm_queue.specs.body.State.{QueueState, first_join_fault, first_submit_fault, first_ask_fault, joins_client}
 use Rattle.rdm_queue.specs.body.State.{accepts_request, asks_discovery, collects_oldest, owed_to, unended, OwedOutcome}
-use Rattle.rdm_queue.specs.body.State.{owed_next, end_of_oldest, TakesOldest, first_kind}
+use Rattle.rdm_queue.specs.body.State.{owed_next, end_of_oldest, CollectsOldest, first_kind}
 use Rattle.rdm_queue.specs.body.Ending.{IsEnded, HasNothingDue}
 use Rattle.rdm_log.specs.promises.InBound.{FaultNeedsClose, AnswersInBound}
 use Rattle.rdm_log.proofs.BoundLemmas.{block_more}
@@ -155,21 +155,22 @@ switch_adds k e true s new turned stays = record { block = e ∷ []; adds = refl
 switch_adds k e false s new turned stays = adds_nothing k (SwitchAdds false e) new refl (stays refl)
 
 -- a collect
-pub takes_adds : (s new : QueueState) (c : ClientId) (outcome : Outcome) → TakesOldest s c.0 (outcome_value outcome) new
+pub collecting_adds : (s new : QueueState) (c : ClientId) (outcome : Outcome)
+    → CollectsOldest s c.0 (outcome_value outcome) new
     → AddsToEach s (λ k. CollectAdds k.opening k.entries c (Some outcome)) new
-takes_adds s new c outcome takes = record {
-  search = ap (λ (q : QueueState). q.search) takes.new_is;
+collecting_adds s new c outcome collecting = record {
+  search = ap (λ (q : QueueState). q.search) collecting.new_is;
   each = λ k at after. record {
     block = Collect c ∷ [];
-    adds = (oldest_after k.opening k.entries s c outcome (sym takes.oldest) after, refl);
-    after = rw takes.new_is (collect_after k.opening k.entries s c outcome (sym takes.oldest) after);
+    adds = (oldest_after k.opening k.entries s c outcome (sym collecting.oldest) after, refl);
+    after = rw collecting.new_is (collect_after k.opening k.entries s c outcome (sym collecting.oldest) after);
   };
 }
 
 pub collect_adds : (r : Option Outcome) (s new : QueueState) (c : ClientId)
     → option_map outcome_value r ≡ slice_get (owed_to c.0 s) 0 → OnSome r (new ≡ collects_oldest s c.0)
     → IfNone r (new ≡ s) → AddsToEach s (λ k. CollectAdds k.opening k.entries c r) new
-collect_adds None s new c told taken same = record {
+collect_adds None s new c told removed same = record {
   search = ap (λ (q : QueueState). q.search) same;
   each = λ k at after. record {
     block = [];
@@ -177,22 +178,22 @@ collect_adds None s new c told taken same = record {
     after = rw (same, append-nil) after;
   };
 }
-collect_adds (Some outcome) s new c told taken same = takes_adds s new c outcome (record {
+collect_adds (Some outcome) s new c told removed same = collecting_adds s new c outcome (record {
   oldest = sym told;
-  new_is = taken;
+  new_is = removed;
 })
 
 pub completion_adds : (r : Option (ℕ × Completion)) (s new : QueueState) (c : ClientId)
-    → IfSome r (λ x. TakesOldest s c.0 (outcome_value (request_outcome x)) new)
+    → IfSome r (λ x. CollectsOldest s c.0 (outcome_value (request_outcome x)) new)
     → IfSome r (λ x. AddsToEach s (λ k. CollectAdds k.opening k.entries c (Some (request_outcome x))) new)
-completion_adds None s new c takes = tt
-completion_adds (Some x) s new c takes = takes_adds s new c (request_outcome x) takes
+completion_adds None s new c collecting = tt
+completion_adds (Some x) s new c collecting = collecting_adds s new c (request_outcome x) collecting
 
 pub discovery_adds : (r : Option DiscoveryEnd) (set : List Device) (s new : QueueState) (c : ClientId)
-    → IfSome r (λ end. TakesOldest s c.0 (outcome_value (discovery_outcome end set)) new)
+    → IfSome r (λ end. CollectsOldest s c.0 (outcome_value (discovery_outcome end set)) new)
     → IfSome r (λ end. AddsToEach s (λ k. CollectAdds k.opening k.entries c (Some (discovery_outcome end set))) new)
-discovery_adds None set s new c takes = tt
-discovery_adds (Some end) set s new c takes = takes_adds s new c (discovery_outcome end set) takes
+discovery_adds None set s new c collecting = tt
+discovery_adds (Some end) set s new c collecting = collecting_adds s new c (discovery_outcome end set) collecting
 
 pub not_kind : {X : Type 0} (r : Option X) (s : QueueState) (c : ℕ) (kind : OutcomeKind)
     → IfNone r (first_kind c s ≢ Some kind) → IfNone r (ForEachLog s (λ o h. oldest_kind o h c ≢ Some kind))

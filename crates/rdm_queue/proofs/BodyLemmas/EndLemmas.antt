@@ -35,7 +35,7 @@ use Rattle.rdm_queue.specs.body.Ending.IsEnded.{ByRun, ByResult, ByClose}
 use Rattle.rdm_queue.specs.body.Agrees.{IsRunning, IsNotRunning, RunIs, RunGoesOn, oldest_number, Agrees, StandsAfter}
 use Rattle.rdm_queue.specs.body.Agrees.{StandsAmid}
 use Rattle.rdm_log.proofs.LogLemmas.Grows.{pushed}
-use Rattle.rdm_log.proofs.LogLemmas.Places.{all_from_places}
+use Rattle.rdm_log.proofs.LogLemmas.Indices.{all_from_indices}
 use Rattle.rdm_log.proofs.LogLemmas.PushLemmas.{answered_more, sends_same}
 use Rattle.rdm_log.proofs.LogLemmas.ExchangeLemmas.{result_unsent}
 use Rattle.rdm_log.proofs.LogLemmas.LegalFacts.{LogFacts, legal_facts, later_unsent, unfinished_number}
@@ -227,10 +227,10 @@ settled_idle : (o : Opening) (h : List Entry) (s : QueueState) → s.run ≡ Non
 unfolding result
 settled_idle o h s none none_left asked amid = record {
   results_open =
-      all_from_places (λ a. result a.number h ≡ None) (unfinished h)
+      all_from_indices (λ a. result a.number h ≡ None) (unfinished h)
       (by_end (none_due (end_of_oldest s) s.waiting none_left));
   runs_answered =
-      all_from_places (λ b. AllAnswered b.run h) (answers h)
+      all_from_indices (λ b. AllAnswered b.run h) (answers h)
       (λ i b at. all_answered o h b.run (ask_facts o h amid.each)
       (λ begun. all_below b.run begun (last_run h) refl));
   run_goes_on = rw before.none_open tt;
@@ -251,7 +251,7 @@ settled_idle o h s none none_left asked amid = record {
     by_end (inr end) i a at =
         results_open o h s facts
         (undecided (result_of (verdicts (oldest_number o h) h)) (verdicts (oldest_number o h) h) s.decided s.joiner
-        (open_end s.decided (is_closing s) end) amid.stands.progress) i a at
+        (open_end s.decided (is_closing s) end) amid.stands.standing) i a at
 
     all_below : (q : ℕ) → has_begun q h ≡ true → (last : Option ℕ) → last_run h ≡ last
         → length (asks (entries_before_run q h)) ≤ length (answers h)
@@ -282,12 +282,12 @@ settled_running : (o : Opening) (h : List Entry) (s : QueueState) (r : RunState)
     → (next_op (agent_at_end s) ≡ ops.End → ⊥) → StandsAmid o h s → NothingDue o h
 settled_running o h s r is goes amid = record {
   results_open =
-      all_from_places (λ a. result a.number h ≡ None) (unfinished h)
+      all_from_indices (λ a. result a.number h ≡ None) (unfinished h)
       (results_open o h s facts
       (result_unsent h (oldest_number o h)
       (unsent_at (oldest_number o h) (sends h) (sym amid.stands.under_way_is ∙ run.no_request))));
   runs_answered =
-      all_from_places (λ b. AllAnswered b.run h) (answers h)
+      all_from_indices (λ b. AllAnswered b.run h) (answers h)
       (λ i b at. all_answered o h b.run (ask_facts o h amid.each)
       (λ begun. earlier i b at (in_order o h amid.each r.number run.last b.run begun)));
   run_goes_on =

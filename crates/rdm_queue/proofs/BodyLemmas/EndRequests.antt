@@ -18,23 +18,23 @@ use Rattle.rdm_log.specs.log.History.{unfinished}
 use Rattle.rdm_log.specs.log.MayFinish.{MayFinish, IsClosing, FitsResult}
 use Rattle.rdm_log.specs.promises.Outcomes.{completion_of}
 use Rattle.rdm_queue.specs.body.State.{QueueState, OwedOutcome, owed_for, finish_of, finishes_oldest, end_of_oldest}
-use Rattle.rdm_queue.specs.body.State.{owed_next, due, GivesResult, ProgressAt, IsProgress}
+use Rattle.rdm_queue.specs.body.State.{owed_next, due, GivesResult, StandingAt, IsStanding}
 use Rattle.rdm_queue.specs.body.Agrees.{AwaitsRun, IsPending, oldest_number, Agrees, StandsAmid}
 use Rattle.rdm_log.proofs.LogLemmas.Grows.{pushed}
 use Rattle.rdm_log.proofs.LogLemmas.LegalFacts.{LogFacts, legal_facts, unfinished_number}
 use Rattle.rdm_log.proofs.LogLemmas.ClientFacts.{client_facts}
 use Rattle.rdm_queue.proofs.BodyLemmas.DecidedLemmas.{result_complete, gives_complete, gives_fits}
 use Rattle.rdm_queue.proofs.BodyLemmas.AfterLemmas.{pending_flag}
-use Rattle.rdm_queue.proofs.BodyLemmas.AfterFinish.{open_progress, awaited_open}
+use Rattle.rdm_queue.proofs.BodyLemmas.AfterFinish.{open_standing, awaited_open}
 use Rattle.rdm_queue.proofs.BodyLemmas.AgreesWork.{stands_finish}
 use Rattle.rdm_log.proofs.LogLemmas.BegunLemmas.{all_unserved}
 use Rattle.rdm_queue.proofs.BodyLemmas.TakeLemmas.{not_running}
 
 -- the state of the oldest request, if it isn't decided
 pub undecided : (r : Option Joined) (vs : List Judged) (decided : Option Joined) (joiner : JoinerStanding)
-    → decided ≡ None → ProgressAt r vs decided joiner → r ≡ None
-undecided None vs decided joiner none progress = refl
-undecided (Some j) vs decided joiner none progress = absurd (none-some progress.0 (sym none ∙ progress.2))
+    → decided ≡ None → StandingAt r vs decided joiner → r ≡ None
+undecided None vs decided joiner none standing = refl
+undecided (Some j) vs decided joiner none standing = absurd (none-some standing.0 (sym none ∙ standing.2))
 
 -- what is due
 record IsDue (end : Option Joined) (waiting : List Accepted) (d : OwedOutcome) : Type 0 where
@@ -64,10 +64,10 @@ record EndsRight (o : Opening) (h : List Entry) (n : ℕ) (done : Joined) : Type
   complete : done ≡ completion_of done.status (result n h)
 
 ends_decided : (o : Opening) (h : List Entry) (n : ℕ) (vs : List Judged) (joiner : JoinerStanding) (done : Joined)
-    (r : Option Joined) → result_of vs ≡ r → result n h ≡ r → ProgressAt r vs (Some done) joiner → EndsRight o h n done
-ends_decided o h n vs joiner done None is own progress = absurd (none-some done (sym progress.0))
-ends_decided o h n vs joiner done (Some j) is own progress =
-    let gives : GivesResult j done = rw (same_Some done progress.0 progress.2) progress.1 in
+    (r : Option Joined) → result_of vs ≡ r → result n h ≡ r → StandingAt r vs (Some done) joiner → EndsRight o h n done
+ends_decided o h n vs joiner done None is own standing = absurd (none-some done (sym standing.0))
+ends_decided o h n vs joiner done (Some j) is own standing =
+    let gives : GivesResult j done = rw (same_Some done standing.0 standing.2) standing.1 in
     record {
       fits = rw own (gives_fits (IsClosing o h) j done (result_complete vs j is) gives);
       complete = rw own (gives_complete j done (result_complete vs j is) gives);
@@ -102,7 +102,7 @@ ends_right : (o : Opening) (h : List Entry) (s : QueueState) (n : ℕ) (done : J
 unfolding result
 ends_right o h s n done number stands none (Some own) is end =
     ends_decided o h n vs s.joiner done (result_of vs) refl (ap (λ (m : ℕ). result m h) number)
-    (subst (λ (d : Option Joined). IsProgress vs d s.joiner) (is ∙ end) stands.progress)
+    (subst (λ (d : Option Joined). IsStanding vs d s.joiner) (is ∙ end) stands.standing)
   where
     vs : List Judged
     vs = verdicts (oldest_number o h) h
@@ -116,7 +116,7 @@ ends_right o h s n done number stands none None is end =
           sym (all_unserved h (not_running o h s none stands).none_left);
     })
     (ap (λ (m : ℕ). result m h) number
-    ∙ undecided (result_of vs) vs s.decided s.joiner is stands.progress) closes.unsent
+    ∙ undecided (result_of vs) vs s.decided s.joiner is stands.standing) closes.unsent
   where
     vs : List Judged
     vs = verdicts (oldest_number o h) h
@@ -134,8 +134,8 @@ idle_at_end o h s done facts stands none end = by_awaited s.awaited refl
         ≡ Some done → ⊥
     decides sent is (Some own) decided e =
         none-some own
-        (sym (open_progress (result_of vs) vs s.decided s.joiner
-        (awaited_open o h sent facts (subst (λ q. IsPending o h s q) is stands.awaited_is)) stands.progress).0
+        (sym (open_standing (result_of vs) vs s.decided s.joiner
+        (awaited_open o h sent facts (subst (λ q. IsPending o h s q) is stands.awaited_is)) stands.standing).0
         ∙ decided)
       where
         vs : List Judged

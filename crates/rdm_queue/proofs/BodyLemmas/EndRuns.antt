@@ -28,11 +28,11 @@ use Rattle.rdm_queue.specs.body.Ending.{devices_after, devices_run_after}
 use Rattle.rdm_queue.specs.body.Agrees.{AwaitsRequest, AwaitsRun, IsPending, IsRunning, RunIs, oldest_number, Agrees}
 use Rattle.rdm_queue.specs.body.Agrees.{StandsAmid}
 use Rattle.rdm_log.proofs.LogLemmas.Grows.{pushed}
-use Rattle.rdm_log.proofs.LogLemmas.Places.{all_from_places, slice_get-push, IsPushed, slice_get-drop}
-use Rattle.rdm_log.proofs.LogLemmas.Places.{slice_get_append_within}
+use Rattle.rdm_log.proofs.LogLemmas.Indices.{all_from_indices, slice_get-push, IsPushed, slice_get-drop}
+use Rattle.rdm_log.proofs.LogLemmas.Indices.{slice_get_append_within}
 use Rattle.rdm_log.proofs.LogLemmas.PushLemmas.{asks-append, answered-append, answered_more, sends_same, is_closed-push}
 use Rattle.rdm_log.proofs.LogLemmas.PushLemmas.{awaited-push}
-use Rattle.rdm_log.proofs.LogLemmas.AskFacts.{ask_facts, unanswered_place}
+use Rattle.rdm_log.proofs.LogLemmas.AskFacts.{ask_facts, unanswered_index}
 use Rattle.rdm_log.proofs.LogLemmas.ClientFacts.{client_facts}
 use Rattle.rdm_log.proofs.LogLemmas.RunFacts.{run_facts}
 use Rattle.rdm_log.proofs.LogLemmas.RunLemmas.{last_begun, last_run_same, served_stays, entries_before_run_stays}
@@ -154,7 +154,7 @@ pub serves_oldest : (o : Opening) (h : List Entry) (s : QueueState) (r : RunStat
     → list_any (λ b. b.number == a.number) (served r.number h) ≡ true
 serves_oldest o h s r a run oldest =
     rw (last_begun r.number h run.last)
-    (any_passes_from_place (λ (b : AskedDiscovery). b.number == a.number) (unserved early) place a at
+    (any_passes_from_place (λ (b : AskedDiscovery). b.number == a.number) (unserved early) index a at
     (eq-eqb a.number a.number refl))
   where
     early : List Entry
@@ -174,8 +174,8 @@ serves_oldest o h s r a run oldest =
     skipped : ℕ
     skipped = asked_before (last_run early) early - length (answers early)
 
-    place : ℕ
-    place = length (answers h) - (length (answers early) + skipped)
+    index : ℕ
+    index = length (answers h) - (length (answers early) + skipped)
 
     within : length (answers h) < length (asks early)
     within = let left : length (asks early) ≡ length (answers h) + r.left = rw run.last at run.left in
@@ -184,14 +184,14 @@ serves_oldest o h s r a run oldest =
     early_at : slice_get (asks early) (length (answers h)) ≡ Some a
     early_at = sym (slice_get_append_within (asks early) (asks rest.0) (length (answers h)) within)
         ∙ (ap (λ l. slice_get l (length (answers h))) (sym asked)
-        ∙ (ap (λ n. slice_get (asks h) n) (omega arith) ∙ unanswered_place h 0 a oldest))
+        ∙ (ap (λ n. slice_get (asks h) n) (omega arith) ∙ unanswered_index h 0 a oldest))
 
-    counted : length (answers early) + (skipped + place) ≡ length (answers h)
+    counted : length (answers early) + (skipped + index) ≡ length (answers h)
     counted = let before = run.earlier in let first = fewer in omega arith
 
-    at : slice_get (unserved early) place ≡ Some a
-    at = slice_get-drop skipped (unanswered early) place
-        ∙ (slice_get-drop (length (answers early)) (asks early) (skipped + place)
+    at : slice_get (unserved early) index ≡ Some a
+    at = slice_get-drop skipped (unanswered early) index
+        ∙ (slice_get-drop (length (answers early)) (asks early) (skipped + index)
         ∙ (ap (λ n. slice_get (asks early) n) counted ∙ early_at))
 
 -- all its Answers say the same
@@ -215,7 +215,7 @@ may_answer o h s r a run amid end oldest = record {
         sym (pending_flag o h s s.awaited amid.stands.awaited_is)
         ∙ ap (λ q. is_some q) (idle_by_run o h s r run amid.stands end);
     serves = serves_oldest o h s r a run oldest;
-    agrees = all_from_places (λ b. (b.run ≡ r.number) → b.fault ≡ fault_of (agent_at_end s).phase) (answers h)
+    agrees = all_from_indices (λ b. (b.run ≡ r.number) → b.fault ≡ fault_of (agent_at_end s).phase) (answers h)
         (λ i b at own. alike_at_end o h s r run i b at own);
     shows = agent_shows o h r.number (agent_at_end s) ends.aborted ends.has_run ends.closed end;
   };
@@ -295,12 +295,12 @@ answer_amid o h s r a is end first amid = record {
         (devices_after f (agent_at_end s).found s.devices) (devices_run_after f r.number s.devices_run)
 
     alike : (i : ℕ) (b : Answered) → slice_get (answers k) i ≡ Some b → b.run ≡ r.number → b.fault ≡ f
-    alike i b at own = by_place (slice_get-push (answers h) _ i b (rw (answered_more h e _ refl) at at))
+    alike i b at own = by_index (slice_get-push (answers h) _ i b (rw (answered_more h e _ refl) at at))
       where
-        by_place : (slice_get (answers h) i ≡ Some b)
+        by_index : (slice_get (answers h) i ≡ Some b)
             ⊎ IsPushed (answers h) (record { number = a.number; run = r.number; fault = f }) i b → b.fault ≡ f
-        by_place (inl before) = alike_at_end o h s r run i b before own
-        by_place (inr pushed_) = ap (λ (x : Answered). x.fault) pushed_.is
+        by_index (inl before) = alike_at_end o h s r run i b before own
+        by_index (inr pushed_) = ap (λ (x : Answered). x.fault) pushed_.is
 
     left_over : RunIs o k (new (one_less r)) (one_less r)
     left_over = by_left (nat_lt 1 r.left) refl

@@ -27,7 +27,7 @@ use Rattle.rdm_queue.proofs.BodyLemmas.InvariantLemmas.{waiting_rises, has_place
 use Rattle.rdm_queue.proofs.BodyLemmas.MergedLemmas.{merged_shares, length-put_all}
 use Rattle.rdm_queue.proofs.BodyLemmas.OutstandingLemmas.{waiting-le, in_all, in_all-cons, uncollected-le}
 use Rattle.rdm_queue.proofs.BodyLemmas.ValueLemmas.{length-values}
-use Rattle.rdm_log.proofs.LogLemmas.Places.{place_within}
+use Rattle.rdm_log.proofs.LogLemmas.Indices.{index_within}
 use Rattle.rdm_queue.proofs.BodyLemmas.RingSteps.{outstanding_count, sets_count, places_at}
 
 pub waiting_are : (s : QueueState) (clients : List Client) → QueueInvariant s clients
@@ -70,9 +70,9 @@ written xs ys i x same =
 -- where an element was read
 pub read_at : {X : Type 0} (xs ys : List X) (i c : ℕ) (d : X) → i ≡ c → ys ≡ xs → c < length xs
     → slice_get xs c ≡ Some (get_or ys i d)
-read_at xs ys i c d place same within =
+read_at xs ys i c d same_index same within =
     slice_get-get_or xs c d within ∙ ap (λ l. Some (get_or l c d)) (sym same)
-    ∙ ap (λ n. Some (get_or ys n d)) (sym place)
+    ∙ ap (λ n. Some (get_or ys n d)) (sym same_index)
 
 -- where an element was found
 pub found_at : {X : Type 0} (xs ys : List X) (i : ℕ) (x : X) → ys ≡ xs → i < length ys → x ≡ get_or ys i x
@@ -84,7 +84,7 @@ found_at xs ys i x same within is =
 known_at : (s : QueueState) (clients : List Client) (c : ℕ) (k : Client) → s.places ≡ places_of clients
     → slice_get clients c ≡ Some k → nat_le (length s.places) c ≡ false
 known_at s clients c k same at =
-    let within = place_within clients c k at in
+    let within = index_within clients c k at in
     let long = ap (λ ns. length ns) same ∙ length-map clients (λ l. l.places) in
     lt-leb (length s.places) c (omega arith)
 

@@ -10,7 +10,7 @@ use Rattle.rdm_join.specs.JoinerStanding.{JoinerStanding, step_of, head_of_stand
 use Rattle.rdm_join.specs.body.Standing.{StandsAt, standing_at}
 use Rattle.rdm_log.specs.declared.entry.Entry.{Entry}
 use Rattle.rdm_log.specs.log.Entries.{Accepted}
-use Rattle.rdm_queue.specs.body.State.{QueueState, fresh_joiner, GivesResult, ProgressAt, IsProgress, end_of_oldest}
+use Rattle.rdm_queue.specs.body.State.{QueueState, fresh_joiner, GivesResult, StandingAt, IsStanding, end_of_oldest}
 use Rattle.rdm_queue.specs.body.State.{owed_next, owed_for, finish_of, finishes_oldest, IsFinished}
 
 -- the completion of a joiner that has a result
@@ -27,11 +27,11 @@ gives status j done s vs same at (inr wanted) = inr (wanted.0, rw at at wanted.1
 -- decided, with this completion
 pub heard_done : (vs : List Judged) (status : Status) (s : JoinerStanding) (done : Joined)
     → Done status ≡ step_of (result_of vs) → StandsAt vs s → CompletesAs status s done
-    → IsProgress vs (Some done) fresh_joiner
+    → IsStanding vs (Some done) fresh_joiner
 heard_done vs status s done step at completes = by_result (result_of vs) step at
   where
     by_result : (o : Option Joined) → Done status ≡ step_of o → s ≡ standing_at o vs
-        → ProgressAt o vs (Some done) fresh_joiner
+        → StandingAt o vs (Some done) fresh_joiner
     by_result None h p = absurd (no h)
       where
         no : Done status ≡ More → ⊥
@@ -43,21 +43,21 @@ heard_done vs status s done step at completes = by_result (result_of vs) step at
 
 -- still open
 pub heard_more : (vs : List Judged) (s : JoinerStanding) → More ≡ step_of (result_of vs) → StandsAt vs s
-    → IsProgress vs None s
+    → IsStanding vs None s
 heard_more vs s step at = by_result (result_of vs) refl step
   where
-    by_result : (o : Option Joined) → result_of vs ≡ o → More ≡ step_of o → ProgressAt o vs None s
+    by_result : (o : Option Joined) → result_of vs ≡ o → More ≡ step_of o → StandingAt o vs None s
     by_result None is h = (refl, at)
     by_result (Some j) is h = absurd (no h)
       where
         no : More ≡ Done j.status → ⊥
         no h = cc
 
--- the oldest request, finished with its end, which was taken out
-pub finished_so : (s taken new : QueueState) (done : Joined) (entry : Entry) → end_of_oldest s ≡ Some done
-    → taken ≡ record s { decided = None } → (a : Accepted) × (slice_get taken.waiting 0 ≡ Some a)
-    × (entry ≡ finish_of (owed_for done a)) × (new ≡ finishes_oldest taken (owed_for done a)) → IsFinished s entry new
-finished_so s taken new done entry end is finished = record {
+-- the oldest request, finished with its end, which was removed
+pub finished_so : (s removed new : QueueState) (done : Joined) (entry : Entry) → end_of_oldest s ≡ Some done
+    → removed ≡ record s { decided = None } → (a : Accepted) × (slice_get removed.waiting 0 ≡ Some a)
+    × (entry ≡ finish_of (owed_for done a)) × (new ≡ finishes_oldest removed (owed_for done a)) → IsFinished s entry new
+finished_so s removed new done entry end is finished = record {
   owed = owed_for done finished.0;
   was_due = rw end (of_first s.waiting (rw is at finished.1));
   entry_is = finished.2;

@@ -28,8 +28,8 @@ use Rattle.rdm_queue.specs.body.State.{asked_as, joins_client, collects_oldest, 
 use Rattle.rdm_queue.specs.body.State.{first_ask_fault}
 use Rattle.rdm_queue.specs.body.Sending.{begun}
 use Rattle.rdm_log.proofs.LogLemmas.RefusalLemmas.{none_stands}
-use Rattle.rdm_log.proofs.LogLemmas.Places.{slice_get_first}
-use Rattle.rdm_queue.proofs.BodyLemmas.OutstandingLemmas.{taken_at, owes-count, without_first, one_more, four}
+use Rattle.rdm_log.proofs.LogLemmas.Indices.{slice_get_first}
+use Rattle.rdm_queue.proofs.BodyLemmas.OutstandingLemmas.{removed_at, owes-count, without_first, one_more, four}
 use Rattle.rdm_queue.proofs.BodyLemmas.OutstandingLemmas.{asked-le}
 
 pub waiting_rises : (s : QueueState) → StateInvariant s → IsAscending (map (λ (a : Accepted). a.number) s.waiting)
@@ -44,8 +44,8 @@ waiting_rises s held = rising_left (map (λ (a : Accepted). a.number) s.waiting)
         all_left (k ∷ ks) all = (all.0, all_left ks all.1)
 
 -- the client of the oldest request, and of the oldest discovery, has joined
-some_place : {n : ℕ} (ns : List ℕ) (c : ℕ) → 1 ≤ n → n ≤ get_or ns c 0 → c < length ns
-some_place ns c some fits = by_length (cases_lt c (length ns))
+some_within : {n : ℕ} (ns : List ℕ) (c : ℕ) → 1 ≤ n → n ≤ get_or ns c 0 → c < length ns
+some_within ns c some fits = by_length (cases_lt c (length ns))
   where
     no : {m : ℕ} → m ≡ 0 → 1 ≤ m → ⊥
     no e p = omega arith
@@ -67,14 +67,14 @@ first_counts {X} client xs x at =
 pub waiting_joined : (s : QueueState) (a : Accepted) → StateInvariant s → slice_get s.waiting 0 ≡ Some a
     → a.client < length s.places
 waiting_joined s a held at =
-    some_place s.places a.client (first_counts (λ (b : Accepted). b.client) s.waiting a at)
+    some_within s.places a.client (first_counts (λ (b : Accepted). b.client) s.waiting a at)
     (let few = held.few a.client in omega arith)
 
 pub asked_joined : (s : QueueState) (a : AskedDiscovery) → StateInvariant s → slice_get s.asked 0 ≡ Some a
     → a.client < length s.places
 asked_joined s a held at =
     subst (λ n. a.client < n) (length-map s.places (λ (n : ℕ). 4))
-    (some_place (map (λ (n : ℕ). 4) s.places) a.client
+    (some_within (map (λ (n : ℕ). 4) s.places) a.client
     (first_counts (λ (b : AskedDiscovery). b.client) s.asked a at)
     (let few = held.few_asks a.client in omega arith))
 
@@ -312,18 +312,18 @@ fewer_left p (d ∷ ds) = by_test (p d)
     by_test false = omega arith
 
 set_fewer : (p : OutcomeValue → Bool) (lists : List (List OutcomeValue)) (c n : ℕ)
-    → length (filter p (get_or (taken_at lists c) n [])) ≤ length (filter p (get_or lists n []))
+    → length (filter p (get_or (removed_at lists c) n [])) ≤ length (filter p (get_or lists n []))
 set_fewer p lists c n = by_client (cases_eq n c) (cases_lt c (length lists))
   where
     none : {ds : List OutcomeValue} (m : ℕ) → ds ≡ [] → length (filter p ds) ≤ m
     none m is = rw is (omega arith)
 
     by_client : (n ≡ c) ⊎ (n ≡ c → ⊥) → (c < length lists) ⊎ (length lists ≤ c)
-        → length (filter p (get_or (taken_at lists c) n [])) ≤ length (filter p (get_or lists n []))
+        → length (filter p (get_or (removed_at lists c) n [])) ≤ length (filter p (get_or lists n []))
     by_client (inl same) (inl within) =
         rw (same, get_or-set_same lists c (drop 1 (get_or lists c [])) [] within) (fewer_left p (get_or lists c []))
     by_client (inl same) (inr past) =
-        none _ (get_or_past (taken_at lists c) n []
+        none _ (get_or_past (removed_at lists c) n []
         (let long = length-set lists c (drop 1 (get_or lists c [])) in omega arith))
     by_client (inr other) within = rw (get_or-set_other lists c n (drop 1 (get_or lists c [])) [] other) (omega arith)
 

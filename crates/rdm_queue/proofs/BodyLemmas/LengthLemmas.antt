@@ -40,12 +40,12 @@ pub length_after : (o : Opening) (h : List Entry) (s : QueueState) (c : ℕ) →
     → first_length c s ≡ oldest_length o h c
 length_after o h s c after =
     ap (λ l. option_map length_of_value (slice_get l 0)) (after.stands.outcomes_are c)
-    ∙ length_told (uncollected o c h) (answers_passed o c h)
+    ∙ length_of_first (uncollected o c h) (answers_passed o c h)
   where
-    length_told : (es : List Entry) → AllByRecursion (λ e. is_answer_to o c h e ≡ true) es
+    length_of_first : (es : List Entry) → AllByRecursion (λ e. is_answer_to o c h e ≡ true) es
         → option_map length_of_value (slice_get (filter_map (outcome_of h) es) 0)
         ≡ option_and_then (answer_length h) (slice_get es 0)
-    length_told [] all = refl
-    length_told (Finish n status len ∷ es) all = refl
-    length_told (Answer n run fault ∷ es) all = refl
-    length_told (e ∷ es) all = absurd (false≢true all.0)
+    length_of_first [] all = refl
+    length_of_first (Finish n status len ∷ es) all = refl
+    length_of_first (Answer n run fault ∷ es) all = refl
+    length_of_first (e ∷ es) all = absurd (false≢true all.0)

@@ -8,7 +8,7 @@ use Rattle.std.proofs.lemmas.List.{length-map, get_or-set_same, get_or-set_other
 use Rattle.std.proofs.lemmas.List.Sums.{sum_by-set, sum_by-cons}
 use Rattle.std.proofs.lemmas.List.Elements.{filter-append}
 use Rattle.rdm_log.proofs.LogLemmas.Counts.{count}
-use Rattle.rdm_log.proofs.LogLemmas.Places.{slice_get_first}
+use Rattle.rdm_log.proofs.LogLemmas.Indices.{slice_get_first}
 use Rattle.rdm_log.specs.promises.Outcomes.{OutcomeValue}
 use Rattle.rdm_queue.specs.body.QueueInvariant.{StateInvariant}
 use Rattle.rdm_queue.specs.body.State.{QueueState, owed_to, owes, is_discovery, uncollected}
@@ -23,7 +23,7 @@ count-other c x xs other = rw (ne_eqb c x other) refl
 few_in_all : (places xs : List ℕ) → ((c : ℕ) → count c xs ≤ get_or places c 0) → length xs ≤ sum places
 few_in_all places [] few = omega arith
 few_in_all places (x ∷ xs) few =
-    by_place (cases_lt x (length places))
+    by_index (cases_lt x (length places))
     (λ (less : List ℕ) (fewer : (c : ℕ) → count c xs ≤ get_or less c 0). few_in_all less xs fewer)
   where
     one : 1 + count x xs ≤ get_or places x 0
@@ -46,11 +46,11 @@ few_in_all places (x ∷ xs) few =
     counted : {s t m n : ℕ} → n ≤ s → s + m ≡ t + (m - 1) → 1 + count x xs ≤ m → suc n ≤ t
     counted a b c = omega arith
 
-    by_place : (x < length places) ⊎ (length places ≤ x)
+    by_index : (x < length places) ⊎ (length places ≤ x)
         → ((rest : List ℕ) → ((c : ℕ) → count c xs ≤ get_or rest c 0) → length xs ≤ sum rest)
         → length (x ∷ xs) ≤ sum places
-    by_place (inr past) all = absurd (none (get_or_past places x 0 past) one)
-    by_place (inl here) all =
+    by_index (inr past) all = absurd (none (get_or_past places x 0 past) one)
+    by_index (inl here) all =
         counted (all less (λ c. at c here (cases_eq c x))) (sum_by-set (λ n. n) places x (get_or places x 0 - 1) 0 here)
         one
 
@@ -135,8 +135,8 @@ pub in_all-cons : (ds : List OutcomeValue) (lists : List (List OutcomeValue))
 in_all-cons ds lists = sum_by-cons (λ (n : ℕ). n) (length ds) (map (λ (es : List OutcomeValue). length es) lists)
 
 -- client c's list without its first outcome, and with one more
-abbrev pub taken_at : List (List OutcomeValue) → ℕ → List (List OutcomeValue)
-taken_at lists c = set lists c (drop 1 (get_or lists c []))
+abbrev pub removed_at : List (List OutcomeValue) → ℕ → List (List OutcomeValue)
+removed_at lists c = set lists c (drop 1 (get_or lists c []))
 
 abbrev pub put_at : List (List OutcomeValue) → ℕ → OutcomeValue → List (List OutcomeValue)
 put_at lists c d = set lists c (get_or lists c [] ++ d ∷ [])
@@ -186,7 +186,7 @@ owes-count p s c n d within = by_client (cases_eq n c)
         (ap (λ m. length (filter p (owed_to c s)) + m) (one (p d)))
     by_client (inr other) = rw (owes-other s c n d other, ne_eqb n c other) (omega arith)
 
--- the first of a list taken out
+-- the first of a list removed
 pub without_first : {X : Type 0} (client : X → ℕ) (n : ℕ) (xs : List X) (x : X) → slice_get xs 0 ≡ Some x
     → length (filter (λ y. n == client y) (drop 1 xs)) + cond (n == client x) 1 0
     ≡ length (filter (λ y. n == client y) xs)

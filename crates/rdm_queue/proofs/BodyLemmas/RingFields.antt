@@ -16,14 +16,14 @@ use Rattle.rdm_queue.specs.body.Rings.{IsNewClient, ClientAccepts, ClientFinishe
 use Rattle.rdm_queue.specs.body.Fields.{state_of, places_of, waiting_rings, owed_rings}
 use Rattle.rdm_queue.specs.body.QueueInvariant.{QueueInvariant}
 use Rattle.rdm_queue.specs.body.State.{QueueState, owed_for, finishes_oldest, accepts_request, joins_client}
-use Rattle.rdm_queue.specs.body.State.{first_join_fault, first_submit_fault, TakesOldest}
+use Rattle.rdm_queue.specs.body.State.{first_join_fault, first_submit_fault, CollectsOldest}
 use Rattle.rdm_queue.proofs.BodyLemmas.InvariantLemmas.{first_counts}
 use Rattle.rdm_queue.proofs.BodyLemmas.ValueLemmas.{values-fresh}
 use Rattle.rdm_queue.proofs.BodyLemmas.RingLemmas.{places_stayed, set_same}
 use Rattle.rdm_queue.proofs.BodyLemmas.RingSteps.{values_at, owed-accept, owed-finish, owed-collect, kept-finish}
 use Rattle.rdm_queue.proofs.BodyLemmas.RingSteps.{kept-accept, kept-collect, kept-join, room_for_request}
 use Rattle.rdm_queue.proofs.BodyLemmas.RingSteps.{room_for_outcome}
-use Rattle.rdm_queue.proofs.BodyLemmas.FrontLemmas.{oldest_within, some_waits}
+use Rattle.rdm_queue.proofs.BodyLemmas.OldestLemmas.{oldest_within, some_waits}
 use Rattle.rdm_queue.proofs.BodyLemmas.FieldLemmas.{waiting_are, read_at, known_client}
 
 -- in this state the invariant holds with these clients, whose rings are its fields
@@ -58,7 +58,7 @@ clients-join s clients k places are fresh passes =
     ∙ (ap (λ ds. owed_rings clients ++ ds ∷ []) (values-fresh k places fresh)
     ∙ ap (λ (lists : List (List OutcomeValue)). lists ++ [] ∷ []) are.owed))
 
--- a client's request is accepted: no fault refuses it, and the client, read at its place, has capacity for it
+-- a client's request is accepted: no fault refuses it, and the client, read at its index, has capacity for it
 pub record CanAccept (s : QueueState) (clients : List Client) (c : ℕ) (k : Client) : Type 0 where
   pub passes : first_submit_fault s c ≡ None
   pub at : slice_get clients c ≡ Some k
@@ -66,26 +66,26 @@ pub record CanAccept (s : QueueState) (clients : List Client) (c : ℕ) (k : Cli
 
 pub can_accept : (s : QueueState) (clients ys : List Client) (c i : ℕ) (d : Client) → AreClientsOf s clients
     → first_submit_fault s c ≡ None → i ≡ c → ys ≡ clients → CanAccept s clients c (get_or ys i d)
-can_accept s clients ys c i d are passes place read = record {
+can_accept s clients ys c i d are passes same_index read = record {
   passes = passes;
   at = at;
   room = room_for_request s clients c (get_or ys i d) are.kept (sym are.places) (sym are.owed) passes at;
 }
   where
     at : slice_get clients c ≡ Some (get_or ys i d)
-    at = read_at clients ys i c d place read (known_client s clients c (sym are.places) passes)
+    at = read_at clients ys i c d same_index read (known_client s clients c (sym are.places) passes)
 
 pub clients-accept : (s : QueueState) (clients : List Client) (c i : ℕ) (k l : Client) (request : Request)
     → AreClientsOf s clients → CanAccept s clients c k → i ≡ c → ClientAccepts k s.next_request request l
     → AreClientsOf (accepts_request s c request) (set clients i l)
-clients-accept s clients c i k l request are can place accepts =
-    subst (λ n. AreClientsOf (accepts_request s c request) (set clients n l)) (sym place)
+clients-accept s clients c i k l request are can same_index accepts =
+    subst (λ n. AreClientsOf (accepts_request s c request) (set clients n l)) (sym same_index)
     (are_clients (accepts_request s c request) (set clients c l)
     (kept-accept s clients c k l request are.kept can.at accepts can.passes)
     (places_stayed clients c k l can.at accepts.rings.places ∙ are.places)
     (owed-accept clients c s.next_request k l request can.at accepts ∙ are.owed))
 
--- the oldest request is finished: its client, read at its place, has it, and capacity for its outcome
+-- the oldest request is finished: its client, read at its index, has it, and capacity for its outcome
 pub record CanFinish (s : QueueState) (clients : List Client) (a : Accepted) (k : Client) : Type 0 where
   pub oldest : slice_get s.waiting 0 ≡ Some a
   pub at : slice_get clients a.client ≡ Some k
@@ -95,7 +95,7 @@ pub record CanFinish (s : QueueState) (clients : List Client) (a : Accepted) (k 
 pub can_finish : (s : QueueState) (clients ys : List Client) (a : Accepted) (i : ℕ) (d : Client)
     → AreClientsOf s clients → slice_get s.waiting 0 ≡ Some a → a.client ≡ i → ys ≡ clients
     → CanFinish s clients a (get_or ys i d)
-can_finish s clients ys a i d are oldest place read = record {
+can_finish s clients ys a i d are oldest same_index read = record {
   oldest = oldest;
   at = at;
   some = some_waits s clients (get_or ys i d) a are.kept oldest at;
@@ -104,25 +104,25 @@ can_finish s clients ys a i d are oldest place read = record {
 }
   where
     at : slice_get clients a.client ≡ Some (get_or ys i d)
-    at = read_at clients ys i a.client d (sym place) read
+    at = read_at clients ys i a.client d (sym same_index) read
         (oldest_within s clients a.client are.kept (a, oldest, refl))
 
 pub clients-finish : (s : QueueState) (clients : List Client) (i : ℕ) (k l : Client) (done : Completion)
     (entry : Entry) (a : Accepted) → AreClientsOf s clients → CanFinish s clients a k → a.client ≡ i
     → ClientFinishes k done entry l
     → AreClientsOf (finishes_oldest s (owed_for (completion_value done) a)) (set clients i l)
-clients-finish s clients i k l done entry a are can place finishes =
-    subst (λ n. AreClientsOf (finishes_oldest s (owed_for (completion_value done) a)) (set clients n l)) place
+clients-finish s clients i k l done entry a are can same_index finishes =
+    subst (λ n. AreClientsOf (finishes_oldest s (owed_for (completion_value done) a)) (set clients n l)) same_index
     (are_clients (finishes_oldest s (owed_for (completion_value done) a)) (set clients a.client l)
     (kept-finish s clients k l done entry a are.kept can.at finishes can.oldest)
     (places_stayed clients a.client k l can.at finishes.rings.places ∙ are.places)
     (owed-finish s clients k l done entry a (sym are.owed) are.kept.rings can.at finishes can.oldest))
 
--- a client's oldest outcome is taken out, if a call returns one
+-- a client's oldest outcome is removed, if a call returns one
 pub record MayCollect {X : Type 0} (s : QueueState) (clients : List Client) (c : ℕ) (l : Client) (r : Option X)
     (value : X → OutcomeValue) : Type 0 where
   pub are : AreClientsOf (record s { owed = owed_rings (set clients c l) }) (set clients c l)
-  pub taken : IfSome r (λ x. TakesOldest s c (value x) (record s { owed = owed_rings (set clients c l) }))
+  pub removed : IfSome r (λ x. CollectsOldest s c (value x) (record s { owed = owed_rings (set clients c l) }))
 
 pub may_collect : {X : Type 0} (s : QueueState) (clients : List Client) (c : ℕ) (k l : Client) (r : Option X)
     (value : X → OutcomeValue) → AreClientsOf s clients → slice_get clients c ≡ Some k
@@ -133,7 +133,7 @@ may_collect s clients c k l (Some x) value are at collects same =
       are = are_clients (record s { owed = owed_rings (set clients c l) }) (set clients c l)
           (rw is (kept-collect s clients c k l (value x) are.kept at collects))
           (places_stayed clients c k l at collects.rings.places ∙ are.places) refl;
-      taken = record {
+      removed = record {
         oldest = ap (λ lists. slice_get (get_or lists c []) 0) (sym are.owed)
             ∙ ap (λ ds. slice_get ds 0) (values_at clients c k at ∙ collects.outcomes);
         new_is = ap (λ lists. record s { owed = lists }) is;
@@ -143,5 +143,5 @@ may_collect s clients c k l None value are at collects same = record {
   are = are_clients (record s { owed = owed_rings (set clients c l) }) (set clients c l)
       (rw (same, set_same clients c k at, are.owed) are.kept)
       (places_stayed clients c k l at (ap (λ m. m.places) same) ∙ are.places) refl;
-  taken = tt;
+  removed = tt;
 }

@@ -10,7 +10,7 @@ use Rattle.rdm_queue.specs.declared.client.Client.{Client}
 use Rattle.rdm_queue.specs.body.Merged.{AreShares}
 use Rattle.rdm_queue.specs.body.Fields.{rings_from, places_of}
 use Rattle.rdm_queue.specs.body.Rings.{HasRings, SameRings}
-use Rattle.rdm_log.proofs.LogLemmas.Places.{place_within}
+use Rattle.rdm_log.proofs.LogLemmas.Indices.{index_within}
 
 -- a client's ring among all rings
 ring_from : {X : Type 0} (ring : ℕ → Client → List X) (from : ℕ) (clients : List Client) (i : ℕ) (k : Client)
@@ -38,7 +38,7 @@ ring_past ring clients i past =
 
 pub ring_within : {X : Type 0} (ring : ℕ → Client → List X) (clients : List Client) (i : ℕ) (k : Client)
     → slice_get clients i ≡ Some k → i < length (rings_from ring 0 clients)
-ring_within ring clients i k at = let within = place_within clients i k at in omega (arith, length-rings ring 0 clients)
+ring_within ring clients i k at = let within = index_within clients i k at in omega (arith, length-rings ring 0 clients)
 
 rings_set : {X : Type 0} (ring : ℕ → Client → List X) (from : ℕ) (clients : List Client) (i : ℕ) (k : Client)
     → rings_from ring from (set clients i k) ≡ set (rings_from ring from clients) i (ring (from + i) k)
@@ -118,7 +118,7 @@ shares_push {X} client lists all x shares within c =
         rw (ne_eqb c (client x) other, append-nil (filter (λ y. c == client y) all))
         (get_or-set_other lists (client x) c (get_or lists (client x) [] ++ x ∷ []) [] other ∙ shares c)
 
--- the first of all taken out
+-- the first of all removed
 pub shares_rest : {X : Type 0} (client : X → ℕ) (lists : List (List X)) (all : List X) (x : X) (rest : List X)
     → AreShares client lists (x ∷ all) → get_or lists (client x) [] ≡ x ∷ rest
     → AreShares client (set lists (client x) rest) all

@@ -26,7 +26,7 @@ use Rattle.rdm_queue.specs.body.State.{accepted_as, accepts_request, finishes_ol
 use Rattle.rdm_queue.specs.body.State.{first_join_fault, first_submit_fault, owed_to, is_discovery, first_kind}
 use Rattle.rdm_queue.specs.body.State.{kind_of_value}
 use Rattle.rdm_queue.specs.body.Ending.{answer_value}
-use Rattle.rdm_log.proofs.LogLemmas.Places.{all_at, slice_get_first}
+use Rattle.rdm_log.proofs.LogLemmas.Indices.{all_at, slice_get_first}
 use Rattle.rdm_queue.proofs.BodyLemmas.InvariantLemmas.{has_place, has_room, held-finishes, held-accepts, held-collects}
 use Rattle.rdm_queue.proofs.BodyLemmas.InvariantLemmas.{held-joins}
 use Rattle.rdm_queue.proofs.BodyLemmas.OutstandingLemmas.{both_kinds, fours}
@@ -71,11 +71,11 @@ rings-accept s clients c k l request rings at accepts = record {
     changed = ring_changed waiting_ring clients c l
         (get_or (waiting_rings clients) c [] ++ accepted_as s c request ∷ []) items_are
 
--- the client whose request is the oldest has it at its front
-front_is : (s : QueueState) (clients : List Client) (k : Client) (a : Accepted) (w : Waiting) (ws : List Waiting)
+-- the client whose request is the oldest has it first in its ring
+oldest_is : (s : QueueState) (clients : List Client) (k : Client) (a : Accepted) (w : Waiting) (ws : List Waiting)
     → RingsInvariant s clients → slice_get clients a.client ≡ Some k → k.waiting.items ≡ w ∷ ws
     → slice_get s.waiting 0 ≡ Some a → a ≡ accepted_is a.client w
-front_is s clients k a w ws rings at items oldest =
+oldest_is s clients k a w ws rings at items oldest =
     let ring : get_or (waiting_rings clients) a.client [] ≡ accepted_is a.client w ∷ map (accepted_is a.client) ws =
     ring_of waiting_ring clients a.client k at ∙ ap (λ l. map (accepted_is a.client) l) items in
     let own : get_or (waiting_rings clients) a.client []
@@ -101,7 +101,7 @@ rings-finish s clients k l done entry a rings at finishes oldest = record {
 }
   where
     same : a ≡ accepted_is a.client finishes.oldest
-    same = front_is s clients k a finishes.oldest l.waiting.items rings at finishes.waiting oldest
+    same = oldest_is s clients k a finishes.oldest l.waiting.items rings at finishes.waiting oldest
 
     all : AreShares (λ (b : Accepted). b.client) (waiting_rings clients) (a ∷ drop 1 s.waiting)
     all = subst (λ whole. AreShares (λ (b : Accepted). b.client) (waiting_rings clients) whole)
@@ -119,7 +119,7 @@ pub entry-finish : (s : QueueState) (clients : List Client) (k l : Client) (done
     → (finishes : ClientFinishes k done entry l) → slice_get s.waiting 0 ≡ Some a → a.number ≡ finishes.oldest.number
 entry-finish s clients k l done entry a rings at finishes oldest =
     ap (λ (b : Accepted). b.number)
-    (front_is s clients k a finishes.oldest l.waiting.items rings at finishes.waiting oldest)
+    (oldest_is s clients k a finishes.oldest l.waiting.items rings at finishes.waiting oldest)
 
 -- what clients are owed, if one of them has changed
 pub values_at : (clients : List Client) (c : ℕ) (k : Client) → slice_get clients c ≡ Some k
@@ -197,7 +197,7 @@ rings-answer s new clients c k l n r f found waits rings at answers = record {
       (sets-answer k l n r f found answers (all_at HasSets clients rings.sets c k at));
 }
 
--- a client's oldest outcome is taken out
+-- a client's oldest outcome is removed
 pub rings-collect : (s new : QueueState) (clients : List Client) (c : ℕ) (k l : Client) (outcome : OutcomeValue)
     → new.waiting ≡ s.waiting → RingsInvariant s clients → slice_get clients c ≡ Some k → ClientCollects k outcome l
     → RingsInvariant new (set clients c l)

@@ -21,12 +21,12 @@ use Rattle.rdm_log.specs.log.Legal.{MayFollow}
 use Rattle.rdm_log.proofs.BoundLemmas.{after_growth}
 use Rattle.rdm_log.proofs.PromiseLemmas.LogInBoundLemmas.{in_bound_grows, empty_in_bound}
 use Rattle.rdm_queue.specs.promises.EachLog.{IsSetUp}
-use Rattle.rdm_log.proofs.LogLemmas.RoomLemmas.{added, added_by, taken_block}
+use Rattle.rdm_log.proofs.LogLemmas.RoomLemmas.{added, added_by, used_block}
 
 -- a block within the free entries
 room_grown : (k : LogState) (block : List Entry) → HasRoom k → EachAfter (MayFollow k.opening) (k.entries ++ block)
     → added_by block ≤ free_entries k → HasRoom (grown k block)
-room_grown k block room each free = within (taken_block k.opening k.entries block each) room
+room_grown k block room each free = within (used_block k.opening k.entries block each) room
   where
     within : {n : ℕ} → n ≡ length k.entries + reserved k.opening k.entries + added_by block
         → length k.entries + reserved k.opening k.entries ≤ k.room → n ≤ k.room

@@ -33,8 +33,8 @@ use Rattle.rdm_queue.specs.body.Agrees.{IsRunning, IsNotRunning, RunIs, RunGoesO
 use Rattle.rdm_log.proofs.LogLemmas.KeepsLegal.{send_keeps, run_send_keeps}
 use Rattle.rdm_log.proofs.LogLemmas.LegalFacts.{LogFacts, legal_facts, sent_evenly, unfinished_number, later_unsent}
 use Rattle.rdm_log.proofs.LogLemmas.AskFacts.{ask_facts}
-use Rattle.rdm_log.proofs.LogLemmas.RunFacts.{is_open, run_facts, any_from_place}
-use Rattle.rdm_log.proofs.LogLemmas.Places.{slice_get-drop, within_some}
+use Rattle.rdm_log.proofs.LogLemmas.RunFacts.{is_open, run_facts, any_from_index}
+use Rattle.rdm_log.proofs.LogLemmas.Indices.{slice_get-drop, within_some}
 use Rattle.rdm_log.proofs.LogLemmas.RunLemmas.{no_frames}
 use Rattle.rdm_log.proofs.LogLemmas.AgentLemmas.{agent_goes_on}
 use Rattle.rdm_queue.proofs.BodyLemmas.AfterLemmas.{IsSent, pending_flag, sent_by_frame}
@@ -322,8 +322,9 @@ sent_waits : (o : Opening) (h : List Entry) → LogFacts o h → was_sent (oldes
     → ⊥
 sent_waits o h facts sent none = by_first (slice_get (unfinished h) 0) refl
   where
-    place : (i : ℕ) × (x : Sending) × (slice_get (sends h) i ≡ Some x) × (is_request (oldest_number o h) x.owner ≡ true)
-    place = any_from_place (λ (x : Sending). is_request (oldest_number o h) x.owner) (sends h) sent
+    sent_at : (i : ℕ) × (x : Sending) × (slice_get (sends h) i ≡ Some x)
+        × (is_request (oldest_number o h) x.owner ≡ true)
+    sent_at = any_from_index (λ (x : Sending). is_request (oldest_number o h) x.owner) (sends h) sent
 
     none_in : (xs : List Accepted) (a : Accepted) → slice_get xs 0 ≡ Some a → was_sent a.number h ≡ true
         → filter (λ b. was_sent b.number h) xs ≡ [] → ⊥
@@ -338,7 +339,7 @@ sent_waits o h facts sent none = by_first (slice_get (unfinished h) 0) refl
         none_in (unfinished h) a at (ap (λ n. was_sent n h) (unfinished_number o h facts 0 a at ∙ omega arith) ∙ sent)
         none
     by_first None at =
-        absurd (too_few (facts.sent_accepted place.0 place.1 place.2 (oldest_number o h) place.3)
+        absurd (too_few (facts.sent_accepted sent_at.0 sent_at.1 sent_at.2 (oldest_number o h) sent_at.3)
         (sym (slice_get-drop (length (finishes h)) (accepts h) 0) ∙ at))
       where
         too_few : oldest_number o h < next_request o h → slice_get (accepts h) (length (finishes h) + 0) ≡ None → ⊥

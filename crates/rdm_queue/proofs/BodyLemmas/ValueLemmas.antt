@@ -99,7 +99,7 @@ pub values-fresh : (k : Client) (places : ℕ) → IsNewClient places k → owed
 unfolding values
 values-fresh k places fresh = ap (λ ds. values ds k.sets.items) fresh.none_owed
 
--- the oldest taken out: a request's, or a discovery's
+-- the oldest removed: a request's, or a discovery's
 pub collects-request : (k l : Client) (n : ℕ) (done : Completion)
     → k.outcomes.items ≡ owed.Request n done ∷ l.outcomes.items → l.waiting ≡ k.waiting → l.sets ≡ k.sets
     → l.places ≡ k.places → deque_capacity l.outcomes ≡ deque_capacity k.outcomes → HasSets k

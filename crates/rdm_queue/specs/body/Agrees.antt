@@ -27,7 +27,7 @@ use Rattle.rdm_log.specs.promises.Outcomes.{outcome_of}
 use Rattle.rdm_log.specs.log.LogState.{LogState}
 use Rattle.rdm_log.specs.promises.Blocks.{AllResults, is_result}
 use Rattle.rdm_log.specs.promises.InBound.{FaultNeedsClose, AnswersInBound}
-use Rattle.rdm_queue.specs.body.State.{QueueState, RunState, owed_to, IsProgress}
+use Rattle.rdm_queue.specs.body.State.{QueueState, RunState, owed_to, IsStanding}
 use Rattle.rdm_queue.specs.body.State.{uncollected as uncollected_by}
 
 -- the number of the oldest unfinished request, or of the next one if there is none
@@ -104,7 +104,7 @@ pub record Agrees (o : Opening) (h : List Entry) (s : QueueState) : Type 0 where
   pub waiting_are : s.waiting ≡ unfinished h
   pub awaited_is : IsPending o h s s.awaited
   pub under_way_is : s.under_way ≡ was_sent (oldest_number o h) h
-  pub progress : IsProgress (verdicts (oldest_number o h) h) s.decided s.joiner
+  pub standing : IsStanding (verdicts (oldest_number o h) h) s.decided s.joiner
   pub next_ask_is : s.next_ask ≡ next_ask o h
   pub next_run_is : s.next_run ≡ next_run o h
   pub asked_are : s.asked ≡ unanswered h

@@ -91,7 +91,7 @@ kind_of_owed (owed.Discovery number run fault) = kinds.Discovery
 abbrev pub first_kind_owed : Client → Option OutcomeKind
 first_kind_owed k = option_map kind_of_owed (slice_get k.outcomes.items 0)
 
--- this was its oldest outcome, and was taken out
+-- this was its oldest outcome, and was removed
 pub record ClientCollects (old : Client) (outcome : OutcomeValue) (new : Client) : Type 0 where
   pub waiting : new.waiting.items ≡ old.waiting.items
   pub outcomes : owed_values old ≡ outcome ∷ owed_values new

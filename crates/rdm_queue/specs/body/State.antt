@@ -213,12 +213,12 @@ asked_as s c kind = record { client = c; number = s.next_ask; kind = kind }
 abbrev pub asks_discovery : QueueState → ℕ → Kind → QueueState
 asks_discovery s c kind = record s { next_ask = s.next_ask + 1; asked = s.asked ++ asked_as s c kind ∷ [] }
 
--- a client's oldest outcome taken out
+-- a client's oldest outcome removed
 abbrev pub collects_oldest : QueueState → ℕ → QueueState
 collects_oldest s c = record s { owed = set s.owed c (drop 1 (owed_to c s)) }
 
--- this was the client's oldest outcome, and was taken out
-pub record TakesOldest (old : QueueState) (c : ℕ) (outcome : OutcomeValue) (new : QueueState) : Type 0 where
+-- this was the client's oldest outcome, and was removed
+pub record CollectsOldest (old : QueueState) (c : ℕ) (outcome : OutcomeValue) (new : QueueState) : Type 0 where
   pub oldest : slice_get (owed_to c old) 0 ≡ Some outcome
   pub new_is : new ≡ collects_oldest old c
 
@@ -252,20 +252,20 @@ abbrev pub GivesResult : Joined → Joined → Type 0
 GivesResult j done = (done ≡ j) ⊎ ((done ≡ ended NoMemory) × (0 < length j.data_))
 
 -- the state of the oldest request after these verdicts: its joiner has them, or it has ended
-abbrev pub ProgressAt : Option Joined → List Judged → Option Joined → JoinerStanding → Type 0
-ProgressAt None vs decided joiner = (decided ≡ None) × StandsAt vs joiner
-ProgressAt (Some j) vs decided joiner =
+abbrev pub StandingAt : Option Joined → List Judged → Option Joined → JoinerStanding → Type 0
+StandingAt None vs decided joiner = (decided ≡ None) × StandsAt vs joiner
+StandingAt (Some j) vs decided joiner =
     (done : Joined) × GivesResult j done × (decided ≡ Some done) × (joiner ≡ fresh_joiner)
 
-abbrev pub IsProgress : List Judged → Option Joined → JoinerStanding → Type 0
-IsProgress vs decided joiner = ProgressAt (result_of vs) vs decided joiner
+abbrev pub IsStanding : List Judged → Option Joined → JoinerStanding → Type 0
+IsStanding vs decided joiner = StandingAt (result_of vs) vs decided joiner
 
--- what came was taken, and these are then the verdicts on the oldest request
+-- what came was heard, and these are then the verdicts on the oldest request
 pub record Hears (vs : List Judged) (old new : QueueState) : Type 0 where
-  pub progress : IsProgress vs new.decided new.joiner
+  pub standing : IsStanding vs new.decided new.joiner
   pub new_is : new ≡ record old { awaited = None; joiner = new.joiner; decided = new.decided }
 
--- what came for this frame of the oldest request, which hadn't ended, was taken
+-- what came for this frame of the oldest request, which hadn't ended, was heard
 abbrev pub HearsRequest : Sent → LineEvent → QueueState → QueueState → Type 0
 HearsRequest sent event old new =
     (vs : List Judged) → old.decided ≡ None → StandsAt vs old.joiner → Hears (vs ++ verdict sent event ∷ []) old new

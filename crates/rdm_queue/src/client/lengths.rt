@@ -19,7 +19,7 @@ impl Client {
     fn oldest_set_length(&self) -> usize
         ensures { result ≡ first_set_length self.now.sets.items }
     {
-        match self.sets.front() {
+        match self.sets.oldest() {
             Some(set) => set.len(),
             None => 0,
         }

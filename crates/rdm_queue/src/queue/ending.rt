@@ -1,4 +1,4 @@
-//! How requests and discoveries end: replies are taken, requests are finished, and discoveries are answered.
+//! How requests and discoveries end: replies are heard, requests are finished, and discoveries are answered.
 ghost use Rattle.std.specs.Prelude.{◌≡◌, ◌⊎◌, ◌<◌, length};
 ghost use Rattle.rdm_join.specs.Result.{ended};
 ghost use Rattle.rdm_join.specs.JoinerStanding.{head_of_standing};
@@ -202,7 +202,7 @@ impl Queue {
     // Takes out how the oldest request has ended.
     fn end_of_oldest(&mut self) -> Option<Completion>
         ensures end { option_map completion_value result ≡ end_of_oldest self.old }
-        ensures taken { OnSome result (self.new ≡ record self.old { decided = None }) }
+        ensures removed { OnSome result (self.new ≡ record self.old { decided = None }) }
         ensures none { IfNone result (self.new ≡ self.old) }
     {
         if let Some(done) = self.decided.take() {
@@ -218,7 +218,7 @@ impl Queue {
     fn finish(&mut self, at: usize, done: Completion) -> Entry
         requires oldest { (accepted : Accepted) × (slice_get self.old.waiting 0 ≡ Some accepted)
             × (accepted.client ≡ at) }
-        requires taken { self.old.decided ≡ None }
+        requires removed { self.old.decided ≡ None }
         ensures finished { (accepted : Accepted) × (slice_get self.old.waiting 0 ≡ Some accepted)
             × (result ≡ finish_of (owed_for (completion_value done) accepted))
             × (self.new ≡ finishes_oldest self.old (owed_for (completion_value done) accepted)) }

@@ -2,7 +2,7 @@
 use super::checks::{check, check_eq};
 use super::lines::{event, first_device, run_of_one};
 use super::packets::{ACK, CLIENT, config, get, reply, session_of};
-use super::told::{Told, adds, answered, count, is_found, is_frame, is_request, tells};
+use super::summary::{Summary, adds, answered, count, has_summary, is_found, is_frame, is_request};
 use rdm_agent::{DEFAULT_BUDGET, Kind};
 use rdm_join::{LineEvent, Status};
 use rdm_queue::{Answer, Event, Session};
@@ -70,22 +70,46 @@ fn events(rt: &impl Abort, alloc: Global, close_at: usize) -> Vec<Event> {
 }
 
 // If the call was made before the close, it was accepted and has one outcome; else neither.
-fn has_one(rt: &impl Abort, answers: &[Answer], is_called: bool, accepted: Told, told: Told) {
+fn has_one(
+    rt: &impl Abort,
+    answers: &[Answer],
+    is_called: bool,
+    accepted: Summary,
+    summary: Summary,
+) {
     let times = is_called as usize;
     check_eq(rt, count(answers, 0, accepted), times);
-    check_eq(rt, count(answers, 0, told), times);
+    check_eq(rt, count(answers, 0, summary), times);
 }
 
 // With a close at this position, each accepted call has one outcome, and no frame is sent after the close.
-fn closes_at(rt: &impl Abort, alloc: Global, place: usize) {
+fn closes_at(rt: &impl Abort, alloc: Global, index: usize) {
     let mut session = new_session(rt, alloc);
-    let events = events(rt, alloc, place);
+    let events = events(rt, alloc, index);
     let answers = answered(rt, alloc, &mut session, &events);
     check_eq(rt, answers.len(), EVENTS + 1);
-    has_one(rt, &answers, place > 2, Told::Accepted(0), Told::Request(0));
-    has_one(rt, &answers, place > 3, Told::Asked(0), Told::Discovery(0));
-    has_one(rt, &answers, place > 4, Told::Asked(1), Told::Discovery(1));
-    check_eq(rt, count(&answers, place, Told::Frame), 0);
+    has_one(
+        rt,
+        &answers,
+        index > 2,
+        Summary::Accepted(0),
+        Summary::Request(0),
+    );
+    has_one(
+        rt,
+        &answers,
+        index > 3,
+        Summary::Asked(0),
+        Summary::Discovery(0),
+    );
+    has_one(
+        rt,
+        &answers,
+        index > 4,
+        Summary::Asked(1),
+        Summary::Discovery(1),
+    );
+    check_eq(rt, count(&answers, index, Summary::Frame), 0);
     check(
         rt,
         session.is_closed() && session.is_idle() && !session.awaits(),
@@ -93,15 +117,15 @@ fn closes_at(rt: &impl Abort, alloc: Global, place: usize) {
 }
 
 #[test]
-fn a_close_comes_at_each_place(rt: HostRuntime) {
-    for place in 0..=EVENTS {
-        closes_at(&rt, rt.alloc(), place);
+fn a_close_comes_at_each_point(rt: HostRuntime) {
+    for index in 0..=EVENTS {
+        closes_at(&rt, rt.alloc(), index);
     }
 }
 
 // The answer at this position is that the discovery with this number found the first device.
-fn finds_one(rt: &impl Abort, answers: &[Answer], place: usize, number: u64) {
-    let answer = answers.get(place).expect(rt, "an answer");
+fn finds_one(rt: &impl Abort, answers: &[Answer], index: usize, number: u64) {
+    let answer = answers.get(index).expect(rt, "an answer");
     check(rt, is_found(answer, number, &[first_device()]));
 }
 
@@ -119,9 +143,9 @@ fn a_whole_run(rt: HostRuntime) {
     let events = events(&rt, rt.alloc(), EVENTS);
     let answers = answered(&rt, rt.alloc(), &mut session, &events);
     check_eq(&rt, answers.len(), 33);
-    tells(&rt, &answers, 3, Told::Asked(0));
-    tells(&rt, &answers, 4, Told::Asked(1));
-    tells(&rt, &answers, 5, Told::NoFrame);
+    has_summary(&rt, &answers, 3, Summary::Asked(0));
+    has_summary(&rt, &answers, 4, Summary::Asked(1));
+    has_summary(&rt, &answers, 5, Summary::NoFrame);
     has_answer(&rt, &answers);
     finds_one(&rt, &answers, 29, 0);
     finds_one(&rt, &answers, 30, 1);

@@ -10,7 +10,7 @@ use std::alloc::Global;
 use std::process::Abort;
 
 // A session accepts this budget.
-fn takes_budget(rt: &impl Abort, alloc: Global, budget: u64) {
+fn has_budget(rt: &impl Abort, alloc: Global, budget: u64) {
     let session = session_of(rt, alloc, config(4080, budget), 3);
     check_eq(rt, session.log().opening().budget, budget);
     check_eq(rt, session.log().opening().greatest, 4080);
@@ -20,7 +20,7 @@ fn takes_budget(rt: &impl Abort, alloc: Global, budget: u64) {
 #[test]
 fn takes_each_budget(rt: HostRuntime) {
     for budget in &[1, 2, 96_008, 384_008, u64::MAX] {
-        takes_budget(&rt, rt.alloc(), *budget);
+        has_budget(&rt, rt.alloc(), *budget);
     }
 }
 

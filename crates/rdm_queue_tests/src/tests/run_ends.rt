@@ -144,7 +144,7 @@ fn found() -> Device {
 }
 
 // Whether it is the outcome of discovery 0, with only that device.
-fn tells_found(outcome: &Option<Outcome>) -> bool {
+fn has_found(outcome: &Option<Outcome>) -> bool {
     match outcome {
         Some(
             Outcome::Discovery {
@@ -161,6 +161,6 @@ fn a_run_reports_what_devices_say_of_themselves(rt: HostRuntime) {
     let mut session = session_for_runs(&rt, rt.alloc());
     reports(&rt, rt.alloc(), &mut session);
     let outcome = session.next_outcome(CLIENT);
-    check(&rt, tells_found(&outcome));
+    check(&rt, has_found(&outcome));
     check_eq(&rt, session.devices().get(first_device()), Some(found()));
 }

@@ -1,7 +1,9 @@
 //! Lists of events.
 use super::checks::{check, check_eq};
 use super::packets::{AMPLE, CLIENT, get, session, silence};
-use super::told::{Told, adds, answered, count, is_frame, is_request, outcomes, tells, told_by};
+use super::summary::{
+    Summary, adds, answered, count, has_summary, is_frame, is_request, outcomes, summary_of,
+};
 use rdm_join::Status;
 use rdm_queue::{Answer, Event};
 use std::alloc::Global;
@@ -38,10 +40,10 @@ fn a_whole_exchange(rt: HostRuntime) {
     adds(&rt, &mut events, Event::Close);
     let answers = answered(&rt, rt.alloc(), &mut session, &events);
     check_eq(&rt, answers.len(), 6);
-    tells(&rt, &answers, 0, Told::Joined(CLIENT));
-    tells(&rt, &answers, 1, Told::Accepted(0));
-    tells(&rt, &answers, 3, Told::Heard);
-    tells(&rt, &answers, 5, Told::Closed);
+    has_summary(&rt, &answers, 0, Summary::Joined(CLIENT));
+    has_summary(&rt, &answers, 1, Summary::Accepted(0));
+    has_summary(&rt, &answers, 3, Summary::Heard);
+    has_summary(&rt, &answers, 5, Summary::Closed);
     has_answer(&rt, &answers);
     check(&rt, session.is_closed() && session.is_idle());
 }
@@ -50,11 +52,14 @@ fn a_whole_exchange(rt: HostRuntime) {
 fn one_event(rt: HostRuntime) {
     let mut session = session(&rt, rt.alloc(), 1, AMPLE);
     let paused = session.answer(rt.alloc(), &Event::Pause);
-    check(&rt, told_by(&paused) == Told::Paused && session.is_paused());
+    check(
+        &rt,
+        summary_of(&paused) == Summary::Paused && session.is_paused(),
+    );
     let resumed = session.answer(rt.alloc(), &Event::Resume);
     check(
         &rt,
-        told_by(&resumed) == Told::Resumed && !session.is_paused(),
+        summary_of(&resumed) == Summary::Resumed && !session.is_paused(),
     );
 }
 
@@ -83,9 +88,9 @@ fn hundreds_of_events(rt: HostRuntime) {
     let events = events(&rt, rt.alloc());
     let answers = answered(&rt, rt.alloc(), &mut session, &events);
     check_eq(&rt, answers.len(), 801);
-    check_eq(&rt, count(&answers, 0, Told::Frame), 200);
+    check_eq(&rt, count(&answers, 0, Summary::Frame), 200);
     check_eq(&rt, outcomes(&answers), 200);
-    tells(&rt, &answers, 797, Told::Accepted(199));
+    has_summary(&rt, &answers, 797, Summary::Accepted(199));
     check_eq(&rt, session.log().entries().len(), 1001);
     check(&rt, session.is_idle());
 }

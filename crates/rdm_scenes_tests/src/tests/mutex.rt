@@ -25,13 +25,13 @@ const TURNS: u64 = 60;
 
 /// Runs a session with a mutex over this line. Returns the client's report, and the session after its end. None: out of
 /// memory.
-pub fn runs<R: Wait>(rt: &R, alloc: Global, line: SimLine) -> Option<(Report, Session)>
+pub fn serves<R: Wait>(rt: &R, alloc: Global, line: SimLine) -> Option<(Report, Session)>
     ensures { IfSome result (λ ran. (t : SimState) × IsLogOver line t ran.1) }
 {
-    runs_on::<Brand, R>(rt, alloc, Blank::new(17), line)
+    serves_on::<Brand, R>(rt, alloc, Blank::new(17), line)
 }
 
-fn runs_on<L: Ledger, R: Wait>(
+fn serves_on<L: Ledger, R: Wait>(
     rt: &R,
     alloc: Global,
     blank: Blank,

@@ -8,10 +8,8 @@ ghost use Rattle.rdm_scenes.specs.Reports.{IsLogOver};
 use super::report::{Report, TAGS, get, reply_in, set};
 use rdm_agent::Kind;
 use rdm_client::Collected;
-use rdm_lanes::{
-    BlankHistory, Body, ClientEnd, Gate, LanesEnd, RingClient, ViewHistory, WORKER_STOPPED,
-    run_session,
-};
+use rdm_lanes::views::{BlankHistory, ViewHistory};
+use rdm_lanes::{Body, ClientEnd, Gate, LanesEnd, RingClient, WORKER_STOPPED, run_session};
 use rdm_line::SimLine;
 use rdm_queue::Session;
 use rdm_rig::{AskNote, Heard, Note, cancels, config, found_in, log, told};
@@ -32,17 +30,17 @@ const TRIES: u64 = 100_000_000;
 
 /// Runs a session with ring buffers over this line. Returns the client's report, and the session after its end. None:
 /// it wasn't run, or the worker arrived at `WORKER_STOPPED` before the client left, or never.
-pub fn runs<R: Threads + Wait + Sync>(
+pub fn serves<R: Threads + Wait + Sync>(
     rt: &R,
     alloc: Global,
     line: SimLine,
 ) -> Option<(Report, Session)>
     ensures { IfSome result (λ ran. (t : SimState) × IsLogOver line t ran.1) }
 {
-    runs_in::<Brand, R>(rt, alloc, BlankHistory::new(), line)
+    serves_in::<Brand, R>(rt, alloc, BlankHistory::new(), line)
 }
 
-fn runs_in<J: ViewHistory + Send + Sync, R: Threads + Wait + Sync>(
+fn serves_in<J: ViewHistory + Send + Sync, R: Threads + Wait + Sync>(
     rt: &R,
     alloc: Global,
     history: BlankHistory,

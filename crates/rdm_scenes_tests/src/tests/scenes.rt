@@ -2,7 +2,7 @@
 ghost use Rattle.std.specs.Prelude.{◌≡◌, [], None, IfSome};
 ghost use Rattle.std.specs.List.{AllByRecursion};
 ghost use Rattle.rdm_line.specs.Scenes.{Stays};
-ghost use Rattle.rdm_line.specs.SimRuns.{NoFiveSuccessive};
+ghost use Rattle.rdm_line.specs.SimSteps.{NoFiveSuccessive};
 
 use rdm_line::{Collision, Parameters, Scene, SceneDevice, SceneDevices};
 use rdm_rig::{Who, device_of};

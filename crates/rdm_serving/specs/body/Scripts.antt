@@ -24,8 +24,9 @@ done_by s = s.accepted + (length s.outcomes.requests.items + length s.outcomes.d
 -- The client makes its calls in order. It collects after a call that found the queue full, and after the last call. It
 -- is done once each call has an outcome.
 abbrev pub IsNext : Script → Next → Type 0
-IsNext s (Call call place) =
-    (has_all s ≡ false) × (s.is_full ≡ false) × (place ≡ s.accepted) × (slice_get s.calls.now place ≡ Some call.now)
+IsNext s (Call call call_index) =
+    (has_all s ≡ false) × (s.is_full ≡ false) × (call_index ≡ s.accepted)
+    × (slice_get s.calls.now call_index ≡ Some call.now)
 IsNext s Collect = (has_all s ≡ false) × ((s.is_full ≡ true) ⊎ (length s.calls.now ≤ s.accepted))
 IsNext s Done = has_all s ≡ true
 

@@ -323,16 +323,16 @@ impl<L: Ledger, R: Wait> Player<Beside<'_, R>> for LockedClient<'_, L, RequestTi
         alloc: Global,
         beside: &Beside<'_, R>,
         call: &ClientCall,
-        place: u64,
+        call_index: u64,
     ) -> Result<bool, ServeFault> {
-        is_accepted(beside.rt, alloc, self, call, place)
+        is_accepted(beside.rt, alloc, self, call, call_index)
     }
 
     fn has_stopped(&self, beside: &Beside<'_, R>) -> bool {
         beside.stop.load(Ordering::SeqCst)
     }
 
-    fn take_outcome(&mut self, beside: &Beside<'_, R>) -> Option<Collected> {
+    fn collect_outcome(&mut self, beside: &Beside<'_, R>) -> Option<Collected> {
         self.collect(beside.rt)
     }
 
@@ -347,15 +347,21 @@ fn is_accepted<L: Ledger, R: Wait>(
     alloc: Global,
     client: &mut Client<'_, L>,
     call: &ClientCall,
-    place: u64,
+    call_index: u64,
 ) -> Result<bool, ServeFault>
     ensures { IfErr result (λ e. (e ≡ ServeFault.Log) ⊎ (e ≡ ServeFault.Memory)) }
 {
     match call {
         ClientCall::Submit(request) => {
-            is_submitted(rt, alloc, client, request.copied(), RequestTicket(place))
+            is_submitted(
+                rt,
+                alloc,
+                client,
+                request.copied(),
+                RequestTicket(call_index),
+            )
         }
-        ClientCall::Discover(kind) => is_asked(rt, alloc, client, *kind, AskTicket(place)),
+        ClientCall::Discover(kind) => is_asked(rt, alloc, client, *kind, AskTicket(call_index)),
     }
 }
 

@@ -29,7 +29,7 @@ pub trait Player<P> {
         alloc: Global,
         beside: &P,
         call: &ClientCall,
-        place: u64,
+        call_index: u64,
     ) -> Result<bool, ServeFault>
         ensures fault { IfErr result (λ e. (e ≡ ServeFault.Log) ⊎ (e ≡ ServeFault.Memory)) }
         ensures same { same self.old self.new };
@@ -39,7 +39,7 @@ pub trait Player<P> {
         ensures { sees self.now result };
 
     /// Collects the oldest outcome. None: there is none yet.
-    fn take_outcome(&mut self, beside: &P) -> Option<Collected>
+    fn collect_outcome(&mut self, beside: &P) -> Option<Collected>
         ensures collected { collects self.old result self.new }
         ensures same { same self.old self.new };
 
@@ -95,9 +95,9 @@ fn play_script<P, C: Player<P>>(
 {
     'turns: for _turn in 0..turns {
         match script.next() {
-            Next::Call(call, place) => {
+            Next::Call(call, call_index) => {
                 script.count_turn();
-                let is_accepted = client.make(alloc, beside, call, place)?;
+                let is_accepted = client.make(alloc, beside, call, call_index)?;
                 script.tried(is_accepted);
             }
             Next::Collect => {
@@ -127,7 +127,7 @@ fn collect<P, C: Player<P>>(
     ensures same { C.same client.old client.new }
 {
     let has_stopped = client.has_stopped(beside);
-    let collected = client.take_outcome(beside);
+    let collected = client.collect_outcome(beside);
     if collected.is_none() {
         thread::yield_now();
     }

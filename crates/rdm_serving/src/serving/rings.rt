@@ -17,9 +17,9 @@ use crate::serving::ticket::{AskTicket, RequestTicket};
 use crate::serving::{ServeFault, Served, SetUp};
 use rdm_client::{Collected, Tells, TellsAsk, WorkerEnd};
 use rdm_files::{ClientCall, ClientFile};
+use rdm_lanes::views::{BlankHistory, ViewHistory};
 use rdm_lanes::{
-    BlankHistory, Body, ClientEnd, Gate, LanesEnd, OpenFault, RingClient, ViewHistory,
-    WORKER_STOPPED, run_session_with,
+    Body, ClientEnd, Gate, LanesEnd, OpenFault, RingClient, WORKER_STOPPED, run_session_with,
 };
 use rdm_line::Line;
 use rdm_queue::Setup;
@@ -248,16 +248,16 @@ impl<J: ViewHistory, G: Gate> Player<G> for RingClient<J, RequestTicket, AskTick
         alloc: Global,
         _gate: &G,
         call: &ClientCall,
-        place: u64,
+        call_index: u64,
     ) -> Result<bool, ServeFault> {
-        Ok(is_accepted(alloc, self, call, place))
+        Ok(is_accepted(alloc, self, call, call_index))
     }
 
     fn has_stopped(&self, gate: &G) -> bool {
         gate.passed(WORKER_STOPPED)
     }
 
-    fn take_outcome(&mut self, _gate: &G) -> Option<Collected> {
+    fn collect_outcome(&mut self, _gate: &G) -> Option<Collected> {
         self.collect()
     }
 
@@ -271,19 +271,22 @@ fn is_accepted<J: ViewHistory>(
     alloc: Global,
     client: &mut Client<J>,
     call: &ClientCall,
-    place: u64,
+    call_index: u64,
 ) -> bool
     ensures { SameClient client.old client.new }
 {
     match call {
-        ClientCall::Submit(request) => match client.submit(request.copied(), RequestTicket(place)) {
+        ClientCall::Submit(request) => match client.submit(
+            request.copied(),
+            RequestTicket(call_index),
+        ) {
             Ok(()) => true,
             Err((_, _, callback)) => {
                 drop(callback.cancel(alloc));
                 false
             }
         },
-        ClientCall::Discover(kind) => match client.discover(*kind, AskTicket(place)) {
+        ClientCall::Discover(kind) => match client.discover(*kind, AskTicket(call_index)) {
             Ok(()) => true,
             Err((_, callback)) => {
                 drop(callback.cancel());

@@ -10,7 +10,7 @@ use std::test::Fail;
 
 /// The last position of a close: after the pause, three calls, a turn without a frame, the resume, a turn for each
 /// exchange, and three collects.
-const PLACES: usize = 20;
+const LAST_INDEX: usize = 20;
 
 // A close before the act at this position, if there is one, or during this exchange; how many exchanges are made, and
 // how many calls are accepted.
@@ -23,19 +23,19 @@ struct Closing {
 }
 
 // A close before the act at this position.
-fn before(place: usize) -> Closing {
+fn before(index: usize) -> Closing {
     Closing {
-        before: place,
+        before: index,
         during: None,
-        exchanges: place.max(6).saturating_sub(6).min(EXCHANGES),
-        accepted: accepted_before(place),
+        exchanges: index.max(6).saturating_sub(6).min(EXCHANGES),
+        accepted: accepted_before(index),
     }
 }
 
 // A close during this exchange, which is still made.
 fn during(exchange: usize) -> Closing {
     Closing {
-        before: PLACES.saturating_add(1),
+        before: LAST_INDEX.saturating_add(1),
         during: Some(exchange as u64),
         exchanges: exchange.saturating_add(1),
         accepted: 3,
@@ -43,8 +43,8 @@ fn during(exchange: usize) -> Closing {
 }
 
 // The act at this position.
-fn act(place: usize) -> Act {
-    match place {
+fn act(index: usize) -> Act {
+    match index {
         0 => Act::Pause,
         1 => Act::Client(0, Step::Submit(0)),
         2 => Act::Client(0, Step::Discover(Kind::Full, 0)),
@@ -56,18 +56,18 @@ fn act(place: usize) -> Act {
 }
 
 // The result of the act at this position.
-fn wanted(place: usize, closing: Closing) -> Heard {
-    match place {
+fn wanted(index: usize, closing: Closing) -> Heard {
+    match index {
         0 | 5 => Heard::Done,
-        1 | 2 | 3 => call(place, place >= closing.before),
-        17 | 18 | 19 => due(closing.exchanges, closing.accepted)[place % 17 % 3],
+        1 | 2 | 3 => call(index, index >= closing.before),
+        17 | 18 | 19 => due(closing.exchanges, closing.accepted)[index % 17 % 3],
         _ => Heard::Worked(Stop::Turns),
     }
 }
 
 // The result of the call at this position.
-fn call(place: usize, is_closed: bool) -> Heard {
-    match place {
+fn call(index: usize, is_closed: bool) -> Heard {
+    match index {
         1 if is_closed => Heard::Refused(Refusal::Submit(SubmitFault::Closed, 0)),
         2 if is_closed => Heard::Refused(Refusal::Ask(AskFault::Closed, 0)),
         _ if is_closed => Heard::Refused(Refusal::Ask(AskFault::Closed, 1)),
@@ -94,12 +94,12 @@ static AFTER: [Move; 4] = [
 fn moves(alloc: Global, closing: Closing) -> Result<Vec<Move>, Fail> {
     let mut moves = Vec::new(alloc);
     moves.push((Act::Join(4), Heard::Number(0)))?;
-    for place in 0..=PLACES {
-        if place == closing.before {
+    for index in 0..=LAST_INDEX {
+        if index == closing.before {
             moves.push((Act::Close, Heard::Done))?;
         }
-        if place < PLACES {
-            moves.push((act(place), wanted(place, closing)))?;
+        if index < LAST_INDEX {
+            moves.push((act(index), wanted(index, closing)))?;
         }
     }
     moves.push((Act::Client(0, Step::Look), sees(closing.exchanges)))?;
@@ -127,8 +127,8 @@ fn closes<R: Wait>(rt: &R, alloc: Global, closing: Closing) -> Result<(), Fail> 
 
 #[test]
 fn a_close_comes_between_any_two_steps_of_a_port(rt: HostRuntime) -> Result<(), Fail> {
-    for place in 0..=PLACES {
-        closes(&rt, rt.alloc(), before(place))?;
+    for index in 0..=LAST_INDEX {
+        closes(&rt, rt.alloc(), before(index))?;
     }
     Ok(())
 }

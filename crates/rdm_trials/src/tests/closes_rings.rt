@@ -9,13 +9,13 @@ use std::test::Fail;
 
 /// The last position of a close: after the pause, three calls, a turn for each of them, the resume, and a turn for each
 /// exchange.
-const PLACES: usize = 19;
+const LAST_INDEX: usize = 19;
 
 const COLLECT: Act = Act::Client(0, Step::Collect);
 
 // The move at this position. A turn takes a call of the client, then one of the operator, and then makes an exchange.
-fn step(place: usize) -> Move {
-    match place {
+fn step(index: usize) -> Move {
+    match index {
         0 => (Act::Pause, Heard::Done),
         1 => (Act::Client(0, Step::Submit(0)), Heard::Done),
         2 => (Act::Client(0, Step::Discover(Kind::Full, 0)), Heard::Done),
@@ -31,17 +31,17 @@ fn step(place: usize) -> Move {
 // How many exchanges are made before the close that the operator sends before this position. The turn after the resume
 // takes the resume and makes the first exchange. So a close that is sent between the resume and that turn is taken in
 // the next turn.
-fn exchanges_before(place: usize) -> usize {
-    if place < 8 {
+fn exchanges_before(index: usize) -> usize {
+    if index < 8 {
         0
     } else {
-        place.saturating_sub(8).max(1)
+        index.saturating_sub(8).max(1)
     }
 }
 
 // How many of the three calls are taken before that close. A turn takes a call, and then the operator's oldest one.
-fn accepted_before(place: usize) -> usize {
-    match place {
+fn accepted_before(index: usize) -> usize {
+    match index {
         0 => 1,
         1 | 2 | 3 | 4 | 5 => 2,
         _ => 3,
@@ -61,12 +61,12 @@ static AFTER: [Move; 5] = [
 // close or after it.
 fn moves(alloc: Global, close_at: usize) -> Result<Vec<Move>, Fail> {
     let mut moves = Vec::new(alloc);
-    for place in 0..=PLACES {
-        if place == close_at {
+    for index in 0..=LAST_INDEX {
+        if index == close_at {
             moves.push((Act::Close, Heard::Done))?;
         }
-        if place < PLACES {
-            moves.push(step(place))?;
+        if index < LAST_INDEX {
+            moves.push(step(index))?;
         }
     }
     let exchanges = exchanges_before(close_at);
@@ -81,7 +81,7 @@ fn moves(alloc: Global, close_at: usize) -> Result<Vec<Move>, Fail> {
 
 // The log has this many exchanges, all before the close. It has one outcome for each accepted call. The client gets
 // outcomes of refused calls too.
-fn is_told(over: &LanesOver, close_at: usize) -> bool {
+fn has_counts(over: &LanesOver, close_at: usize) -> bool {
     let exchanges = exchanges_before(close_at);
     let accepted = accepted_before(close_at);
     let counts = over.state.counts;
@@ -94,15 +94,15 @@ fn is_told(over: &LanesOver, close_at: usize) -> bool {
 }
 
 #[test]
-fn a_close_comes_at_each_place_over_rings(rt: HostRuntime) -> Result<(), Fail> {
-    for place in 0..=PLACES {
+fn a_close_comes_at_each_point_over_rings(rt: HostRuntime) -> Result<(), Fail> {
+    for index in 0..=LAST_INDEX {
         let line = one_device(rt.alloc(), &[])?;
         let setup = Setup::new(100, 8, &[4]);
-        let moves = moves(rt.alloc(), place)?;
+        let moves = moves(rt.alloc(), index)?;
         let over = play_lanes(&rt, rt.alloc(), setup, line, &moves)?;
         counts_are(&over.left, &[(4, 4, 0)])?;
-        assert!(rt; is_told(&over, place), "{place}");
+        assert!(rt; has_counts(&over, index), "{index}");
     }
-    assert_eq!(rt; exchanges_before(PLACES), EXCHANGES);
+    assert_eq!(rt; exchanges_before(LAST_INDEX), EXCHANGES);
     Ok(())
 }

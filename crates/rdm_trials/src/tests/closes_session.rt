@@ -8,46 +8,46 @@ use std::test::Fail;
 
 /// The last position of a close: after the pause, three calls, a take without a frame, the resume, a take and a deliver
 /// for each exchange, and three collects.
-const PLACES: usize = 31;
+const LAST_INDEX: usize = 31;
 
 // The act at this position.
-fn act(place: usize) -> Act {
-    match place {
+fn act(index: usize) -> Act {
+    match index {
         0 => Act::Pause,
         1 => Act::Client(0, Step::Submit(0)),
         2 => Act::Client(0, Step::Discover(Kind::Full, 0)),
         3 => Act::Client(0, Step::Discover(Kind::Incremental, 1)),
         5 => Act::Resume,
         28 | 29 | 30 => Act::Client(0, Step::Collect),
-        _ if place % 2 == 0 => Act::Take,
+        _ if index % 2 == 0 => Act::Take,
         _ => Act::Deliver,
     }
 }
 
 // How many frames were taken before a close at this position.
-fn frames_before(place: usize) -> usize {
-    (place.max(5).saturating_sub(5) / 2).min(EXCHANGES)
+fn frames_before(index: usize) -> usize {
+    (index.max(5).saturating_sub(5) / 2).min(EXCHANGES)
 }
 
-// The result of the act at `place`, if the close comes before the act at `close_at`.
-fn wanted(place: usize, close_at: usize) -> Heard {
-    match place {
+// The result of the act at `index`, if the close comes before the act at `close_at`.
+fn wanted(index: usize, close_at: usize) -> Heard {
+    match index {
         0 | 5 => Heard::Done,
-        1 | 2 | 3 => call(place, place >= close_at),
+        1 | 2 | 3 => call(index, index >= close_at),
         28 | 29 | 30 => {
             let due = due(frames_before(close_at), accepted_before(close_at));
-            due[place % 28 % 3]
+            due[index % 28 % 3]
         }
-        _ if place % 2 == 0 => taken(place, close_at),
+        _ if index % 2 == 0 => taken(index, close_at),
         // The reply to a frame that was taken before the close still counts.
-        _ if place <= close_at => Heard::Done,
+        _ if index <= close_at => Heard::Done,
         _ => Heard::Nothing,
     }
 }
 
 // The result of the call at this position.
-fn call(place: usize, is_closed: bool) -> Heard {
-    match place {
+fn call(index: usize, is_closed: bool) -> Heard {
+    match index {
         1 if is_closed => Heard::Refused(Refusal::Submit(SubmitFault::Closed, 0)),
         2 if is_closed => Heard::Refused(Refusal::Ask(AskFault::Closed, 0)),
         _ if is_closed => Heard::Refused(Refusal::Ask(AskFault::Closed, 1)),
@@ -57,11 +57,11 @@ fn call(place: usize, is_closed: bool) -> Heard {
 }
 
 // The result of a take at this position.
-fn taken(place: usize, close_at: usize) -> Heard {
-    if place == 4 || place >= close_at {
+fn taken(index: usize, close_at: usize) -> Heard {
+    if index == 4 || index >= close_at {
         return Heard::Nothing;
     }
-    Heard::Frame((place.saturating_sub(6) / 2 % 256) as u8)
+    Heard::Frame((index.saturating_sub(6) / 2 % 256) as u8)
 }
 
 // After the close each call is refused, no more outcomes come, and no frame is sent.
@@ -86,12 +86,12 @@ static AFTER: [Move; 5] = [
 fn moves(alloc: Global, close_at: usize) -> Result<Vec<Move>, Fail> {
     let mut moves = Vec::new(alloc);
     moves.push((Act::Join(4), Heard::Number(0)))?;
-    for place in 0..=PLACES {
-        if place == close_at {
+    for index in 0..=LAST_INDEX {
+        if index == close_at {
             moves.push((Act::Close, Heard::Done))?;
         }
-        if place < PLACES {
-            moves.push((act(place), wanted(place, close_at)))?;
+        if index < LAST_INDEX {
+            moves.push((act(index), wanted(index, close_at)))?;
         }
     }
     moves.push((Act::Client(0, Step::Know), sees(frames_before(close_at))))?;
@@ -100,15 +100,15 @@ fn moves(alloc: Global, close_at: usize) -> Result<Vec<Move>, Fail> {
 }
 
 #[test]
-fn a_close_comes_at_each_place_of_a_session(rt: HostRuntime) -> Result<(), Fail> {
-    for place in 0..=PLACES {
+fn a_close_comes_at_each_point_of_a_session(rt: HostRuntime) -> Result<(), Fail> {
+    for index in 0..=LAST_INDEX {
         let line = one_device(rt.alloc(), &[])?;
         let mut stage = open_session(rt.alloc(), 4, DEFAULT_BUDGET, 100, line)?;
-        moved(rt.alloc(), &mut stage, &moves(rt.alloc(), place)?)?;
+        moved(rt.alloc(), &mut stage, &moves(rt.alloc(), index)?)?;
         let state = stage.state();
-        let frames = frames_before(place);
-        assert_eq!(rt; state.counts.frames, (frames, 0), "{place}");
-        assert_eq!(rt; state.counts.accepted, accepted_before(place), "{place}");
+        let frames = frames_before(index);
+        assert_eq!(rt; state.counts.frames, (frames, 0), "{index}");
+        assert_eq!(rt; state.counts.accepted, accepted_before(index), "{index}");
         assert_eq!(rt; state.devices, seen(frames));
         assert!(rt; state.is_closed && state.is_idle);
     }

@@ -2,7 +2,7 @@
 use rdm_agent::Kind;
 use rdm_join::Status;
 use rdm_rig::{Ending, Found, Heard, Said, Step, Stop, one_device, says};
-use rdm_stage::{LanesOver, Play, Player, Setup, counts_are, player_heard, run_beside};
+use rdm_stage::{LanesOver, Play, Player, Setup, counts_are, player_heard, serve_beside};
 use std::alloc::Global;
 use std::sync::Wait;
 use std::test::Fail;
@@ -30,7 +30,7 @@ fn plays<R: Threads + Wait + Sync>(
     calls: u64,
 ) -> Result<LanesOver, Fail> {
     let line = one_device(alloc, &[])?;
-    let (stop, over) = run_beside(rt, alloc, Setup::new(1000, 2, &[2]), line, player)?;
+    let (stop, over) = serve_beside(rt, alloc, Setup::new(1000, 2, &[2]), line, player)?;
     counts_are(&over.left, &[(calls, calls, 0)])?;
     let is_over = over.state.is_closed && over.state.is_idle && stop == Stop::AllLeft;
     if is_over {

@@ -70,6 +70,6 @@ pub fn sees(exchanges: usize) -> Heard {
 }
 
 /// How many of the three calls were accepted before a close at this position, if they are at the positions 1, 2 and 3.
-pub fn accepted_before(place: usize) -> usize {
-    place.max(1).saturating_sub(1).min(3)
+pub fn accepted_before(index: usize) -> usize {
+    index.max(1).saturating_sub(1).min(3)
 }

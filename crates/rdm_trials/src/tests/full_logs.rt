@@ -24,7 +24,7 @@ static ACTS: [Act; 6] = [
 fn free_by_hand(state: &State, size: usize) -> usize {
     let counts = &state.counts;
     let due = counts.accepted.saturating_sub(counts.ended);
-    let taken = [
+    let used = [
         counts.entries,
         usize::from(!state.is_closed),
         usize::from(state.awaits),
@@ -32,8 +32,8 @@ fn free_by_hand(state: &State, size: usize) -> usize {
         counts.ended.saturating_sub(counts.collected),
     ];
     let mut free = size.saturating_add(1);
-    for taken in taken {
-        free = free.saturating_sub(taken);
+    for used in used {
+        free = free.saturating_sub(used);
     }
     free
 }
@@ -53,9 +53,9 @@ fn is_refused(heard: Heard) -> bool {
 
 // Each act and each exchange is refused exactly when fewer than three entries are free.
 fn fills(alloc: Global, stage: &mut SessionStage<SimLine>, size: usize) -> bool {
-    for place in 0..17 {
+    for index in 0..17 {
         let state = stage.state();
-        let act = ACTS.get(place).copied().unwrap_or(Act::Work(1));
+        let act = ACTS.get(index).copied().unwrap_or(Act::Work(1));
         let heard = stage.act(alloc, act);
         let free = free_by_hand(&state, size);
         if state.free != free || is_refused(heard) != (free < 3) {

@@ -4,10 +4,10 @@ use rdm_join::Status;
 use rdm_line::SimLine;
 use rdm_queue::Owner;
 use rdm_rig::{
-    Ending, Found, Heard, LineOf, Meeting, Placed, Said, Step, Who, Wrong, line_of, one_device,
-    says, says_at,
+    Ending, Found, Heard, LineOf, Meeting, Said, Step, TimedDevice, Who, Wrong, line_of,
+    one_device, says, says_at,
 };
-use rdm_stage::{Play, PlayersOver, Setup, counts_are, play_threads, player_heard, run_players};
+use rdm_stage::{Play, PlayersOver, Setup, counts_are, play_threads, player_heard, serve_players};
 use std::alloc::Global;
 use std::sync::Wait;
 use std::test::Fail;
@@ -215,12 +215,12 @@ fn searched(found: Found, found_then: Found) -> [Heard; 11] {
 
 // A line with the first device, and with the second one while it is there.
 fn line_with_second(alloc: Global, from: u64, until: Option<u64>) -> Result<SimLine, Wrong> {
-    let second = Placed {
+    let second = TimedDevice {
         who: Who::Second,
         from,
         until,
     };
-    let devices = [Placed::stays(Who::First), second];
+    let devices = [TimedDevice::stays(Who::First), second];
     let of = LineOf {
         devices: &devices,
         meeting: Meeting::Noise,
@@ -274,7 +274,7 @@ fn runs_find_the_device_that_stays(rt: HostRuntime) -> Result<(), Fail> {
         let from = session % 20;
         let stays_for = 1u64 << (session / 20 % 5);
         let line = line_with_second(rt.alloc(), from, Some(from.saturating_add(stays_for)))?;
-        let over = run_players(&rt, rt.alloc(), setup(&[2]), &[&SEARCHER], line)?;
+        let over = serve_players(&rt, rt.alloc(), setup(&[2]), &[&SEARCHER], line)?;
         counts_are(&over.left, &[(4, 4, 0)])?;
         is_sound(&over)?;
     }

@@ -1,6 +1,6 @@
 use Rattle.std.proofs.Common.{subst}
 use Rattle.std.specs.Prelude.{IfSome, IfNone}
-use Rattle.rdm_line.specs.SimRuns.{NoFiveSuccessive}
+use Rattle.rdm_line.specs.SimSteps.{NoFiveSuccessive}
 use Rattle.rdm_files.specs.Losses.{IsFirstOfFive}
 use Rattle.rdm_files.proofs.FiveLemmas.{some-permuted, none_found-permuted}
 use Rattle.rdm_files.proofs.losses.five_losses.Goals as goal

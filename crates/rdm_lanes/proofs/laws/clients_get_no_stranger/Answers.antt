@@ -1,5 +1,5 @@
-use Rattle.rdm_lanes.proofs.SceneLemmas.{tells_changing}
+use Rattle.rdm_lanes.proofs.SceneLemmas.{gets_changing}
 use Rattle.rdm_lanes.proofs.laws.clients_get_no_stranger.Goals as goal
 
 pub returns : goal.returns
-returns g c = tells_changing
+returns g c = gets_changing

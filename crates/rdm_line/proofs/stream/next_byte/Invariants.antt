@@ -1,4 +1,4 @@
--- Nothing was taken so far.
+-- Nothing was consumed so far.
 use Rattle.std.proofs.Common.{[]}
 use Rattle.std.specs.Io.KnownBytes.{Consumes}
 use Rattle.rdm_line.proofs.stream.next_byte.Given as goal

@@ -1,4 +1,4 @@
--- What was taken so far is the line so far, which has no line break.
+-- What was consumed so far is the line so far, which has no line break.
 use Rattle.std.proofs.Common.{◌≢◌, All}
 use Rattle.std.specs.Io.KnownBytes.{Consumes}
 use Rattle.rdm_line.proofs.stream.read_line.Given as goal

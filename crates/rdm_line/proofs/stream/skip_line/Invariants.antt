@@ -1,4 +1,4 @@
--- What was taken so far has no line break.
+-- What was consumed so far has no line break.
 use Rattle.std.proofs.Common.{◌≢◌, ℕ, List, All}
 use Rattle.std.specs.Io.KnownBytes.{Consumes}
 use Rattle.rdm_line.proofs.stream.skip_line.Given as goal

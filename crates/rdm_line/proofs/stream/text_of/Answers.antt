@@ -1,5 +1,5 @@
 use Rattle.std.proofs.Common.{sym, subst}
-use Rattle.rdm_line.specs.body.Taking.{IsTextOf}
+use Rattle.rdm_line.specs.body.LineReading.{IsTextOf}
 use Rattle.rdm_line.proofs.StreamLemmas.{text_is}
 use Rattle.rdm_line.proofs.stream.text_of.Goals as goal
 

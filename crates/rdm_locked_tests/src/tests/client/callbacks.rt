@@ -39,14 +39,14 @@ fn of_ask(one: AskTold) -> Heard {
 fn calls_the_box_with_the_answer(rt: HostRuntime) -> Result<(), Fail> {
     let calls = Arc::new(rt.alloc(), AtomicU64::new(0))?;
     let counter = Arc::try_clone(&calls)?;
-    let run = Box::new(rt.alloc(), move |done: Completion| {
+    let closure = Box::new(rt.alloc(), move |done: Completion| {
         if let (Some(head), Some(byte)) = (done.reply, done.bytes.first()) {
             counter.fetch_add(u64::from(head.pid) + u64::from(*byte) + 1, Ordering::SeqCst);
         }
         Told { tag: 7, done }
     })?;
     let done = answered(rt.alloc())?;
-    let told = Callback::new(7, run).spend(done);
+    let told = Callback::new(7, closure).spend(done);
     assert_eq!(rt; of_request(told), Heard::Answered(7, 1, 0));
     assert_eq!(rt; calls.load(Ordering::SeqCst), 0x0062);
     Ok(())
@@ -56,11 +56,11 @@ fn calls_the_box_with_the_answer(rt: HostRuntime) -> Result<(), Fail> {
 fn tells_a_cancelled_callback_that_its_request_was_not_sent(rt: HostRuntime) -> Result<(), Fail> {
     let calls = Arc::new(rt.alloc(), AtomicU64::new(0))?;
     let counter = Arc::try_clone(&calls)?;
-    let run = Box::new(rt.alloc(), move |done: Completion| {
+    let closure = Box::new(rt.alloc(), move |done: Completion| {
         counter.fetch_add(1, Ordering::SeqCst);
         Told { tag: 8, done }
     })?;
-    let told = Callback::new(8, run).cancel(rt.alloc());
+    let told = Callback::new(8, closure).cancel(rt.alloc());
     assert_eq!(rt; of_request(told), Heard::Request(8, Status::FailedToSend));
     assert_eq!(rt; calls.load(Ordering::SeqCst), 1);
     Ok(())
@@ -70,7 +70,7 @@ fn tells_a_cancelled_callback_that_its_request_was_not_sent(rt: HostRuntime) -> 
 fn calls_the_box_with_the_devices(rt: HostRuntime) -> Result<(), Fail> {
     let calls = Arc::new(rt.alloc(), AtomicU64::new(0))?;
     let counter = Arc::try_clone(&calls)?;
-    let run = Box::new(rt.alloc(), move |done: BoxedAsk| {
+    let closure = Box::new(rt.alloc(), move |done: BoxedAsk| {
         if let Some(device) = done.devices().first() {
             counter.fetch_add(
                 u64::from(device.control) + done.run() / 2 + 1,
@@ -80,7 +80,7 @@ fn calls_the_box_with_the_devices(rt: HostRuntime) -> Result<(), Fail> {
         AskTold { tag: 9, done }
     })?;
     let done = found(rt.alloc(), 4)?;
-    let told = AskCallback::new(9, run).spend(done);
+    let told = AskCallback::new(9, closure).spend(done);
     assert_eq!(rt;
         of_ask(told),
         Heard::Discovery(9, 4, Ending::Faultless, Found::First)
@@ -93,11 +93,11 @@ fn calls_the_box_with_the_devices(rt: HostRuntime) -> Result<(), Fail> {
 fn tells_a_cancelled_callback_that_no_run_was_begun(rt: HostRuntime) -> Result<(), Fail> {
     let calls = Arc::new(rt.alloc(), AtomicU64::new(0))?;
     let counter = Arc::try_clone(&calls)?;
-    let run = Box::new(rt.alloc(), move |done: BoxedAsk| {
+    let closure = Box::new(rt.alloc(), move |done: BoxedAsk| {
         counter.fetch_add(1, Ordering::SeqCst);
         AskTold { tag: 10, done }
     })?;
-    let told = AskCallback::new(10, run).cancel();
+    let told = AskCallback::new(10, closure).cancel();
     assert_eq!(rt;
         of_ask(told),
         Heard::Discovery(10, 0, Ending::Aborted, Found::Nobody)

@@ -12,12 +12,12 @@ fn hands_back_requests_before_discoveries(rt: HostRuntime) -> Result<(), Fail> {
         && desk.hold_ask(AskNote(21)).is_ok();
     let mut unspent = desk.end();
     let was_empty = unspent.is_empty();
-    let first = told(unspent.next());
-    let second = told(unspent.next());
+    let first = kind_and_tag(unspent.next());
+    let second = kind_and_tag(unspent.next());
     let third = match unspent.close() {
         Ok(()) => None,
         Err(mut unspent) => {
-            let third = told(unspent.next());
+            let third = kind_and_tag(unspent.next());
             let rest = cancels(rt.alloc(), unspent);
             third.filter(|_| rest == 1)
         }
@@ -33,7 +33,7 @@ fn hands_back_requests_before_discoveries(rt: HostRuntime) -> Result<(), Fail> {
 fn closes_where_nothing_is_left(rt: HostRuntime) -> Result<(), Fail> {
     let desk: Desk<Note, AskNote> = Desk::new(rt.alloc(), 3)?;
     let mut unspent = desk.end();
-    let none = told(unspent.next());
+    let none = kind_and_tag(unspent.next());
     let is_closed = match unspent.close() {
         Ok(()) => true,
         Err(unspent) => {
@@ -47,7 +47,7 @@ fn closes_where_nothing_is_left(rt: HostRuntime) -> Result<(), Fail> {
 }
 
 // The kind of the callback, and its tag.
-fn told(left: Option<Unfinished<Note, AskNote>>) -> Option<(&'static str, u64)> {
+fn kind_and_tag(left: Option<Unfinished<Note, AskNote>>) -> Option<(&'static str, u64)> {
     match left {
         Some(Unfinished::Request(Note(tag))) => Some(("request", tag)),
         Some(Unfinished::Ask(AskNote(tag))) => Some(("discovery", tag)),

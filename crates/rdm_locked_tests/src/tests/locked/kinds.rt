@@ -26,7 +26,7 @@ struct Collects {
 }
 
 impl PortJob for Collects {
-    fn run<L: Ledger, R: Wait>(
+    fn perform<L: Ledger, R: Wait>(
         &mut self,
         rt: &R,
         alloc: Global,

@@ -53,8 +53,8 @@ struct Failure {
     last: u8,
 }
 
-fn failure_at(place: u8) -> Failure {
-    if place == 10 {
+fn failure_at(exchange: u8) -> Failure {
+    if exchange == 10 {
         return Failure {
             ending: Ending::Faultless,
             found: Found::First,
@@ -65,20 +65,20 @@ fn failure_at(place: u8) -> Failure {
     }
     Failure {
         ending: Ending::LineFailed,
-        found: if place < 5 {
+        found: if exchange < 5 {
             Found::Nobody
         } else {
             Found::First
         },
         known: (0, Found::Nobody),
         request: Heard::Answered(0, 1, 2),
-        last: place.wrapping_add(1),
+        last: exchange.wrapping_add(1),
     }
 }
 
-fn fails_at(alloc: Global, place: u8) -> Result<u8, Fail> {
-    let wanted = failure_at(place);
-    let line = one_device(alloc, &[u64::from(place)])?;
+fn fails_at(alloc: Global, exchange: u8) -> Result<u8, Fail> {
+    let wanted = failure_at(exchange);
+    let line = one_device(alloc, &[u64::from(exchange)])?;
     let mut stage = open_session(alloc, 1, DEFAULT_BUDGET, 100, line)?;
     let moves = [
         JOINS,
@@ -109,8 +109,8 @@ fn fails_at(alloc: Global, place: u8) -> Result<u8, Fail> {
 
 #[test]
 fn a_line_fails_at_each_exchange(rt: HostRuntime) -> Result<(), Fail> {
-    for place in 0..=10 {
-        assert_eq!(rt; fails_at(rt.alloc(), place)?, failure_at(place).last);
+    for exchange in 0..=10 {
+        assert_eq!(rt; fails_at(rt.alloc(), exchange)?, failure_at(exchange).last);
     }
     Ok(())
 }

@@ -76,7 +76,7 @@ struct Sends {
 }
 
 impl PortJob for Sends {
-    fn run<L: Ledger, R: Wait>(
+    fn perform<L: Ledger, R: Wait>(
         &mut self,
         rt: &R,
         alloc: Global,

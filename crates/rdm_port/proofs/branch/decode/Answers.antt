@@ -7,5 +7,5 @@ returns-in-Ok-clause-ok c = (
   c.read_branch_reply.result,
   c.in-Ok.ensures.ok ∙ ap Ok (sym c.deref.ensures.value),
   c.read_branch_reply.ensures.reads,
-  c.told.ensures.text,
+  c.to_print.ensures.text,
 )

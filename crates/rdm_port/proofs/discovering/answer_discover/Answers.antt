@@ -2,7 +2,7 @@ use Rattle.std.proofs.Common.{◌≡◌, ℕ, Bool, List, Option, subst, refl}
 use Rattle.std.specs.Prelude.{is_some}
 use Rattle.rdm_agent.specs.declared.kind.Kind.{Kind}
 use Rattle.rdm_agent.specs.declared.search.Search.{Search}
-use Rattle.rdm_line.specs.SimRuns.{NoFiveSuccessive}
+use Rattle.rdm_line.specs.SimSteps.{NoFiveSuccessive}
 use Rattle.rdm_reports.specs.LogText.{exchanges_text}
 use Rattle.rdm_reports.specs.SceneDiscovery.{IsSceneDiscovery, IsHonestReport}
 use Rattle.rdm_reports.specs.Writing.{LogState, Logs}

@@ -1,6 +1,6 @@
 use Rattle.std.proofs.Common.{◌≡◌, Some, None, slice_get, sym, ap, ◌∙◌}
 use Rattle.std.proofs.lemmas.Option.{slice_get-get_or}
-use Rattle.rdm_queue.proofs.BodyLemmas.FrontLemmas.{none_more, first_stays, first_taken, all_none, all_first}
+use Rattle.rdm_queue.proofs.BodyLemmas.OldestLemmas.{none_more, first_stays, first_replaced, all_none, all_first}
 use Rattle.rdm_queue.proofs.queue.first_in_line.Goals.{in-Some-first, in_default-first}
 use Rattle.rdm_queue.proofs.queue.first_in_line.Goals.{in_default-first-via-in-Some-first+else-lowest-oldest}
 use Rattle.rdm_queue.proofs.queue.first_in_line.Goals.{in_default-first-via-in_default-first}
@@ -23,20 +23,20 @@ loop-at-preserved-in_default c =
 pub loop-at-preserved : goal.loop-at-preserved
 loop-at-preserved c =
     let at = client_at (goal.at.loop-at-preserved c).After-oldest in
-    let front : slice_get c.index-clients-at.result.waiting.items 0 ≡ Some c.in-Some.oldest.now =
+    let is_first : slice_get c.index-clients-at.result.waiting.items 0 ≡ Some c.in-Some.oldest.now =
     rw c.in-Some.is at (sym c.oldest.ensures) in
     elim c.match-first.branch [
       | in-Some-first w ↦ rw (w.first-is, w.in-Some-first.is)
           (first_stays c.args.clients.now c.loop-at.at c.index-clients-at.result
-          (w.in-Some-first.field-0-0, w.in-Some-first.lowest) c.in-Some.oldest.now at front w.if-lowest-oldest.true
+          (w.in-Some-first.field-0-0, w.in-Some-first.lowest) c.in-Some.oldest.now at is_first w.if-lowest-oldest.true
           (rw w.in-Some-first.is at c.loop-at.invariant))
       | in_default-first w ↦ elim w.in_default-first.branch [
         | in_default-first-via-in-Some-first+else-lowest-oldest v ↦ rw w.first-is
-            (first_taken c.args.clients.now c.loop-at.at c.index-clients-at.result c.loop-at.first
-            c.in-Some.oldest at front (rw v.in-Some-first.is v.if-lowest-oldest.false) c.loop-at.invariant)
+            (first_replaced c.args.clients.now c.loop-at.at c.index-clients-at.result c.loop-at.first
+            c.in-Some.oldest at is_first (rw v.in-Some-first.is v.if-lowest-oldest.false) c.loop-at.invariant)
         | in_default-first-via-in_default-first v ↦ rw w.first-is
-            (first_taken c.args.clients.now c.loop-at.at c.index-clients-at.result c.loop-at.first
-            c.in-Some.oldest at front (rw v.in_default-first.is tt) c.loop-at.invariant)
+            (first_replaced c.args.clients.now c.loop-at.at c.index-clients-at.result c.loop-at.first
+            c.in-Some.oldest at is_first (rw v.in_default-first.is tt) c.loop-at.invariant)
       ]
     ]
 

@@ -1,4 +1,4 @@
-use Rattle.rdm_queue.proofs.BodyLemmas.FrontLemmas.{IsFirstSoFar}
+use Rattle.rdm_queue.proofs.BodyLemmas.OldestLemmas.{IsFirstSoFar}
 use Rattle.rdm_queue.proofs.queue.first_in_line.Given as goal
 
 abbrev pub invariant-loop-at : goal.invariant-loop-at

@@ -14,11 +14,11 @@ returns-clause-staying g c =
       fails = c.in-Ok.ensures.fails;
     } in
     let lossy = c.new_lines_are_scenes.ensures.lossy c.args.scene c.in-Ok.line new c.requires.few_losses in
-    if_some _ _ c.runs.result
+    if_some _ _ c.serves.result
     (λ ran over front back n r u is stays.
     (c.answers_follow_the_devices.ensures c.in-Ok.line over.0 ran.1 over.1 lossy).staying front back n r u is
     (λ i. subst (λ ds. has (present_at ds i) u ≡ true) (sym c.in-Ok.ensures.devices) (stays i)))
-    c.runs.ensures
+    c.serves.ensures
 
 pub returns-clause-no_stranger : goal.returns-clause-no_stranger
 returns-clause-no_stranger g c =
@@ -29,9 +29,9 @@ returns-clause-no_stranger g c =
       fails = c.in-Ok.ensures.fails;
     } in
     let lossy = c.new_lines_are_scenes.ensures.lossy c.args.scene c.in-Ok.line new c.requires.few_losses in
-    if_some _ _ c.runs.result
+    if_some _ _ c.serves.result
     (λ ran over front back n r fault u is there.
     let at = (c.answers_follow_the_devices.ensures c.in-Ok.line over.0 ran.1 over.1 lossy).no_stranger front back n r
     fault u is there in
     (at.0, subst (λ ds. has (present_at ds at.0) u ≡ true) c.in-Ok.ensures.devices at.1))
-    c.runs.ensures
+    c.serves.ensures

@@ -8,4 +8,4 @@ pub returns-in-Some : goal.returns-in-Some
 returns-in-Some c =
     among (command_name c.args.command) _ c.args.words.now c.in-Some.complaint
     (Contains-get_or c.args.words.now c.words.word-index _ (omega arith))
-    (rw c.words.invariant at c.in-Some.ensures.told)
+    (rw c.words.invariant at c.in-Some.ensures.true_after)

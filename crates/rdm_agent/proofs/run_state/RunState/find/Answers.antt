@@ -7,7 +7,7 @@ use Rattle.rdm_wire.specs.declared.device.Device.{Device}
 use Rattle.rdm_wire.specs.declared.uid_set.TheConstants.{MOST_DEVICES}
 use Rattle.rdm_wire.proofs.DeviceLemmas.{with_device-present}
 use Rattle.rdm_agent.specs.Machine.{AgentState, Phase, to_found, found_uids}
-use Rattle.rdm_agent.specs.body.View.{state_of, seen_phase}
+use Rattle.rdm_agent.specs.body.AgentFields.{state_of, seen_phase}
 use Rattle.rdm_agent.proofs.run_state.RunState.find.Goals as goal
 
 -- a device that is found, where there is room for it

@@ -1,5 +1,5 @@
 use Rattle.std.proofs.Common.{◌∙◌, sym}
-use Rattle.rdm_agent.specs.body.View.{state_of}
+use Rattle.rdm_agent.specs.body.AgentFields.{state_of}
 use Rattle.rdm_agent.specs.declared.phase.Phase.TheVariants.{MutingKnown, MutingRead, Searching, MutingSwept, Sweeping}
 use Rattle.rdm_agent.specs.declared.phase.Phase.TheVariants.{Doubting}
 use Rattle.rdm_agent.proofs.FedLemmas.{fed-mute, fed-branch}

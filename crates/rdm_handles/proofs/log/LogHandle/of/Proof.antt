@@ -23,7 +23,7 @@ use Rattle.std.specs.contracts.alloc.Global as heap
 use Rattle.std.proofs.alloc.Global.TheLaws as heap_laws
 use Rattle.std.specs.contracts.impls.GlobalAllocator.TheImpl.{ghosts}
 use Rattle.rdm_handles.specs.Rows.{log_row}
-use Rattle.rdm_handles.proofs.Pointers.{two, Row, fits, taken_apart}
+use Rattle.rdm_handles.proofs.Pointers.{two, Row, fits, unpacked}
 use Rattle.rdm_handles.proofs.LogHandles.{word, handle_in}
 use Rattle.rdm_handles.specs.contracts.log.LogHandle.of as f
 use Rattle.rdm_handles.proofs.log.LogHandle.of.Statement.{statement}
@@ -41,7 +41,7 @@ of_spec 𝓤 𝓛 𝓜 𝓡 wired =
     let Run : List Val → SProp 𝓤 = λ ws. WpFn 𝓤 H 𝓣.C 𝓣.Λ fn ws Post in
     qed 𝓛 ((‵ ftrue ⊛ ‵ (owns (types_at En.signature.params κs) z.0.3 z.0.4)) ∷ raw ((c κs z.0.3).requires z.1) ∷ []) ∵
     split ! $ move ! (1 ∷ []) $ fsplit ! $
-    taken_apart R Z LZ ghosts ! v z.0.4.0 (λ b o h e ws good.
+    unpacked R Z LZ ghosts ! v z.0.4.0 (λ b o h e ws good.
     let w : Val = two (vptr b o) h in let typed = fits R Z LZ ghosts b o h good in
     suffices ! (Run (w ∷ []))
     (subst (λ (us : List Val). ent 𝓤 (Run (w ∷ [])) (Run us)) (sym (λ i. ws i ++ [])) (id⊢ 𝓤 (Run (w ∷ [])))) $

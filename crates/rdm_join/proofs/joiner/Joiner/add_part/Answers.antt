@@ -2,7 +2,7 @@ use Rattle.std.proofs.Common.{◌≡◌, ◌+◌, length, Some, None, inl, inr, 
 use Rattle.rdm_join.specs.Result.{head_of}
 use Rattle.rdm_join.specs.JoinerStanding.{JoinerStanding, IsOpen}
 use Rattle.rdm_join.specs.body.Standing.{stage_with_part}
-use Rattle.rdm_join.proofs.StandingLemmas.{HasRoom, HasNoRoom, part_refused, part_taken, no_room, room, joined_items}
+use Rattle.rdm_join.proofs.StandingLemmas.{HasRoom, HasNoRoom, part_refused, part_joined, no_room, room, joined_items}
 use Rattle.rdm_join.proofs.joiner.Joiner.add_part.Goals as goal
 
 pub returns-in_default : goal.returns-in_default
@@ -31,6 +31,6 @@ returns c =
     let fits : HasRoom old c.args.part.now = rw c.deref.ensures.0 at has_room in
     let items = joined_items c.try_extend_from_slice.result _ c.try_extend_from_slice.ensures.ok no_error in
     let stage : stage_with_part old.stage (head_of c.args.part.now) ≡ Some c.in-Some.stage = cc in
-    let moves = part_taken old c.args.part.now c.in-Some.stage (subst IsOpen (sym c.self.view_is) c.requires) stage
+    let moves = part_joined old c.args.part.now c.in-Some.stage (subst IsOpen (sym c.self.view_is) c.requires) stage
     fits in
     rw (items, c.deref.ensures.0, ← c.self.view_is) moves

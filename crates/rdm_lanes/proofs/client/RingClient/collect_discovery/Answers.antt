@@ -7,7 +7,7 @@ use Rattle.rdm_lanes.specs.Told.{value_in, values_in}
 use Rattle.rdm_lanes.specs.Views.{found_after, last_found}
 use Rattle.rdm_lanes.specs.body.Holding.{HoldsForDiscovery}
 use Rattle.rdm_lanes.proofs.Counting.{own_discovery}
-use Rattle.rdm_lanes.proofs.ServeLemmas.{front_of}
+use Rattle.rdm_lanes.proofs.ServeLemmas.{at_first}
 use Rattle.rdm_lanes.proofs.ReadLemmas.{found_more}
 use Rattle.rdm_lanes.proofs.client.RingClient.collect_discovery.Goals as goal
 
@@ -24,7 +24,7 @@ pub invariant_of-self-clause-own : goal.invariant_of-self-clause-own
 invariant_of-self-clause-own g c =
     let me = c.args.self.now in
     let item = c.pop_known-item.result in
-    let held = front_of (HoldsForDiscovery me.desk) (known_items me.replies) (known_items c.pop_known-item.new.self)
+    let held = at_first (HoldsForDiscovery me.desk) (known_items me.replies) (known_items c.pop_known-item.new.self)
     item c.pop_known-item.ensures.received.1 (c.holds_for_discovery.ensures c.if-not-holds_for_discovery.false) in
-    rw (c.settle_discovery-told.ensures.taken, c.pop_known-item.ensures.received.0)
+    rw (c.settle_discovery-told.ensures.removed, c.pop_known-item.ensures.received.0)
     (own_discovery (work_in (pushed me.calls)) (popped me.replies) item me.desk held me.own)

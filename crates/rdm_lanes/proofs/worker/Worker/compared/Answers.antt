@@ -33,7 +33,7 @@ loop-at-preserved g c =
     (omega (arith, inside, is.long)) c.index_mut-in-loop-at.ensures.value in
     comparing_more c.args.self.session c.args.self.lanes.items c.args.ends.items lanes ends c.loop-at.at
     c.index_mut.result.now c.compare.new.lane c.index_mut-in-loop-at.result.now c.compare.new.end is lane_here
-    end_here c.compare.ensures.calls c.compare.ensures.replies c.compare.ensures.told c.compare.ensures.left
+    end_here c.compare.ensures.calls c.compare.ensures.replies c.compare.ensures.show_same c.compare.ensures.left
 
 pub returns-clause-agree : goal.returns-clause-agree
 returns-clause-agree g c =

@@ -12,7 +12,7 @@ pub loop-alloc-init : goal.loop-alloc-init
 loop-alloc-init c =
     moves_none c.args.client.0 c.args.session.now c.args.lane.now _
     (fits_looked c.args.client.0 c.args.session.now c.args.lane.now _ c.requires.fits refl (record {
-      told_are = c.slots.ensures.looked.1;
+      moved_are = c.slots.ensures.looked.1;
       requests_are = refl;
       asks_are = refl;
     }) refl)

@@ -1,14 +1,14 @@
-use Rattle.rdm_lanes.proofs.FitLemmas.{can_take_discover, fits_discover}
+use Rattle.rdm_lanes.proofs.FitLemmas.{fits_discover_answer, fits_discover}
 use Rattle.rdm_lanes.proofs.RefusalLemmas.{discovers_rightly}
 use Rattle.rdm_lanes.proofs.StepLemmas.{discovers, others_wait_discover}
 use Rattle.rdm_lanes.proofs.worker.serve.make_discover.Goals as goal
 
-pub take_discover-requires : goal.take_discover-requires
-take_discover-requires c =
+pub apply_discover_answer-requires : goal.apply_discover_answer-requires
+apply_discover_answer-requires c =
     let old = c.args.session.now in
     let new = c.discover-answer.new.self in
     let ready = c.requires in
-    can_take_discover old new c.args.client c.args.kind c.args.lane.now c.discover-answer.result
+    fits_discover_answer old new c.args.client c.args.kind c.args.lane.now c.discover-answer.result
     c.discover-answer.ensures.adds ready.free ready.may
 
 pub returns-clause-serves : goal.returns-clause-serves
@@ -24,11 +24,12 @@ returns-clause-serves c =
     ready.fits in
     let step = discovers old new c.args.client c.args.kind answer adds rightly in
     record {
-      fits = fits_discover old new c.args.client c.args.kind lane c.take_discover.new.lane answer adds ready.free legal
-          ready.may ready.fits c.take_discover.ensures.after;
+      fits = fits_discover old new c.args.client c.args.kind lane c.apply_discover_answer.new.lane answer adds
+          ready.free legal
+          ready.may ready.fits c.apply_discover_answer.ensures.after;
       served = step.quiet.served ready.served;
       others = λ other apart. others_wait_discover old new c.args.client c.args.kind answer adds legal other apart;
       line = step.quiet.line;
       switches = step.switches;
-      rings = c.take_discover.ensures.lane;
+      rings = c.apply_discover_answer.ensures.lane;
     }

@@ -5,7 +5,7 @@ use Rattle.rdm_lanes.specs.body.Serving.{MayMake}
 use Rattle.rtrb.specs.Ring.{received as popped, known_items}
 use Rattle.rdm_lanes.specs.declared.call.ClientCall.{ClientCall}
 use Rattle.rdm_lanes.proofs.LaneLemmas.{same_lane_join}
-use Rattle.rdm_lanes.proofs.ServeLemmas.{Calls, popped_more, front_of, fits_popped, fits_left, looked_at}
+use Rattle.rdm_lanes.proofs.ServeLemmas.{Calls, popped_more, at_first, fits_popped, fits_left, looked_at}
 use Rattle.rdm_lanes.proofs.ServeLemmas.{serves_none, serves_after}
 use Rattle.rdm_lanes.proofs.worker.serve.serve_call.Goals as goal
 
@@ -14,18 +14,18 @@ make_submit-requires c =
     let client = c.args.client.0 in
     let session = c.args.session.now in
     let lane = c.args.lane.now in
-    let front = looked_at client session lane c.may_make.new.lane c.slots.new.self c.requires.fits
+    let look = looked_at client session lane c.may_make.new.lane c.slots.new.self c.requires.fits
     c.slots.ensures.looked c.may_make.ensures.lane in
     record {
       known = c.requires.known ∙ ap (λ (l : Lane). Some l.places) (sym c.may_make.ensures.lane.rest);
       fits =
-          fits_popped client session c.may_make.new.lane _ (Submit c.in-Submit.request) front.fits
+          fits_popped client session c.may_make.new.lane _ (Submit c.in-Submit.request) look.fits
           (rw c.in-Submit.is at c.pop_known.ensures.received.0) refl
-          (record { told_are = refl; requests_are = refl; asks_are = refl }) refl;
+          (record { moved_are = refl; requests_are = refl; asks_are = refl }) refl;
       served = c.requires.served;
       free = search rules;
       may =
-          front_of (MayMake client session c.may_make.new.lane) (known_items c.may_make.new.lane.calls)
+          at_first (MayMake client session c.may_make.new.lane) (known_items c.may_make.new.lane.calls)
           (known_items c.pop_known.new.self) (Submit c.in-Submit.request)
           (rw c.in-Submit.is at c.pop_known.ensures.received.1) (c.may_make.ensures.may c.if-not-may_make.false);
     }
@@ -35,11 +35,11 @@ returns-in-Submit-clause-serves c =
     let client = c.args.client.0 in
     let session = c.args.session.now in
     let lane = c.args.lane.now in
-    let front = looked_at client session lane c.may_make.new.lane c.slots.new.self c.requires.fits
+    let look = looked_at client session lane c.may_make.new.lane c.slots.new.self c.requires.fits
     c.slots.ensures.looked c.may_make.ensures.lane in
-    let taken = record c.may_make.new.lane { calls = c.pop_known.new.self } in
-    serves_after client session c.make_submit.new.session lane taken c.make_submit.new.lane
-    (same_lane_join lane c.may_make.new.lane taken front.rings
+    let rest_lane = record c.may_make.new.lane { calls = c.pop_known.new.self } in
+    serves_after client session c.make_submit.new.session lane rest_lane c.make_submit.new.lane
+    (same_lane_join lane c.may_make.new.lane rest_lane look.rings
     (c.pop_known.ensures.ring, ((refl, refl, refl, refl), refl), refl))
     c.make_submit.ensures.serves
 
@@ -48,18 +48,18 @@ make_discover-requires c =
     let client = c.args.client.0 in
     let session = c.args.session.now in
     let lane = c.args.lane.now in
-    let front = looked_at client session lane c.may_make.new.lane c.slots.new.self c.requires.fits
+    let look = looked_at client session lane c.may_make.new.lane c.slots.new.self c.requires.fits
     c.slots.ensures.looked c.may_make.ensures.lane in
     record {
       known = c.requires.known ∙ ap (λ (l : Lane). Some l.places) (sym c.may_make.ensures.lane.rest);
       fits =
-          fits_popped client session c.may_make.new.lane _ (Discover c.in-Discover.kind) front.fits
+          fits_popped client session c.may_make.new.lane _ (Discover c.in-Discover.kind) look.fits
           (rw c.in-Discover.is at c.pop_known.ensures.received.0) refl
-          (record { told_are = refl; requests_are = refl; asks_are = refl }) refl;
+          (record { moved_are = refl; requests_are = refl; asks_are = refl }) refl;
       served = c.requires.served;
       free = search rules;
       may =
-          front_of (MayMake client session c.may_make.new.lane) (known_items c.may_make.new.lane.calls)
+          at_first (MayMake client session c.may_make.new.lane) (known_items c.may_make.new.lane.calls)
           (known_items c.pop_known.new.self) (Discover c.in-Discover.kind)
           (rw c.in-Discover.is at c.pop_known.ensures.received.1) (c.may_make.ensures.may c.if-not-may_make.false);
     }
@@ -69,11 +69,11 @@ returns-in-Discover-clause-serves c =
     let client = c.args.client.0 in
     let session = c.args.session.now in
     let lane = c.args.lane.now in
-    let front = looked_at client session lane c.may_make.new.lane c.slots.new.self c.requires.fits
+    let look = looked_at client session lane c.may_make.new.lane c.slots.new.self c.requires.fits
     c.slots.ensures.looked c.may_make.ensures.lane in
-    let taken = record c.may_make.new.lane { calls = c.pop_known.new.self } in
-    serves_after client session c.make_discover.new.session lane taken c.make_discover.new.lane
-    (same_lane_join lane c.may_make.new.lane taken front.rings
+    let rest_lane = record c.may_make.new.lane { calls = c.pop_known.new.self } in
+    serves_after client session c.make_discover.new.session lane rest_lane c.make_discover.new.lane
+    (same_lane_join lane c.may_make.new.lane rest_lane look.rings
     (c.pop_known.ensures.ring, ((refl, refl, refl, refl), refl), refl))
     c.make_discover.ensures.serves
 
@@ -82,15 +82,15 @@ returns-in-Leave-clause-serves c =
     let client = c.args.client.0 in
     let session = c.args.session.now in
     let lane = c.args.lane.now in
-    let front = looked_at client session lane c.may_make.new.lane c.slots.new.self c.requires.fits
+    let look = looked_at client session lane c.may_make.new.lane c.slots.new.self c.requires.fits
     c.slots.ensures.looked c.may_make.ensures.lane in
     let next = record c.may_make.new.lane { calls = c.pop_known.new.self; left = true } in
     serves_none client session lane next
-    (fits_left client session c.may_make.new.lane next front.fits
+    (fits_left client session c.may_make.new.lane next look.fits
     (rw c.in-Leave.is at c.pop_known.ensures.received.0)
-    (record { told_are = refl; requests_are = refl; asks_are = refl }) refl)
+    (record { moved_are = refl; requests_are = refl; asks_are = refl }) refl)
     c.requires.served
-    (same_lane_join lane c.may_make.new.lane next front.rings
+    (same_lane_join lane c.may_make.new.lane next look.rings
     (c.pop_known.ensures.ring, ((refl, refl, refl, refl), refl), refl))
 
 pub returns-in-Submit-clause-made : goal.returns-in-Submit-clause-made

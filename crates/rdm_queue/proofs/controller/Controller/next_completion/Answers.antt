@@ -7,7 +7,7 @@ pub returns-clause-adds : goal.returns-clause-adds
 returns-clause-adds c =
     rw (← (c.deref_mut.ensures.value ∙ c.self.view_is))
     (completion_adds c.next_completion.result c.deref_mut.result.now c.next_completion.new.self c.args.client
-    c.next_completion.ensures.taken)
+    c.next_completion.ensures.removed)
 
 pub returns-clause-none : goal.returns-clause-none
 returns-clause-none c =

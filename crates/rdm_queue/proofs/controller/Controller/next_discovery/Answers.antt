@@ -7,7 +7,7 @@ pub returns-clause-adds : goal.returns-clause-adds
 returns-clause-adds c =
     rw (← (c.deref_mut.ensures.value ∙ c.self.view_is))
     (discovery_adds c.next_discovery.result c.next_discovery.new.set c.deref_mut.result.now
-    c.next_discovery.new.self c.args.client c.next_discovery.ensures.taken)
+    c.next_discovery.new.self c.args.client c.next_discovery.ensures.removed)
 
 pub returns-clause-none : goal.returns-clause-none
 returns-clause-none c =

@@ -6,4 +6,4 @@ pub returns-clause-adds : goal.returns-clause-adds
 returns-clause-adds c =
     rw (← (c.deref_mut.ensures.value ∙ c.self.view_is))
     (collect_adds c.next_outcome.result c.deref_mut.result.now c.next_outcome.new.self c.args.client
-    c.next_outcome.ensures.outcome c.next_outcome.ensures.taken c.next_outcome.ensures.none)
+    c.next_outcome.ensures.outcome c.next_outcome.ensures.removed c.next_outcome.ensures.none)

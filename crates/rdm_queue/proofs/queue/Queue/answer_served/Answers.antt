@@ -6,7 +6,7 @@ use Rattle.rdm_queue.specs.body.State.{QueueState}
 use Rattle.rdm_queue.specs.body.Ending.{one_less, answers_oldest}
 use Rattle.rdm_queue.proofs.BodyLemmas.FieldLemmas.{written}
 use Rattle.rdm_queue.proofs.BodyLemmas.RingFields.{AreClientsOf, own_clients}
-use Rattle.rdm_queue.proofs.BodyLemmas.AnswerLemmas.{front_served, asked_rest, asked_within, CanAnswer, can_answer}
+use Rattle.rdm_queue.proofs.BodyLemmas.AnswerLemmas.{oldest_served, asked_rest, asked_within, CanAnswer, can_answer}
 use Rattle.rdm_queue.proofs.BodyLemmas.AnswerLemmas.{serves_less, clients-answer}
 use Rattle.rdm_queue.proofs.queue.Queue.answer_served.Goals.{After-remove-asked, After-found}
 use Rattle.rdm_queue.proofs.queue.Queue.answer_served.Goals as goal
@@ -15,7 +15,7 @@ use Rattle.rdm_queue.proofs.queue.Queue.answer_served.Goals as goal
 oldest : (c : After-remove-asked)
     → slice_get (state_of c.self.inside).asked 0 ≡ Some (asked_is c.remove-asked.result)
 oldest c =
-    front_served c.self.inside c.remove-asked.result (run_is c.args.run.now) c.self.invariant
+    oldest_served c.self.inside c.remove-asked.result (run_is c.args.run.now) c.self.invariant
     (rw (← c.self.view_is) at c.requires) c.remove-asked.ensures.value
 
 pub bounds-deref_mut-from : goal.bounds-deref_mut-from
@@ -23,7 +23,7 @@ bounds-deref_mut-from c =
     let within = asked_within (state_of c.self.inside) c.self.inside.clients.items (asked_is c.remove-asked.result)
     (own_clients c.self.inside c.self.invariant) (oldest (goal.at.bounds-deref_mut-from c).After-remove-asked) in
     let same = ap (λ l. length l) c.deref_mut.ensures.value in
-    let place = c.from.ensures in
+    let converted = c.from.ensures in
     omega arith
 
 -- its client, and the capacity for its answer

@@ -7,7 +7,7 @@ use Rattle.rdm_queue.specs.body.State.{QueueState}
 use Rattle.rdm_queue.specs.body.Ending.{answers_oldest}
 use Rattle.rdm_queue.proofs.BodyLemmas.FieldLemmas.{written}
 use Rattle.rdm_queue.proofs.BodyLemmas.RingFields.{AreClientsOf, own_clients}
-use Rattle.rdm_queue.proofs.BodyLemmas.AnswerLemmas.{nonempty, front_asked, asked_rest, asked_within, CanAnswer}
+use Rattle.rdm_queue.proofs.BodyLemmas.AnswerLemmas.{nonempty, oldest_asked, asked_rest, asked_within, CanAnswer}
 use Rattle.rdm_queue.proofs.BodyLemmas.AnswerLemmas.{can_answer, serves_none, clients-answer}
 use Rattle.rdm_queue.proofs.queue.Queue.answer_unserved.Goals.{After-new}
 use Rattle.rdm_queue.proofs.queue.Queue.answer_unserved.Goals as goal
@@ -17,9 +17,9 @@ bounds-deref_mut-from c =
     let some = nonempty c.self.inside.asked.items (sym c.is_empty.ensures ∙ c.if-is_empty.false) in
     let within = asked_within (state_of c.self.inside) c.self.inside.clients.items (asked_is c.remove-asked.result)
     (own_clients c.self.inside c.self.invariant)
-    (front_asked c.self.inside c.remove-asked.result some c.remove-asked.ensures.value) in
+    (oldest_asked c.self.inside c.remove-asked.result some c.remove-asked.ensures.value) in
     let same = ap (λ l. length l) c.deref_mut.ensures.value in
-    let place = c.from.ensures in
+    let converted = c.from.ensures in
     omega arith
 
 -- the oldest discovery, its client, and the capacity for its answer
@@ -35,7 +35,7 @@ can c =
     let some = nonempty c.self.inside.asked.items (sym c.is_empty.ensures ∙ c.if-is_empty.false) in
     can_answer (state_of c.self.inside) c.self.inside.clients.items c.deref_mut.result.now (asked c) c.from.result
     c.index-deref_mut-from.result (own_clients c.self.inside c.self.invariant)
-    (front_asked c.self.inside c.remove-asked.result some c.remove-asked.ensures.value)
+    (oldest_asked c.self.inside c.remove-asked.result some c.remove-asked.ensures.value)
     c.from.ensures c.deref_mut.ensures.value
 
 pub answer-requires-clause-sets : goal.answer-requires-clause-sets

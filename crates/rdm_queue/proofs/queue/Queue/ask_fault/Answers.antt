@@ -10,7 +10,7 @@ use Rattle.rdm_queue.proofs.queue.Queue.ask_fault.Goals.{then-outstanding-ge-MOS
 use Rattle.rdm_queue.proofs.queue.Queue.ask_fault.Goals.{else-outstanding-ge-MOST_DISCOVERIES}
 use Rattle.rdm_queue.proofs.queue.Queue.ask_fault.Goals as goal
 
--- the client, at its place, and the first fault by how many it has outstanding
+-- the client, at its index, and the first fault by how many it has outstanding
 at : (c : After-answered) → slice_get c.self.inside.clients.items c.args.client.0 ≡ Some c.in-Some.own.now
 at c =
     subst (λ n. slice_get c.self.inside.clients.items n ≡ Some c.in-Some.own.now) c.from.ensures

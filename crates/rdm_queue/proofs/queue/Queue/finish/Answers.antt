@@ -5,13 +5,13 @@ use Rattle.rdm_log.specs.promises.Outcomes.{completion_value}
 use Rattle.rdm_queue.specs.body.Fields.{state_of}
 use Rattle.rdm_queue.specs.body.State.{QueueState, finishes_oldest, owed_for}
 use Rattle.rdm_queue.proofs.BodyLemmas.FieldLemmas.{written}
-use Rattle.rdm_queue.proofs.BodyLemmas.FrontLemmas.{oldest_within}
+use Rattle.rdm_queue.proofs.BodyLemmas.OldestLemmas.{oldest_within}
 use Rattle.rdm_queue.proofs.BodyLemmas.RingSteps.{entry-finish}
 use Rattle.rdm_queue.proofs.BodyLemmas.RingFields.{AreClientsOf, own_clients, CanFinish, can_finish, clients-finish}
 use Rattle.rdm_queue.proofs.queue.Queue.finish.Goals.{After-index-deref_mut-at}
 use Rattle.rdm_queue.proofs.queue.Queue.finish.Goals as goal
 
--- the client's place
+-- the client's index
 within : (c : goal.After-deref_mut) → c.args.at < length c.deref_mut.result.now
 within c =
     subst (λ (ks : List Client). c.args.at < length ks) (sym c.deref_mut.ensures.value)
@@ -19,7 +19,7 @@ within c =
     (rw (← c.self.view_is) at c.requires.oldest))
 
 pub offset_bounds-deref_mut-at : goal.offset_bounds-deref_mut-at
-offset_bounds-deref_mut-at c = let place = within c in omega (arith, c.deref_mut.type_inv)
+offset_bounds-deref_mut-at c = let below = within c in omega (arith, c.deref_mut.type_inv)
 
 pub bounds-deref_mut-at : goal.bounds-deref_mut-at
 bounds-deref_mut-at c = within c
@@ -53,8 +53,8 @@ finished c =
     c.finish_oldest.result c.requires.oldest.0 (own_clients c.self.inside c.self.invariant)
     (can (goal.at.returns c).After-index-deref_mut-at) c.requires.oldest.2 c.finish_oldest.ensures
 
-taken : (c : goal.After-self-2-1) → (state_of c.self.inside).decided ≡ None
-taken c = ap (λ (t : QueueState). t.decided) c.self.view_is ∙ c.requires.taken
+removed : (c : goal.After-self-2-1) → (state_of c.self.inside).decided ≡ None
+removed c = ap (λ (t : QueueState). t.decided) c.self.view_is ∙ c.requires.removed
 
 pub invariant_of-self : goal.invariant_of-self
 invariant_of-self c =
@@ -66,7 +66,7 @@ invariant_of-self c =
       are.waiting,
       are.owed,
       c.reset.ensures.stands,
-      taken c,
+      removed c,
     ) are.kept
 
 pub returns : goal.returns
@@ -89,7 +89,7 @@ returns c =
           are.waiting,
           are.owed,
           c.reset.ensures.stands,
-          taken c,
+          removed c,
         ) refl,
       );
     }

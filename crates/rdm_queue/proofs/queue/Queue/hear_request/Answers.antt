@@ -8,7 +8,7 @@ returns-in-Done-clause-heard c = λ vs none stands.
     let at = rw (← c.self.view_is) at stands in
     rw (← c.judge.ensures)
     (record {
-      progress = rw c.reset.ensures.stands
+      standing = rw c.reset.ensures.stands
           (heard_done (vs ++ c.judge.result ∷ []) c.in-Done.status c.add.new.self
           (completion_value c.completion_of-done.result) (c.in-Done.ensures.step vs at) (c.in-Done.ensures.stands vs at)
           c.completion_of-done.ensures);

@@ -9,7 +9,7 @@ use Rattle.rdm_queue.proofs.BodyLemmas.RingSteps.{kind_is, if_none}
 use Rattle.rdm_queue.proofs.BodyLemmas.RingFields.{own_clients, MayCollect, may_collect}
 use Rattle.rdm_queue.proofs.queue.Queue.next_completion.Goals as goal
 
--- the client, and all clients after its oldest outcome was taken out, if that was a request's
+-- the client, and all clients after its oldest outcome was removed, if that was a request's
 at : (c : goal.After-self-2-1)
     → slice_get c.self.inside.clients.items c.from.result ≡ Some c.in_ok-get_mut.field-0.now
 at c =
@@ -23,16 +23,16 @@ collected : (c : goal.After-self-2-1)
 collected c =
     may_collect (state_of c.self.inside) c.self.inside.clients.items c.from.result c.in_ok-get_mut.field-0.now
     c.collect_request.new.self c.collect_request.result (λ r. outcome_value (request_outcome r))
-    (own_clients c.self.inside c.self.invariant) (at c) c.collect_request.ensures.taken
+    (own_clients c.self.inside c.self.invariant) (at c) c.collect_request.ensures.removed
     c.collect_request.ensures.unchanged
 
 pub invariant_of-self-2 : goal.invariant_of-self-2
 invariant_of-self-2 c = let are = (collected c).are in rw (are.places, are.waiting) are.kept
 
-pub returns-clause-taken : goal.returns-clause-taken
-returns-clause-taken c =
+pub returns-clause-removed : goal.returns-clause-removed
+returns-clause-removed c =
     let all = collected c in
-    rw (← c.self.view_is, all.are.places, all.are.waiting, ← c.from.ensures) all.taken
+    rw (← c.self.view_is, all.are.places, all.are.waiting, ← c.from.ensures) all.removed
 
 pub returns-clause-none : goal.returns-clause-none
 returns-clause-none c =

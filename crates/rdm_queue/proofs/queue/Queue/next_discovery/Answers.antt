@@ -9,7 +9,7 @@ use Rattle.rdm_queue.proofs.BodyLemmas.RingSteps.{kind_is, if_none}
 use Rattle.rdm_queue.proofs.BodyLemmas.RingFields.{own_clients, MayCollect, may_collect}
 use Rattle.rdm_queue.proofs.queue.Queue.next_discovery.Goals as goal
 
--- the client, and all clients after its oldest outcome was taken out, if that was a discovery's
+-- the client, and all clients after its oldest outcome was removed, if that was a discovery's
 at : (c : goal.After-self-2-1)
     → slice_get c.self.inside.clients.items c.from.result ≡ Some c.in_ok-get_mut.field-0.now
 at c =
@@ -25,7 +25,7 @@ collected c =
     let l = c.collect_discovery.new.self in
     may_collect (state_of c.self.inside) c.self.inside.clients.items c.from.result k l c.collect_discovery.result
     (λ end. outcome_value (discovery_outcome end c.collect_discovery.new.set))
-    (own_clients c.self.inside c.self.invariant) (at c) c.collect_discovery.ensures.taken
+    (own_clients c.self.inside c.self.invariant) (at c) c.collect_discovery.ensures.removed
     (if_none c.collect_discovery.result
     (λ (same : (l ≡ k) × (c.collect_discovery.new.set ≡ c.args.set.now)). same.0)
     c.collect_discovery.ensures.unchanged)
@@ -33,10 +33,10 @@ collected c =
 pub invariant_of-self-2 : goal.invariant_of-self-2
 invariant_of-self-2 c = let are = (collected c).are in rw (are.places, are.waiting) are.kept
 
-pub returns-clause-taken : goal.returns-clause-taken
-returns-clause-taken c =
+pub returns-clause-removed : goal.returns-clause-removed
+returns-clause-removed c =
     let all = collected c in
-    rw (← c.self.view_is, all.are.places, all.are.waiting, ← c.from.ensures) all.taken
+    rw (← c.self.view_is, all.are.places, all.are.waiting, ← c.from.ensures) all.removed
 
 pub returns-clause-none : goal.returns-clause-none
 returns-clause-none c =

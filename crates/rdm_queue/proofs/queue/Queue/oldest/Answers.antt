@@ -1,5 +1,5 @@
 use Rattle.rdm_queue.specs.body.Fields.{state_of}
-use Rattle.rdm_queue.proofs.BodyLemmas.FrontLemmas.{shown_first}
+use Rattle.rdm_queue.proofs.BodyLemmas.OldestLemmas.{shown_first}
 use Rattle.rdm_queue.proofs.queue.Queue.oldest.Goals as goal
 
 pub returns : goal.returns

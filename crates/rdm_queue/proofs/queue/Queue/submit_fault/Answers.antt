@@ -12,7 +12,7 @@ use Rattle.rdm_queue.proofs.queue.Queue.submit_fault.Goals.{then-outstanding-fro
 use Rattle.rdm_queue.proofs.queue.Queue.submit_fault.Goals.{In-Some}
 use Rattle.rdm_queue.proofs.queue.Queue.submit_fault.Goals as goal
 
--- the client, at its place
+-- the client, at its index
 abbrev client : In-Some → Client
 client c = c.in-Some.own.now
 

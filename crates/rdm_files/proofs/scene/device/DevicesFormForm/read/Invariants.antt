@@ -1,5 +1,5 @@
-use Rattle.rdm_files.proofs.DeviceForms.{Placed}
+use Rattle.rdm_files.proofs.DeviceForms.{Ordered}
 use Rattle.rdm_files.proofs.scene.device.DevicesFormForm.read.Given as goal
 
 abbrev pub invariant-devices : goal.invariant-devices
-invariant-devices l = Placed l.values.items l.i l.devices
+invariant-devices l = Ordered l.values.items l.i l.devices

@@ -13,7 +13,7 @@ returns-clause-published g c =
 pub returns-clause-shown_first : goal.returns-clause-shown_first
 returns-clause-shown_first g c =
     let me = c.args.self in
-    let long = c.compared-session.ensures.told.long
+    let long = c.compared-session.ensures.show_same.long
     ∙ (sym (length-map c.args.ends.items end_rings) ∙ c.requires.pairs.long) in
     rw (c.again.ensures, c.front-2.ensures)
     (ends_shown_first me.server.session me.server.lanes.items c.compared-session.result.1.items me.views.shown

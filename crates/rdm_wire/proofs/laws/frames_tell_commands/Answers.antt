@@ -1,5 +1,0 @@
-use Rattle.rdm_wire.proofs.CommandLemmas.{one_command}
-use Rattle.rdm_wire.proofs.laws.frames_tell_commands.Goals as goal
-
-pub returns : goal.returns
-returns c = one_command

@@ -1,5 +1,0 @@
-use Rattle.rdm_wire.proofs.PacketLemmas.{fields_at-packet, one_packet}
-use Rattle.rdm_wire.proofs.laws.packets_tell_fields.Goals as goal
-
-pub returns : goal.returns
-returns c = record { fields = fields_at-packet; one = one_packet }
