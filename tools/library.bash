@@ -1,6 +1,7 @@
 # The C library, and the library for OLA: how they are built from the proved archive, and put into a folder. For the
 # scripts in the folder above.
 # shellcheck shell=bash
+. "$(dirname -- "${BASH_SOURCE[0]}")/files.bash"
 
 # The shared object's version of the interface. It changes if programs have to be recompiled.
 soname=libwurstlinen.so.0
@@ -21,23 +22,35 @@ make_library() {
     rm "$folder/heap.o" "$folder/exports"
 }
 
+# Whether a prefix can stand in pkg-config's file, and in lists of paths. A blank can.
+is_for_pkg_config() {
+    [[ "$1" != *[[:cntrl:]:\;\"\'\`\\\$#]* ]]
+}
+
 # Puts the library, its headers and the Python package below a prefix.
 install_library() {
     local root="$1" folder="$2" prefix="$3" python="$3/lib/python3/site-packages"
-    mkdir -p "$prefix/lib/pkgconfig" "$prefix/include" "$python" || return
-    cp "$folder/libwurstlinen.a" "$folder/$soname" "$prefix/lib/" || return
-    ln -sfT "$soname" "$prefix/lib/libwurstlinen.so" || return
-    cp "$root/bindings/c/wurstlinen.h" "$root/bindings/cpp/wurstlinen.hpp" "$prefix/include/" || return
-    rm -rf "$python/wurstlinen" && cp -r "$root/bindings/python/wurstlinen" "$python/" || return
-    find "$python/wurstlinen" -name __pycache__ -prune -exec rm -r {} +
-    cat > "$prefix/lib/pkgconfig/wurstlinen.pc" << END
-prefix=$prefix
+    make_folder "$prefix/lib/pkgconfig" && make_folder "$prefix/include" && make_folder "$python" || return
+    put "$folder/libwurstlinen.a" "$prefix/lib/libwurstlinen.a" 644 || return
+    put "$folder/$soname" "$prefix/lib/$soname" 644 || return
+    ln -sfT -- "$soname" "$prefix/lib/libwurstlinen.so" || return
+    put "$root/bindings/c/wurstlinen.h" "$prefix/include/wurstlinen.h" 644 || return
+    put "$root/bindings/cpp/wurstlinen.hpp" "$prefix/include/wurstlinen.hpp" 644 || return
+    put_package "$root/bindings/python/wurstlinen" "$python/wurstlinen" || return
+    write_pkg_config "$root" "$prefix" > "$folder/wurstlinen.pc" || return
+    put "$folder/wurstlinen.pc" "$prefix/lib/pkgconfig/wurstlinen.pc" 644
+}
+
+# Prints pkg-config's file for a prefix.
+write_pkg_config() {
+    cat << END
+prefix=${2// /\\ }
 libdir=\${prefix}/lib
 includedir=\${prefix}/include
 
 Name: wurstlinen
 Description: A controller for RDM (ANSI E1.20)
-Version: $(cat "$root/VERSION")
+Version: $(cat "$1/VERSION")
 Libs: -L\${libdir} -lwurstlinen
 Cflags: -I\${includedir}
 END

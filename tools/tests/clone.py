@@ -1,0 +1,109 @@
+"""What the tests of scripts share: a small clone of the repository, with a stand-in for the kit's rt."""
+from __future__ import annotations
+
+import contextlib
+import os
+import shutil
+import subprocess
+import tempfile
+import time
+from pathlib import Path
+from typing import Callable, Iterator, List, Sequence
+
+ROOT = Path(__file__).resolve().parents[2]
+SCRIPTS = ("wurstlinen", "rdm_port", "tools", "VERSION", "HANDLES", "bindings/c", "bindings/cpp",
+           "bindings/python/wurstlinen", "bindings/examples", "crates/rdm_words/src")
+CRATES = "rdm_words:\nrdm_wire:\nwurstlinen: rdm_words rdm_wire\nrdm_c staticlib: rdm_words\n"
+# A program that prints its arguments, and rt, which notes its calls and builds that program, or a library.
+PROGRAM = '#!/bin/sh\necho "the program: $*"\n'
+RT = """#!/bin/sh
+echo "$PWD $*" >> "{calls}"
+mkdir -p out/rlib
+crate="${{PWD##*/}}"
+case "$1 $crate" in
+    "run wurstlinen") printf '%s' '{program}' > out/wurstlinen; chmod +x out/wurstlinen ;;
+    "lib rdm_c") cp "{archive}" out/librdm_c.a ;;
+esac
+{more}
+"""
+SECONDS = 20
+
+
+class Clone:
+    """A clone in a folder, and the commands of its user."""
+
+    def __init__(self, folder: Path) -> None:
+        self.folder, self.root, self.bin = folder, folder / "clone", folder / "bin"
+        self.calls, self.archive = folder / "calls", folder / "stand_in.a"
+        for name in SCRIPTS:
+            self._copy(name)
+        (self.root / "crates.txt").write_text(CRATES)
+        for crate in ("rdm_wire", "wurstlinen", "rdm_c"):
+            (self.root / "crates" / crate / "src").mkdir(parents=True)
+            (self.root / "crates" / crate / "src/lib.rt").write_text("pub fn one() {}\n")
+        self.bin.mkdir()
+        self.put_rt("")
+        self.environment = {**os.environ, "PATH": f"{self.bin}:/usr/bin:/bin", "PYTHONDONTWRITEBYTECODE": "1"}
+
+    def _copy(self, name: str) -> None:
+        to = self.root / name
+        to.parent.mkdir(parents=True, exist_ok=True)
+        if (ROOT / name).is_dir():
+            shutil.copytree(ROOT / name, to, ignore=shutil.ignore_patterns("__pycache__", "tests", "out"))
+        else:
+            shutil.copy(ROOT / name, to)
+
+    def put_rt(self, more: str) -> None:
+        """The stand-in for rt, which also runs these commands."""
+        text = RT.format(calls=self.calls, program=PROGRAM, archive=self.archive, more=more)
+        (self.bin / "rt").write_text(text)
+        (self.bin / "rt").chmod(0o755)
+
+    def rt_calls(self) -> List[str]:
+        """The calls of rt so far."""
+        return self.calls.read_text().splitlines() if self.calls.exists() else []
+
+    def run(self, *command: str, **options: object) -> "subprocess.CompletedProcess[str]":
+        """Runs a command in the folder of the clone."""
+        given = {"cwd": self.root, "env": self.environment, "capture_output": True, "text": True, **options}
+        return subprocess.run(command, check=False, timeout=60, stdin=subprocess.DEVNULL, **given)
+
+    def start(self, *command: str, **options: object) -> "subprocess.Popen[str]":
+        """Starts a command in a process group of its own."""
+        given = {"cwd": self.root, "env": self.environment, "stdout": subprocess.PIPE, "stderr": subprocess.PIPE,
+                 "text": True, "start_new_session": True, **options}
+        return subprocess.Popen(command, stdin=subprocess.DEVNULL, **given)
+
+    def bash(self, script: str, *arguments: str, **options: object) -> "subprocess.CompletedProcess[str]":
+        """Runs a script that uses the functions of tools/library.bash."""
+        text = f'set -u; . "$1/tools/library.bash"; shift; {script}'
+        return self.run("bash", "-c", text, "bash", str(self.root), *arguments, **options)
+
+
+@contextlib.contextmanager
+def new_clone() -> Iterator[Clone]:
+    """A clone in a temporary folder."""
+    with tempfile.TemporaryDirectory(prefix="check_scripts.") as name:
+        yield Clone(Path(name).resolve())
+
+
+def wait_for(condition: Callable[[], object]) -> None:
+    """Waits until something is true."""
+    end = time.monotonic() + SECONDS
+    while not condition():
+        if time.monotonic() > end:
+            raise AssertionError("it didn't happen in time")
+        time.sleep(0.02)
+
+
+def is_alive(process: int) -> bool:
+    """Whether a process runs, and isn't just waiting to be forgotten."""
+    try:
+        return Path(f"/proc/{process}/stat").read_text().rpartition(")")[2].split()[0] != "Z"
+    except OSError:
+        return False
+
+
+def compile_c(text: str, to: Path, flags: Sequence[str]) -> None:
+    """Compiles a C program or library."""
+    subprocess.run(["cc", "-x", "c", "-", "-o", str(to), *flags], input=text, text=True, check=True)

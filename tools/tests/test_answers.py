@@ -1,0 +1,144 @@
+"""What ./wurstlinen answers before it builds anything, and what --unproved does."""
+from __future__ import annotations
+
+import os
+import re
+import signal
+import time
+import unittest
+from typing import List
+
+from cases.checker.case import Case
+from cases.checker.tables import read_tables
+from clone import ROOT, Clone, new_clone, wait_for
+
+# Cases of the program whose standard error has this need no program.
+EARLY = re.compile(rb"wurstlinen: (the command is missing|.* is no command|the file .* no such file|.*no UTF-8 text)\n")
+BUILDING = 'echo "building" >&2; exit 1'
+
+
+def early_cases() -> List[Case]:
+    """The cases of the tables that the script answers by itself."""
+    cases = [case for table in read_tables(ROOT / "cases") for case in table.cases]
+    # With these options another file may be the one that isn't there.
+    cases = [case for case in cases if not {b"--line", b"--log"} & {word for words in case.commands for word in words}]
+    return [case for case in cases if EARLY.match(case.expected.err or b"")]
+
+
+def usage() -> str:
+    """The program's usage, as its cases say it."""
+    for table in read_tables(ROOT / "cases"):
+        for case in table.cases:
+            if case.name == "--help":
+                assert case.expected.err
+                return case.expected.err.decode()
+    raise LookupError("no case has the usage")
+
+
+class Answers(unittest.TestCase):
+    def setUp(self) -> None:
+        context = new_clone()
+        self.clone: Clone = context.__enter__()
+        self.addCleanup(context.__exit__, None, None, None)
+        self.clone.put_rt(BUILDING)
+
+    def expect(self, words: List[str], status: int, out: str, err: str) -> None:
+        """The script answers these words, and calls no rt."""
+        done = self.clone.run("./wurstlinen", *words)
+        self.assertEqual((done.returncode, done.stdout, done.stderr), (status, out, err), words)
+        self.assertEqual(self.clone.rt_calls(), [], words)
+
+    def test_cases_of_the_program(self) -> None:
+        cases = early_cases()
+        self.assertGreater(len(cases), 10)
+        for case in cases:
+            for file in case.files:
+                (self.clone.root / file.path).write_bytes(file.contents)
+            for words in case.commands:
+                for before in ([], ["--unproved"]):
+                    command = [os.fsencode(word) for word in ["./wurstlinen", *before]]
+                    done = self.clone.run(*command, *words, text=False)
+                    expected = case.expected
+                    self.assertEqual((done.returncode, done.stderr), (expected.status, expected.err), case.name)
+                    self.assertEqual(done.stdout, expected.out, case.name)
+        self.assertEqual(self.clone.rt_calls(), [])
+
+    def test_help_and_version(self) -> None:
+        version = f"wurstlinen {(ROOT / 'VERSION').read_text().strip()}\n"
+        for before in ([], ["--unproved"]):
+            self.expect([*before, "help"], 0, usage(), "")
+            self.expect([*before, "help", "decode"], 0, usage(), "")
+            for word in ("version", "--version", "-V"):
+                self.expect([*before, word], 0, version, "")
+        own = self.clone.run("./wurstlinen", "--help")
+        self.assertEqual((own.returncode, own.stdout.split("\n")[0]), (0, "usage: ./wurstlinen COMMAND ARGUMENT.."))
+        self.assertEqual(self.clone.run("./wurstlinen", "--unproved", "-h").stdout, own.stdout)
+
+    def test_the_other_name_keeps_the_programs_answers(self) -> None:
+        version = (ROOT / "VERSION").read_text().strip()
+        for words, err in ((["help"], usage()), (["--help"], usage()), (["-h"], usage()),
+                           (["--version"], f"{usage()}version: {version}\n"),
+                           (["version"], f'wurstlinen: "version" is no command\n{usage()}'),
+                           ([], f"wurstlinen: the command is missing\n{usage()}")):
+            done = self.clone.run("./rdm_port", *words)
+            self.assertEqual((done.returncode, done.stdout, done.stderr), (2, "fault: command line\n", err))
+        self.assertEqual(self.clone.rt_calls(), [])
+
+    def test_files_that_are_not_there(self) -> None:
+        no_file = 'wurstlinen: the file "a \\"b\\" \\u{301}ä" can\'t be opened: no such file\n'
+        for words in (["run", "--port=rings"], ["run", "--line", "out", "--replies=in"], ["discover", "--log", "x"],
+                      ["discover", "--quick", "--incremental"], ["run", "--"]):
+            self.expect([*words, 'a "b" \u0301ä'], 1, "fault: file\n", no_file)
+
+    def test_other_arguments_are_left_to_the_program(self) -> None:
+        (self.clone.root / "file").write_text("{}")
+        for words in (["run", "file"], ["run", "none", "--quick"], ["run", "none", "--port", "no"], ["run", "none", "b"],
+                      ["run", "none", "--replies", "in"], ["discover", "none", "--quick=yes"], ["decode", "00"],
+                      ["discover", "--line", "none"], ["discover", "none", "--quick", "--quick"], ["discover"],
+                      ["run", "none", "--log", "-x"], ["run", "none", "--log"]):
+            done = self.clone.run("./wurstlinen", *words)
+            self.assertEqual((done.returncode, done.stdout), (125, ""), words)
+            self.assertIn("proving and building", done.stderr)
+
+    def test_a_full_device(self) -> None:
+        with open("/dev/full", "w") as full:
+            done = self.clone.run("./wurstlinen", capture_output=False, stdout=full, stderr=-1)
+        self.assertEqual(done.returncode, 1)
+        self.assertTrue(done.stderr.startswith("wurstlinen: the answer can't be written: "))
+
+    def test_a_built_program_answers_itself(self) -> None:
+        self.clone.put_rt("")
+        for words in (["run", "none"], ["walk"], []):
+            (self.clone.root / "none").write_text("{}")
+            self.assertEqual(self.clone.run("./wurstlinen", "run", "none").stdout, "the program: run none\n")
+            (self.clone.root / "none").unlink()
+            self.assertEqual(self.clone.run("./wurstlinen", *words).stdout, f"the program: {' '.join(words)}\n")
+
+
+class Unproved(unittest.TestCase):
+    def test_an_interrupt_ends_it_with_130(self) -> None:
+        for number, status in ((signal.SIGINT, 130), (signal.SIGTERM, 143)):
+            for to_all in (True, False):
+                self.interrupt(number, status, to_all)
+
+    def interrupt(self, number: int, status: int, to_all: bool) -> None:
+        """Interrupts a run, as a terminal does it, or the script alone."""
+        with new_clone() as clone:
+            # As rt: it ends with a status of its own, and not by the signal.
+            clone.put_rt("trap 'kill $!; exit 130' INT; trap 'kill $!; exit 143' TERM; sleep 30 & wait")
+            (clone.root / "tmp").mkdir()
+            with clone.start("./wurstlinen", "--unproved", "decode", "00",
+                             env={**clone.environment, "TMPDIR": str(clone.root / "tmp")}) as process:
+                wait_for(lambda: any("try" in call for call in clone.rt_calls()))
+                time.sleep(0.2)
+                began = time.monotonic()
+                os.killpg(process.pid, number) if to_all else process.send_signal(number)
+                out, errors = process.communicate()
+            self.assertEqual((process.returncode, out), (status, ""))
+            self.assertNotIn("didn't run to its end", errors)
+            self.assertLess(time.monotonic() - began, 5)
+            self.assertEqual(list((clone.root / "tmp").iterdir()), [])
+
+
+if __name__ == "__main__":
+    unittest.main()
