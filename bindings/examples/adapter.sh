@@ -9,35 +9,57 @@
 #   adapter.sh rig:five_fixtures.json discover --source 7ff0:00000001 --quick
 #
 # The bridge talks to the adapter, and two FIFOs carry its text: frames one way, replies the other. Both ends stop when
-# one does. WURSTLINEN is the program, if it isn't `wurstlinen` on the PATH. The status is the program's, or the
-# bridge's if only that failed.
+# one does, and when the script is told to end. WURSTLINEN is the program, if it isn't `wurstlinen` on the PATH. The
+# status is the program's, or the bridge's if only that failed.
 set -uo pipefail
+# With it, cd would go elsewhere, and print where.
+unset CDPATH
 
 program="${WURSTLINEN:-wurstlinen}"
-package="$(cd "$(dirname "${BASH_SOURCE[0]}")/../python" && pwd)"
+package="$(cd -- "$(dirname -- "${BASH_SOURCE[0]}")/../python" && pwd)"
 
 if [ "$#" -lt 2 ]; then
     echo "usage: adapter.sh LINE ARGUMENT .." >&2
     exit 2
 fi
+if ! command -v -- "$program" > /dev/null; then
+    echo "adapter.sh: there is no program $program: name it by WURSTLINEN" >&2
+    exit 127
+fi
 line="$1"
 shift
 
-folder="$(mktemp -d)"
-bridge=""
+folder="$(mktemp -d)" || exit
+# Ends what still runs, with all that it started, after a second by force.
 end() {
-    [ -z "$bridge" ] || kill "$bridge" 2> /dev/null
+    local each left
+    for each in $(jobs -p); do
+        # It may not have its own session yet.
+        kill -- "-$each" 2> /dev/null || kill "$each" 2> /dev/null
+    done
+    for _ in {1..20}; do
+        left="$(jobs -pr)"
+        [ -n "$left" ] || break
+        sleep 0.05
+    done
+    for each in $left; do
+        kill -KILL -- "-$each" 2> /dev/null
+    done
     rm -rf "$folder"
 }
 trap end EXIT
-trap 'exit 130' INT TERM
+trap 'exit 129' HUP
+trap 'exit 130' INT
+trap 'exit 131' QUIT
+trap 'exit 143' TERM
 
 mkfifo "$folder/frames" "$folder/replies"
-PYTHONPATH="$package${PYTHONPATH:+:$PYTHONPATH}" python3 -m wurstlinen bridge --line "$line" \
+# Both run in the background, so that a signal needn't wait for them, and each in a session that can be ended as a whole.
+PYTHONPATH="$package${PYTHONPATH:+:$PYTHONPATH}" setsid python3 -m wurstlinen bridge --line "$line" \
     < "$folder/frames" > "$folder/replies" &
 bridge=$!
-
-"$program" "$@" --line "$folder/frames" --replies "$folder/replies"
+setsid "$program" "$@" --line "$folder/frames" --replies "$folder/replies" <&0 &
+wait $!
 status=$?
 # The bridge ends when its frames do. If the program ended before it opened the FIFOs, the bridge still waits for it.
 for _ in {1..40}; do
@@ -47,5 +69,4 @@ done
 kill "$bridge" 2> /dev/null
 wait "$bridge"
 bridged=$?
-bridge=""
 exit $((status != 0 ? status : bridged))

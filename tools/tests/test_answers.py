@@ -92,8 +92,8 @@ class Answers(unittest.TestCase):
 
     def test_other_arguments_are_left_to_the_program(self) -> None:
         (self.clone.root / "file").write_text("{}")
-        for words in (["run", "file"], ["run", "none", "--quick"], ["run", "none", "--port", "no"], ["run", "none", "b"],
-                      ["run", "none", "--replies", "in"], ["discover", "none", "--quick=yes"], ["decode", "00"],
+        for words in (["run", "file"], ["run", "none", "--quick"], ["run", "none", "--port", "no"],
+                      ["run", "none", "b"], ["run", "none", "--replies", "in"], ["discover", "none", "--quick=yes"], ["decode", "00"],
                       ["discover", "--line", "none"], ["discover", "none", "--quick", "--quick"], ["discover"],
                       ["run", "none", "--log", "-x"], ["run", "none", "--log"]):
             done = self.clone.run("./wurstlinen", *words)

@@ -16,7 +16,8 @@ from clone import ROOT, Clone, compile_c, is_alive, new_clone, wait_for
 INSTALL = 'mkdir "$1/made" && cp "$1/stand_in.a" "$1/made/libwurstlinen.a" && cp "$1/$soname" "$1/made/" ' \
           '&& install_library "$2" "$1/made" "$3"; status=$?; rm -r "$1/made"; exit $status'
 # A library of one page after another, so that a file that is cut off isn't still in memory.
-LIBRARY = "static const char large[1 << 20] = {1}; int wurst_answer(int at) { return large[at %% sizeof large] + %d; }\n"
+LIBRARY = "static const char large[1 << 20] = {1};\n" \
+          "int wurst_answer(int at) { return large[at %% sizeof large] + %d; }\n"
 USER = """
 #include <stdio.h>
 #include <unistd.h>
@@ -54,7 +55,8 @@ class Installs(unittest.TestCase):
     def test_programs_that_use_the_library_go_on(self) -> None:
         self.install(self.prefix)
         user = self.clone.folder / "user"
-        compile_c(USER, user, ["-x", "none", str(self.prefix / "lib/libwurstlinen.so"), f"-Wl,-rpath,{self.prefix}/lib"])
+        library = self.prefix / "lib"
+        compile_c(USER, user, ["-x", "none", f"{library}/libwurstlinen.so", f"-Wl,-rpath,{library}"])
         pipes = {"stdin": subprocess.PIPE, "stdout": subprocess.PIPE, "text": True}
         with subprocess.Popen([str(user)], **pipes) as process:
             assert process.stdin is not None and process.stdout is not None
