@@ -574,11 +574,12 @@ public:
     }
 
     // Why it ended early. Throws WURST_NOT_ENDED before the end.
-    wurst_fault fault() {
-        std::uint32_t fault = 0;
-        std::uint64_t corrupt = 0;
-        check(wurst_agent_fault(handle_.get(), &fault, &corrupt));
-        return static_cast<wurst_fault>(fault);
+    wurst_fault fault() { return static_cast<wurst_fault>(end().first); }
+
+    // The UID of WURST_CORRUPT; nullopt after any other end. Throws WURST_NOT_ENDED before the end.
+    std::optional<Uid> corrupt() {
+        const auto [fault, number] = end();
+        return fault == WURST_CORRUPT ? Uid::from_number(number) : std::nullopt;
     }
 
     std::uint64_t frames() {
@@ -588,6 +589,13 @@ public:
     }
 
 private:
+    // The fault, and the number of the UID that belongs to it.
+    std::pair<std::uint32_t, std::uint64_t> end() {
+        std::pair<std::uint32_t, std::uint64_t> end{};
+        check(wurst_agent_fault(handle_.get(), &end.first, &end.second));
+        return end;
+    }
+
     detail::Handle<wurst_agent, wurst_agent_dispose> handle_;
 };
 

@@ -54,7 +54,8 @@ trap 'exit 131' QUIT
 trap 'exit 143' TERM
 
 mkfifo "$folder/frames" "$folder/replies"
-# Both run in the background, so that a signal needn't wait for them, and each in a session that can be ended as a whole.
+# Both run in the background, so that a signal needn't wait for them, and each in a session, which can be ended as a
+# whole.
 PYTHONPATH="$package${PYTHONPATH:+:$PYTHONPATH}" setsid python3 -m wurstlinen bridge --line "$line" \
     < "$folder/frames" > "$folder/replies" &
 bridge=$!

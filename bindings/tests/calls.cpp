@@ -66,6 +66,37 @@ static void views() {
     CHECK(queue.devices(forms, 0).empty() && queue.devices_run() == 1);
 }
 
+// Garbage to each branch of a range that has the device, and silence to all else. The last one is that UID alone.
+static std::optional<std::vector<std::uint8_t>> garbled(wurst::Bytes frame) {
+    std::uint64_t first = 0, last = 0;
+    for (std::size_t at = 24; frame.data[22] == 1 && at < 30; at++) {
+        first = first << 8 | frame.data[at];
+        last = last << 8 | frame.data[at + 6];
+    }
+    return std::vector<std::uint8_t>(first <= device.number() && device.number() <= last, 0xff);
+}
+
+// The UID of a corrupt range, from an agent and from a queue.
+static void corrupt_ranges() {
+    wurst::Agent agent(source);
+    CHECK(fault_of([] { wurst::Agent(source).corrupt(); }) == WURST_NOT_ENDED);
+    while (const auto asked = agent.next()) {
+        agent.hear(*garbled(asked->second));
+    }
+    CHECK(agent.fault() == WURST_CORRUPT && agent.corrupt() == device);
+
+    wurst::Controller queue(source);
+    const auto client = queue.join(1);
+    queue.discover(client);
+    queue.run(garbled);
+    const auto ended = queue.next_discovery(client);
+    CHECK(ended && ended->fault() == WURST_CORRUPT && ended->end.corrupt == device.number());
+
+    wurst::Agent stopped(source);
+    stopped.stop();
+    CHECK(stopped.fault() == WURST_ABORTED && !stopped.corrupt());
+}
+
 static void sessions() {
     wurst::Session first(source, 100, 10, 1000);
     wurst::Session session(std::move(first));
@@ -123,6 +154,7 @@ int main() {
     CHECK(!queue.is_closed());
 
     views();
+    corrupt_ranges();
     sessions();
 
     wurst::Agent agent(source, WURST_INCREMENTAL, {device}, 4);

@@ -20,9 +20,12 @@ BUILDING = 'echo "building" >&2; exit 1'
 def early_cases() -> List[Case]:
     """The cases of the tables that the script answers by itself."""
     cases = [case for table in read_tables(ROOT / "cases") for case in table.cases]
-    # With these options another file may be the one that isn't there.
-    cases = [case for case in cases if not {b"--line", b"--log"} & {word for words in case.commands for word in words}]
-    return [case for case in cases if EARLY.match(case.expected.err or b"")]
+    return [case for case in cases if EARLY.match(case.expected.err or b"") and not has_more_files(case)]
+
+
+def has_more_files(case: Case) -> bool:
+    """Whether another file than FILE may be the one that isn't there."""
+    return any(option in words for words in case.commands for option in (b"--line", b"--log"))
 
 
 def usage() -> str:
@@ -92,9 +95,9 @@ class Answers(unittest.TestCase):
 
     def test_other_arguments_are_left_to_the_program(self) -> None:
         (self.clone.root / "file").write_text("{}")
-        for words in (["run", "file"], ["run", "none", "--quick"], ["run", "none", "--port", "no"],
-                      ["run", "none", "b"], ["run", "none", "--replies", "in"], ["discover", "none", "--quick=yes"], ["decode", "00"],
-                      ["discover", "--line", "none"], ["discover", "none", "--quick", "--quick"], ["discover"],
+        for words in (["run", "file"], ["run", "none", "--quick"], ["run", "none", "--port", "no"], ["discover"],
+                      ["run", "none", "b"], ["run", "none", "--replies", "in"], ["discover", "none", "--quick=yes"],
+                      ["discover", "--line", "none"], ["discover", "none", "--quick", "--quick"], ["decode", "00"],
                       ["run", "none", "--log", "-x"], ["run", "none", "--log"]):
             done = self.clone.run("./wurstlinen", *words)
             self.assertEqual((done.returncode, done.stdout), (125, ""), words)

@@ -1,0 +1,129 @@
+"""Builds: proofs that outlast a call that is killed, and the lock that a build holds."""
+from __future__ import annotations
+
+import fcntl
+import os
+import signal
+import stat
+import subprocess
+import tempfile
+import time
+import unittest
+from pathlib import Path
+from typing import List
+
+from clone import Clone, is_alive, new_clone, wait_for
+
+CRATES = ("rdm_words", "rdm_wire")
+
+
+class Builds(unittest.TestCase):
+    def setUp(self) -> None:
+        context = new_clone()
+        self.clone: Clone = context.__enter__()
+        self.addCleanup(context.__exit__, None, None, None)
+        self.note, self.slow = self.clone.folder / "note", self.clone.folder / "slow"
+        self.clone.put_rt(f'echo "$$" >> "{self.note}"; while [ -e "{self.slow}" ]; do sleep 0.05; done')
+        self.temporary = self.clone.folder / "tmp"
+        self.temporary.mkdir()
+        self.environment = {**self.clone.environment, "TMPDIR": str(self.temporary)}
+
+    def numbers(self) -> List[int]:
+        """The processes that were rt."""
+        return [int(line) for line in self.note.read_text().split()] if self.note.exists() else []
+
+    def start(self) -> "subprocess.Popen[str]":
+        """Starts a build of both libraries side by side, one of which is in a copy, and waits until both are begun."""
+        self.slow.touch()
+        before = len(self.numbers())
+        script = self.clone.start("tools/build_program", "4", "40000000", env=self.environment)
+        self.addCleanup(script.communicate)
+        wait_for(lambda: len(self.numbers()) >= before + len(CRATES))
+        return script
+
+    def kept(self) -> List[str]:
+        """The crates whose proofs are where they belong."""
+        return [crate for crate in CRATES if (self.clone.root / "crates" / crate / "out/proof").exists()]
+
+    def test_a_build_that_is_killed_loses_no_proof(self) -> None:
+        for crate in CRATES:
+            (self.clone.root / "crates" / crate / "out/rlib").mkdir(parents=True)
+            (self.clone.root / "crates" / crate / "out/proof").write_text(crate)
+        script = self.start()
+        # One is proved in a copy: nothing of it is among the temporary files.
+        self.assertEqual(len(self.kept()), 1)
+        self.assertEqual(list(self.temporary.iterdir()), [])
+        script.kill()
+        script.wait()
+        for process in self.numbers():
+            os.kill(process, signal.SIGKILL)
+        self.slow.unlink()
+        done = self.clone.run("tools/build_program", "4", "40000000", env=self.environment)
+        self.assertEqual((done.returncode, done.stderr), (0, ""))
+        self.assertEqual(self.kept(), list(CRATES))
+        self.assertEqual(list((self.clone.root / "out/copies").iterdir()), [])
+
+    def test_a_build_that_is_interrupted_puts_back_what_it_moved(self) -> None:
+        for crate in CRATES:
+            (self.clone.root / "crates" / crate / "out/rlib").mkdir(parents=True)
+            (self.clone.root / "crates" / crate / "out/proof").write_text(crate)
+        script = self.start()
+        script.send_signal(signal.SIGTERM)
+        self.assertEqual(script.wait(), 130)
+        self.assertEqual(self.kept(), list(CRATES))
+        self.assertEqual(list((self.clone.root / "out/copies").iterdir()), [])
+
+    def test_a_build_ends_with_its_script(self) -> None:
+        self.slow.touch()
+        with self.clone.start("./wurstlinen", "decode", "00", env=self.environment) as script:
+            wait_for(lambda: len(self.numbers()) >= len(CRATES))
+            script.kill()
+            # Until all of it has ended, the next call waits.
+            lock = self.clone.root / "out/wurstlinen.lock"
+            with open(lock, "a") as held:
+                with self.assertRaises(BlockingIOError):
+                    fcntl.flock(held, fcntl.LOCK_EX | fcntl.LOCK_NB)
+                fcntl.flock(held, fcntl.LOCK_EX)
+            wait_for(lambda: not any(is_alive(process) for process in self.numbers()))
+
+    def test_who_can_hold_the_lock(self) -> None:
+        lock = self.clone.root / "out/wurstlinen.lock"
+        for folder_mode, mask, lock_mode in ((0o755, 0o022, 0o600), (0o775, 0o002, 0o660), (0o777, 0o077, 0o666)):
+            (self.clone.root / "out").mkdir(exist_ok=True)
+            (self.clone.root / "out").chmod(folder_mode)
+            lock.unlink(missing_ok=True)
+            (self.clone.root / "out/wurstlinen.built").unlink(missing_ok=True)
+            old = os.umask(mask)
+            done = self.clone.run("./wurstlinen", "decode", "00")
+            os.umask(old)
+            self.assertEqual(done.stdout, "the program: decode 00\n", done.stderr)
+            self.assertEqual(stat.S_IMODE(lock.stat().st_mode), lock_mode)
+
+    def test_a_reader_of_the_script_holds_up_no_build(self) -> None:
+        with open(self.clone.root / "wurstlinen") as script:
+            fcntl.flock(script, fcntl.LOCK_EX)
+            done = self.clone.run("timeout", "20", "./wurstlinen", "decode", "00")
+        self.assertEqual((done.returncode, done.stdout), (0, "the program: decode 00\n"), done.stderr)
+
+    def test_two_calls_build_once(self) -> None:
+        self.slow.touch()
+        first, second = (self.clone.start("./wurstlinen", "decode", "00") for _ in range(2))
+        wait_for(lambda: len(self.numbers()) >= len(CRATES))
+        time.sleep(0.3)
+        self.slow.unlink()
+        texts = [each.communicate() for each in (first, second)]
+        self.assertEqual([out for out, _ in texts], ["the program: decode 00\n"] * 2)
+        self.assertEqual(sum("waiting for another call" in errors for _, errors in texts), 1)
+        self.assertEqual(sum(" run " in call for call in self.clone.rt_calls()), 1)
+
+    def test_without_rt_nothing_is_made(self) -> None:
+        (self.clone.bin / "rt").unlink()
+        with tempfile.TemporaryDirectory() as name:
+            target = Path(name) / "programs"
+            self.assertEqual(self.clone.run("./wurstlinen", "--install", str(target)).returncode, 127)
+            self.assertFalse(target.exists())
+        self.assertEqual(self.clone.run("./wurstlinen", "decode", "00").returncode, 127)
+
+
+if __name__ == "__main__":
+    unittest.main()
