@@ -101,11 +101,8 @@ struct Device {
     std::optional<Uid> binding;
 
     static Device of(const wurst_device &form) {
-        Device device{*Uid::from_number(form.uid), form.control, std::nullopt};
-        if (form.has_binding) {
-            device.binding = Uid::from_number(form.binding);
-        }
-        return device;
+        const auto binding = form.has_binding ? Uid::from_number(form.binding) : std::nullopt;
+        return {*Uid::from_number(form.uid), form.control, binding};
     }
 
     wurst_device form() const {
@@ -534,8 +531,8 @@ public:
     explicit Agent(Uid source, wurst_kind kind = WURST_FULL_DISCOVERY, const std::vector<Uid> &known = {},
                    std::uint64_t budget = WURST_DEFAULT_BUDGET, wurst_search search = WURST_STEADY,
                    std::uint8_t tn = 0) {
-        std::vector<std::uint64_t> numbers{0};
-        numbers.clear();
+        std::vector<std::uint64_t> numbers;
+        numbers.reserve(known.size() + 1);
         for (Uid uid : known) {
             numbers.push_back(uid.number());
         }
@@ -574,11 +571,11 @@ public:
     }
 
     // Why it ended early. Throws WURST_NOT_ENDED before the end.
-    wurst_fault fault() { return static_cast<wurst_fault>(end().first); }
+    wurst_fault fault() { return static_cast<wurst_fault>(fault_and_uid().first); }
 
     // The UID of WURST_CORRUPT; nullopt after any other end. Throws WURST_NOT_ENDED before the end.
     std::optional<Uid> corrupt() {
-        const auto [fault, number] = end();
+        const auto [fault, number] = fault_and_uid();
         return fault == WURST_CORRUPT ? Uid::from_number(number) : std::nullopt;
     }
 
@@ -589,11 +586,10 @@ public:
     }
 
 private:
-    // The fault, and the number of the UID that belongs to it.
-    std::pair<std::uint32_t, std::uint64_t> end() {
-        std::pair<std::uint32_t, std::uint64_t> end{};
-        check(wurst_agent_fault(handle_.get(), &end.first, &end.second));
-        return end;
+    std::pair<std::uint32_t, std::uint64_t> fault_and_uid() {
+        std::pair<std::uint32_t, std::uint64_t> both{};
+        check(wurst_agent_fault(handle_.get(), &both.first, &both.second));
+        return both;
     }
 
     detail::Handle<wurst_agent, wurst_agent_dispose> handle_;
