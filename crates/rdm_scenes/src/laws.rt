@@ -9,7 +9,7 @@
 //! - In one thread, `Session::log` promises that the log is legal. The exchanges are those that the caller made.
 //! - With a mutex, `Port::finish` promises that the log is legal and that its exchanges are the record's. Each
 //!   `Port::work` says which exchanges of the line it added to the record, and [`steps_follow_on`] joins them.
-//! - With ring buffers, the clause `session` of `run_session` says both.
+//! - With ring buffers, the clause `over.session` of `run_session` says both.
 ghost use Rattle.std.specs.Prelude.{◌≡◌, ◌++◌, ℕ, List, []};
 ghost use Rattle.std.specs.List.{AllByRecursion};
 ghost use Rattle.rdm_agent.specs.Bound.{IsCalm};
@@ -57,9 +57,10 @@ pub fn steps_follow_on<X: Line>()
 {}
 
 /// The exchanges of each run in such a log are those of an honest line. The premise is that the line doesn't lose five
-/// exchanges with consecutive numbers. If devices come and leave, the line is honest towards those that are present at
-/// each exchange. If they stay, it is honest towards all of them. If the scene lists no failing exchange, none of the
-/// run's exchanges fails.
+/// exchanges with consecutive numbers. If devices come and leave, the line is honest towards a set of devices at each
+/// exchange, and each of these sets has exactly the devices that are present at some exchange. It isn't said at which.
+/// If devices stay, the line is honest towards all of them. If the scene lists no failing exchange, none of the run's
+/// exchanges fails.
 pub fn runs_are_honest()
     ensures changing { (s t : SimState) (k : LogState) (r : ℕ) → IsLogOver s t k → IsLossyScene s
         → IsHonestRun s (run_exchanges r k.entries) }
