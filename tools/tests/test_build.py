@@ -37,9 +37,14 @@ class Builds(unittest.TestCase):
         self.slow.touch()
         before = len(self.numbers())
         script = self.clone.start("tools/build_program", "4", "40000000", env=self.environment)
-        self.addCleanup(script.communicate)
+        self.addCleanup(self.end, script)
         wait_for(lambda: len(self.numbers()) >= before + len(CRATES))
         return script
+
+    def end(self, script: "subprocess.Popen[str]") -> None:
+        """Lets a build end, and rt too if the build was killed."""
+        self.slow.unlink(missing_ok=True)
+        script.communicate()
 
     def kept(self) -> List[str]:
         """The crates whose proofs are where they belong."""
@@ -75,6 +80,7 @@ class Builds(unittest.TestCase):
 
     def test_a_build_ends_with_its_script(self) -> None:
         self.slow.touch()
+        self.addCleanup(self.slow.unlink, missing_ok=True)
         with self.clone.start("./wurstlinen", "decode", "00", env=self.environment) as script:
             wait_for(lambda: len(self.numbers()) >= len(CRATES))
             script.kill()
