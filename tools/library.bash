@@ -31,14 +31,14 @@ is_for_pkg_config() {
 install_library() {
     local root="$1" folder="$2" prefix="$3" python="$3/lib/python3/site-packages"
     make_folder "$prefix/lib/pkgconfig" && make_folder "$prefix/include" && make_folder "$python" || return
-    put "$folder/libwurstlinen.a" "$prefix/lib/libwurstlinen.a" 644 || return
-    put "$folder/$soname" "$prefix/lib/$soname" 644 || return
+    put "$folder/libwurstlinen.a" "$prefix/lib/libwurstlinen.a" || return
+    put "$folder/$soname" "$prefix/lib/$soname" || return
     ln -sfT -- "$soname" "$prefix/lib/libwurstlinen.so" || return
-    put "$root/bindings/c/wurstlinen.h" "$prefix/include/wurstlinen.h" 644 || return
-    put "$root/bindings/cpp/wurstlinen.hpp" "$prefix/include/wurstlinen.hpp" 644 || return
+    put "$root/bindings/c/wurstlinen.h" "$prefix/include/wurstlinen.h" || return
+    put "$root/bindings/cpp/wurstlinen.hpp" "$prefix/include/wurstlinen.hpp" || return
     put_package "$root/bindings/python/wurstlinen" "$python/wurstlinen" || return
     write_pkg_config "$root" "$prefix" > "$folder/wurstlinen.pc" || return
-    put "$folder/wurstlinen.pc" "$prefix/lib/pkgconfig/wurstlinen.pc" 644
+    put "$folder/wurstlinen.pc" "$prefix/lib/pkgconfig/wurstlinen.pc"
 }
 
 # Prints pkg-config's file for a prefix.
