@@ -7,9 +7,9 @@ make_folder() {
     (umask 022 && mkdir -p -- "$1")
 }
 
-# Puts a copy of the file $1 in the place of $2, with the mode $3, or 644. A file there is replaced and never written into, so
-# programs that run it, or have it mapped, aren't disturbed. The copy's name is new, so links and other calls can't
-# interfere.
+# Puts a copy of the file $1 in the place of $2, with the mode $3, or 644. A file there is replaced and never written
+# into, so programs that run it, or have it mapped, aren't disturbed. The copy's name is new, so links and other calls
+# can't interfere.
 put() (
     new="$(mktemp -- "$(dirname -- "$2")/.${2##*/}.XXXXXX")" || exit
     trap 'rm -f -- "$new"' EXIT
