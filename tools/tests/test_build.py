@@ -68,6 +68,14 @@ class Builds(unittest.TestCase):
         self.assertEqual(self.kept(), list(CRATES))
         self.assertEqual(list((self.clone.root / "out/copies").iterdir()), [])
 
+    def test_what_was_moved_is_put_back_without_a_build(self) -> None:
+        (self.clone.root / "out/copies/rdm_wire/crates/rdm_wire/out").mkdir(parents=True)
+        (self.clone.root / "out/copies/rdm_wire/crates/rdm_wire/out/proof").write_text("")
+        self.assertEqual(self.clone.run("tools/build_program", "--put-back").returncode, 0)
+        self.assertEqual(self.kept(), ["rdm_wire"])
+        self.assertEqual(list((self.clone.root / "out/copies").iterdir()), [])
+        self.assertEqual(self.clone.rt_calls(), [])
+
     def test_a_build_that_is_interrupted_puts_back_what_it_moved(self) -> None:
         for crate in CRATES:
             (self.clone.root / "crates" / crate / "out/rlib").mkdir(parents=True)
