@@ -93,6 +93,12 @@ class Answers(unittest.TestCase):
                       ["discover", "--quick", "--incremental"], ["run", "--"]):
             self.expect([*words, 'a "b" \u0301ä'], 1, "fault: file\n", no_file)
 
+    def test_how_a_word_is_written(self) -> None:
+        # As the program compiled by rt try writes them.
+        word = 'w"\\\u0301\u00e4\u200b\t\u00a0\u0903\uff9e\u0e33\U0001f600'
+        written = '"w\\"\\\\\\u{301}\u00e4\\u{200b}\\t\\u{a0}\u0903\\u{ff9e}\u0e33\U0001f600"'
+        self.expect([word], 2, "fault: command line\n", f"wurstlinen: {written} is no command\n{usage()}")
+
     def test_other_arguments_are_left_to_the_program(self) -> None:
         (self.clone.root / "file").write_text("{}")
         for words in (["run", "file"], ["run", "none", "--quick"], ["run", "none", "--port", "no"], ["discover"],
