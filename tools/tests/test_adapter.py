@@ -68,7 +68,7 @@ class Adapter(unittest.TestCase):
         for number, status in ((signal.SIGTERM, 143), (signal.SIGINT, 130), (signal.SIGHUP, 129)):
             for to_all in (False, True):
                 ended, seconds, errors = self.end_by(number, to_all)
-                self.assertLess(seconds, 2)
+                self.assertLess(seconds, 10)
                 self.assertEqual((ended, errors), (status, ""))
                 self.assertEqual(self.processes(), [])
                 self.assertEqual(list(self.temporary.iterdir()), [])
@@ -77,7 +77,7 @@ class Adapter(unittest.TestCase):
         self.put_program(SLOW.format(note=self.note, ignore="trap '' TERM INT HUP"))
         ended, seconds, _ = self.end_by(signal.SIGTERM, False)
         self.assertEqual(ended, 143)
-        self.assertLess(seconds, 5)
+        self.assertLess(seconds, 20)
         self.assertEqual(self.processes(), [])
 
     def test_statuses_and_standard_input(self) -> None:
