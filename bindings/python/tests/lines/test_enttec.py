@@ -9,36 +9,25 @@ import subprocess
 import sys
 import threading
 import time
-import tty
 import unittest
 from pathlib import Path
-from typing import Dict, List, Tuple
+from typing import List, Tuple
 from unittest import mock
 
 from common import ANSWER_SECONDS, ListLine, TestCase, adapter, folder, one, random_scene, scene, uids_of
+from script import BRANCH, END, GET, LAMP, REPLY, UNMUTE, Script, received
 from search import Controller, discover
 from wurstlinen.line import LineFailed
 from wurstlinen.lines import BranchEnd, EnttecPro, Rig
 from wurstlinen.lines.emulator import Emulator, Widget
-from wurstlinen.lines.messages import Label, Message, MessageReader
-from wurstlinen.lines.packets import ALL_DEVICES, Packet
+from wurstlinen.lines.messages import Label, Message
+from wurstlinen.lines.packets import Packet
 
-LAMP = 0x123400000001
-GET = Packet(LAMP, 1, 0, 1, 0, 0, 0x20, 0x0082).encode()
-REPLY = Packet(1, LAMP, 0, 0, 0, 0, 0x21, 0x0082, b"Lamp").encode()
-BRANCH = Packet(ALL_DEVICES, 1, 0, 1, 0, 0, 0x10, 0x0001, bytes(6) + b"\xff" * 6).encode()
-UNMUTE = Packet(ALL_DEVICES, 1, 0, 1, 0, 0, 0x10, 0x0003).encode()
 DMXKING = 0x6A6B
 # Linux: whether TIOCEXCL is in force.
 TIOCGEXCL = 0x80045440
 # Two seconds on a busy machine.
 SLOW = 10.0
-END = Message(Label.RDM_END).encode()
-
-
-def received(data: bytes, status: int = 0) -> bytes:
-    """A message of what came from the line."""
-    return Message(Label.RECEIVED, bytes([status]) + data).encode()
 
 
 def is_exclusive(path: str) -> bool:
@@ -64,37 +53,6 @@ def hostile(chance: random.Random) -> bytes:
         if label != Label.RDM_END:
             data += between + Message(label, content).encode()
     return data + END
-
-
-class Script(threading.Thread):
-    """An adapter that answers each RDM message with the next of these bytes, and keeps the messages."""
-
-    def __init__(self, *answers: bytes, serial: bytes = b"\x04\x03\x02\x01",
-                 firmware: bytes = b"\x04\x02\x09\x01\x28", maker: bytes = b"\x4e\x45") -> None:
-        super().__init__(daemon=True)
-        self.sent: List[Message] = []
-        self._answers = list(answers)
-        self._facts: Dict[int, bytes] = {
-            Label.SERIAL_NUMBER: serial, Label.PARAMETERS: firmware, Label.MANUFACTURER: maker}
-        self._own, self._other = os.openpty()
-        tty.setraw(self._other)
-        self.path = os.ttyname(self._other)
-        self.start()
-
-    def run(self) -> None:
-        reader = MessageReader()
-        while True:
-            for message in reader.feed(os.read(self._own, 4096)):
-                self.sent.append(message)
-                if self._facts.get(message.label):
-                    self.say(Message(message.label, self._facts[message.label]).encode())
-                elif message.label in (Label.SEND_RDM, Label.SEND_BRANCH):
-                    self.say(self._answers.pop(0))
-
-    def say(self, data: bytes) -> None:
-        """Sends these bytes now."""
-        if data:
-            os.write(self._own, data)
 
 
 class Meeting(TestCase):

@@ -14,9 +14,10 @@ from types import TracebackType
 from typing import List, Optional, Tuple, Type
 
 from ..line import Line, LineFailed
+from .ends import SLOT_SECONDS, seconds_on_wire
 from .enttec import FIRST_FIRMWARE_WITHOUT_BRANCH_ENDS
 from .messages import Label, Message, MessageReader
-from .packets import is_whole_packet
+from .packets import is_branch_frame, is_broadcast_frame, is_whole_packet
 
 READ_BYTES = 4096
 PIECE_SECONDS = 0.0005
@@ -35,8 +36,12 @@ class Widget:
     serial: int = 0x01020304
     # Whether label 12 follows the reply to a branch; None: as OLA expects for this firmware.
     ends_branches: Optional[bool] = None
+    # Whether it also follows good responses, which OLA doesn't expect of any firmware.
+    ends_responses: bool = False
     # How many seconds later that label comes.
     end_delay: float = 0.0
+    # Whether an exchange takes as long as its bytes take on a line.
+    takes_time: bool = False
     # The most bytes that it writes at once; None: all answers to a message at once.
     piece: Optional[int] = None
     # What it sends before each of its messages.
@@ -139,17 +144,20 @@ class Emulator:
             reply = self.line.exchange(message.data)
         except LineFailed:
             return
+        if self.widget.takes_time:
+            time.sleep(_seconds_of_exchange(message.data, reply))
         answers = [Message(Label.RECEIVED, bytes([self.widget.status]) + reply)] if reply else []
         if self.widget.leaves_after is not None and self.messages > self.widget.leaves_after:
             self._leave(answers)
         elif message.label == Label.SEND_BRANCH and reply:
-            self._write_branch_reply(answers)
+            self._write_reply(answers, self.widget.branch_has_end)
+        elif self.widget.status == GOOD_STATUS and is_whole_packet(reply):
+            self._write_reply(answers, self.widget.ends_responses)
         else:
-            is_good = self.widget.status == GOOD_STATUS and is_whole_packet(reply)
-            self._write(answers if is_good else [*answers, Message(Label.RDM_END)])
+            self._write([*answers, Message(Label.RDM_END)])
 
-    def _write_branch_reply(self, answers: List[Message]) -> None:
-        if not self.widget.branch_has_end:
+    def _write_reply(self, answers: List[Message], has_end: bool) -> None:
+        if not has_end:
             self._write(answers)
         elif self.widget.end_delay:
             self._write(answers)
@@ -171,3 +179,9 @@ class Emulator:
         data = b"".join(message.encode() for message in answers) or Message(Label.RDM_END).encode()
         os.write(self._own, data[:len(data) // 2])
         self._is_gone = True
+
+
+def _seconds_of_exchange(frame: bytes, reply: bytes) -> float:
+    """How long a frame and its reply, or the wait for one, are on the wire."""
+    has_answer = not reply and (is_branch_frame(frame) or not is_broadcast_frame(frame))
+    return seconds_on_wire(frame, has_answer) + len(reply) * SLOT_SECONDS
