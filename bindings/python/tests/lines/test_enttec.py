@@ -1,16 +1,11 @@
 """The driver of the USB Pro on an emulated one, and on a scripted one that says exactly these bytes."""
 from __future__ import annotations
 
-import errno
-import fcntl
 import os
 import random
-import subprocess
-import sys
 import threading
 import time
 import unittest
-from pathlib import Path
 from typing import List, Tuple
 from unittest import mock
 
@@ -24,22 +19,8 @@ from wurstlinen.lines.messages import Label, Message
 from wurstlinen.lines.packets import Packet
 
 DMXKING = 0x6A6B
-# Linux: whether TIOCEXCL is in force.
-TIOCGEXCL = 0x80045440
 # Two seconds on a busy machine.
 SLOW = 10.0
-
-
-def is_exclusive(path: str) -> bool:
-    """Whether a terminal is reserved for one program. Root can still open it, so the flag is read."""
-    try:
-        descriptor = os.open(path, os.O_RDWR | os.O_NOCTTY)
-    except OSError as error:
-        return error.errno == errno.EBUSY
-    try:
-        return any(fcntl.ioctl(descriptor, TIOCGEXCL, bytes(4)))
-    finally:
-        os.close(descriptor)
 
 
 def hostile(chance: random.Random) -> bytes:
@@ -116,60 +97,6 @@ class Meeting(TestCase):
                 with self.assertRaises(LineFailed):
                     EnttecPro(str(directory / name), directory)
             self.assertEqual(os.listdir(directory), ["file"])
-
-
-class Locks(TestCase):
-    def test_the_lock_file_is_there_while_it_is_open(self) -> None:
-        with folder() as locks, Emulator(ListLine()) as emulator:
-            lock = locks / f"LCK..{os.path.basename(emulator.path)}"
-            with EnttecPro(emulator.path, locks) as driver:
-                self.assertEqual(lock.read_text(), f"{os.getpid():10d}\n")
-                with self.assertRaisesRegex(LineFailed, f"used by process {os.getpid()}"):
-                    EnttecPro(emulator.path, locks)
-                driver.close()
-                self.assertEqual(os.listdir(locks), [])
-                driver.open()
-            self.assertEqual(os.listdir(locks), [])
-
-    def test_a_link_to_the_device_has_the_same_lock(self) -> None:
-        with folder() as locks, folder() as directory, Emulator(ListLine()) as emulator:
-            link = directory / "usb-ENTTEC-port0"
-            link.symlink_to(emulator.path)
-            with EnttecPro(str(link), locks):
-                self.assertEqual(os.listdir(locks), [f"LCK..{os.path.basename(emulator.path)}"])
-                with self.assertRaisesRegex(LineFailed, f"used by process {os.getpid()}"):
-                    EnttecPro(emulator.path, locks)
-            self.assertEqual(os.listdir(locks), [])
-
-    def test_no_other_program_may_open_it(self) -> None:
-        with folder() as locks, Emulator(ListLine()) as emulator:
-            self.assertFalse(is_exclusive(emulator.path))
-            with EnttecPro(emulator.path, locks):
-                self.assertTrue(is_exclusive(emulator.path))
-            self.assertFalse(is_exclusive(emulator.path))
-
-    def test_a_stale_lock_is_replaced(self) -> None:
-        ended = subprocess.Popen([sys.executable, "-c", ""])
-        ended.wait()
-        for text in (f"{ended.pid:10d}\n", str(2 ** 70)):
-            with folder() as locks, Emulator(ListLine()) as emulator:
-                lock = locks / f"LCK..{os.path.basename(emulator.path)}"
-                lock.write_text(text)
-                with EnttecPro(emulator.path, locks):
-                    self.assertEqual(lock.read_text(), f"{os.getpid():10d}\n")
-
-    def test_a_lock_that_says_nothing_is_left_alone(self) -> None:
-        for text in ("", "olad\n"):
-            with folder() as locks, Emulator(ListLine()) as emulator:
-                lock = locks / f"LCK..{os.path.basename(emulator.path)}"
-                lock.write_text(text)
-                with self.assertRaisesRegex(LineFailed, "can't be understood"):
-                    EnttecPro(emulator.path, locks)
-                self.assertEqual(lock.read_text(), text)
-
-    def test_no_lock_no_line(self) -> None:
-        with Emulator(ListLine()) as emulator, self.assertRaisesRegex(LineFailed, "can't be made"):
-            EnttecPro(emulator.path, Path("/no/such/folder"))
 
 
 class Exchanges(TestCase):
