@@ -81,6 +81,9 @@ class Emulator:
         self.path = os.ttyname(self._other)
         self._wake, self._waker = os.pipe()
         self._is_gone = False
+        # The exception of the line that ended the adapter, if one did.
+        self.failure: Optional[Exception] = None
+        self._ended = threading.Event()
         self._thread = threading.Thread(target=self._serve, name="emulator", daemon=True)
 
     def __enter__(self) -> Emulator:
@@ -94,24 +97,26 @@ class Emulator:
         self._thread.join(SECONDS_TO_END)
 
     def wait(self) -> None:
-        """Waits until the adapter has disappeared."""
-        self._thread.join()
+        """Waits until the adapter has disappeared, or its line has raised something else than `LineFailed`."""
+        self._ended.wait()
 
     def _serve(self) -> None:
         """Answers messages until the `with` ends, or the adapter disappears."""
+        ready = select.poll()
+        for descriptor in (self._own, self._wake):
+            ready.register(descriptor, select.POLLIN)
         try:
             while not self._is_gone:
-                ready, _, _ = select.select([self._own, self._wake], [], [])
-                if self._wake in ready:
+                if self._wake in dict(ready.poll()):
                     return
                 for message in self._reader.feed(os.read(self._own, READ_BYTES)):
                     self._answer(message)
-        except OSError:
-            # Somebody has closed the terminal's other end for good.
-            pass
+        except Exception as failure:  # A line may raise anything, and nobody else would report it.
+            self.failure = failure
         finally:
             for descriptor in (self._other, self._own, self._wake):
                 os.close(descriptor)
+            self._ended.set()
 
     def _answer(self, message: Message) -> None:
         if self._is_gone or self._hangs():

@@ -220,19 +220,21 @@ class EnttecPro(OpenLine):
                 if early is not None:
                     self._early_ends.was_alone()
                 return early
-            if not _may_be_reply(message, is_branch) and message.label != Label.RDM_END:
+            if not _belongs(message, is_branch):
                 continue
-            if not self._is_early_end(message):
+            if not self._is_early_end(message, is_branch):
                 if early is not None:
                     self._early_ends.was_stale()
                 return message
             early = message
             end = min(end, time.monotonic() + SHORT_SECONDS)
 
-    def _is_early_end(self, message: Message) -> bool:
-        """Whether an end may belong to an earlier exchange, since the frame can't have been on the wire so far."""
-        is_early = message.label == Label.RDM_END and time.monotonic() < self._earliest_end
-        return is_early and self._early_ends.are_stale
+    def _is_early_end(self, message: Message, is_branch: bool) -> bool:
+        """Whether an end may belong to an earlier exchange: more has come behind it, or the frame isn't sent so far."""
+        if message.label != Label.RDM_END:
+            return False
+        is_early = self._early_ends.are_stale and time.monotonic() < self._earliest_end
+        return is_early or any(_belongs(each, is_branch) for each in self._messages)
 
     def _answered(self, reply: bytes, ends: Ends, end: float, seconds_to_learn: float) -> bytes:
         """Waits for the end of an answered exchange, unless it is known that none comes.
@@ -328,6 +330,11 @@ def _may_be_reply(message: Message, is_branch: bool) -> bool:
     if message.label != Label.RECEIVED:
         return False
     return bool(message.data) if is_branch else message.data[1:2] == bytes([START_CODE])
+
+
+def _belongs(message: Message, is_branch: bool) -> bool:
+    """Whether a message is the reply or the end of an exchange, maybe of an earlier one."""
+    return message.label == Label.RDM_END or _may_be_reply(message, is_branch)
 
 
 def _branch_bytes(data: bytes) -> bytes:
