@@ -5,7 +5,7 @@ import os
 import random
 import threading
 import time
-from typing import Callable, Dict, List
+from typing import Any, Callable, Dict, List
 
 import common  # noqa: F401  (it makes the package known)
 from wurstlinen.line import Line
@@ -82,6 +82,13 @@ class Straggler(Emulator):
         self._delay = delay
         self._chance = random.Random(seed)
         self._writing = threading.Lock()
+        self._is_over = False
+
+    def __exit__(self, *why: Any) -> None:
+        # Another file may soon have the terminal's number.
+        with self._writing:
+            self._is_over = True
+        super().__exit__(*why)
 
     def _write(self, messages: List[Message]) -> None:
         with self._writing:
@@ -91,5 +98,5 @@ class Straggler(Emulator):
 
     def _end(self) -> None:
         with self._writing:
-            if not self._ended.is_set():
+            if not self._is_over:
                 os.write(self._own, Message(Label.RDM_END).encode())

@@ -85,10 +85,10 @@ class Discoveries(HostileCase):
         self.attack("too much", 12)
 
     def test_lost_bytes(self) -> None:
-        self.attack("lost", 1)
+        self.attack("lost", 12)
 
     def test_doubled_bytes(self) -> None:
-        self.attack("doubled", 1)
+        self.attack("doubled", 12)
 
     def test_late_messages(self) -> None:
         self.attack("late", 1)
@@ -106,13 +106,13 @@ class Discoveries(HostileCase):
         self.check(make, range(DISCOVERIES), DISCOVERIES)
 
     def test_ends_after_all_that_come_whenever_they_like(self) -> None:
-        delays = (0.0005, 0.005, 0.03, 0.15)
+        delays = (0.0005, 0.005, 0.03, 0.15, 0.3)
 
         def make(seed: int, made: Scene) -> Emulator:
-            widget = Widget(FIRMWARES[seed % 2], manufacturer=ENTTEC, ends_branches=True, takes_time=True)
+            widget = Widget(FIRMWARES[seed % 2], manufacturer=ENTTEC, ends_branches=True, takes_time=seed % 3 > 0)
             return Straggler(Rig(made), widget, seed, delays[seed % len(delays)])
 
-        self.check(make, range(8 * SEEDS), 1)
+        self.check(make, range(DISCOVERIES), DISCOVERIES // 2)
 
 
 class Recovery(HostileCase):
