@@ -1,7 +1,6 @@
 """Lines of text from a stream whose other end may be slow, wrong or gone."""
 from __future__ import annotations
 
-import io
 import os
 import select
 import stat
@@ -36,6 +35,9 @@ class LineReader:
 
     def __init__(self, stream: BinaryIO) -> None:
         self._stream = stream
+        # Whether the stream's lines come one after another.
+        self.is_pipe = _is_pipe(stream)
+        self._ready = _poll(stream, select.POLLIN)
         self._left = bytearray()
         # How many bytes of the line at the front were dropped.
         self._skipped = 0
@@ -51,7 +53,7 @@ class LineReader:
                 # The next call skips as much again.
                 self._skipped = 1
                 raise Endless
-            if end is not None and not _is_ready(self._stream, select.POLLIN, end):
+            if end is not None and not _is_ready(self._ready, end):
                 raise TooLate
             data = self._more()
             if not data:
@@ -62,9 +64,9 @@ class LineReader:
 
     def drop(self) -> None:
         """Drops all lines that are there, up to a limit; a file that isn't a pipe or a terminal has lines for later."""
-        if not is_pipe(self._stream):
+        if not self.is_pipe:
             return
-        while len(self._left) < MOST_BYTES_TO_SKIP and _is_ready(self._stream, select.POLLIN, 0.0):
+        while len(self._left) < MOST_BYTES_TO_SKIP and _is_ready(self._ready, 0.0):
             data = self._more()
             if not data:
                 break
@@ -99,25 +101,30 @@ class LineReader:
 
 def wait_to_write(stream: BinaryIO, end: Optional[float]) -> None:
     """Waits until a stream takes a line, at most until the time `end`."""
-    if end is not None and not _is_ready(stream, select.POLLOUT, end):
+    if end is not None and not _is_ready(_poll(stream, select.POLLOUT), end):
         raise TooLate
 
 
-def is_pipe(stream: BinaryIO) -> bool:
-    """Whether a stream is a pipe, a socket or a terminal, whose lines come one after another."""
+def _is_pipe(stream: BinaryIO) -> bool:
+    """Whether a stream is a pipe, a socket or a terminal."""
     try:
         mode = os.fstat(stream.fileno()).st_mode
-    except io.UnsupportedOperation:
+    except (OSError, ValueError):
         return False
     return stat.S_ISFIFO(mode) or stat.S_ISSOCK(mode) or stat.S_ISCHR(mode)
 
 
-def _is_ready(stream: BinaryIO, event: int, end: float) -> bool:
-    """Whether a stream can be read or written before the time `end`. What is no file always can."""
+def _poll(stream: BinaryIO, event: int) -> Optional[select.poll]:
+    """What waits for a stream; None if it is no file, and never waits."""
     try:
         descriptor = stream.fileno()
-    except io.UnsupportedOperation:
-        return True
+    except (OSError, ValueError):
+        return None
     wait = select.poll()
     wait.register(descriptor, event)
-    return bool(wait.poll(max(0.0, end - time.monotonic()) * 1000))
+    return wait
+
+
+def _is_ready(wait: Optional[select.poll], end: float) -> bool:
+    """Whether a stream can be read or written before the time `end`."""
+    return wait is None or bool(wait.poll(max(0.0, end - time.monotonic()) * 1000))

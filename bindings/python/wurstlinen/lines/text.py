@@ -16,7 +16,7 @@ from typing import BinaryIO, Optional, Sequence, Tuple, Union
 from ..line import MOST_REPLY_BYTES, Line, LineFailed
 from .base import OpenLine
 from .packets import decode_branch_reply, decode_packet, is_answer, is_branch_frame, is_broadcast_frame
-from .streams import LineReader, TooLate, is_pipe, wait_to_write
+from .streams import LineReader, TooLate, wait_to_write
 
 LEAST_FRAME_BYTES = 26
 MOST_FRAME_BYTES = 257
@@ -108,7 +108,7 @@ class TextLine(OpenLine):
         self._frames.flush()
         self._is_owed = True
         reply = self._next(end)
-        while reply is not None and _is_late(reply, frame) and is_pipe(self._replies):
+        while reply is not None and _is_late(reply, frame) and self._reader.is_pipe:
             try:
                 reply = self._next(time.monotonic() + LATE_SECONDS)
             except TooLate:
@@ -195,12 +195,13 @@ def _opened_at_once(frames: str, replies: str) -> Tuple[int, int]:
 
 def _is_late(reply: bytes, frame: bytes) -> bool:
     """Whether a reply can only belong to another frame than this one."""
-    packet = decode_packet(reply)
+    if not reply:
+        return False
     if is_branch_frame(frame):
-        return packet is not None
+        return decode_packet(reply) is not None
     if is_broadcast_frame(frame):
-        return bool(reply)
-    return decode_branch_reply(reply) is not None if packet is None else not is_answer(reply, frame)
+        return True
+    return not is_answer(reply, frame) and (decode_packet(reply) or decode_branch_reply(reply)) is not None
 
 
 def _read(reader: LineReader) -> Optional[bytes]:
