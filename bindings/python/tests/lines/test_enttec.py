@@ -3,13 +3,14 @@ from __future__ import annotations
 
 import os
 import random
+import signal
 import threading
 import time
 import unittest
-from typing import List, Tuple
+from typing import Dict, List, Tuple
 from unittest import mock
 
-from common import ANSWER_SECONDS, ListLine, TestCase, adapter, folder, one, random_scene, scene, uids_of
+from common import ANSWER_SECONDS, ENTTEC, ListLine, TestCase, adapter, folder, one, random_scene, scene, uids_of
 from script import BRANCH, END, GET, LAMP, REPLY, UNMUTE, Script, received
 from search import Controller, discover
 from wurstlinen.line import LineFailed
@@ -274,6 +275,39 @@ class Faults(TestCase):
             emulator.widget = Widget()
             self.assertTrue(driver.exchange(GET))
 
+    def test_a_signal_that_closes_it(self) -> None:
+        with adapter(Rig(one())) as (driver, emulator):
+            healthy = emulator.widget
+            # Once between two steps, and once while it waits.
+            with mock.patch("wurstlinen.lines.terminal.Terminal.write", side_effect=lambda _: driver.close()):
+                with self.assertRaises(LineFailed):
+                    driver.exchange(GET)
+            self.assertTrue(driver.exchange(GET))
+            emulator.widget = Widget(hangs_after=0)
+            before = signal.signal(signal.SIGUSR1, lambda *_: driver.close())
+            threading.Timer(0.2, os.kill, (os.getpid(), signal.SIGUSR1)).start()
+            with self.assertRaises(LineFailed):
+                driver.exchange(GET)
+            signal.signal(signal.SIGUSR1, before)
+            emulator.widget = healthy
+            self.assertTrue(driver.exchange(GET))
+
+    def test_two_threads_have_their_own_replies(self) -> None:
+        frames = [Packet(LAMP, 1, number, 1, 0, 0, 0x20, 0x0082).encode() for number in range(200)]
+        rig = Rig(one(label="Lamp"))
+        with adapter(Rig(one(label="Lamp"))) as (driver, _):
+            heard: Dict[bytes, bytes] = {}
+
+            def ask(part: List[bytes]) -> None:
+                heard.update((frame, driver.exchange(frame)) for frame in part)
+
+            threads = [threading.Thread(target=ask, args=(frames[start::4],)) for start in range(4)]
+            for thread in threads:
+                thread.start()
+            for thread in threads:
+                thread.join()
+        self.assertEqual(heard, {frame: rig.exchange(frame) for frame in frames})
+
     def test_a_line_that_fails_behind_the_adapter(self) -> None:
         with adapter(Rig(scene(devices=[{"uid": "1234:00000001"}], fails=[1])), Widget()) as (driver, _):
             self.assertTrue(driver.exchange(GET))
@@ -285,9 +319,9 @@ class Faults(TestCase):
         for frame in (GET, BRANCH, UNMUTE):
             with folder() as directory:
                 path = directory / "ttyUSB0"
-                with Emulator(Rig(one()), Widget(leaves_after=3)) as emulator:
+                with Emulator(Rig(one()), Widget(manufacturer=ENTTEC, leaves_after=3)) as emulator:
                     path.symlink_to(emulator.path)
-                    driver = EnttecPro(str(path), directory)
+                    driver = EnttecPro(str(path), directory, ANSWER_SECONDS)
                     for _ in range(3):
                         driver.exchange(frame)
                     with self.assertRaises(LineFailed):
@@ -297,11 +331,11 @@ class Faults(TestCase):
                     with self.assertRaises(LineFailed):
                         driver.exchange(frame)
                 path.unlink()
-                with Emulator(Rig(one())) as emulator:
+                with Emulator(Rig(one()), Widget(manufacturer=ENTTEC)) as emulator:
                     path.symlink_to(emulator.path)
                     self.assertTrue(driver.exchange(GET))
                     driver.close()
-                    with EnttecPro(str(path), directory) as other:
+                    with EnttecPro(str(path), directory, ANSWER_SECONDS) as other:
                         self.assertTrue(other.exchange(GET))
 
 

@@ -55,6 +55,8 @@ class Terminal:
 
     def read_until(self, end: float) -> bytes:
         """The next bytes that come before the time `end` of `time.monotonic`; none if none come."""
+        if not self.is_open:
+            raise LineFailed("the device was closed")
         wait = select.poll()
         wait.register(self._device.descriptor, select.POLLIN)
         milliseconds = max(0.0, end - time.monotonic()) * 1000
