@@ -153,7 +153,8 @@ def _load():
     for place in places:
         if os.path.exists(place):
             try:
-                return ctypes.CDLL(place)
+                # A name without a slash would be searched for elsewhere.
+                return ctypes.CDLL(os.path.abspath(place))
             except OSError as why:
                 raise LibraryNotFound(f"{place} can't be loaded: {why}") from None
     raise LibraryNotFound(f"{NAME} is not at " + " or ".join(places) + "; WURSTLINEN_LIBRARY may name another file")

@@ -22,6 +22,9 @@ class Queue(Held):
     Calls may be made from any thread: each holds a lock of this object. It is a context manager, which disposes of it.
     """
 
+    # Whether an exception has left `run` while a reply was awaited.
+    _is_left = False
+
     def join(self, places: int) -> "Client":
         """A client that may have this many requests outstanding."""
         client = ctypes.c_uint8()
@@ -56,18 +59,23 @@ class Queue(Held):
         buffer, length = buffer_of(reply)
         with self._lock:
             check(self._calls.deliver(self._handle, buffer, length))
+            self._is_left = False
 
     def fail(self) -> None:
         """Reports that the line failed at the last frame."""
         with self._lock:
+            self._is_left = False
             check(self._calls.fail(self._handle))
 
     def run(self, line: Line) -> int:
         """Sends frames on the line until there is none, and returns how many.
 
-        An exception of the line other than LineFailed passes through; its reply is then still awaited.
+        An exception of the line other than LineFailed passes through; its reply is then still awaited. If neither
+        `deliver` nor `fail` is called until the next call, that reports the exchange as failed, and goes on.
         """
         exchanges = 0
+        if self._is_left:
+            self.fail()
         while True:
             frame = self.take()
             if frame is None:
@@ -76,6 +84,9 @@ class Queue(Held):
                 reply = line.exchange(frame)
             except LineFailed:
                 self.fail()
+            except BaseException:
+                self._is_left = True
+                raise
             else:
                 self.deliver(reply)
             exchanges += 1

@@ -7,7 +7,6 @@ from __future__ import annotations
 
 import argparse
 import os
-import signal
 import sys
 from typing import TYPE_CHECKING, List, Optional, Sequence, Tuple
 
@@ -26,6 +25,7 @@ FAILED = 1
 SOURCE = 0x7FF000000001
 DEFAULT_BUDGET = 384_008
 MOST_BUDGET = 1_000_000_000
+MOST_SECONDS = 86_400
 MOST_DATA_BYTES = 231
 ALL_SUB_DEVICES = 0xFFFF
 # The faults of a run, by their numbers.
@@ -109,6 +109,8 @@ def command(commands: argparse._SubParsersAction, name: str, run: object, text: 
     made: argparse.ArgumentParser = commands.add_parser(name, help=text, description=text)
     made.set_defaults(run=run)
     made.add_argument("--line", required=needs_line, metavar="LINE", help=FORMS)
+    made.add_argument("--seconds", type=seconds, metavar="N",
+                      help="how long a far end of text may take for each reply; without a limit if absent")
     return made
 
 
@@ -118,7 +120,7 @@ def run_discover(chosen: argparse.Namespace) -> int:
     kind = Kind.INCREMENTAL if chosen.incremental else Kind.FULL
     known = [Uid.from_number(each) for each in chosen.known]
     search = Search.QUICK if chosen.quick else Search.STEADY
-    with open_line(chosen.line) as line:
+    with open_line(chosen.line, chosen.seconds) as line:
         watched = WatchedLine(line)
         source = Uid.from_number(source_of(chosen, line))
         with DiscoveryAgent(source, kind, known, budget=chosen.budget, search=search) as agent:
@@ -147,7 +149,7 @@ def run_set(chosen: argparse.Namespace) -> int:
 def run_request(chosen: argparse.Namespace, is_set: bool) -> int:
     """Sends one request with a queue of its own."""
     from . import Controller, Status, Uid
-    with open_line(chosen.line) as line:
+    with open_line(chosen.line, chosen.seconds) as line:
         watched = WatchedLine(line)
         with Controller(Uid.from_number(source_of(chosen, line)), 1) as controller:
             client = controller.join(1)
@@ -164,7 +166,7 @@ def run_request(chosen: argparse.Namespace, is_set: bool) -> int:
 
 def run_bridge(chosen: argparse.Namespace) -> int:
     """Serves frames until standard input ends."""
-    with open_line(chosen.line) as line:
+    with open_line(chosen.line, chosen.seconds) as line:
         try:
             serve_text(line)
         except KeyboardInterrupt:
@@ -179,13 +181,13 @@ def run_rig(chosen: argparse.Namespace) -> int:
     if (chosen.file is None) == (chosen.line is None):
         parser().error("rig: one of FILE and --line is required")
     text = chosen.line or f"rig:{chosen.file}"
-    with open_line(text) as line, Emulator(line, Widget(firmware=chosen.firmware)) as emulator:
+    with open_line(text, chosen.seconds) as line, Emulator(line, Widget(firmware=chosen.firmware)) as emulator:
         try:
             print(f"enttec:{emulator.path}", flush=True)
-            while True:
-                signal.pause()
+            emulator.wait()
         except KeyboardInterrupt:
             return DONE
+    return fail(f"the adapter has ended: {emulator.failure!r}")
 
 
 def source_of(chosen: argparse.Namespace, line: OpenLine) -> int:
@@ -260,6 +262,11 @@ def sub_device(text: str) -> int:
 def budget(text: str) -> int:
     """An argument that is a number of frames."""
     return number_to(text, 1, MOST_BUDGET)
+
+
+def seconds(text: str) -> int:
+    """An argument that is a number of seconds."""
+    return number_to(text, 1, MOST_SECONDS)
 
 
 def number_to(text: str, least: int, most: int) -> int:

@@ -5,18 +5,23 @@ import contextlib
 import io
 import os
 import re
+import resource
 import shutil
 import signal
 import subprocess
 import sys
+import threading
 import unittest
 from pathlib import Path
 from typing import List, Optional, Tuple
+from unittest import mock
 
 from common import PACKAGE, ROOT, TestCase, folder, needs_library
 from search import Controller, discover
 from wurstlinen import commands
-from wurstlinen.lines import EnttecPro, open_line
+from wurstlinen.line import LineFailed
+from wurstlinen.lines import EnttecPro, Rig, open_line
+from wurstlinen.lines.emulator import Emulator
 from wurstlinen.lines.packets import parse_uid
 
 FIVE = ROOT / "bindings/examples/five_fixtures.json"
@@ -75,7 +80,8 @@ class Arguments(TestCase):
                           ["get", UIDS[0], "0060", "--sub", "65536", "--line", line],
                           ["discover", "--source", "1234:ffffffff", "--line", line],
                           ["discover", "--budget", "0", "--line", line], ["bridge"], ["rig", "a", "--line", line],
-                          ["rig", str(FIVE), "--firmware", "2"]):
+                          ["rig", str(FIVE), "--firmware", "2"], ["bridge", "--seconds", "0", "--line", line],
+                          ["rig", str(FIVE), "--seconds", "86401"]):
             self.assertEqual(called(*arguments)[:2], (2, ""), arguments)
             self.assertIn("usage:", called(*arguments)[2])
         self.assertEqual(run("find").returncode, 2)
@@ -83,6 +89,7 @@ class Arguments(TestCase):
     def test_a_line_that_is_not_there_ends_with_1(self) -> None:
         for line, reason in (("enttec:/dev/none", "/dev/none can't be opened"), ("rig:/none", "No such file"),
                              ("text:/none", "/none can't be opened"), ("exec:/none", "can't be started"),
+                             ("exec: ", "'exec:' without a command names no line"),
                              ("serial:/dev/none", "'serial' is no kind of line"),
                              (f"rig:{ROOT}/README.md", "isn't JSON")):
             status, out, reasons = called("bridge", "--line", line)
@@ -158,6 +165,37 @@ class Rigs(TestCase):
                         self.assertEqual(len(discover(driver)), 5)
                     rig.send_signal(end)
                     self.assertEqual(rig.wait(), 0)
+
+    def test_a_line_that_raises_anything_ends_the_rig(self) -> None:
+        broken = mock.patch("wurstlinen.lines.rig.Rig.exchange", side_effect=ZeroDivisionError("broken"))
+        with folder() as locks, broken:
+            reading, writing = os.pipe()
+            out = os.fdopen(writing, "w")
+
+            def drive() -> None:
+                with os.fdopen(reading) as names:
+                    path = names.readline().strip().partition(":")[2]
+                with self.assertRaises(LineFailed), EnttecPro(path, locks) as driver:
+                    driver.exchange(bytes(26))
+
+            driver = threading.Thread(target=drive)
+            driver.start()
+            errors = io.StringIO()
+            with out, contextlib.redirect_stdout(out), contextlib.redirect_stderr(errors):
+                status = commands.main(["rig", str(FIVE)])
+            driver.join()
+        self.assertEqual(status, 1)
+        self.assertEqual(errors.getvalue(), "wurstlinen: the adapter has ended: ZeroDivisionError('broken')\n")
+
+    def test_an_adapter_above_1024_descriptors(self) -> None:
+        resource.setrlimit(resource.RLIMIT_NOFILE, (4096, resource.getrlimit(resource.RLIMIT_NOFILE)[1]))
+        with contextlib.ExitStack() as stack:
+            for _ in range(1100):
+                stack.enter_context(open(os.devnull, "rb"))
+            locks = stack.enter_context(folder())
+            emulator = stack.enter_context(Emulator(Rig(FIVE)))
+            driver = stack.enter_context(EnttecPro(emulator.path, locks))
+            self.assertEqual(Controller(driver).get(LEFT, 0x0082).data, b"Front left")
 
     def test_an_adapter_behind_an_adapter(self) -> None:
         with folder() as locks, self.start(str(FIVE)) as first:

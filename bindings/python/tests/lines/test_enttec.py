@@ -1,56 +1,27 @@
 """The driver of the USB Pro on an emulated one, and on a scripted one that says exactly these bytes."""
 from __future__ import annotations
 
-import errno
-import fcntl
 import os
 import random
-import subprocess
-import sys
+import signal
 import threading
 import time
-import tty
 import unittest
-from pathlib import Path
 from typing import Dict, List, Tuple
 from unittest import mock
 
-from common import ANSWER_SECONDS, ListLine, TestCase, adapter, folder, one, random_scene, scene, uids_of
+from common import ANSWER_SECONDS, ENTTEC, ListLine, TestCase, adapter, folder, one, random_scene, scene, uids_of
+from script import BRANCH, END, GET, LAMP, REPLY, UNMUTE, Script, received
 from search import Controller, discover
 from wurstlinen.line import LineFailed
 from wurstlinen.lines import BranchEnd, EnttecPro, Rig
 from wurstlinen.lines.emulator import Emulator, Widget
-from wurstlinen.lines.messages import Label, Message, MessageReader
-from wurstlinen.lines.packets import ALL_DEVICES, Packet
+from wurstlinen.lines.messages import Label, Message
+from wurstlinen.lines.packets import Packet
 
-LAMP = 0x123400000001
-GET = Packet(LAMP, 1, 0, 1, 0, 0, 0x20, 0x0082).encode()
-REPLY = Packet(1, LAMP, 0, 0, 0, 0, 0x21, 0x0082, b"Lamp").encode()
-BRANCH = Packet(ALL_DEVICES, 1, 0, 1, 0, 0, 0x10, 0x0001, bytes(6) + b"\xff" * 6).encode()
-UNMUTE = Packet(ALL_DEVICES, 1, 0, 1, 0, 0, 0x10, 0x0003).encode()
 DMXKING = 0x6A6B
-# Linux: whether TIOCEXCL is in force.
-TIOCGEXCL = 0x80045440
 # Two seconds on a busy machine.
 SLOW = 10.0
-END = Message(Label.RDM_END).encode()
-
-
-def received(data: bytes, status: int = 0) -> bytes:
-    """A message of what came from the line."""
-    return Message(Label.RECEIVED, bytes([status]) + data).encode()
-
-
-def is_exclusive(path: str) -> bool:
-    """Whether a terminal is reserved for one program. Root can still open it, so the flag is read."""
-    try:
-        descriptor = os.open(path, os.O_RDWR | os.O_NOCTTY)
-    except OSError as error:
-        return error.errno == errno.EBUSY
-    try:
-        return any(fcntl.ioctl(descriptor, TIOCGEXCL, bytes(4)))
-    finally:
-        os.close(descriptor)
 
 
 def hostile(chance: random.Random) -> bytes:
@@ -64,37 +35,6 @@ def hostile(chance: random.Random) -> bytes:
         if label != Label.RDM_END:
             data += between + Message(label, content).encode()
     return data + END
-
-
-class Script(threading.Thread):
-    """An adapter that answers each RDM message with the next of these bytes, and keeps the messages."""
-
-    def __init__(self, *answers: bytes, serial: bytes = b"\x04\x03\x02\x01",
-                 firmware: bytes = b"\x04\x02\x09\x01\x28", maker: bytes = b"\x4e\x45") -> None:
-        super().__init__(daemon=True)
-        self.sent: List[Message] = []
-        self._answers = list(answers)
-        self._facts: Dict[int, bytes] = {
-            Label.SERIAL_NUMBER: serial, Label.PARAMETERS: firmware, Label.MANUFACTURER: maker}
-        self._own, self._other = os.openpty()
-        tty.setraw(self._other)
-        self.path = os.ttyname(self._other)
-        self.start()
-
-    def run(self) -> None:
-        reader = MessageReader()
-        while True:
-            for message in reader.feed(os.read(self._own, 4096)):
-                self.sent.append(message)
-                if self._facts.get(message.label):
-                    self.say(Message(message.label, self._facts[message.label]).encode())
-                elif message.label in (Label.SEND_RDM, Label.SEND_BRANCH):
-                    self.say(self._answers.pop(0))
-
-    def say(self, data: bytes) -> None:
-        """Sends these bytes now."""
-        if data:
-            os.write(self._own, data)
 
 
 class Meeting(TestCase):
@@ -158,60 +98,6 @@ class Meeting(TestCase):
                 with self.assertRaises(LineFailed):
                     EnttecPro(str(directory / name), directory)
             self.assertEqual(os.listdir(directory), ["file"])
-
-
-class Locks(TestCase):
-    def test_the_lock_file_is_there_while_it_is_open(self) -> None:
-        with folder() as locks, Emulator(ListLine()) as emulator:
-            lock = locks / f"LCK..{os.path.basename(emulator.path)}"
-            with EnttecPro(emulator.path, locks) as driver:
-                self.assertEqual(lock.read_text(), f"{os.getpid():10d}\n")
-                with self.assertRaisesRegex(LineFailed, f"used by process {os.getpid()}"):
-                    EnttecPro(emulator.path, locks)
-                driver.close()
-                self.assertEqual(os.listdir(locks), [])
-                driver.open()
-            self.assertEqual(os.listdir(locks), [])
-
-    def test_a_link_to_the_device_has_the_same_lock(self) -> None:
-        with folder() as locks, folder() as directory, Emulator(ListLine()) as emulator:
-            link = directory / "usb-ENTTEC-port0"
-            link.symlink_to(emulator.path)
-            with EnttecPro(str(link), locks):
-                self.assertEqual(os.listdir(locks), [f"LCK..{os.path.basename(emulator.path)}"])
-                with self.assertRaisesRegex(LineFailed, f"used by process {os.getpid()}"):
-                    EnttecPro(emulator.path, locks)
-            self.assertEqual(os.listdir(locks), [])
-
-    def test_no_other_program_may_open_it(self) -> None:
-        with folder() as locks, Emulator(ListLine()) as emulator:
-            self.assertFalse(is_exclusive(emulator.path))
-            with EnttecPro(emulator.path, locks):
-                self.assertTrue(is_exclusive(emulator.path))
-            self.assertFalse(is_exclusive(emulator.path))
-
-    def test_a_stale_lock_is_replaced(self) -> None:
-        ended = subprocess.Popen([sys.executable, "-c", ""])
-        ended.wait()
-        for text in (f"{ended.pid:10d}\n", str(2 ** 70)):
-            with folder() as locks, Emulator(ListLine()) as emulator:
-                lock = locks / f"LCK..{os.path.basename(emulator.path)}"
-                lock.write_text(text)
-                with EnttecPro(emulator.path, locks):
-                    self.assertEqual(lock.read_text(), f"{os.getpid():10d}\n")
-
-    def test_a_lock_that_says_nothing_is_left_alone(self) -> None:
-        for text in ("", "olad\n"):
-            with folder() as locks, Emulator(ListLine()) as emulator:
-                lock = locks / f"LCK..{os.path.basename(emulator.path)}"
-                lock.write_text(text)
-                with self.assertRaisesRegex(LineFailed, "can't be understood"):
-                    EnttecPro(emulator.path, locks)
-                self.assertEqual(lock.read_text(), text)
-
-    def test_no_lock_no_line(self) -> None:
-        with Emulator(ListLine()) as emulator, self.assertRaisesRegex(LineFailed, "can't be made"):
-            EnttecPro(emulator.path, Path("/no/such/folder"))
 
 
 class Exchanges(TestCase):
@@ -389,6 +275,39 @@ class Faults(TestCase):
             emulator.widget = Widget()
             self.assertTrue(driver.exchange(GET))
 
+    def test_a_signal_that_closes_it(self) -> None:
+        with adapter(Rig(one())) as (driver, emulator):
+            healthy = emulator.widget
+            # Once between two steps, and once while it waits.
+            with mock.patch("wurstlinen.lines.terminal.Terminal.write", side_effect=lambda _: driver.close()):
+                with self.assertRaises(LineFailed):
+                    driver.exchange(GET)
+            self.assertTrue(driver.exchange(GET))
+            emulator.widget = Widget(hangs_after=0)
+            before = signal.signal(signal.SIGUSR1, lambda *_: driver.close())
+            threading.Timer(0.2, os.kill, (os.getpid(), signal.SIGUSR1)).start()
+            with self.assertRaises(LineFailed):
+                driver.exchange(GET)
+            signal.signal(signal.SIGUSR1, before)
+            emulator.widget = healthy
+            self.assertTrue(driver.exchange(GET))
+
+    def test_two_threads_have_their_own_replies(self) -> None:
+        frames = [Packet(LAMP, 1, number, 1, 0, 0, 0x20, 0x0082).encode() for number in range(200)]
+        rig = Rig(one(label="Lamp"))
+        with adapter(Rig(one(label="Lamp"))) as (driver, _):
+            heard: Dict[bytes, bytes] = {}
+
+            def ask(part: List[bytes]) -> None:
+                heard.update((frame, driver.exchange(frame)) for frame in part)
+
+            threads = [threading.Thread(target=ask, args=(frames[start::4],)) for start in range(4)]
+            for thread in threads:
+                thread.start()
+            for thread in threads:
+                thread.join()
+        self.assertEqual(heard, {frame: rig.exchange(frame) for frame in frames})
+
     def test_a_line_that_fails_behind_the_adapter(self) -> None:
         with adapter(Rig(scene(devices=[{"uid": "1234:00000001"}], fails=[1])), Widget()) as (driver, _):
             self.assertTrue(driver.exchange(GET))
@@ -400,9 +319,9 @@ class Faults(TestCase):
         for frame in (GET, BRANCH, UNMUTE):
             with folder() as directory:
                 path = directory / "ttyUSB0"
-                with Emulator(Rig(one()), Widget(leaves_after=3)) as emulator:
+                with Emulator(Rig(one()), Widget(manufacturer=ENTTEC, leaves_after=3)) as emulator:
                     path.symlink_to(emulator.path)
-                    driver = EnttecPro(str(path), directory)
+                    driver = EnttecPro(str(path), directory, ANSWER_SECONDS)
                     for _ in range(3):
                         driver.exchange(frame)
                     with self.assertRaises(LineFailed):
@@ -412,11 +331,11 @@ class Faults(TestCase):
                     with self.assertRaises(LineFailed):
                         driver.exchange(frame)
                 path.unlink()
-                with Emulator(Rig(one())) as emulator:
+                with Emulator(Rig(one()), Widget(manufacturer=ENTTEC)) as emulator:
                     path.symlink_to(emulator.path)
                     self.assertTrue(driver.exchange(GET))
                     driver.close()
-                    with EnttecPro(str(path), directory) as other:
+                    with EnttecPro(str(path), directory, ANSWER_SECONDS) as other:
                         self.assertTrue(other.exchange(GET))
 
 

@@ -4,12 +4,16 @@ from __future__ import annotations
 import contextlib
 import io
 import json
+import os
+import subprocess
+import sys
 import unittest
 from pathlib import Path
 from typing import Any, List, Tuple
 
 from common import (
-    FIRMWARES, LOSSES, ROOT, SEEDS, SEEDS_OF_LARGE_RIGS, TestCase, adapter, needs_library, one, random_scene, uids_of,
+    FIRMWARES, LOSSES, PACKAGE, ROOT, SEEDS, SEEDS_OF_LARGE_RIGS, TestCase, adapter, needs_library, one, random_scene,
+    uids_of,
 )
 from search import Controller as OwnController
 from test_discovery import GETS, WASH
@@ -94,6 +98,65 @@ class Discoveries(TestCase):
 
     def test_forty_fixtures_with_half_lost(self) -> None:
         self.check(40, 0.5, SEEDS_OF_LARGE_RIGS)
+
+
+@needs_library
+class Exceptions(TestCase):
+    """A line that raises something else than LineFailed."""
+
+    class Broken:
+        """It raises this at its first exchange, and is a rig afterwards."""
+
+        def __init__(self, error: BaseException) -> None:
+            self._errors = [error]
+            self._rig = Rig(one(label="Lamp"))
+
+        def exchange(self, frame: bytes) -> bytes:
+            if self._errors:
+                raise self._errors.pop()
+            return self._rig.exchange(frame)
+
+    def test_the_next_run_goes_on(self) -> None:
+        from wurstlinen import Controller, Status, Uid
+        for error in (OSError("gone"), KeyboardInterrupt(), MemoryError()):
+            line = self.Broken(error)
+            with Controller(Uid.parse(SOURCE)) as controller:
+                client = controller.join(2)
+                for _ in range(2):
+                    client.get(Uid.parse("1234:00000001"), 0x0082)
+                with self.assertRaises(type(error)):
+                    controller.run(line)
+                self.assertTrue(controller.awaits())
+                self.assertEqual(controller.run(line), 1)
+                first, second = client.next_completion(), client.next_completion()
+                self.assertEqual((first.status, second.status), (Status.FAILED_TO_SEND, Status.COMPLETED))
+                self.assertEqual((second.data, controller.run(line)), (b"Lamp", 0))
+
+    def test_its_reply_may_still_be_delivered(self) -> None:
+        from wurstlinen import Controller, Status, Uid
+        line = self.Broken(OSError("gone"))
+        with Controller(Uid.parse(SOURCE)) as controller:
+            client = controller.join(2)
+            client.get(Uid.parse("1234:00000001"), 0x0082)
+            with self.assertRaises(OSError):
+                controller.run(line)
+            controller.deliver(b"")
+            client.get(Uid.parse("1234:00000001"), 0x0082)
+            self.assertEqual(controller.run(line), 1)
+            statuses = [client.next_completion().status for _ in range(2)]
+            self.assertEqual(statuses, [Status.TIMEOUT, Status.COMPLETED])
+
+
+@needs_library
+class Loading(TestCase):
+    def test_a_file_without_a_folder_is_loaded_from_here(self) -> None:
+        from wurstlinen import _library
+        library = next(Path(place) for place in _library._places() if Path(place).exists()).resolve()
+        program = "import wurstlinen; print(wurstlinen.Uid.parse('1234:00000001'))"
+        environment = {**os.environ, "WURSTLINEN_LIBRARY": library.name, "PYTHONPATH": str(PACKAGE)}
+        done = subprocess.run([sys.executable, "-c", program], cwd=library.parent, env=environment, text=True,
+                              capture_output=True, check=False)
+        self.assertEqual((done.stdout, done.returncode), ("1234:00000001\n", 0), done.stderr)
 
 
 @needs_library

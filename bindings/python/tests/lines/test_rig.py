@@ -272,14 +272,36 @@ class Discovery(TestCase):
         self.assertGreater(len(set(replies)), 40)
         self.assertTrue(all(1 <= len(reply) <= 40 for reply in replies))
 
-    def test_what_is_no_branch_for_all_is_silence(self) -> None:
+    def test_what_is_no_branch_is_silence(self) -> None:
         rig = Rig(one())
         bounds = bytes(6) + b"\xff" * 6
-        for packet in (Packet(LAMP, 1, 0, 1, 0, 0, 0x10, 0x0001, bounds), Packet(ALL_DEVICES, 1, 0, 1, 0, 0, 0x10, 1),
+        for packet in (Packet(ALL_DEVICES, 1, 0, 1, 0, 0, 0x10, 1), Packet(LAMP, 1, 0, 1, 0, 0, 0x10, 1, bounds + b"x"),
                        Packet(LAMP, 1, 0, 1, 0, 0, 0x10, 0x0004), Packet(LAMP, 1, 0, 1, 0, 0, 0x21, 0x0082)):
             self.assertEqual(rig.exchange(packet.encode()), b"")
         for frame in (b"", b"\xcc", bytes(26), bytes(257)):
             self.assertEqual(rig.exchange(frame), b"")
+
+    def test_branches_for_one_device_or_one_maker(self) -> None:
+        """OLA's DUBPositiveUnicast, DUBPositiveVendorcast and DUBNegativeVendorcast."""
+        rig = Rig(scene(devices=[{"uid": "1234:00000001"}, {"uid": "9abc:00000002"}]))
+        bounds = bytes(6) + b"\xff" * 6
+        alone = Rig(one()).exchange(BRANCH)
+        for target, wanted in ((LAMP, alone), (0x1234FFFFFFFF, alone), (LAMP + 1, b""), (0x1235FFFFFFFF, b"")):
+            branch = Packet(target, 1, 0, 1, 0, 0, 0x10, 0x0001, bounds)
+            self.assertEqual(rig.exchange(branch.encode()), wanted, uid_text(target))
+        rig.exchange(Packet(LAMP, 1, 0, 1, 0, 0, 0x10, 0x0002).encode())
+        self.assertEqual(rig.exchange(Packet(LAMP, 1, 0, 1, 0, 0, 0x10, 0x0001, bounds).encode()), b"")
+
+    def test_mutes_and_unmutes_with_data_are_neither_answered_nor_done(self) -> None:
+        """OLA's MuteDeviceWithData and UnMuteDeviceWithData."""
+        rig = Rig(one())
+        for pid, is_muted in ((0x0002, False), (0x0003, True)):
+            rig.fixtures[0].is_muted = is_muted
+            for target in (LAMP, 0x1234FFFFFFFF, ALL_DEVICES):
+                for data in (b"x", bytes(12)):
+                    self.assertEqual(rig.exchange(Packet(target, 1, 0, 1, 0, 0, 0x10, pid, data).encode()), b"")
+                    self.assertEqual(rig.fixtures[0].is_muted, is_muted)
+            self.assertTrue(rig.exchange(Packet(LAMP, 1, 0, 1, 0, 0, 0x10, pid).encode()))
 
     def test_any_command_has_a_response_or_none(self) -> None:
         chance = random.Random(1)

@@ -15,8 +15,8 @@ MOST_COLUMNS = 120
 # Python 3.9 has no list of them.
 STANDARD_MODULES = {
     "__future__", "abc", "argparse", "collections", "dataclasses", "enum", "errno", "fcntl", "json", "os", "pathlib",
-    "queue", "random", "re", "select", "shlex", "signal", "stat", "subprocess", "sys", "termios", "threading", "time",
-    "tty", "types", "typing",
+    "queue", "random", "re", "secrets", "select", "shlex", "signal", "stat", "subprocess", "sys", "termios",
+    "threading", "time", "tty", "types", "typing", "weakref",
 }
 LINES = PACKAGE / "wurstlinen"
 Function = Union[ast.FunctionDef, ast.AsyncFunctionDef]

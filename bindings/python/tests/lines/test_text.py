@@ -7,12 +7,15 @@ import sys
 import threading
 import time
 import unittest
-from typing import BinaryIO, Tuple
+from typing import BinaryIO, List, Optional, Tuple
+from unittest import mock
 
 from common import ListLine, TestCase, folder
 from wurstlinen.line import LineFailed
 from wurstlinen.lines import TextLine, open_line, serve_text
+from wurstlinen.lines.packets import Packet
 
+LAMP = 0x123400000001
 FRAME = bytes(range(26))
 ANSWERS: Tuple[Tuple[bytes, bytes], ...] = (
     (b"\n", b""),
@@ -67,6 +70,155 @@ class TextLines(TestCase):
         closed.close()
         with self.assertRaises(LineFailed):
             TextLine(closed, io.BytesIO(b"01\n")).exchange(FRAME)
+
+
+class Pipes:
+    """A line over two pipes, whose far end is written by hand."""
+
+    def __init__(self, seconds: Optional[float] = None) -> None:
+        frames, far_frames = os.pipe()
+        far_replies, replies = os.pipe()
+        self.frames, self.replies = os.fdopen(frames, "rb", buffering=0), os.fdopen(replies, "wb", buffering=0)
+        self.line = TextLine(os.fdopen(far_frames, "wb"), os.fdopen(far_replies, "rb"), seconds)
+
+    def __enter__(self) -> Pipes:
+        return self
+
+    def __exit__(self, *why: object) -> None:
+        self.line.close()
+        self.frames.close()
+        self.replies.close()
+
+    def answers(self, *answers: bytes) -> threading.Thread:
+        """Writes the next of these after each frame."""
+        def answer() -> None:
+            for text in answers:
+                if not self.frames.read(1000):
+                    return
+                self.replies.write(text)
+
+        thread = threading.Thread(target=answer, daemon=True)
+        thread.start()
+        return thread
+
+
+def get(transaction: int) -> bytes:
+    """A GET of one device."""
+    return Packet(LAMP, 1, transaction, 1, 0, 0, 0x20, 0x0082).encode()
+
+
+def response(transaction: int) -> bytes:
+    """The response to it."""
+    return Packet(1, LAMP, transaction, 0, 0, 0, 0x21, 0x0082, b"Lamp").encode()
+
+
+def line_of(reply: bytes) -> bytes:
+    """A reply as text."""
+    return reply.hex().encode() + b"\n"
+
+
+class Limits(TestCase):
+    """Far ends that are too slow, write too much, or write a line too many."""
+
+    def test_a_far_end_that_does_not_answer(self) -> None:
+        for text in (b"", b"0102", b"ab" * 5000):
+            with Pipes(0.3) as pipes:
+                pipes.answers(text)
+                began = time.monotonic()
+                with self.assertRaisesRegex(LineFailed, "didn't answer within 0.3 seconds"):
+                    pipes.line.exchange(FRAME)
+                self.assertLess(time.monotonic() - began, 5)
+
+    def test_a_late_answer_is_not_the_next_ones(self) -> None:
+        for late in (0.0, 0.2):
+            with Pipes(0.5) as pipes:
+                pipes.answers(b"")
+                with self.assertRaises(LineFailed):
+                    pipes.line.exchange(FRAME)
+                threading.Timer(late, pipes.replies.write, [b"01\n"]).start()
+                time.sleep(0.1)
+                pipes.answers(b"02\n")
+                self.assertEqual(pipes.line.exchange(FRAME), b"\x02")
+
+    def test_an_answer_that_never_comes_is_given_up(self) -> None:
+        with Pipes(0.3) as pipes:
+            pipes.answers(b"", b"02\n")
+            with self.assertRaises(LineFailed):
+                pipes.line.exchange(FRAME)
+            self.assertEqual(pipes.line.exchange(FRAME), b"\x02")
+
+    def test_the_answer_of_an_interrupted_exchange_is_dropped(self) -> None:
+        with Pipes() as pipes:
+            with mock.patch("wurstlinen.lines.streams.LineReader.read", side_effect=KeyboardInterrupt):
+                with self.assertRaises(KeyboardInterrupt):
+                    pipes.line.exchange(FRAME)
+            pipes.answers(b"01\n", b"02\n")
+            self.assertEqual(pipes.line.exchange(FRAME), b"\x02")
+
+    def test_a_far_end_that_does_not_read(self) -> None:
+        with Pipes(0.001) as pipes:
+            for _ in range(300):
+                with self.assertRaises(LineFailed):
+                    pipes.line.exchange(bytes(257))
+
+    def test_a_line_too_many(self) -> None:
+        """It shifts no reply for longer than one exchange, whenever it comes."""
+        for extra in (b"\n", line_of(response(9)), b"failed\n"):
+            with Pipes() as pipes:
+                pipes.answers(line_of(response(0)) + extra, *(line_of(response(number)) for number in range(1, 6)))
+                self.assertEqual(pipes.line.exchange(get(0)), response(0))
+                time.sleep(0.05)
+                for number in range(1, 6):
+                    self.assertEqual(pipes.line.exchange(get(number)), response(number), extra)
+
+    def test_a_line_too_many_that_comes_after_the_next_frame(self) -> None:
+        with Pipes() as pipes:
+            pipes.answers(line_of(response(9)) + line_of(response(0)), line_of(response(1)))
+            self.assertEqual(pipes.line.exchange(get(0)), response(0))
+            self.assertEqual(pipes.line.exchange(get(1)), response(1))
+        # An empty line can't be told from silence at once.
+        with Pipes() as pipes:
+            slow = threading.Thread(target=self.answer_slowly, args=(pipes,), daemon=True)
+            slow.start()
+            replies = [pipes.line.exchange(get(number)) for number in range(6)]
+            self.assertEqual(replies[0], b"")
+            self.assertEqual(replies[2:], [response(number) for number in range(2, 6)])
+
+    def answer_slowly(self, pipes: Pipes) -> None:
+        """A far end whose every answer comes after the next frame, if it is one line ahead."""
+        pipes.replies.write(b"")
+        for number in range(6):
+            pipes.frames.read(1000)
+            if not number:
+                pipes.replies.write(b"\n")
+            time.sleep(0.02)
+            pipes.replies.write(line_of(response(number)))
+
+    def test_a_device_that_answers_wrongly_is_heard(self) -> None:
+        with Pipes() as pipes:
+            pipes.answers(line_of(response(9)), line_of(response(1)))
+            self.assertEqual(pipes.line.exchange(get(0)), response(9))
+            self.assertEqual(pipes.line.exchange(get(1)), response(1))
+
+    def test_a_line_without_an_end_is_not_read_for_ever(self) -> None:
+        with open("/dev/zero", "rb") as zero:
+            line = TextLine(io.BytesIO(), zero)
+            for _ in range(2):
+                with self.assertRaisesRegex(LineFailed, "more than 4194304 bytes"):
+                    line.exchange(FRAME)
+            self.assertLess(len(line._reader._left), 10_000)
+
+    def test_two_threads(self) -> None:
+        with Pipes() as pipes:
+            pipes.answers(*(b"%02x\n" % number for number in range(200)))
+            heard: List[bytes] = []
+            threads = [threading.Thread(target=lambda: heard.extend(pipes.line.exchange(FRAME) for _ in range(50)))
+                       for _ in range(4)]
+            for thread in threads:
+                thread.start()
+            for thread in threads:
+                thread.join()
+            self.assertEqual(sorted(heard), [bytes([number]) for number in range(200)])
 
 
 class FarEnds(TestCase):
@@ -188,6 +340,11 @@ class Openings(TestCase):
         for text in ("", "enttec", "enttec:", "serial:/dev/ttyUSB0", "/dev/ttyUSB0"):
             with self.assertRaises(ValueError):
                 open_line(text)
+        for text, reason in (("exec: ", "without a command"), ("exec:'a", "can't be split into words: No closing")):
+            with self.assertRaisesRegex(ValueError, reason):
+                open_line(text)
+        with self.assertRaises(ValueError):
+            TextLine.run([])
         with self.assertRaises(LineFailed):
             open_line("exec:/no/such/program")
         with self.assertRaises(OSError):

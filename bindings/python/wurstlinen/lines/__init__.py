@@ -5,7 +5,8 @@ Each has the one method of `wurstlinen.Line`. None of them needs the C library.
 from __future__ import annotations
 
 from .base import OpenLine
-from .enttec import BranchEnd, EnttecPro
+from .ends import BranchEnd
+from .enttec import EnttecPro
 from .keys import SceneFault
 from .opening import open_line
 from .rig import Rig

@@ -14,9 +14,10 @@ from types import TracebackType
 from typing import List, Optional, Tuple, Type
 
 from ..line import Line, LineFailed
+from .ends import SLOT_SECONDS, seconds_on_wire
 from .enttec import FIRST_FIRMWARE_WITHOUT_BRANCH_ENDS
 from .messages import Label, Message, MessageReader
-from .packets import is_whole_packet
+from .packets import is_branch_frame, is_broadcast_frame, is_whole_packet
 
 READ_BYTES = 4096
 PIECE_SECONDS = 0.0005
@@ -35,8 +36,12 @@ class Widget:
     serial: int = 0x01020304
     # Whether label 12 follows the reply to a branch; None: as OLA expects for this firmware.
     ends_branches: Optional[bool] = None
+    # Whether it also follows good responses, which OLA doesn't expect of any firmware.
+    ends_responses: bool = False
     # How many seconds later that label comes.
     end_delay: float = 0.0
+    # Whether an exchange takes as long as its bytes take on a line.
+    takes_time: bool = False
     # The most bytes that it writes at once; None: all answers to a message at once.
     piece: Optional[int] = None
     # What it sends before each of its messages.
@@ -76,6 +81,9 @@ class Emulator:
         self.path = os.ttyname(self._other)
         self._wake, self._waker = os.pipe()
         self._is_gone = False
+        # The exception of the line that ended the adapter, if one did.
+        self.failure: Optional[Exception] = None
+        self._ended = threading.Event()
         self._thread = threading.Thread(target=self._serve, name="emulator", daemon=True)
 
     def __enter__(self) -> Emulator:
@@ -89,24 +97,26 @@ class Emulator:
         self._thread.join(SECONDS_TO_END)
 
     def wait(self) -> None:
-        """Waits until the adapter has disappeared."""
-        self._thread.join()
+        """Waits until the adapter has disappeared, or its line has raised something else than `LineFailed`."""
+        self._ended.wait()
 
     def _serve(self) -> None:
         """Answers messages until the `with` ends, or the adapter disappears."""
+        ready = select.poll()
+        for descriptor in (self._own, self._wake):
+            ready.register(descriptor, select.POLLIN)
         try:
             while not self._is_gone:
-                ready, _, _ = select.select([self._own, self._wake], [], [])
-                if self._wake in ready:
+                if self._wake in dict(ready.poll()):
                     return
                 for message in self._reader.feed(os.read(self._own, READ_BYTES)):
                     self._answer(message)
-        except OSError:
-            # Somebody has closed the terminal's other end for good.
-            pass
+        except Exception as failure:  # A line may raise anything, and nobody else would report it.
+            self.failure = failure
         finally:
             for descriptor in (self._other, self._own, self._wake):
                 os.close(descriptor)
+            self._ended.set()
 
     def _answer(self, message: Message) -> None:
         if self._is_gone or self._hangs():
@@ -139,17 +149,20 @@ class Emulator:
             reply = self.line.exchange(message.data)
         except LineFailed:
             return
+        if self.widget.takes_time:
+            time.sleep(_seconds_of_exchange(message.data, reply))
         answers = [Message(Label.RECEIVED, bytes([self.widget.status]) + reply)] if reply else []
         if self.widget.leaves_after is not None and self.messages > self.widget.leaves_after:
             self._leave(answers)
         elif message.label == Label.SEND_BRANCH and reply:
-            self._write_branch_reply(answers)
+            self._write_reply(answers, self.widget.branch_has_end)
+        elif self.widget.status == GOOD_STATUS and is_whole_packet(reply):
+            self._write_reply(answers, self.widget.ends_responses)
         else:
-            is_good = self.widget.status == GOOD_STATUS and is_whole_packet(reply)
-            self._write(answers if is_good else [*answers, Message(Label.RDM_END)])
+            self._write([*answers, Message(Label.RDM_END)])
 
-    def _write_branch_reply(self, answers: List[Message]) -> None:
-        if not self.widget.branch_has_end:
+    def _write_reply(self, answers: List[Message], has_end: bool) -> None:
+        if not has_end:
             self._write(answers)
         elif self.widget.end_delay:
             self._write(answers)
@@ -171,3 +184,9 @@ class Emulator:
         data = b"".join(message.encode() for message in answers) or Message(Label.RDM_END).encode()
         os.write(self._own, data[:len(data) // 2])
         self._is_gone = True
+
+
+def _seconds_of_exchange(frame: bytes, reply: bytes) -> float:
+    """How long a frame and its reply, or the wait for one, are on the wire."""
+    has_answer = not reply and (is_branch_frame(frame) or not is_broadcast_frame(frame))
+    return seconds_on_wire(frame, has_answer) + len(reply) * SLOT_SECONDS

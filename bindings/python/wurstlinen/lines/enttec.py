@@ -5,24 +5,31 @@ which behaviour has which source.
 """
 from __future__ import annotations
 
+import threading
 import time
 from collections import deque
-from enum import Enum
 from pathlib import Path
 from typing import Deque, Optional, Tuple
 
 from ..line import MOST_REPLY_BYTES, LineFailed
 from .base import OpenLine
-from .messages import Label, Message, MessageReader
-from .packets import START_CODE, is_branch_frame, is_whole_packet, uid_text
+from .ends import BranchEnd, EarlyEnds, Ends, seconds_on_wire
+from .messages import LENGTHS_FROM_ADAPTER, Label, Message, MessageReader
+from .packets import START_CODE, is_answer, is_branch_frame, is_broadcast_frame, is_whole_packet, uid_text
 from .terminal import LOCK_FOLDER, Terminal
 
 # How long an exchange may take, and the answer to a question about the adapter itself.
 EXCHANGE_SECONDS = 2.0
 ANSWER_SECONDS = 0.2
-# How long the driver waits for the end of an answered branch until it knows whether the adapter sends one.
+# After an exchange without an end the adapter is asked twice, and has this time for each answer.
+SETTLE_TRIES = 2
+SETTLE_SECONDS = 0.5
+# How long the driver waits for the end of an answered exchange until it knows whether the adapter sends one.
 SHORT_SECONDS = 0.1
-BRANCHES_TO_LEARN = 3
+# After this time without bytes, whole messages are searched for behind an incomplete one.
+QUIET_SECONDS = 0.02
+# The end may have been among damaged bytes, so it isn't awaited longer than this after the last of them.
+DAMAGED_SECONDS = 0.5
 # The most reads for dropping old data before an exchange, in case the adapter never pauses.
 MOST_READS = 64
 
@@ -33,25 +40,19 @@ DMXKING = 0x6A6B
 DMXKING_WITH_RDM = 4
 
 GOOD = 0
+# What a damaged message stands for: something came, and it can't be read.
+DAMAGED_REPLY = b"\x00"
 ANY_USER_MEMORY = b"\x00\x00"
 LEAST_PARAMETERS_BYTES = 5
 SERIAL_NUMBER_BYTES = 4
 ID_BYTES = 2
 
 
-class BranchEnd(Enum):
-    """Whether the adapter sends its end (label 12) after the reply to a branch."""
-
-    UNKNOWN = "unknown"
-    SENT = "sent"
-    NOT_SENT = "not sent"
-
-
 class EnttecPro(OpenLine):
     """The adapter on this serial device, port 1.
 
     An exchange opens the device again if it was closed, or if it was unplugged. Questions about the adapter itself have
-    `answer_seconds` for their answer.
+    `answer_seconds` for their answer. Calls may be made from any thread: each waits for the one before it.
     """
 
     def __init__(self, path: str, lock_folder: Path = LOCK_FOLDER, answer_seconds: float = ANSWER_SECONDS) -> None:
@@ -59,34 +60,43 @@ class EnttecPro(OpenLine):
         self.serial = 0
         # None if the adapter doesn't say.
         self.firmware: Optional[Tuple[int, int]] = None
-        self.branch_end = BranchEnd.UNKNOWN
         self._lock_folder = lock_folder
         self._answer_seconds = answer_seconds
+        self._calls = threading.RLock()
         self._terminal: Optional[Terminal] = None
-        self._reader = MessageReader()
+        self._reader = MessageReader(LENGTHS_FROM_ADAPTER)
         self._messages: Deque[Message] = deque()
-        # The last exchange has had no end so far: what comes next may still belong to it.
-        self._is_in_doubt = False
-        # The last exchange was a branch that was answered, and has had no end so far.
-        self._may_end_late = False
-        self._branches_without_end = 0
+        self._forget()
         self.open()
+
+    @property
+    def branch_end(self) -> BranchEnd:
+        """Whether the adapter sends its end after the reply to a branch."""
+        return self._branch_ends.known
+
+    @property
+    def response_end(self) -> BranchEnd:
+        """Whether the adapter sends its end after a good response."""
+        return self._response_ends.known
 
     def open(self) -> None:
         """Opens and locks the device, and asks who it is; `LineFailed` if it isn't an adapter with RDM."""
-        self.close()
-        self._terminal = Terminal(self.path, self._lock_folder)
-        try:
-            self._forget()
-            self._meet()
-        except LineFailed:
+        with self._calls:
             self.close()
-            raise
+            self._forget()
+            self._terminal = Terminal(self.path, self._lock_folder)
+            try:
+                self._clear()
+                self._meet()
+            except BaseException:
+                self.close()
+                raise
 
     def close(self) -> None:
         """Closes the device, and removes its lock."""
-        if self._terminal is not None:
-            self._terminal.close()
+        with self._calls:
+            if self._terminal is not None:
+                self._terminal.close()
 
     def exchange(self, frame: bytes) -> bytes:
         """Sends a frame, and waits at most two seconds for the end of its exchange.
@@ -94,24 +104,37 @@ class EnttecPro(OpenLine):
         The bytes are passed on whatever the adapter's status is: the reader checks their sum, and a collision mustn't
         look like silence.
         """
-        if self._terminal is None or not self._terminal.is_open:
-            self.open()
-        if self._is_in_doubt:
-            self._settle()
-        self._drop_what_is_left()
-        self._is_in_doubt = True
-        if is_branch_frame(frame):
-            self._send(Label.SEND_BRANCH, frame)
-            return self._branch_reply()
-        self._send(Label.SEND_RDM, frame)
-        return self._reply()
+        with self._calls:
+            if self._terminal is None or not self._terminal.is_open:
+                self.open()
+            self._clear()
+            if self._is_in_doubt:
+                self._settle()
+                self._clear()
+            is_branch = is_branch_frame(frame)
+            self._has_answer = is_branch or not is_broadcast_frame(frame)
+            self._open_ends = None
+            self._ended_silently = False
+            self._is_in_doubt = True
+            self._earliest_end = time.monotonic() + seconds_on_wire(frame, self._has_answer)
+            self._send(Label.SEND_BRANCH if is_branch else Label.SEND_RDM, frame)
+            return self._branch_reply() if is_branch else self._reply(frame)
 
     def _forget(self) -> None:
         """Starts from scratch, since another adapter may be there."""
-        self.branch_end = BranchEnd.UNKNOWN
-        self._branches_without_end = 0
+        self._branch_ends = Ends()
+        self._response_ends = Ends()
+        self._early_ends = EarlyEnds()
+        # The last exchange has had no end so far: what comes next may still belong to it.
         self._is_in_doubt = False
-        self._drop_what_is_left()
+        # The last exchange was answered, and has had no end so far: what its end would show something about.
+        self._open_ends: Optional[Ends] = None
+        # The last exchange had an end without a reply.
+        self._ended_silently = False
+        # Whether the frame under way may be answered, and when its end can come without an answer.
+        self._has_answer = False
+        self._earliest_end = 0.0
+        self._heard_at = 0.0
 
     def _meet(self) -> None:
         """Asks for the serial number, the firmware and the maker."""
@@ -153,88 +176,118 @@ class EnttecPro(OpenLine):
 
     def _settle(self) -> None:
         """Asks for the serial number: all that comes before the answer belongs to earlier exchanges."""
-        if self._ask(Label.SERIAL_NUMBER, b"", SERIAL_NUMBER_BYTES, EXCHANGE_SECONDS) is None:
-            raise LineFailed(f"{self.path} doesn't answer any more")
-        self._is_in_doubt = False
+        for _ in range(SETTLE_TRIES):
+            if self._ask(Label.SERIAL_NUMBER, b"", SERIAL_NUMBER_BYTES, SETTLE_SECONDS) is not None:
+                self._is_in_doubt = False
+                return
+            self._clear()
+        raise LineFailed(f"{self.path} doesn't answer any more")
 
-    def _reply(self) -> bytes:
+    def _reply(self, frame: bytes) -> bytes:
         """The reply to a frame that isn't a branch: a good response, or what came before the end."""
         end = time.monotonic() + EXCHANGE_SECONDS
         kept = b""
         while True:
-            message = self._next(end)
+            message = self._next_of_exchange(end, is_branch=False)
             if message is None:
                 return self._without_end(kept)
             if message.label == Label.RDM_END:
                 return self._ended(kept)
-            if message.label != Label.RECEIVED or message.data[1:2] != bytes([START_CODE]):
-                continue
             reply = message.data[1:MOST_REPLY_BYTES + 1]
             if message.data[0] == GOOD and is_whole_packet(reply):
-                return self._ended(reply)
+                if is_answer(reply, frame):
+                    return self._answered(reply, self._response_ends, end, SHORT_SECONDS)
+                # It is late, and the frame's own may follow.
+                end = min(end, time.monotonic() + SHORT_SECONDS)
             kept = kept or reply
 
     def _branch_reply(self) -> bytes:
         """The reply to a branch: the first bytes that came, whatever they are."""
         end = time.monotonic() + EXCHANGE_SECONDS
+        message = self._next_of_exchange(end, is_branch=True)
+        if message is None:
+            return self._without_end(b"")
+        if message.label == Label.RDM_END:
+            return self._ended(b"")
+        return self._answered(_branch_bytes(message.data), self._branch_ends, end, self._seconds_to_learn())
+
+    def _next_of_exchange(self, end: float, is_branch: bool) -> Optional[Message]:
+        """The exchange's next message. An end that comes too early counts only if no other message follows soon."""
+        early = None
         while True:
             message = self._next(end)
             if message is None:
-                return self._without_end(b"")
-            if message.label == Label.RDM_END:
-                return self._ended(b"")
-            if message.label == Label.RECEIVED and message.data:
-                reply = _branch_bytes(message.data)
-                return self._ended(reply) if self._has_branch_end(end) else reply
+                if early is not None:
+                    self._early_ends.was_alone()
+                return early
+            if not _belongs(message, is_branch):
+                continue
+            if not self._is_early_end(message, is_branch):
+                if early is not None:
+                    self._early_ends.was_stale()
+                return message
+            early = message
+            end = min(end, time.monotonic() + SHORT_SECONDS)
 
-    def _has_branch_end(self, end: float) -> bool:
-        """Waits for the end of an answered branch, unless it is known that none comes.
+    def _is_early_end(self, message: Message, is_branch: bool) -> bool:
+        """Whether an end may belong to an earlier exchange: more has come behind it, or the frame isn't sent so far."""
+        if message.label != Label.RDM_END:
+            return False
+        is_early = self._early_ends.are_stale and time.monotonic() < self._earliest_end
+        return is_early or any(_belongs(each, is_branch) for each in self._messages)
 
-        It is False if the end may still come.
+    def _answered(self, reply: bytes, ends: Ends, end: float, seconds_to_learn: float) -> bytes:
+        """Waits for the end of an answered exchange, unless it is known that none comes.
+
+        If it may still come, the next exchange finds out first whether it is only late.
         """
-        self._may_end_late = True
-        if self.branch_end is BranchEnd.NOT_SENT:
-            return True
-        if self.branch_end is BranchEnd.UNKNOWN:
-            end = min(end, time.monotonic() + self._seconds_to_learn())
-        while self._may_end_late:
+        self._open_ends = ends
+        if ends.known is BranchEnd.UNKNOWN:
+            end = min(end, time.monotonic() + seconds_to_learn)
+        while self._open_ends is not None and ends.known is not BranchEnd.NOT_SENT:
             message = self._next(end)
             if message is None:
-                self._miss_branch_end()
-                return False
+                ends.missed()
+                return reply
             self._note_late_end(message)
-        return True
+        self._is_in_doubt = False
+        return reply
 
     def _seconds_to_learn(self) -> float:
         """A short time for firmware that sends no end according to OLA, else the longest time of an exchange."""
         is_late = self.firmware is not None and self.firmware >= FIRST_FIRMWARE_WITHOUT_BRANCH_ENDS
         return SHORT_SECONDS if is_late else EXCHANGE_SECONDS
 
-    def _miss_branch_end(self) -> None:
-        """No end came in time. The next exchange finds out first whether it is only late."""
-        self._branches_without_end += 1
-        if self.branch_end is BranchEnd.UNKNOWN and self._branches_without_end == BRANCHES_TO_LEARN:
-            self.branch_end = BranchEnd.NOT_SENT
-
     def _note_late_end(self, message: Message) -> None:
-        """The end of an answered branch, whenever it comes, shows that the adapter sends ends."""
-        if message.label == Label.RDM_END and self._may_end_late:
-            self.branch_end = BranchEnd.SENT
-            self._may_end_late = False
+        """The end of an answered exchange, whenever it comes, shows that the adapter sends ends."""
+        if message.label == Label.RDM_END and self._open_ends is not None:
+            self._open_ends.came()
+            self._open_ends = None
 
-    def _ended(self, reply: bytes) -> bytes:
+    def _note_late_reply(self, message: Message) -> None:
+        """After an end without a reply, a reply shows that the end was an earlier exchange's."""
+        if self._ended_silently and _may_be_reply(message, is_branch=False):
+            self._response_ends.forget()
+            self._is_in_doubt = True
+
+    def _ended(self, kept: bytes) -> bytes:
         """An exchange has ended, so anything that comes later belongs to another one."""
         self._is_in_doubt = False
-        return reply
+        self._ended_silently = not kept
+        return kept or self._silence()
+
+    def _silence(self) -> bytes:
+        """No bytes, unless a damaged message came: that may have been a reply."""
+        return DAMAGED_REPLY if self._has_answer and self._reader.has_lost_message else b""
 
     def _without_end(self, kept: bytes) -> bytes:
         """The time is over: what came counts, and if nothing did the exchange has failed."""
-        if not kept:
+        if not kept and not self._reader.has_lost_message:
             raise LineFailed(f"{self.path} didn't end an exchange within {EXCHANGE_SECONDS:.0f} seconds")
-        return kept
+        return kept or self._silence()
 
-    def _drop_what_is_left(self) -> None:
-        """Drops what has come since the last exchange."""
+    def _clear(self) -> None:
+        """Drops what has come since the last exchange, and what is left of an incomplete message."""
         assert self._terminal is not None
         for _ in range(MOST_READS):
             data = self._terminal.read_until(0.0)
@@ -243,24 +296,45 @@ class EnttecPro(OpenLine):
             self._messages.extend(self._reader.feed(data))
         for message in self._messages:
             self._note_late_end(message)
+            self._note_late_reply(message)
         self._messages.clear()
         self._reader.clear()
-        self._may_end_late = False
 
     def _send(self, label: Label, data: bytes) -> None:
         assert self._terminal is not None
         self._terminal.write(Message(label, data).encode())
 
     def _next(self, end: float) -> Optional[Message]:
-        """The next message that comes before the time `end`."""
+        """The next message that comes before the time `end`, or soon after damaged bytes."""
         assert self._terminal is not None
-        while not self._messages and time.monotonic() < end:
-            self._messages.extend(self._reader.feed(self._terminal.read_until(end)))
-        return self._messages.popleft() if self._messages else None
+        while not self._messages:
+            now = time.monotonic()
+            until = min(end, self._heard_at + DAMAGED_SECONDS) if self._reader.is_damaged else end
+            if now >= until:
+                return None
+            if self._reader.is_incomplete:
+                until = min(until, now + QUIET_SECONDS)
+            data = self._terminal.read_until(until)
+            if data:
+                self._heard_at = time.monotonic()
+            self._messages.extend(self._reader.feed(data) if data else self._reader.rescue())
+        return self._messages.popleft()
 
     def __repr__(self) -> str:
         version = "unknown firmware" if self.firmware is None else "firmware {}.{}".format(*self.firmware)
         return f"EnttecPro({self.path!r}: {version}, {uid_text(self.source or 0)})"
+
+
+def _may_be_reply(message: Message, is_branch: bool) -> bool:
+    """Whether a message may be the reply to a frame. What doesn't begin with cc is DMX, but not after a branch."""
+    if message.label != Label.RECEIVED:
+        return False
+    return bool(message.data) if is_branch else message.data[1:2] == bytes([START_CODE])
+
+
+def _belongs(message: Message, is_branch: bool) -> bool:
+    """Whether a message is the reply or the end of an exchange, maybe of an earlier one."""
+    return message.label == Label.RDM_END or _may_be_reply(message, is_branch)
 
 
 def _branch_bytes(data: bytes) -> bytes:

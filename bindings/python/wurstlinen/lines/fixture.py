@@ -98,7 +98,9 @@ class Fixture:
         return reply + (EXTRA_BYTES if Lie.ADDS_BYTES in self._lies else b"")
 
     def _discovered(self, command: Packet, exchange: int) -> Optional[Packet]:
-        """E1.20, discovery mute and un-mute."""
+        """E1.20, discovery mute and un-mute: neither has data, and one with data is no such command."""
+        if command.data:
+            return None
         if command.pid == Pid.DISC_MUTE:
             if Lie.IGNORES_MUTES in self._lies:
                 return None

@@ -2,6 +2,7 @@
 from __future__ import annotations
 
 import shlex
+from typing import List, Optional
 
 from .base import OpenLine
 from .enttec import EnttecPro
@@ -11,13 +12,15 @@ from .text import TextLine
 FORMS = "enttec:DEVICE, text:FRAMES[,REPLIES], exec:COMMAND or rig:FILE"
 
 
-def open_line(text: str) -> OpenLine:
+def open_line(text: str, seconds: Optional[float] = None) -> OpenLine:
     """The line that a text names.
 
     - `enttec:/dev/ttyUSB0`: a USB Pro on this device;
     - `text:FRAMES,REPLIES`: a far end behind two files, or behind one for both directions;
     - `exec:COMMAND`: a far end on the standard streams of a command, whose words are split as a shell does;
     - `rig:FILE`: simulated fixtures.
+
+    An exchange with a far end fails after so many `seconds`; None is no limit, and other lines have their own.
 
     A line that can't be opened is `LineFailed`, a text of no such form or a wrong file `ValueError`, and a file that
     can't be read `OSError`.
@@ -29,9 +32,20 @@ def open_line(text: str) -> OpenLine:
         return EnttecPro(rest)
     if kind == "text":
         frames, _, replies = rest.partition(",")
-        return TextLine.open(frames, replies or None)
+        return TextLine.open(frames, replies or None, seconds)
     if kind == "exec":
-        return TextLine.run(shlex.split(rest))
+        return TextLine.run(_words(rest), seconds)
     if kind == "rig":
         return Rig(rest)
     raise ValueError(f"'{kind}' is no kind of line; a line is {FORMS}")
+
+
+def _words(command: str) -> List[str]:
+    """The words of a command."""
+    try:
+        words = shlex.split(command)
+    except ValueError as error:
+        raise ValueError(f"'{command}' can't be split into words: {error}") from error
+    if not words:
+        raise ValueError(f"'exec:' without a command names no line; a line is {FORMS}")
+    return words

@@ -89,6 +89,16 @@ def is_branch_frame(frame: bytes) -> bool:
             and int.from_bytes(frame[21:23], "big") == Pid.DISC_UNIQUE_BRANCH)
 
 
+def is_broadcast_frame(frame: bytes) -> bool:
+    """Whether a controller's frame is for all devices, or for all of a manufacturer."""
+    return is_broadcast(int.from_bytes(frame[3:9], "big"))
+
+
+def is_answer(reply: bytes, frame: bytes) -> bool:
+    """Whether a whole packet comes from the device that a frame is for, with the frame's transaction number."""
+    return reply[9:16] == frame[3:9] + frame[15:16]
+
+
 def encode_branch_reply(uid: int, preamble: int = MOST_PREAMBLE_BYTES) -> bytes:
     """E1.20, discovery unique branch response."""
     encoded = _doubled(uid.to_bytes(6, "big"))

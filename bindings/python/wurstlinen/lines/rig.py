@@ -13,9 +13,7 @@ from typing import Callable, List, Sequence, Union
 from ..line import MOST_REPLY_BYTES, LineFailed
 from .base import OpenLine
 from .fixture import Fixture
-from .packets import (
-    ALL_DEVICES, MOST_PREAMBLE_BYTES, Packet, addresses, decode_packet, encode_branch_reply, is_broadcast,
-)
+from .packets import MOST_PREAMBLE_BYTES, Packet, addresses, decode_packet, encode_branch_reply, is_broadcast
 from .scene import Collide, Scene, read_scene
 
 BRANCH_DATA_BYTES = 12
@@ -76,12 +74,16 @@ class Rig(OpenLine):
         return self.fixtures if self._all_stay else [each for each in self.fixtures if each.is_present(number)]
 
     def _branched(self, command: Packet, number: int) -> bytes:
-        """E1.20, discovery unique branch: all fixtures answer at once, and the wire carries the result."""
-        if command.destination != ALL_DEVICES or len(command.data) != BRANCH_DATA_BYTES:
+        """E1.20, discovery unique branch: all fixtures that it is for answer at once, and the wire carries the result.
+
+        OLA's tests of responders send it to a device's own UID and to its maker's too, and expect an answer.
+        """
+        if len(command.data) != BRANCH_DATA_BYTES:
             return b""
         low = int.from_bytes(command.data[:UID_BYTES], "big")
         high = int.from_bytes(command.data[UID_BYTES:], "big")
-        unmuted = [fixture for fixture in self._present(number) if not fixture.is_muted]
+        asked = [fixture for fixture in self._present(number) if addresses(command.destination, fixture.uid)]
+        unmuted = [fixture for fixture in asked if not fixture.is_muted]
         replies = [reply for reply in (fixture.branch_reply(low, high) for fixture in unmuted) if reply]
         if len(replies) > 1:
             return self._collided(replies)

@@ -9,34 +9,43 @@ import stat
 import subprocess
 import sys
 import threading
+import time
 import tty
 from typing import BinaryIO, Optional, Sequence, Tuple, Union
 
 from ..line import MOST_REPLY_BYTES, Line, LineFailed
 from .base import OpenLine
+from .packets import decode_branch_reply, decode_packet, is_answer, is_branch_frame, is_broadcast_frame
+from .streams import LineReader, TooLate, wait_to_write
 
 LEAST_FRAME_BYTES = 26
 MOST_FRAME_BYTES = 257
 FAILED = b"failed"
 HEX_DIGITS = frozenset(b"0123456789abcdefABCDEF")
-# The longest line: its digits, a carriage return and the newline.
-MOST_LINE_BYTES = 2 * MOST_REPLY_BYTES + 2
 SECONDS_TO_END = 2.0
+# How long a reply is awaited behind one that belongs to an earlier frame.
+LATE_SECONDS = 0.1
 
 
 class TextLine(OpenLine):
     """A line whose far end is another program, connected by text.
 
-    Frames are written to one stream, and replies are read from the other; both are binary.
+    Frames are written to one stream, and replies are read from the other; both are binary. If `seconds` is given, an
+    exchange that takes longer fails. Calls of `exchange` may be made from any thread: each waits for the one before it.
     """
 
-    def __init__(self, frames: BinaryIO, replies: BinaryIO) -> None:
+    def __init__(self, frames: BinaryIO, replies: BinaryIO, seconds: Optional[float] = None) -> None:
         self._frames = frames
         self._replies = replies
+        self._reader = LineReader(replies)
+        self._seconds = seconds
+        self._calls = threading.Lock()
+        # Whether the last frame's line is still to come.
+        self._is_owed = False
         self._program: Optional[subprocess.Popen[bytes]] = None
 
     @classmethod
-    def open(cls, frames: str, replies: Optional[str] = None) -> TextLine:
+    def open(cls, frames: str, replies: Optional[str] = None, seconds: Optional[float] = None) -> TextLine:
         """A line over two files, FIFOs or terminal devices, which the far end may open in any order.
 
         Without `replies` both directions are the same file. Nothing is created or truncated.
@@ -49,32 +58,72 @@ class TextLine(OpenLine):
                 writer, reader = _opened_at_once(frames, replies)
         except OSError as error:
             raise LineFailed(f"{error.filename} can't be opened: {error.strerror}") from error
-        return cls(os.fdopen(writer, "wb"), os.fdopen(reader, "rb"))
+        return cls(os.fdopen(writer, "wb"), os.fdopen(reader, "rb"), seconds)
 
     @classmethod
-    def run(cls, command: Sequence[str]) -> TextLine:
+    def run(cls, command: Sequence[str], seconds: Optional[float] = None) -> TextLine:
         """A line over the standard streams of a command, which is started here and ended by `close`."""
+        if not command:
+            raise ValueError("a command has at least one word")
         try:
             program = subprocess.Popen(command, stdin=subprocess.PIPE, stdout=subprocess.PIPE)
         except OSError as error:
             raise LineFailed(f"{shlex.join(command)} can't be started: {error.strerror}") from error
         assert program.stdin is not None and program.stdout is not None
-        line = cls(program.stdin, program.stdout)
+        line = cls(program.stdin, program.stdout, seconds)
         line._program = program
         return line
 
     def exchange(self, frame: bytes) -> bytes:
         """Writes the frame's line, and reads the line that answers it."""
-        try:
-            self._frames.write(frame.hex().encode() + b"\n")
-            self._frames.flush()
-            text = read_line(self._replies)
-        except (OSError, ValueError) as error:
-            raise LineFailed(f"the far end can't be reached: {error}") from error
-        reply = None if text is None else parse_hex(text)
-        if reply is None:
-            raise LineFailed("the far end ended" if text is None else "the far end's exchange failed")
+        with self._calls:
+            try:
+                self._catch_up()
+                reply = self._ask(frame)
+            except TooLate:
+                raise LineFailed(f"the far end didn't answer within {self._seconds:g} seconds") from None
+            except (OSError, ValueError) as error:
+                raise LineFailed(f"the far end can't be reached: {error}") from error
         return reply
+
+    def _end(self) -> Optional[float]:
+        """When an exchange that begins now has to be done."""
+        return None if self._seconds is None else time.monotonic() + self._seconds
+
+    def _catch_up(self) -> None:
+        """Drops the lines that answer earlier frames, and those that answer none."""
+        if self._is_owed:
+            try:
+                self._reader.read(self._end())
+            except TooLate:
+                pass
+            self._is_owed = False
+        self._reader.drop()
+
+    def _ask(self, frame: bytes) -> bytes:
+        """The reply to a frame. A line that can't be its reply is dropped if another one follows soon."""
+        end = self._end()
+        wait_to_write(self._frames, end)
+        self._frames.write(frame.hex().encode() + b"\n")
+        self._frames.flush()
+        self._is_owed = True
+        reply = self._next(end)
+        while reply is not None and _is_late(reply, frame) and self._reader.is_pipe:
+            try:
+                reply = self._next(time.monotonic() + LATE_SECONDS)
+            except TooLate:
+                break
+        if reply is None:
+            raise LineFailed("the far end's exchange failed")
+        return reply
+
+    def _next(self, end: Optional[float]) -> Optional[bytes]:
+        """The bytes of the next line; None if it isn't hexadecimal."""
+        text = self._reader.read(end)
+        self._is_owed = False
+        if text is None:
+            raise LineFailed("the far end ended")
+        return parse_hex(text)
 
     def close(self) -> None:
         """Closes both streams, and ends the command if there is one."""
@@ -95,28 +144,13 @@ def serve_text(line: Line, frames: Optional[BinaryIO] = None, replies: Optional[
     """
     frames = frames or sys.stdin.buffer
     replies = replies or sys.stdout.buffer
+    reader = LineReader(frames)
     served = 0
     while True:
-        text = _read(frames)
+        text = _read(reader)
         if text is None or not _write(replies, _answer(line, text)):
             return served
         served += 1
-
-
-def read_line(stream: BinaryIO) -> Optional[bytes]:
-    """The next line without its end, cut off if it is longer than any reply; None at the end of the stream.
-
-    A last line without a newline may have been cut off, so it isn't returned.
-    """
-    text = stream.readline(MOST_LINE_BYTES)
-    rest = text
-    while rest and not rest.endswith(b"\n"):
-        rest = stream.readline(MOST_LINE_BYTES)
-    if not rest:
-        return None
-    if rest is not text:
-        return text
-    return text[:-2] if text.endswith(b"\r\n") else text[:-1]
 
 
 def parse_hex(text: bytes) -> Optional[bytes]:
@@ -159,10 +193,21 @@ def _opened_at_once(frames: str, replies: str) -> Tuple[int, int]:
     return writer, reader
 
 
-def _read(frames: BinaryIO) -> Optional[bytes]:
+def _is_late(reply: bytes, frame: bytes) -> bool:
+    """Whether a reply can only belong to another frame than this one."""
+    if not reply:
+        return False
+    if is_branch_frame(frame):
+        return decode_packet(reply) is not None
+    if is_broadcast_frame(frame):
+        return True
+    return not is_answer(reply, frame) and (decode_packet(reply) or decode_branch_reply(reply)) is not None
+
+
+def _read(reader: LineReader) -> Optional[bytes]:
     """The next line; None if there is none, or if the stream fails."""
     try:
-        return read_line(frames)
+        return reader.read()
     except OSError:
         return None
 

@@ -1,0 +1,163 @@
+"""The lock file LCK..NAME of a serial device, as OLA and other programs have it.
+
+Its owner also holds a flock on it for as long as it lives. So the number in it decides only about locks of other
+programs, and two processes that find the same stale lock can't both remove it.
+"""
+from __future__ import annotations
+
+import errno
+import fcntl
+import os
+import re
+import secrets
+import stat
+from pathlib import Path
+
+from ..line import LineFailed
+
+# The number of the owner's process, ten characters wide, and a newline.
+LOCK_FORMAT = "{:10d}\n"
+MODE_OF_LOCK = 0o644
+MOST_LOCK_BYTES = 32
+PROCESS = re.compile(rb"\s*0*([1-9][0-9]*)\s*")
+# A lock that is in the way may be stale, and another one may have come when it is removed.
+TRIES = 3
+
+
+class LockFile:
+    """The lock file at a path, for the device that its name stands for."""
+
+    def __init__(self, path: Path, device: str) -> None:
+        self._path = path
+        self._device = device
+        self._process = os.getpid()
+        self._descriptor = -1
+
+    def take(self) -> None:
+        """Makes the file, or replaces a stale one; `LineFailed` if the device is used, or if that can't be known."""
+        # The file is complete before it has the lock's name, so nobody finds it empty.
+        own = self._aside()
+        try:
+            self._write(own)
+            self._link(own)
+        except OSError as error:
+            raise LineFailed(f"{self._path} can't be made: {error.strerror}") from error
+        finally:
+            own.unlink(missing_ok=True)
+
+    def release(self) -> None:
+        """Removes the file, unless it is another's by now, or was taken by the process that this one was forked from.
+
+        A file that can't be removed is a stale lock later.
+        """
+        descriptor, self._descriptor = self._descriptor, -1
+        if descriptor < 0:
+            return
+        try:
+            if self._process == os.getpid() and self._is_at_path(os.fstat(descriptor)):
+                self._path.unlink()
+        except OSError:
+            pass
+        finally:
+            os.close(descriptor)
+
+    def _write(self, own: Path) -> None:
+        flags = os.O_WRONLY | os.O_CREAT | os.O_EXCL | os.O_CLOEXEC
+        self._descriptor = os.open(own, flags, MODE_OF_LOCK)
+        # Other users have to read it, whatever the umask is.
+        os.fchmod(self._descriptor, MODE_OF_LOCK)
+        _try_flock(self._descriptor)
+        text = LOCK_FORMAT.format(self._process).encode()
+        if os.write(self._descriptor, text) != len(text):
+            raise OSError(errno.ENOSPC, os.strerror(errno.ENOSPC))
+
+    def _link(self, own: Path) -> None:
+        for _ in range(TRIES):
+            try:
+                os.link(own, self._path)
+                return
+            except FileExistsError:
+                self._remove_stale()
+        raise self._being_opened()
+
+    def _remove_stale(self) -> None:
+        """Removes a lock file whose process has ended; `LineFailed` if it hasn't, or if the file doesn't say."""
+        try:
+            descriptor = os.open(self._path, os.O_RDONLY | os.O_NOFOLLOW | os.O_NONBLOCK | os.O_CLOEXEC)
+        except FileNotFoundError:
+            return
+        except OSError as error:
+            raise self._unclear() from error
+        try:
+            process = self._owner(descriptor)
+            is_free = _try_flock(descriptor)
+            # A lock with this process's own number that nobody holds is from a process before.
+            if _is_alive(process) and not (is_free and process == os.getpid()):
+                raise LineFailed(f"{self._device} is used by process {process}: {self._path}")
+            if not is_free:
+                raise self._being_opened()
+            self._move_away(os.fstat(descriptor))
+        finally:
+            os.close(descriptor)
+
+    def _owner(self, descriptor: int) -> int:
+        """The process that a lock file names."""
+        text = b""
+        if stat.S_ISREG(os.fstat(descriptor).st_mode):
+            text = os.read(descriptor, MOST_LOCK_BYTES + 1)
+        match = PROCESS.fullmatch(text)
+        if match is None or len(text) > MOST_LOCK_BYTES:
+            raise self._unclear()
+        return int(match[1])
+
+    def _move_away(self, stale: os.stat_result) -> None:
+        """Removes the stale lock, and no other that has come to its path."""
+        if not self._is_at_path(stale):
+            return
+        aside = self._aside()
+        try:
+            os.rename(self._path, aside)
+            if not os.path.samestat(os.lstat(aside), stale):
+                os.link(aside, self._path, follow_symlinks=False)
+                raise self._being_opened()
+        except FileNotFoundError:
+            pass
+        finally:
+            aside.unlink(missing_ok=True)
+
+    def _is_at_path(self, status: os.stat_result) -> bool:
+        try:
+            return os.path.samestat(os.lstat(self._path), status)
+        except FileNotFoundError:
+            return False
+
+    def _aside(self) -> Path:
+        """A name that nobody else uses."""
+        return self._path.with_name(f".{self._path.name}.{self._process}.{secrets.token_hex(8)}")
+
+    def _being_opened(self) -> LineFailed:
+        return LineFailed(f"{self._device} is being opened by another program: {self._path}")
+
+    def _unclear(self) -> LineFailed:
+        return LineFailed(f"{self._path} can't be understood; remove it if no program uses {self._device}")
+
+
+def _try_flock(descriptor: int) -> bool:
+    """Takes a lock of the kernel on a file, if nobody has it. Where there is none, it is free."""
+    try:
+        fcntl.flock(descriptor, fcntl.LOCK_EX | fcntl.LOCK_NB)
+    except BlockingIOError:
+        return False
+    except OSError:
+        pass
+    return True
+
+
+def _is_alive(process: int) -> bool:
+    try:
+        os.kill(process, 0)
+    except OSError as error:
+        return error.errno != errno.ESRCH
+    except OverflowError:
+        return False
+    return True

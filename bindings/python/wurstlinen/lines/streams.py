@@ -1,0 +1,130 @@
+"""Lines of text from a stream whose other end may be slow, wrong or gone."""
+from __future__ import annotations
+
+import os
+import select
+import stat
+import time
+from typing import BinaryIO, Optional
+
+from ..line import MOST_REPLY_BYTES
+
+# The longest line: its digits, a carriage return and the newline.
+MOST_LINE_BYTES = 2 * MOST_REPLY_BYTES + 2
+# Longer lines than the longest are cut off, but one that doesn't end isn't read for ever.
+MOST_BYTES_TO_SKIP = 1 << 22
+READ_BYTES = 4096
+
+
+class TooLate(OSError):
+    """Nothing came, or nothing was taken, in the time for it."""
+
+    def __init__(self) -> None:
+        super().__init__("it takes too long")
+
+
+class Endless(OSError):
+    """A line has no end."""
+
+    def __init__(self) -> None:
+        super().__init__(f"a line has more than {MOST_BYTES_TO_SKIP} bytes")
+
+
+class LineReader:
+    """Reads lines from a binary stream. A line is returned without its end, and cut off if it is too long."""
+
+    def __init__(self, stream: BinaryIO) -> None:
+        self._stream = stream
+        # Whether the stream's lines come one after another.
+        self.is_pipe = _is_pipe(stream)
+        self._ready = _poll(stream, select.POLLIN)
+        self._left = bytearray()
+        # How many bytes of the line at the front were dropped.
+        self._skipped = 0
+
+    def read(self, end: Optional[float] = None) -> Optional[bytes]:
+        """The next line that comes before the time `end` of `time.monotonic`; None at the end of the stream.
+
+        A last line without a newline may have been cut off, so it isn't returned.
+        """
+        line = self._take()
+        while line is None:
+            if self._skipped > MOST_BYTES_TO_SKIP:
+                # The next call skips as much again.
+                self._skipped = 1
+                raise Endless
+            if end is not None and not _is_ready(self._ready, end):
+                raise TooLate
+            data = self._more()
+            if not data:
+                return None
+            self._left += data
+            line = self._take()
+        return line
+
+    def drop(self) -> None:
+        """Drops all lines that are there, up to a limit; a file that isn't a pipe or a terminal has lines for later."""
+        if not self.is_pipe:
+            return
+        while len(self._left) < MOST_BYTES_TO_SKIP and _is_ready(self._ready, 0.0):
+            data = self._more()
+            if not data:
+                break
+            self._left += data
+        self._left.clear()
+        self._skipped = 0
+
+    def _more(self) -> bytes:
+        """What one read gives: at least one byte, or none at the end."""
+        read = getattr(self._stream, "read1", self._stream.read)
+        return read(READ_BYTES) or b""
+
+    def _take(self) -> Optional[bytes]:
+        """Takes the first line out, if it is there."""
+        index = self._left.find(b"\n")
+        if index < 0:
+            self._skip()
+            return None
+        line, skipped, self._skipped = bytes(self._left[:index + 1]), self._skipped, 0
+        del self._left[:index + 1]
+        if skipped or len(line) > MOST_LINE_BYTES:
+            return line[:MOST_LINE_BYTES]
+        return line[:-2] if line.endswith(b"\r\n") else line[:-1]
+
+    def _skip(self) -> None:
+        """Keeps no more of a line than what shows that it is too long."""
+        surplus = len(self._left) - MOST_LINE_BYTES
+        if surplus > 0:
+            self._skipped += surplus
+            del self._left[MOST_LINE_BYTES:]
+
+
+def wait_to_write(stream: BinaryIO, end: Optional[float]) -> None:
+    """Waits until a stream takes a line, at most until the time `end`."""
+    if end is not None and not _is_ready(_poll(stream, select.POLLOUT), end):
+        raise TooLate
+
+
+def _is_pipe(stream: BinaryIO) -> bool:
+    """Whether a stream is a pipe, a socket or a terminal."""
+    try:
+        mode = os.fstat(stream.fileno()).st_mode
+    except (OSError, ValueError):
+        return False
+    return stat.S_ISFIFO(mode) or stat.S_ISSOCK(mode) or stat.S_ISCHR(mode)
+
+
+def _poll(stream: BinaryIO, event: int) -> Optional[select.poll]:
+    """What waits for a stream; None if it is no file, and never waits."""
+    try:
+        descriptor = stream.fileno()
+    except (OSError, ValueError):
+        return None
+    wait = select.poll()
+    wait.register(descriptor, event)
+    return wait
+
+
+def _is_ready(wait: Optional[select.poll], end: float) -> bool:
+    """Whether a stream can be read or written before the time `end`."""
+    return wait is None or bool(wait.poll(max(0.0, end - time.monotonic()) * 1000))
