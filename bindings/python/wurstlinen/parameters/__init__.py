@@ -2,9 +2,10 @@
 from __future__ import annotations
 
 from .decoding import Misfit, Reading, decode
+from .described import described
 from .encoding import encode
 from .fields import Parameter
 from .table import STANDARD, Table
 from .words import WordFault
 
-__all__ = ["Misfit", "Parameter", "Reading", "STANDARD", "Table", "WordFault", "decode", "encode"]
+__all__ = ["Misfit", "Parameter", "Reading", "STANDARD", "Table", "WordFault", "decode", "described", "encode"]

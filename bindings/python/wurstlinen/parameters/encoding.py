@@ -4,7 +4,7 @@ from __future__ import annotations
 import ipaddress
 import re
 from decimal import Decimal
-from typing import List, Sequence, Union
+from typing import List, Mapping, Optional, Pattern, Sequence, Tuple, Union
 
 from .decoding import fields_text
 from .fields import MOST_DATA_BYTES, Bytes, Field, Fields, Flag, Group, Ipv4, Mac, Number, Parameter, Text, UidField
@@ -50,7 +50,7 @@ def word_of(value: Word) -> str:
     return format(value, "f") if isinstance(value, Decimal) else str(value)
 
 
-def word_counts(fields: Fields) -> tuple[int, int | None]:
+def word_counts(fields: Fields) -> Tuple[int, Optional[int]]:
     """The least and the greatest number of words for these fields; None if there is no greatest."""
     least = most = 0
     for field in fields:
@@ -116,7 +116,7 @@ def value_data(field: Field, word: str) -> bytes:
     return sized(field, bytes.fromhex(word[2:]), "bytes")
 
 
-def matched(pattern: re.Pattern[str], word: str, what: str) -> bytes:
+def matched(pattern: Pattern[str], word: str, what: str) -> bytes:
     """The bytes that a word of this pattern spells."""
     if not pattern.fullmatch(word):
         raise WordFault(f"'{word}' isn't {what}")
@@ -142,7 +142,7 @@ def number_of(field: Number, word: str) -> int:
     return number
 
 
-def spelled(field: Number, word: str, by_label: dict[str, int]) -> int:
+def spelled(field: Number, word: str, by_label: Mapping[str, int]) -> int:
     """The number that a word spells without a label."""
     if field.is_pid:
         return STANDARD.pid(word)
