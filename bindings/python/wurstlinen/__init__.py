@@ -27,6 +27,7 @@ from ._wire import (
     decode_response, encode_branch, encode_mute, encode_mute_ack, encode_request, encode_response, encode_unmute,
     read_branch_reply, read_command, read_mute_ack, write_branch_reply)
 from . import entries
+from ._ask import Answer, Asker, Unserved
 from ._queue import Client, Controller
 from ._session import Log, Session
 from ._agent import DiscoveryAgent

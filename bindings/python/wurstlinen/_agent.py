@@ -1,14 +1,14 @@
 """A single discovery run."""
 
 import ctypes
-from typing import Iterable, Optional, Tuple
+from typing import Iterable, Optional, Tuple, Union
 
 from ._faults import check, given
 from ._held import Held
 from ._library import Calls, DeviceForm, StartForm, buffer_of, room_for
 from ._types import (
     DEFAULT_BUDGET, MOST_DEVICES, MOST_FRAME_BYTES, Device, Kind, Operation, RunFault, Search, Uid, devices_of,
-    run_fault, whole)
+    run_fault, uid_of, whole)
 from .line import Line, LineFailed
 
 
@@ -20,11 +20,11 @@ class DiscoveryAgent(Held):
 
     _calls = Calls("wurst_agent_")
 
-    def __init__(self, source: Uid, kind: Kind = Kind.FULL, known: Iterable[Uid] = (), *,
+    def __init__(self, source: Union[Uid, str], kind: Kind = Kind.FULL, known: Iterable[Union[Uid, str]] = (), *,
                  budget: int = DEFAULT_BUDGET, search: Search = Search.STEADY, first_tn: int = 0) -> None:
         super().__init__()
-        numbers = [uid.number for uid in known]
-        start = StartForm(source.number, whole(budget, 64, "budget"), int(kind), int(search),
+        numbers = [uid_of(uid).number for uid in known]
+        start = StartForm(uid_of(source).number, whole(budget, 64, "budget"), int(kind), int(search),
                           whole(first_tn, 8, "transaction number"))
         array = (ctypes.c_uint64 * (len(numbers) + 1))(*numbers)
         check(self._calls.start(self._handle, start, array, len(numbers)))

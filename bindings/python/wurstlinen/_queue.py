@@ -3,13 +3,14 @@
 import ctypes
 from typing import Optional, Tuple, Union
 
+from ._ask import DEFAULT_WAIT, Answer, Asker
 from ._faults import check, given
 from ._held import Held
 from ._library import Calls, CompletionForm, DeviceForm, EndForm, Setup, buffer_of, room_for
 from ._types import (
     DEFAULT_BUDGET, MOST_DEVICES, MOST_FRAME_BYTES, MOST_PARAMETER_BYTES, MOST_PLACES, AckType, Completion, Device,
     Discovery, Kind, OutcomeKind, ReplyHead, Request, RequestClass, ResponseClass, Search, Status, Uid, devices_of,
-    run_fault, whole)
+    run_fault, uid_of, whole)
 from ._wire import form_of_request
 from .line import Line, LineFailed
 
@@ -133,14 +134,14 @@ class Controller(Queue):
 
     _calls = Calls("wurst_controller_")
 
-    def __init__(self, source: Uid, places: int = MOST_PLACES, *, budget: int = DEFAULT_BUDGET,
+    def __init__(self, source: Union[Uid, str], places: int = MOST_PLACES, *, budget: int = DEFAULT_BUDGET,
                  search: Search = Search.STEADY) -> None:
         super().__init__()
         check(self._calls.open(self._handle, setup_of(source, places, budget, search)))
 
 
-def setup_of(source: Uid, places: int, budget: int, search: Search) -> Setup:
-    return Setup(source.number, whole(budget, 64, "budget"), int(search), whole(places, 16, "places"))
+def setup_of(source: Union[Uid, str], places: int, budget: int, search: Search) -> Setup:
+    return Setup(uid_of(source).number, whole(budget, 64, "budget"), int(search), whole(places, 16, "places"))
 
 
 class Client:
@@ -159,13 +160,21 @@ class Client:
             check(self.queue._calls.submit(self.queue._handle, self.number, form, data, length, number))
         return number.value
 
-    def get(self, target: Uid, pid: int, data: bytes = b"", sub_device: int = 0) -> int:
+    def get(self, target: Union[Uid, str], pid: int, data: Union[bytes, str] = b"", sub_device: int = 0) -> int:
         """Submits a GET."""
         return self.submit(Request(target, pid, data, sub_device, RequestClass.GET))
 
-    def set(self, target: Uid, pid: int, data: bytes = b"", sub_device: int = 0) -> int:
+    def set(self, target: Union[Uid, str], pid: int, data: Union[bytes, str] = b"", sub_device: int = 0) -> int:
         """Submits a SET."""
         return self.submit(Request(target, pid, data, sub_device, RequestClass.SET))
+
+    def ask(self, target: Union[Uid, str], pid: int, data: Union[bytes, str] = b"", sub_device: int = 0,
+            request_class: RequestClass = RequestClass.GET, *, line: Line, wait: float = DEFAULT_WAIT) -> Answer:
+        """The answer to a request on this line, for which it waits at most `wait` seconds if the device needs time.
+
+        Outcomes of the client's earlier requests are collected too, and returned with it. Raises Unserved.
+        """
+        return Asker(self, line, wait).ask(Request(target, pid, data, sub_device, request_class))
 
     def discover(self, kind: Kind = Kind.FULL) -> int:
         """Asks for a discovery, and returns its number."""

@@ -1,7 +1,7 @@
 """A queue with a log of all that it does."""
 
 import ctypes
-from typing import Tuple
+from typing import Tuple, Union
 
 from ._faults import check
 from ._held import Held
@@ -60,8 +60,8 @@ class Session(Queue, _Entries):
 
     _calls = Calls("wurst_session_")
 
-    def __init__(self, source: Uid, entries: int = 10_000, places: int = MOST_PLACES, *, budget: int = DEFAULT_BUDGET,
-                 search: Search = Search.STEADY) -> None:
+    def __init__(self, source: Union[Uid, str], entries: int = 10_000, places: int = MOST_PLACES, *,
+                 budget: int = DEFAULT_BUDGET, search: Search = Search.STEADY) -> None:
         super().__init__()
         setup = setup_of(source, places, budget, search)
         check(self._calls.open(self._handle, setup, whole(entries, 64, "entries")))

@@ -4,7 +4,7 @@ import ctypes
 import enum
 import functools
 from dataclasses import dataclass
-from typing import ClassVar, Optional, Tuple
+from typing import ClassVar, Optional, Tuple, Union
 
 from ._faults import BadUid, check
 from ._library import LIBRARY, DeviceForm, buffer_of, room_for
@@ -190,15 +190,25 @@ class BranchReplyKind(enum.IntEnum):
     COLLISION = 2
 
 
+def uid_of(uid: Union[Uid, str]) -> Uid:
+    """A UID, or the one that a text spells."""
+    return Uid.parse(uid) if isinstance(uid, str) else uid
+
+
 @dataclass(frozen=True)
 class Request:
-    """A request to a device, or to many."""
+    """A request to a device, or to many. The target may be a UID's text, and the data a text of ASCII characters."""
 
     target: Uid
     pid: int
     data: bytes = b""
     sub_device: int = 0
     request_class: RequestClass = RequestClass.GET
+
+    def __post_init__(self) -> None:
+        object.__setattr__(self, "target", uid_of(self.target))
+        if isinstance(self.data, str):
+            object.__setattr__(self, "data", self.data.encode("ascii"))
 
 
 @dataclass(frozen=True)

@@ -52,14 +52,19 @@ def _too_long(number: int, frame: Optional[FrameType]) -> None:
     raise TimeoutError(f"the test takes more than {SECONDS} seconds")
 
 
-def needs_library(test: Any) -> Any:
-    """Skips a test if the C library can't be loaded."""
+def has_library() -> bool:
+    """Whether the C library can be loaded."""
     try:
         from wurstlinen import Controller, Uid
         Controller(Uid.from_number(SOURCE)).dispose()
-        return test
+        return True
     except ImportError:
-        return unittest.skip("needs the C library")(test)
+        return False
+
+
+def needs_library(test: Any) -> Any:
+    """Skips a test if the C library can't be loaded."""
+    return test if has_library() else unittest.skip("needs the C library")(test)
 
 
 def scene(**keys: Any) -> Scene:

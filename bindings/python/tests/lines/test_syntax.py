@@ -14,9 +14,10 @@ MOST_LINES_OF_A_FUNCTION = 40
 MOST_COLUMNS = 120
 # Python 3.9 has no list of them.
 STANDARD_MODULES = {
-    "__future__", "abc", "argparse", "collections", "dataclasses", "enum", "errno", "fcntl", "json", "os", "pathlib",
-    "queue", "random", "re", "secrets", "select", "shlex", "signal", "stat", "subprocess", "sys", "termios",
-    "threading", "time", "tty", "types", "typing", "weakref",
+    "__future__", "abc", "argparse", "collections", "contextlib", "csv", "dataclasses", "decimal", "difflib", "enum",
+    "errno", "fcntl", "functools", "importlib", "io", "ipaddress", "json", "os", "pathlib", "queue", "random", "re",
+    "secrets", "select", "shlex", "signal", "stat", "subprocess", "sys", "tempfile", "termios", "threading", "time",
+    "tty", "types", "typing", "weakref",
 }
 LINES = PACKAGE / "wurstlinen"
 Function = Union[ast.FunctionDef, ast.AsyncFunctionDef]
@@ -28,8 +29,9 @@ def files() -> List[Path]:
 
 
 def own_files() -> List[Path]:
-    """The files of lines and commands."""
-    return [*sorted((LINES / "lines").glob("*.py")), LINES / "line.py", LINES / "commands.py", LINES / "__main__.py"]
+    """The files of lines, parameters and commands."""
+    folders = [path for folder in ("front", "lines", "parameters") for path in sorted((LINES / folder).glob("*.py"))]
+    return [*folders, LINES / "line.py", LINES / "commands.py", LINES / "__main__.py", LINES / "_ask.py"]
 
 
 def parsed(path: Path) -> ast.Module:

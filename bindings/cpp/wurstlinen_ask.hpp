@@ -1,0 +1,286 @@
+// Asks devices, and waits for those that need time. Such a device answers ACK_TIMER, and queues its answer. E1.20,
+// queued message: the controller waits as long as the device says, and then takes messages until none is left. Here all
+// of that goes through a client of a wurst::Controller or a wurst::Session. For C++17, header only.
+#ifndef WURSTLINEN_ASK_HPP
+#define WURSTLINEN_ASK_HPP
+
+#include "wurstlinen.hpp"
+
+#include <algorithm>
+#include <chrono>
+#include <map>
+#include <optional>
+#include <stdexcept>
+#include <thread>
+#include <utility>
+#include <variant>
+#include <vector>
+
+namespace wurst {
+
+// This machine's time. Any class with these two calls can take its place.
+struct SteadyTime {
+    std::chrono::milliseconds now() const {
+        return std::chrono::duration_cast<std::chrono::milliseconds>(
+            std::chrono::steady_clock::now().time_since_epoch());
+    }
+    void sleep(std::chrono::milliseconds time) const { std::this_thread::sleep_for(time); }
+};
+
+// How a request ended, after a wait if the device asked for one.
+struct Answer {
+    // The device's answer. It is still the ACK_TIMER if the answer didn't come in time.
+    Completion completion;
+    // The other messages that the device had queued, oldest first.
+    std::vector<Completion> queued;
+    // The client's outcomes from before this request, oldest first.
+    std::vector<std::variant<Completion, Discovery>> earlier;
+
+    // Whether the answer didn't come in time.
+    bool is_late() const { return completion.head.has_head && completion.head.ack == WURST_ACK_TIMER; }
+};
+
+// The request wasn't sent, because the queue is paused, or a reply is awaited. It is still queued.
+class Unserved : public std::runtime_error {
+public:
+    Unserved() : std::runtime_error("the request wasn't sent: the queue is paused, or a reply is awaited") {}
+};
+
+namespace detail {
+
+using namespace std::chrono_literals;
+
+constexpr std::uint16_t queued_message = 0x0020;
+constexpr std::uint16_t status_messages = 0x0030;
+constexpr std::uint16_t status_id_description = 0x0031;
+constexpr std::uint16_t first_manufacturers_pid = 0x8000;
+constexpr std::uint16_t all_sub_devices = 0xffff;
+// E1.20, status types. With ERROR, a device without messages reports nothing but errors.
+constexpr std::uint8_t get_last_message = 0x01;
+constexpr std::uint8_t error_status = 0x04;
+constexpr std::chrono::milliseconds tenth = 100ms;
+// What a device that never ends its messages, or loses them, can cost.
+constexpr int most_messages = 256;
+constexpr int most_losses = 5;
+constexpr int most_exchanges = 1000;
+constexpr std::chrono::milliseconds fetch_time = 5s;
+
+// The time that a device asks for; nullopt if it doesn't. A time of another size counts as none.
+inline std::optional<std::chrono::milliseconds> delay_of(const Completion &completion) {
+    if (!completion.head.has_head || completion.head.ack != WURST_ACK_TIMER) {
+        return std::nullopt;
+    }
+    const auto &data = completion.data;
+    return data.size() == 2 ? (data[0] << 8 | data[1]) * tenth : 0 * tenth;
+}
+
+inline bool is_same(const Completion &a, const Completion &b) {
+    return a.head.ack == b.head.ack && a.head.response_class == b.head.response_class && a.head.pid == b.head.pid
+        && a.head.sub_device == b.head.sub_device && a.data == b.data;
+}
+
+// Whether a message has status messages.
+inline bool is_report(const Completion &message) {
+    return message.head.pid == status_messages && message.head.ack == WURST_ACK && !message.data.empty();
+}
+
+// Whether the answer begins with the request's data: the standards' GETs by a number return that number first.
+inline bool is_echoed(const wurst_request &request) {
+    return request.command_class == WURST_GET && request.pid < first_manufacturers_pid && request.pid != queued_message
+        && request.pid != status_messages && request.pid != status_id_description;
+}
+
+// Whether a message answers a request, as far as it shows.
+inline bool is_answer(const Completion &message, const wurst_request &request, Bytes data) {
+    const wurst_completion &head = message.head;
+    const bool is_from_root = request.sub_device == all_sub_devices && head.sub_device == 0;
+    const bool is_class = head.response_class == request.command_class + 1;
+    if (head.pid != request.pid || head.pid == status_messages || !is_class) {
+        return false;
+    }
+    if (head.sub_device != request.sub_device && !is_from_root) {
+        return false;
+    }
+    return head.ack == WURST_NACK || !is_echoed(request)
+        || (message.data.size() >= data.size && std::equal(data.begin(), data.end(), message.data.begin()));
+}
+
+} // namespace detail
+
+// Asks devices over a client that has no other requests outstanding. `Exchange` is a callable as Queue::run has it. The
+// queue has to outlive the asker.
+template <typename Queue, typename Exchange, typename Time = SteadyTime> class Asker {
+public:
+    using Client = typename Queue::Client;
+
+    // `wait`: the longest wait for an answer.
+    Asker(Queue &queue, Client client, Exchange exchange,
+          std::chrono::milliseconds wait = std::chrono::seconds(10), Time time = {})
+        : queue_(queue), client_(client), exchange_(std::move(exchange)), wait_(wait), time_(std::move(time)) {}
+
+    Answer get(Uid target, std::uint16_t pid, Bytes data = {}, std::uint16_t sub_device = 0) {
+        return ask({target.number(), WURST_GET, sub_device, pid}, data);
+    }
+
+    Answer set(Uid target, std::uint16_t pid, Bytes data = {}, std::uint16_t sub_device = 0) {
+        return ask({target.number(), WURST_SET, sub_device, pid}, data);
+    }
+
+    // The answer to a request. Faults of the queue and exceptions of the line pass through. Throws Unserved.
+    // After every second wait without an answer, a GET is asked again. A SET isn't, since it may do something.
+    Answer ask(const wurst_request &request, Bytes data = {}) {
+        using std::chrono::milliseconds;
+        begin(request, data);
+        Answer answer;
+        answer.completion = exchanged(request, data, answer);
+        auto delay = request.pid == detail::queued_message ? std::nullopt : detail::delay_of(answer.completion);
+        for (int waits = 1; delay && pause(*delay); waits++) {
+            if (auto found = has_queue_ ? fetched(answer) : std::nullopt) {
+                answer.completion = std::move(*found);
+                return answer;
+            }
+            delay = std::max(2 * *delay, detail::tenth);
+            if (request.command_class == WURST_GET && (waits % 2 == 0 || !has_queue_)) {
+                answer.completion = exchanged(request, data, answer);
+                delay = detail::delay_of(answer.completion);
+                delay = delay ? std::optional(std::max<milliseconds>(*delay, detail::tenth)) : std::nullopt;
+            }
+        }
+        return answer;
+    }
+
+private:
+    void begin(const wurst_request &request, Bytes data) {
+        request_ = request;
+        data_ = data;
+        deadline_ = time_.now() + wait_;
+        exchanges_ = 0;
+        has_queue_ = true;
+    }
+
+    // Waits, but not beyond the deadline. False if there is nothing left to wait or to ask with.
+    bool pause(std::chrono::milliseconds delay) {
+        const auto left = deadline_ - time_.now();
+        if (left.count() <= 0 || exchanges_ >= detail::most_exchanges) {
+            return false;
+        }
+        time_.sleep(std::min(delay, left));
+        return true;
+    }
+
+    // Takes messages until none is left. The newest answer counts, since older ones may be to older requests. nullopt:
+    // no answer is among them.
+    std::optional<Completion> fetched(Answer &answer) {
+        const auto until = time_.now() + detail::fetch_time;
+        std::optional<Completion> found;
+        bool is_lost = false;
+        int losses = 0;
+        for (int count = 0; count < detail::most_messages; count++) {
+            Completion message = queued(is_lost ? detail::get_last_message : detail::error_status, answer);
+            if (message.status() == WURST_FAILED_TO_SEND) {
+                return message;
+            }
+            const bool was_lost = std::exchange(is_lost, !message.head.has_head);
+            losses += is_lost;
+            if (!is_lost && !was_lost && is_end(message, answer)) {
+                break;
+            }
+            if (!is_lost) {
+                sort(std::move(message), was_lost, found, answer);
+            }
+            if (losses >= detail::most_losses || exchanges_ >= detail::most_exchanges || time_.now() > until) {
+                break;
+            }
+        }
+        return found;
+    }
+
+    // The reply to a GET of QUEUED_MESSAGE.
+    Completion queued(std::uint8_t status_type, Answer &answer) {
+        return exchanged({request_.target, WURST_GET, 0, detail::queued_message}, Bytes(&status_type, 1), answer);
+    }
+
+    // Whether the device has no more messages now. Status messages, which it sends then, are kept.
+    bool is_end(const Completion &message, Answer &answer) {
+        const wurst_completion &head = message.head;
+        if (head.pid == detail::queued_message) {
+            has_queue_ = head.ack != WURST_NACK;
+            return true;
+        }
+        if (detail::is_report(message)) {
+            answer.queued.push_back(message);
+        }
+        return head.pid == detail::status_messages || head.ack == WURST_ACK_TIMER;
+    }
+
+    // Keeps a message, and puts the newest answer into `found`. If a reply was lost, the device was asked to repeat it.
+    // The repeated message is an answer only if it is known not to be an older one.
+    void sort(Completion message, bool is_repeated, std::optional<Completion> &found, Answer &answer) {
+        const wurst_completion &head = message.head;
+        if (is_repeated && (head.pid == detail::status_messages || head.pid == detail::queued_message)) {
+            if (detail::is_report(message)) {
+                answer.queued.push_back(std::move(message));
+            }
+            return;
+        }
+        const auto before = newest_.find(request_.target);
+        const bool is_known = before != newest_.end();
+        if (is_repeated && is_known && detail::is_same(before->second, message)) {
+            return;
+        }
+        const bool is_answer = detail::is_answer(message, request_, data_) && (!is_repeated || is_known);
+        newest_[request_.target] = message;
+        if (!is_answer) {
+            answer.queued.push_back(std::move(message));
+            return;
+        }
+        if (found) {
+            answer.queued.push_back(std::move(*found));
+        }
+        found = std::move(message);
+    }
+
+    // How a request ends.
+    Completion exchanged(const wurst_request &request, Bytes data, Answer &answer) {
+        const std::uint64_t number = queue_.submit(client_, request, data);
+        exchanges_++;
+        queue_.run([this](const Frame &frame) { return exchange_(frame); });
+        while (const auto kind = queue_.oldest(client_)) {
+            if (*kind == WURST_DISCOVERY_OUTCOME) {
+                answer.earlier.push_back(*queue_.next_discovery(client_));
+                continue;
+            }
+            Completion completion = *queue_.next_completion(client_);
+            if (completion.number() == number) {
+                return completion;
+            }
+            answer.earlier.push_back(std::move(completion));
+        }
+        throw Unserved();
+    }
+
+    Queue &queue_;
+    Client client_;
+    Exchange exchange_;
+    std::chrono::milliseconds wait_;
+    Time time_;
+    // The newest message of each device, which GET_LAST_MESSAGE repeats.
+    std::map<std::uint64_t, Completion> newest_;
+    // The request that is being asked, until when its answer is waited for, and what it has cost.
+    wurst_request request_{};
+    Bytes data_;
+    std::chrono::milliseconds deadline_{};
+    int exchanges_ = 0;
+    bool has_queue_ = true;
+};
+
+// The answer to a single request.
+template <typename Queue, typename Exchange>
+Answer ask(Queue &queue, typename Queue::Client client, Exchange exchange, const wurst_request &request,
+           Bytes data = {}, std::chrono::milliseconds wait = std::chrono::seconds(10)) {
+    return Asker<Queue, Exchange>(queue, client, std::move(exchange), wait).ask(request, data);
+}
+
+} // namespace wurst
+
+#endif

@@ -1,0 +1,245 @@
+"""The commands of the front that work on all devices: fixtures, save, apply and identify."""
+from __future__ import annotations
+
+import errno
+import json
+import os
+import unittest
+from pathlib import Path
+from typing import Dict, List, Tuple
+from unittest import mock
+
+from common import folder, needs_library
+from fronts import LEFT, SLOW, OneRig
+from wurstlinen.front import csv_files, requests
+
+FIVE_TABLE = """\
+UID            ADDRESS  SLOTS  LABEL         MAKER       MODEL                PERSONALITY  NOTE
+1234:00000001  1-7      7      Front left    Wurstlinen  Wash 7               1 Basic      overlaps {both}
+1234:00000002  8-14     7      Front right   Wurstlinen  Wash 7               1 Basic
+454e:0a000017  100      1      Back truss    Wurstlinen  Beam 3               1 Dimmer
+9abc:00000002  1        1      House lights  Wurstlinen  Dimmer               1 Dimmer     {slow}
+9abc:00000003  1        1      -             Wurstlinen  Dimmer, second half  1 Dimmer     {part}
+5 fixtures, {frames} frames; discovery without a fault
+"""
+DATA_OUT_OF_RANGE = "0006"
+
+
+@needs_library
+class Fixtures(OneRig):
+    def rows(self) -> Dict[str, str]:
+        """The devices' notes."""
+        status, out, _ = self.run_command("fixtures", "--wait", "0.5", "--json")
+        found = [json.loads(line) for line in out.splitlines()]
+        self.status, self.end = status, found[-1]
+        return {each["uid"]: "; ".join(each["notes"]) for each in found[:-1]}
+
+    def test_five(self) -> None:
+        wanted = FIVE_TABLE.format(both="9abc:00000002, 9abc:00000003", slow="answers slowly; overlaps 1234:00000001",
+                                   part="part of 9abc:00000002; overlaps 1234:00000001", frames=149)
+        self.assertEqual(self.run_command("fixtures"), (0, wanted, f"wurstlinen: {SLOW} asks for 0.3 s\n"))
+        self.assertEqual(len(self.frames), 149)
+
+    def test_what_is_wrong_is_noted(self) -> None:
+        info = "0100000101010000000100070102001100000000"
+        self.scene(
+            {"uid": "1234:00000001", "rig": {"nack": DATA_OUT_OF_RANGE}},
+            {"uid": "1234:00000002", "params": [{"pid": "0060", "parts": [info]}]},
+            {"uid": "1234:00000003", "params": [{"pid": "0060", "parts": [info[:28] + "0258" + info[32:38]]}]},
+            {"uid": "1234:00000004", "params": [{"pid": "0082", "parts": ["61" * 40]}]},
+            {"uid": "1234:00000005", "rig": {"timer": 60}},
+            {"uid": "1234:00000006", "rig": {"address": 510, "personalities": [{"footprint": 7, "name": "x"}]}},
+            {"uid": "1234:00000007", "control": "0002", "binding": "1234:00000006"})
+        notes = self.rows()
+        refused = "refuses device_info (data_out_of_range); refuses device_label (data_out_of_range)"
+        self.assertTrue(notes["1234:00000001"].startswith(refused))
+        self.assertIn(f"wrong device_info: 0x{info}", notes["1234:00000002"])
+        self.assertIn("wrong dmx_start_address: 0x0258", notes["1234:00000003"])
+        self.assertIn("wrong device_label: 0x" + "61" * 40, notes["1234:00000004"])
+        self.assertEqual(notes["1234:00000005"], "no answer in time to device_info; answers slowly")
+        self.assertIn("its slots end after 512", notes["1234:00000006"])
+        self.assertIn("part of 1234:00000006", notes["1234:00000007"])
+        self.assertEqual((self.status, self.end["fixtures"], self.end["fault"]), (0, 7, None))
+
+    def test_a_device_that_leaves(self) -> None:
+        self.scene({"uid": "1234:00000001"}, {"uid": "1234:00000002"})
+        self.rows()
+        found = self.end["frames"] - 10
+        self.scene({"uid": "1234:00000001"}, {"uid": "1234:00000002", "until": found + 5})
+        self.assertEqual(self.rows()["1234:00000002"], "no answer to device_info")
+
+    def test_a_line_that_fails_later(self) -> None:
+        self.scene({"uid": "1234:00000001"})
+        self.rows()
+        last = self.end["frames"] - 1
+        self.scene({"uid": "1234:00000001"}, fails=[last])
+        self.assertEqual(self.run_command("fixtures"),
+                         (1, "", "wurstlinen: 1234:00000001: the rig's file lets this exchange fail\n"))
+
+    def test_a_fault_of_the_discovery(self) -> None:
+        self.scene({"uid": "1234:00000001", "rig": {"lies": ["ignores mutes"]}}, {"uid": "1234:00000002"})
+        status, out, _ = self.run_command("fixtures")
+        self.assertEqual(status, 1)
+        self.assertIn("the discovery ended early: the branch of 1234:00000001 alone was answered", out)
+        self.scene({"uid": "1234:00000001"}, fails=[3])
+        status, out, _ = self.run_command("fixtures")
+        self.assertEqual((status, out), (1, "0 fixtures, 4 frames; the discovery ended early: the rig's file lets this "
+                                            "exchange fail\n"))
+
+    def test_nobody(self) -> None:
+        self.scene()
+        status, out, _ = self.run_command("fixtures")
+        self.assertEqual((status, out.partition(",")[0]), (0, "0 fixtures"))
+
+    def test_a_device_that_answers_too_much(self) -> None:
+        self.scene({"uid": LEFT, "rig": {"timer": 0}, "params": [{"pid": "0020", "parts": ["00"]}]})
+        self.assertIn("answers slowly", self.rows()[LEFT])
+
+
+@needs_library
+class Files(OneRig):
+    """save and apply."""
+
+    def saved(self, place: Path) -> Tuple[Path, str]:
+        """A file of the devices' values."""
+        file = place / "rig.csv"
+        self.assertEqual(self.run_command("save", str(file))[:2], (0, f"5 devices: {file}\n"))
+        return file, file.read_text()
+
+    def test_what_is_saved(self) -> None:
+        with folder() as place:
+            self.assertEqual(self.saved(place)[1], """\
+uid,label,address,personality
+1234:00000001,Front left,1,1
+1234:00000002,Front right,8,1
+454e:0a000017,Back truss,100,1
+9abc:00000002,House lights,1,1
+9abc:00000003,,1,1
+""")
+            self.assertEqual([each.name for each in place.iterdir()], ["rig.csv"])
+
+    def test_to_standard_output(self) -> None:
+        status, out, _ = self.run_command("save", "-")
+        self.assertEqual((status, out.splitlines()[1]), (0, "1234:00000001,Front left,1,1"))
+
+    def test_only_what_differs_is_set(self) -> None:
+        with folder() as place:
+            file, text = self.saved(place)
+            self.assertEqual(self.run_command("apply", str(file))[1], "0 changes\n")
+            file.write_text(text.replace("Front right,8,1", "Side,15,2").replace("House lights", "House"))
+            changes = ("1234:00000002  personality  1 -> 2\n1234:00000002  address  8 -> 15\n"
+                       "1234:00000002  label  Front right -> Side\n9abc:00000002  label  House lights -> House\n")
+            self.assertEqual(self.run_command("apply", str(file), "--dry-run")[1],
+                             changes + "4 changes; nothing was sent\n")
+            self.assertEqual(self.sets(), 0)
+            self.assertEqual(self.run_command("apply", str(file))[:2], (0, changes + "4 changes\n"))
+            self.assertEqual(self.sets(), 4)
+            self.assertEqual(self.run_command("apply", str(file))[:2], (0, "0 changes\n"))
+            self.assertEqual(self.run_command("get", "1234:00000002", "dmx_start_address")[1], "15\n")
+
+    def test_other_columns_and_empty_values(self) -> None:
+        text = "\ufefflabel,uid\r\nSide,1234:00000002\r\n,1234:00000001\r\n"
+        self.assertEqual(self.run_command("apply", "-", text=text)[:2],
+                         (0, "1234:00000002  label  Front right -> Side\n1 change\n"))
+
+    def test_files_that_are_wrong(self) -> None:
+        for text, wanted in (
+                ("", "the first line has to name the columns, and one of them is uid"),
+                ("label,address\n", "the first line has to name the columns, and one of them is uid"),
+                ("uid,lable\n", "there is no column 'lable'; the columns are uid, label, address, personality"),
+                ("uid,address\n1234:00000001,513\n", "line 2: dmx_start_address: 513 is not from 1 to 512"),
+                ("uid,address\n1234:00000001,0017\n", "line 2: dmx_start_address: '0017' can be read in two ways"),
+                ("uid,label\n1234:00000001,\xe9\n", "line 2: label: '\xe9' isn't printable ASCII"),
+                ("uid,label\n1234,x\n", "line 2: '1234' isn't a UID, such as 7a70:00000001"),
+                ("uid,label\nffff:ffffffff,x\n", "line 2: ffff:ffffffff is no device's own UID"),
+                ("uid,label\n1234:00000001\n", "line 2: it has more or fewer values than the first line"),
+                ("uid,label\n1234:00000001,x,y\n", "line 2: it has more or fewer values than the first line"),
+                ("uid,label\n1234:00000001,x\n1234:00000001,y\n", "1234:00000001 is there more than once"),
+                ("uid,label\n1234:00000001,\"x\n", "unexpected end of data")):
+            status, out, errors = self.run_command("apply", "-", text=text)
+            self.assertEqual((status, out), (2, ""), text)
+            self.assertIn(f"wurstlinen: -: {wanted}", errors)
+        self.assertEqual(self.frames, [])
+        self.assertEqual(self.run_command("apply", "/nowhere.csv"),
+                         (2, "", "wurstlinen: /nowhere.csv: No such file or directory\n"))
+
+    def test_a_device_that_does_not_keep_a_value(self) -> None:
+        self.scene({"uid": LEFT, "params": [{"pid": "00f0", "parts": ["0001"]}]})
+        status, out, errors = self.run_command("apply", "-", text=f"uid,address\n{LEFT},15\n")
+        self.assertEqual((status, out), (1, f"{LEFT}  address  1 -> 15\n1 change\n"))
+        self.assertEqual(errors, f"wurstlinen: address: {LEFT} accepted 15, but has 1\n")
+
+    def test_a_device_that_refuses(self) -> None:
+        status, out, errors = self.run_command("apply", "-", text=f"uid,personality,label\n{LEFT},9,Side\n")
+        self.assertEqual((status, out.splitlines()[-1]), (3, "2 changes"))
+        self.assertEqual(errors, f"wurstlinen: personality: {LEFT} refused it: data out of range (NACK 0x0006)\n")
+        self.assertEqual(self.run_command("get", LEFT, "device_label")[1], "Side\n")
+
+    def test_a_device_that_is_absent(self) -> None:
+        status, out, errors = self.run_command(
+            "apply", "-", text=f"uid,label\n1234:00000009,x\n{LEFT},Side\n")
+        self.assertEqual((status, out), (1, f"{LEFT}  label  Front left -> Side\n1 change\n"))
+        self.assertEqual(errors, "wurstlinen: 1234:00000009: no answer\n")
+
+    def test_a_device_without_an_address(self) -> None:
+        self.scene({"uid": LEFT, "params": [{"pid": "00f0", "parts": ["ffff"]}]})
+        status, out, errors = self.run_command("save", "-")
+        self.assertEqual((status, out.splitlines()[1]), (0, f"{LEFT},,,1"))
+        self.assertIn(f"wurstlinen: {LEFT}: address is none, and is left out\n", errors)
+        self.assertEqual(self.run_command("apply", "-", text=out)[:2], (0, "0 changes\n"))
+
+    def test_a_text_that_is_not_ascii(self) -> None:
+        self.scene({"uid": LEFT, "params": [{"pid": "0082", "parts": ["4361e95c"]}]})
+        out = self.run_command("save", "-")[1]
+        self.assertEqual(out.splitlines()[1], f"{LEFT},Ca\\xe9\\\\,1,1")
+        self.assertEqual(self.run_command("apply", "-", text=out)[:2], (0, "0 changes\n"))
+
+    def test_a_disk_that_is_full(self) -> None:
+        with folder() as place:
+            file, text = self.saved(place)
+            full = OSError(errno.ENOSPC, os.strerror(errno.ENOSPC))
+            for name in ("fsync", "replace"):
+                with mock.patch.object(csv_files.os, name, side_effect=full):
+                    status, out, errors = self.run_command("save", str(file))
+                self.assertEqual((status, out), (1, ""))
+                self.assertIn(f"wurstlinen: {file}: No space left on device\n", errors)
+            self.assertEqual((file.read_text(), [each.name for each in place.iterdir()]), (text, ["rig.csv"]))
+        self.assertEqual(self.run_command("save", "/nowhere/rig.csv")[0], 1)
+
+    def test_nothing_is_written_after_a_fault(self) -> None:
+        self.scene({"uid": LEFT}, fails=[3])
+        with folder() as place:
+            self.assertEqual(self.run_command("save", str(place / "rig.csv"))[0], 1)
+            self.assertEqual(list(place.iterdir()), [])
+
+
+@needs_library
+class Identify(OneRig):
+    def states(self) -> List[Tuple[str, str]]:
+        """The SETs of IDENTIFY_DEVICE: the devices, and whether they were switched on."""
+        return [(f"{frame[3:5].hex()}:{frame[5:9].hex()}", frame[24:25].hex()) for frame in self.frames
+                if frame[20] == 0x30]
+
+    def test_one(self) -> None:
+        for arguments in ([LEFT], [LEFT, "on"], [LEFT, "off"]):
+            self.assertEqual(self.run_command("identify", *arguments), (0, "", ""))
+        self.assertEqual(self.states(), [(LEFT, "01"), (LEFT, "01"), (LEFT, "00")])
+
+    def test_each(self) -> None:
+        status, out, _ = self.run_command("identify", "--each", text="\n" * 5)
+        self.assertEqual((status, out.splitlines()[0], len(out.splitlines())), (0, f"1 of 5: {LEFT}", 5))
+        self.assertEqual([state for _, state in self.states()], ["01", "00"] * 5)
+
+    def test_the_end_of_the_input_ends_it(self) -> None:
+        self.assertEqual(self.run_command("identify", "--each", text="\n")[1].splitlines()[-1], "2 of 5: 1234:00000002")
+        self.assertEqual([state for _, state in self.states()], ["01", "00"] * 2)
+
+    def test_an_interrupt_switches_it_off(self) -> None:
+        with mock.patch.object(requests, "sys") as system:
+            system.stdin.readline.side_effect = KeyboardInterrupt
+            status, _, _ = self.run_command("identify", "--each")
+        self.assertEqual((status, [state for _, state in self.states()]), (130, ["01", "00"]))
+
+
+if __name__ == "__main__":
+    unittest.main()

@@ -1,0 +1,20 @@
+"""`python3 -m wurstlinen.front`."""
+from __future__ import annotations
+
+import signal
+import sys
+from types import FrameType
+from typing import Optional
+
+from .main import main
+
+
+def interrupt(number: int, frame: Optional[FrameType]) -> None:
+    """Ends a command in such a way that its line is closed."""
+    raise KeyboardInterrupt
+
+
+if __name__ == "__main__":
+    for ending in (signal.SIGINT, signal.SIGTERM):
+        signal.signal(ending, interrupt)
+    sys.exit(main())

@@ -1,0 +1,172 @@
+"""The command fixtures: the devices on a line with what people look for."""
+from __future__ import annotations
+
+import argparse
+from dataclasses import dataclass, field
+from typing import Any, Dict, List, Optional, Sequence, Tuple
+
+from .. import Device, Uid
+from ..parameters import STANDARD
+from ..parameters.decoding import Values
+from .output import DONE, FAILED, REFUSED, Failure, Output
+from .work import Work, open_work
+
+HEADINGS = ("UID", "ADDRESS", "SLOTS", "LABEL", "MAKER", "MODEL", "PERSONALITY", "NOTE")
+NOTHING = "-"
+LAST_SLOT = 512
+UNKNOWN_PID = "unknown_pid"
+LINE_FAILED = "failed_to_send"
+REASONS = {"timeout": "no answer", "late": "no answer in time"}
+
+
+@dataclass
+class Fixture:
+    """A device, and what it says of itself. What isn't known is None."""
+
+    uid: Uid
+    info: Optional[Values] = None
+    label: Optional[str] = None
+    maker: Optional[str] = None
+    model: Optional[str] = None
+    personality: Optional[str] = None
+    notes: List[str] = field(default_factory=list)
+    # The device that it is a part of, or itself.
+    root: Optional[Uid] = None
+    # Whether it no longer answers.
+    is_gone: bool = False
+
+    def number(self, name: str) -> Optional[int]:
+        """A number of its DEVICE_INFO; None if it isn't known, or isn't valid."""
+        value = None if self.info is None else self.info[name]
+        return value if isinstance(value, int) else None
+
+    @property
+    def slots(self) -> Optional[Tuple[int, int]]:
+        """Its first and last DMX slot; None if it has none."""
+        address, count = self.number("dmx_start_address"), self.number("dmx_footprint")
+        return (address, address + count - 1) if address and count else None
+
+
+def run_fixtures(chosen: argparse.Namespace, output: Output) -> int:
+    """Discovers the devices, and prints what they say of themselves."""
+    with open_work(chosen, output) as work:
+        devices, fault = work.discover()
+        found = look_at_all(work, devices)
+        frames = work.line.frames
+    print_all(found, output)
+    count = "1 fixture" if len(found) == 1 else f"{len(found)} fixtures"
+    end = "discovery without a fault" if fault is None else f"the discovery ended early: {fault}"
+    output.result([f"{count}, {frames} frames; {end}"], fixtures=len(found), frames=frames, fault=fault)
+    return DONE if fault is None else FAILED
+
+
+def look_at_all(work: Work, devices: Sequence[Device]) -> List[Fixture]:
+    """Asks each device, and notes whose slots overlap."""
+    found = [look_at(work, device) for device in devices]
+    for fixture in found:
+        others = [str(other.uid) for other in found if overlap(fixture, other)]
+        fixture.notes += [f"overlaps {', '.join(others)}"] if others else []
+    return found
+
+
+def overlap(first: Fixture, second: Fixture) -> bool:
+    """Whether two devices have a slot in common, and aren't parts of one device."""
+    if first.slots is None or second.slots is None or first.root == second.root:
+        return False
+    return first.slots[0] <= second.slots[1] and second.slots[0] <= first.slots[1]
+
+
+def look_at(work: Work, device: Device) -> Fixture:
+    """Asks a device for what people look for."""
+    fixture = Fixture(device.uid, root=device.binding or device.uid)
+    if fixture.root != fixture.uid:
+        fixture.notes.append(f"part of {fixture.root}")
+    fixture.info = values_of(work, fixture, "device_info")
+    fixture.label = text_of(work, fixture, "device_label")
+    fixture.maker = text_of(work, fixture, "manufacturer_label")
+    fixture.model = text_of(work, fixture, "device_model_description")
+    fixture.personality = personality_of(work, fixture)
+    check(fixture)
+    if fixture.uid in work.slow:
+        fixture.notes.append("answers slowly")
+    return fixture
+
+
+def values_of(work: Work, fixture: Fixture, name: str, data: bytes = b"") -> Optional[Values]:
+    """What a device returns. If it returns nothing of use, that is noted, and a device that is gone isn't asked.
+
+    Raises Failure if the line failed.
+    """
+    if fixture.is_gone:
+        return None
+    try:
+        reading = work.read(fixture.uid, STANDARD.named(name), data)
+    except Failure as failure:
+        if failure.keys.get("reason") == LINE_FAILED:
+            raise
+        fixture.is_gone = failure.status != REFUSED
+        fixture.notes += note_of(name, failure)
+        return None
+    if reading.values is None:
+        fixture.notes.append(f"wrong {name}: 0x{reading.data.hex()}")
+    return reading.values
+
+
+def note_of(name: str, failure: Failure) -> List[str]:
+    """What a failure says of a device. Only DEVICE_INFO has to be there."""
+    if failure.status != REFUSED:
+        return [f"{REASONS.get(str(failure.keys.get('reason')), 'no valid answer')} to {name}"]
+    nack = failure.keys.get("nack")
+    return [] if nack == UNKNOWN_PID and name != "device_info" else [f"refuses {name} ({nack})"]
+
+
+def text_of(work: Work, fixture: Fixture, name: str) -> Optional[str]:
+    """A text of a device."""
+    values = values_of(work, fixture, name)
+    return None if values is None else str(next(iter(values.values())))
+
+
+def personality_of(work: Work, fixture: Fixture) -> Optional[str]:
+    """The name of a device's personality."""
+    number = fixture.number("current_personality")
+    if not number:
+        return None
+    values = values_of(work, fixture, "dmx_personality_description", bytes([number]))
+    return None if values is None else str(values["description"])
+
+
+def check(fixture: Fixture) -> None:
+    """Notes what is wrong with a device's DEVICE_INFO."""
+    fixture.notes += [f"wrong {name}: {value}" for name, value in (fixture.info or {}).items()
+                      if str(value).startswith("0x")]
+    if fixture.slots is not None and fixture.slots[1] > LAST_SLOT:
+        fixture.notes.append(f"its slots end after {LAST_SLOT}")
+
+
+def print_all(found: Sequence[Fixture], output: Output) -> None:
+    """Prints a table, or an object for each device."""
+    if output.is_json:
+        for fixture in found:
+            output.result([], **keys_of(fixture))
+        return
+    rows = [HEADINGS, *(cells_of(fixture) for fixture in found)] if found else []
+    widths = [max(len(cell) for cell in column) for column in zip(*rows)]
+    output.result("  ".join(cell.ljust(width) for cell, width in zip(row, widths)).rstrip() for row in rows)
+
+
+def cells_of(fixture: Fixture) -> Tuple[str, ...]:
+    """A device's row."""
+    slots, number = fixture.slots, fixture.number("current_personality")
+    address = NOTHING if slots is None else str(slots[0]) if slots[0] == slots[1] else f"{slots[0]}-{slots[1]}"
+    footprint = fixture.number("dmx_footprint")
+    personality = " ".join([str(number or ""), fixture.personality or ""]).strip()
+    return (str(fixture.uid), address, NOTHING if footprint is None else str(footprint), fixture.label or NOTHING,
+            fixture.maker or NOTHING, fixture.model or NOTHING, personality or NOTHING, "; ".join(fixture.notes))
+
+
+def keys_of(fixture: Fixture) -> Dict[str, Any]:
+    """A device, for JSON."""
+    return {"uid": str(fixture.uid), "address": fixture.number("dmx_start_address"),
+            "slots": fixture.number("dmx_footprint"), "label": fixture.label, "manufacturer": fixture.maker,
+            "model": fixture.model, "personality": fixture.number("current_personality"),
+            "personality_name": fixture.personality, "notes": fixture.notes}

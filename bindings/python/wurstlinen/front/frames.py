@@ -1,0 +1,69 @@
+"""Frames and their replies as text."""
+from __future__ import annotations
+
+from ..lines.numbers import CommandClass, Pid, ResponseType
+from ..lines.packets import Packet, decode_branch_reply, decode_packet, uid_text
+from ..parameters import STANDARD, decode
+from ..parameters.names import NACK_REASONS
+
+UID_BYTES = 6
+TENTHS = 10
+
+
+def exchange_text(number: int, frame: bytes, reply: bytes) -> str:
+    """A frame and its reply, on one line."""
+    command = decode_packet(frame)
+    if command is None:
+        return f"{number:04d}  {frame.hex()}  -> {reply.hex() or 'silence'}"
+    answer = branch_text(reply) if command.is_branch else reply_text(reply)
+    return f"{number:04d}  {command_text(command)}  -> {answer}"
+
+
+def command_text(command: Packet) -> str:
+    """A command."""
+    target = uid_text(command.destination)
+    if command.is_branch:
+        low, high = (int.from_bytes(each, "big") for each in (command.data[:UID_BYTES], command.data[UID_BYTES:]))
+        return f"BRANCH {uid_text(low)}-{uid_text(high)}"
+    if command.command_class == CommandClass.DISCOVERY:
+        return f"{'MUTE' if command.pid == Pid.DISC_MUTE else 'UNMUTE'} {target}"
+    kind = "SET" if command.command_class == CommandClass.SET else "GET"
+    sub_device = f"/{command.sub_device}" if command.sub_device else ""
+    data = f" 0x{command.data.hex()}" if command.data else ""
+    return f"{kind} {target}{sub_device} {STANDARD.name(command.pid)}{data}"
+
+
+def branch_text(reply: bytes) -> str:
+    """What came after a branch."""
+    if not reply:
+        return "silence"
+    found = decode_branch_reply(reply)
+    return f"collision, {len(reply)} bytes" if found is None else uid_text(found)
+
+
+def reply_text(reply: bytes) -> str:
+    """A response."""
+    if not reply:
+        return "silence"
+    response = decode_packet(reply)
+    if response is None:
+        return f"damaged, 0x{reply.hex()}"
+    number = int.from_bytes(response.data, "big")
+    if response.port_or_type == ResponseType.NACK_REASON:
+        return f"NACK {NACK_REASONS.get(number, f'0x{number:04x}')}"
+    if response.port_or_type == ResponseType.ACK_TIMER:
+        return f"ACK_TIMER {number / TENTHS:g} s"
+    if response.port_or_type == ResponseType.ACK_OVERFLOW:
+        return f"ACK_OVERFLOW, {len(response.data)} bytes"
+    return f"ACK{acknowledged_text(response)}"
+
+
+def acknowledged_text(response: Packet) -> str:
+    """The data of an acknowledgement."""
+    if not response.data:
+        return ""
+    if response.command_class == CommandClass.DISCOVERY_RESPONSE:
+        return f" 0x{response.data.hex()}"
+    is_set = response.command_class == CommandClass.SET_RESPONSE
+    reading = decode(STANDARD.numbered(response.pid), is_set, response.data)
+    return f" {STANDARD.name(response.pid)} {'; '.join(reading.lines)}"

@@ -1,0 +1,200 @@
+"""The arguments of the command `wurstlinen`, and what it ends with.
+
+The status is 0 if a command was done, 1 if the line failed or nobody answered, 2 if the arguments are wrong, 3 if a
+device refused it, and 130 after an interrupt.
+"""
+from __future__ import annotations
+
+import argparse
+import importlib
+import os
+import sys
+from typing import Any, Callable, Dict, List, NoReturn, Optional, Sequence
+
+from .. import commands
+from ..lines.opening import FORMS
+from ..parameters.words import hint
+from .output import BAD_ARGUMENTS, FAILED, INTERRUPTED, Failure, Output
+
+PROGRAM = "wurstlinen"
+DEFAULT_WAIT = 10.0
+MOST_WAIT = 3600.0
+RAW_COMMANDS = ("get", "set")
+Runner = Callable[[argparse.Namespace, Output], int]
+
+
+class Parser(argparse.ArgumentParser):
+    """A parser that says what is wrong on one line."""
+
+    def error(self, message: str) -> NoReturn:
+        """Ends the program."""
+        self.exit(BAD_ARGUMENTS, f"{PROGRAM}: {message}; try '{self.prog} --help'\n")
+
+
+def main(arguments: Optional[Sequence[str]] = None) -> int:
+    """Runs a command, and returns its status."""
+    words = list(sys.argv[1:] if arguments is None else arguments)
+    if words[:1] in ([each] for each in RAW_COMMANDS) and "--raw" in words:
+        return run_raw(words)
+    check_command(words)
+    chosen = parser().parse_args(words)
+    return run(chosen, Output(chosen.json))
+
+
+def run(chosen: argparse.Namespace, output: Output) -> int:
+    """Runs a command whose arguments are read."""
+    runner: Runner = chosen.run
+    try:
+        return runner(chosen, output)
+    except Failure as failure:
+        output.failure(failure)
+        return failure.status
+    except ImportError as fault:
+        output.failure(Failure(FAILED, f"the C library is needed for this: {fault}", reason="library"))
+        return FAILED
+    except BrokenPipeError:
+        # Who reads the output is gone.
+        return quiet(FAILED)
+    except OSError as fault:
+        print(f"{PROGRAM}: {fault.strerror}", file=sys.stderr)
+        return quiet(FAILED)
+    except KeyboardInterrupt:
+        return INTERRUPTED
+
+
+def quiet(status: int) -> int:
+    """The status of a command whose output may not be written to its end. Python would complain when it ends."""
+    try:
+        sys.stdout.flush()
+    except OSError:
+        os.dup2(os.open(os.devnull, os.O_WRONLY), sys.stdout.fileno())
+    return status
+
+
+def run_raw(words: List[str]) -> int:
+    """The same commands with numbers and bytes in hexadecimal: their arguments, output and status are older."""
+    rest = [word for word in words if word != "--raw"]
+    line = os.environ.get("WURSTLINEN_LINE")
+    if line and not any(word.partition("=")[0] == "--line" for word in rest):
+        rest += ["--line", line]
+    return commands.main(rest)
+
+
+def check_command(words: Sequence[str]) -> None:
+    """Ends the program, if there is no such command."""
+    if words and not words[0].startswith("-") and words[0] not in COMMANDS:
+        parser().error(f"there is no command '{words[0]}'{hint(words[0], COMMANDS)}")
+
+
+def parser() -> Parser:
+    """The parser of the arguments."""
+    whole = Parser(prog=PROGRAM, description="Finds RDM devices, and reads and changes what they have.")
+    made = whole.add_subparsers(dest="command", required=True, metavar="COMMAND", parser_class=Parser)
+    for name, add in COMMANDS.items():
+        add(made, name)
+    return whole
+
+
+def add_command(made: Any, name: str, text: str, example: str, run_name: str, needs_line: bool = True) -> Parser:
+    """A command. Its code is loaded when it runs."""
+    command: Parser = made.add_parser(name, help=text, description=f"{text[0].upper()}{text[1:]}.",
+                                      epilog=f"example: {PROGRAM} {example}")
+    command.set_defaults(run=lambda chosen, output: loaded(run_name)(chosen, output))
+    command.add_argument("--json", action="store_true", help="print one JSON object a line")
+    if needs_line:
+        command.add_argument("--line", metavar="LINE", help=f"{FORMS}; WURSTLINEN_LINE if absent")
+        command.add_argument("--source", type=commands.device, metavar="UID", help="the controller's UID")
+        command.add_argument("--wait", type=seconds, default=DEFAULT_WAIT, metavar="SECONDS",
+                             help="how long to wait for devices that need time (10)")
+        command.add_argument("--frames", action="store_true", help="show the frames and replies")
+    return command
+
+
+def loaded(run_name: str) -> Runner:
+    """The function of a command, as MODULE.NAME."""
+    module, _, name = run_name.partition(".")
+    found: Runner = getattr(importlib.import_module(f".{module}", __package__), name)
+    return found
+
+
+def add_get(made: Any, name: str) -> None:
+    """The arguments of get."""
+    command = add_command(made, name, "read a parameter of a device", "get 1234:00000001 device_label",
+                          "requests.run_get")
+    add_request(command, "what some parameters are read by, as a sensor's number")
+
+
+def add_set(made: Any, name: str) -> None:
+    """The arguments of set."""
+    command = add_command(made, name, "change a parameter of a device", "set 1234:00000001 dmx_start_address 17",
+                          "requests.run_set")
+    add_request(command, "the new values; numbers are decimal, or hexadecimal after 0x")
+
+
+def add_request(command: Parser, text: str) -> None:
+    """What get and set have in common."""
+    command.add_argument("uid", type=commands.uid, metavar="UID")
+    command.add_argument("parameter", metavar="PARAMETER", help=f"a name or a number; '{PROGRAM} pids' lists them")
+    command.add_argument("values", nargs="*", metavar="VALUE", help=text)
+    command.add_argument("--sub", type=commands.sub_device, default=0, metavar="N", help="the sub-device, 0 to 65535")
+    command.add_argument("--raw", action="store_true",
+                         help="PARAMETER and VALUE are bytes in hexadecimal, and so is what is printed")
+
+
+def add_identify(made: Any, name: str) -> None:
+    """The arguments of identify."""
+    command = add_command(made, name, "let a device show which one it is", "identify 1234:00000001 on",
+                          "requests.run_identify")
+    command.add_argument("uid", type=commands.uid, nargs="?", metavar="UID")
+    command.add_argument("state", nargs="?", choices=("on", "off"), default="on", metavar="on|off")
+    command.add_argument("--each", action="store_true", help="step through all devices, by the Enter key")
+
+
+def add_pids(made: Any, name: str) -> None:
+    """The arguments of pids."""
+    command = add_command(made, name, "list the parameters, or explain one", "pids dmx_start_address",
+                          "pids.run_pids", needs_line=False)
+    command.add_argument("name", nargs="?", metavar="NAME", help="a parameter, or a part of names")
+
+
+def add_fixtures(made: Any, name: str) -> None:
+    """The arguments of fixtures."""
+    add_command(made, name, "list the devices on the line with their addresses and labels", "fixtures",
+                "fixtures.run_fixtures")
+
+
+def add_save(made: Any, name: str) -> None:
+    """The arguments of save."""
+    command = add_command(made, name, "write the devices' labels, addresses and personalities to a file",
+                          "save rig.csv", "csv_files.run_save")
+    command.add_argument("file", metavar="FILE", help="a file of comma-separated values; - is standard output")
+
+
+def add_apply(made: Any, name: str) -> None:
+    """The arguments of apply."""
+    command = add_command(made, name, "change devices so that they are as a file says", "apply rig.csv --dry-run",
+                          "csv_files.run_apply")
+    command.add_argument("file", metavar="FILE", help="a file as save writes it; - is standard input")
+    command.add_argument("--dry-run", action="store_true", help="show the changes, and make none")
+
+
+def seconds(text: str) -> float:
+    """An argument that is a time."""
+    try:
+        found = float(text)
+    except ValueError:
+        found = -1.0
+    if not 0 <= found <= MOST_WAIT:
+        raise argparse.ArgumentTypeError(f"'{text}' isn't a number of seconds from 0 to {MOST_WAIT:g}")
+    return found
+
+
+COMMANDS: Dict[str, Callable[[Any, str], None]] = {
+    "get": add_get,
+    "set": add_set,
+    "identify": add_identify,
+    "fixtures": add_fixtures,
+    "save": add_save,
+    "apply": add_apply,
+    "pids": add_pids,
+}

@@ -1,0 +1,77 @@
+"""What the commands print: lines for people, or JSON."""
+from __future__ import annotations
+
+import json
+import sys
+from typing import Any, Iterable, Optional, TextIO
+
+from ..parameters import Parameter, Reading
+
+DONE = 0
+FAILED = 1
+BAD_ARGUMENTS = 2
+REFUSED = 3
+INTERRUPTED = 130
+
+
+class Failure(Exception):
+    """Why a command failed, and the status that it ends with. The keys are for JSON."""
+
+    def __init__(self, status: int, text: str, **keys: Any) -> None:
+        super().__init__(text)
+        self.status = status
+        self.keys = keys
+
+
+class Output:
+    """Results go to standard output; all else goes to standard error, and with JSON to standard output too."""
+
+    def __init__(self, is_json: bool, out: Optional[TextIO] = None, errors: Optional[TextIO] = None) -> None:
+        self.is_json = is_json
+        self._out = sys.stdout if out is None else out
+        self._errors = sys.stderr if errors is None else errors
+
+    def result(self, lines: Iterable[str], **keys: Any) -> None:
+        """A result: lines for people, or keys for JSON."""
+        for line in [json.dumps(keys, default=float)] if self.is_json else lines:
+            print(line, file=self._out, flush=True)
+
+    def reading(self, uid: str, parameter: Parameter, reading: Reading) -> None:
+        """What a device returned."""
+        keys = reading_keys(uid, parameter, reading)
+        self.result(reading.lines, **keys)
+        if reading.misfit:
+            self.note(f"{uid}: {reading.misfit}")
+
+    def queued(self, uid: str, parameter: Parameter, reading: Reading, nack: Optional[str]) -> None:
+        """A message that a device had queued."""
+        if self.is_json:
+            keys = {"nack": nack} if nack else reading_keys(uid, parameter, reading)
+            self.result([], queued={"uid": uid, "parameter": parameter.name, **keys})
+            return
+        values = f"refused, {nack}" if nack else "; ".join(reading.lines) or "done"
+        self.note(f"{uid} had queued {parameter.name}: {values}")
+
+    def note(self, text: str) -> None:
+        """A remark for people."""
+        if not self.is_json:
+            print(f"wurstlinen: {text}", file=self._errors, flush=True)
+
+    def failure(self, failure: Failure) -> None:
+        """Why something failed."""
+        if self.is_json:
+            self.result([], error={"text": str(failure), **failure.keys})
+        else:
+            self.note(str(failure))
+
+    def frame(self, line: str) -> None:
+        """A frame with its reply, for those who want to see them."""
+        print(line, file=self._errors, flush=True)
+
+
+def reading_keys(uid: str, parameter: Parameter, reading: Reading) -> dict[str, Any]:
+    """What a device returned, for JSON."""
+    keys: dict[str, Any] = {"uid": uid, "parameter": parameter.name, "pid": f"0x{parameter.number:04x}"}
+    if reading.values is None:
+        return {**keys, "raw": f"0x{reading.data.hex()}", "misfit": reading.misfit}
+    return {**keys, "values": reading.values}

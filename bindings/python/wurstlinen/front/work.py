@@ -1,0 +1,183 @@
+"""A line with the proved queue on it, and what commands do with it."""
+from __future__ import annotations
+
+import argparse
+import contextlib
+import os
+from typing import Iterator, Optional, Set, Tuple
+
+from .. import (
+    AckType, Asker, Client, Completion, Controller, Device, Kind, Request, RequestClass, ResponseClass, Search, Status,
+    Uid, Unserved,
+)
+from ..commands import RUN_FAULTS, source_of
+from ..line import Line, LineFailed
+from ..lines import open_line
+from ..lines.numbers import Pid
+from ..parameters import Misfit, Parameter, Reading, decode, described
+from ..parameters.fields import Bytes, Message, SubDevices
+from ..parameters.names import NACK_REASONS
+from .frames import exchange_text
+from .naming import is_manufacturers, table_of
+from .output import BAD_ARGUMENTS, FAILED, REFUSED, Failure, Output
+
+LINE_VARIABLE = "WURSTLINEN_LINE"
+# More than one command has outstanding.
+PLACES = 4
+
+
+class WatchedLine:
+    """A line that counts its exchanges, shows them, and remembers why it failed."""
+
+    def __init__(self, line: Line, output: Output, shows_frames: bool) -> None:
+        self._line = line
+        self._output = output
+        self._shows_frames = shows_frames
+        self.frames = 0
+        self.failure: Optional[LineFailed] = None
+
+    def exchange(self, frame: bytes) -> bytes:
+        """The line's exchange."""
+        number = self.frames
+        self.frames += 1
+        try:
+            reply = self._line.exchange(frame)
+        except LineFailed as failure:
+            self.failure = failure
+            raise
+        if self._shows_frames:
+            self._output.frame(exchange_text(number, frame, reply))
+        return reply
+
+
+class Work:
+    """What a command does on its line."""
+
+    def __init__(self, line: WatchedLine, client: Client, wait: float, output: Output) -> None:
+        self.line = line
+        self.output = output
+        # The devices that asked for time.
+        self.slow: Set[Uid] = set()
+        self._client = client
+        self._asked: Optional[Uid] = None
+        self._asker = Asker(client, line, wait, on_wait=self._waits)
+
+    def _waits(self, seconds: float) -> None:
+        assert self._asked is not None
+        if self._asked not in self.slow:
+            self.output.note(f"{self._asked} asks for {seconds:g} s")
+        self.slow.add(self._asked)
+
+    def ask(self, uid: Uid, pid: int, data: bytes = b"", sub_device: int = 0, is_set: bool = False) -> Completion:
+        """The acknowledgement of a request. Raises Failure if there is none."""
+        self._asked = uid
+        request_class = RequestClass.SET if is_set else RequestClass.GET
+        try:
+            answer = self._asker.ask(Request(uid, pid, data, sub_device, request_class))
+        except Unserved as fault:
+            raise Failure(FAILED, str(fault)) from None
+        for message in answer.queued:
+            self._report(uid, message)
+        if answer.is_late:
+            raise Failure(FAILED, f"{uid} didn't answer within {self._asker.wait:g} s, since it needs more time",
+                          uid=str(uid), reason="late")
+        return self._acknowledged(uid, answer.completion)
+
+    def _acknowledged(self, uid: Uid, completion: Completion) -> Completion:
+        """A completion that is an acknowledgement. Raises Failure for any other."""
+        if completion.status == Status.WAS_BROADCAST:
+            return completion
+        if completion.head is None:
+            reason = completion.status.name.lower()
+            raise Failure(FAILED, f"{uid}: {self._reason(completion.status)}", uid=str(uid), reason=reason)
+        if completion.head.ack == AckType.NACK:
+            name, number = nack_of(completion.data)
+            raise Failure(REFUSED, f"{uid} refused it: {name.replace('_', ' ')} (NACK 0x{number:04x})", uid=str(uid),
+                          reason="nack", nack=name)
+        return completion
+
+    def _reason(self, status: Status) -> str:
+        """Why nothing came back."""
+        if status == Status.TIMEOUT:
+            return "no answer"
+        if status == Status.FAILED_TO_SEND:
+            return str(self.line.failure or "the line failed")
+        return f"no valid answer ({status.name.lower().replace('_', ' ')})"
+
+    def _report(self, uid: Uid, message: Completion) -> None:
+        """Prints a message that the device had queued."""
+        assert message.head is not None
+        parameter = known_or_raw(uid, message.head.pid)
+        nack = nack_of(message.data)[0] if message.head.ack == AckType.NACK else None
+        reading = decode(parameter, message.head.response_class == ResponseClass.SET, message.data)
+        self.output.queued(str(uid), parameter, reading, nack)
+
+    def read(self, uid: Uid, parameter: Parameter, data: bytes = b"", sub_device: int = 0) -> Reading:
+        """What a GET returns. Raises Failure."""
+        return decode(parameter, False, self.ask(uid, parameter.number, data, sub_device).data)
+
+    def described(self, uid: Uid, pid: int) -> Parameter:
+        """The parameter of this number: as it is known, or as the device describes it, or else as bytes."""
+        parameter = table_of(uid.manufacturer, pid).numbered(pid)
+        if parameter is not None or not is_manufacturers(pid) or uid.is_broadcast:
+            return parameter or raw_parameter(pid)
+        try:
+            found = described(self.ask(uid, Pid.PARAMETER_DESCRIPTION, pid.to_bytes(2, "big")).data)
+            return found if found.number == pid else raw_parameter(pid)
+        except Misfit:
+            return raw_parameter(pid)
+        except Failure as failure:
+            if failure.status != REFUSED:
+                raise
+            return raw_parameter(pid)
+
+    def discover(self) -> Tuple[Tuple[Device, ...], Optional[str]]:
+        """The devices on the line, and why the run ended early; None if it didn't."""
+        self._client.discover(Kind.FULL)
+        self._client.queue.run(self.line)
+        found = self._client.next_discovery()
+        assert found is not None
+        if found.fault is None:
+            return found.devices, None
+        reason = str(self.line.failure or RUN_FAULTS[found.fault.kind].format(uid=found.fault.uid))
+        return found.devices, reason
+
+
+@contextlib.contextmanager
+def open_work(chosen: argparse.Namespace, output: Output) -> Iterator[Work]:
+    """Opens the line for the duration of a `with`. Raises Failure."""
+    text = chosen.line or os.environ.get(LINE_VARIABLE, "")
+    if not text:
+        raise Failure(BAD_ARGUMENTS, f"which line? --line LINE or {LINE_VARIABLE} says it", reason="line")
+    try:
+        line = open_line(text)
+    except ValueError as fault:
+        raise Failure(BAD_ARGUMENTS, str(fault), reason="line") from None
+    except LineFailed as fault:
+        raise Failure(FAILED, str(fault), reason="line") from None
+    except OSError as fault:
+        raise Failure(FAILED, f"{fault.filename}: {fault.strerror}", reason="line") from None
+    with line:
+        watched = WatchedLine(line, output, chosen.frames)
+        with Controller(Uid.from_number(source_of(chosen, line)), PLACES, search=Search.QUICK) as controller:
+            yield Work(watched, controller.join(PLACES), chosen.wait, output)
+
+
+def nack_of(data: bytes) -> Tuple[str, int]:
+    """The name and the number of a refusal's reason."""
+    number = int.from_bytes(data[:2], "big")
+    return NACK_REASONS.get(number, "unknown reason"), number
+
+
+def raw_parameter(pid: int) -> Parameter:
+    """A parameter of which nothing is known."""
+    fields = (Bytes("data"),)
+    message = Message(fields, fields, SubDevices.ROOT_ONE_OR_ALL)
+    return Parameter(f"0x{pid:04x}", pid, "", message, message)
+
+
+def known_or_raw(uid: Uid, pid: int) -> Parameter:
+    """The parameter of this number, without asking the device."""
+    return table_of(uid.manufacturer, pid).numbered(pid) or raw_parameter(pid)
+
+

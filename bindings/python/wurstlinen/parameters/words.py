@@ -1,0 +1,46 @@
+"""Numbers and names as people type them."""
+from __future__ import annotations
+
+import difflib
+import re
+from typing import Iterable
+
+DECIMAL = re.compile(r"-?(0|[1-9][0-9]*)")
+HEXADECIMAL = re.compile(r"0[xX][0-9a-fA-F]+")
+BARE_DECIMAL = re.compile(r"[0-9]+")
+BARE_HEXADECIMAL = re.compile(r"[0-9a-fA-F]+")
+
+
+class WordFault(ValueError):
+    """Why a word isn't accepted."""
+
+
+def whole(word: str) -> int:
+    """The number that a word spells: a decimal one, or a hexadecimal one after 0x."""
+    if DECIMAL.fullmatch(word):
+        return int(word)
+    if HEXADECIMAL.fullmatch(word):
+        return int(word, 16)
+    if BARE_DECIMAL.fullmatch(word):
+        raise WordFault(f"'{word}' can be read in two ways: write {int(word)} for the decimal number, "
+                        f"or 0x{word} for the hexadecimal one, which is {int(word, 16)}")
+    if BARE_HEXADECIMAL.fullmatch(word):
+        raise WordFault(f"'{word}' isn't a decimal number; as a hexadecimal one it is written 0x{word}, "
+                        f"and is {int(word, 16)}")
+    raise WordFault(f"'{word}' isn't a number")
+
+
+def is_name(word: str) -> bool:
+    """Whether a word is a name rather than a number."""
+    return bool(word) and not word[0].isdigit() and word[0] != "-"
+
+
+def name_of(word: str) -> str:
+    """A name as the tables have it: in lower case, with underscores."""
+    return word.strip().lower().replace("-", "_").replace(" ", "_")
+
+
+def hint(word: str, known: Iterable[str]) -> str:
+    """What may have been meant, as the end of a message; nothing if no name is similar."""
+    similar = difflib.get_close_matches(name_of(word), list(known), n=1)
+    return f"; did you mean {similar[0]}?" if similar else ""

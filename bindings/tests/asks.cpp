@@ -1,0 +1,235 @@
+// The C++ header that asks devices which need time, with devices that answer by tables.
+#include "tests.h"
+#include <deque>
+#include <memory>
+#include <vector>
+#include <wurstlinen_ask.hpp>
+
+using std::chrono::milliseconds;
+using Data = std::vector<std::uint8_t>;
+
+static const wurst::Uid source(0x7a70, 1), device(0x1234, 7);
+static constexpr std::uint16_t label = 0x0082, hours = 0x0400, queued = 0x0020, status = 0x0030;
+static const Data lamp{'L', 'a', 'm', 'p'};
+
+// A clock that only moves when somebody sleeps. Its copies are one clock.
+struct TestTime {
+    std::shared_ptr<milliseconds> at = std::make_shared<milliseconds>(100000);
+    std::shared_ptr<std::vector<milliseconds>> naps = std::make_shared<std::vector<milliseconds>>();
+
+    milliseconds now() const { return *at; }
+    void sleep(milliseconds time) const {
+        naps->push_back(time);
+        *at += time;
+    }
+    milliseconds slept() const {
+        milliseconds sum{};
+        for (milliseconds nap : *naps) {
+            sum += nap;
+        }
+        return sum;
+    }
+};
+
+// What a device says: its response type, PID, data and class, or nothing at all.
+struct Said {
+    std::uint8_t type;
+    std::uint16_t pid;
+    Data data;
+    bool is_set = false;
+    bool is_silence = false;
+};
+
+static const Said silence{0, 0, {}, false, true};
+static const Said empty{WURST_ACK, status, {}};
+
+static Said timer(std::uint16_t pid, std::uint8_t tenths, bool is_set = false) {
+    return {WURST_ACK_TIMER, pid, {0, tenths}, is_set};
+}
+
+// A device that says these things one after another, and then the last one for ever.
+struct Device {
+    std::deque<Said> says;
+    std::vector<std::pair<std::uint16_t, Data>> asked{};
+
+    std::optional<Data> exchange(const wurst::Frame &frame) {
+        const std::uint8_t *command = frame.data();
+        const auto pid = static_cast<std::uint16_t>(command[21] << 8 | command[22]);
+        asked.push_back({pid, Data(command + 24, command + 24 + command[23])});
+        const Said said = says.front();
+        if (says.size() > 1) {
+            says.pop_front();
+        }
+        if (said.is_silence) {
+            return Data();
+        }
+        Data copy(frame.begin(), frame.end());
+        copy[20] = said.is_set ? 0x30 : 0x20;
+        copy[21] = static_cast<std::uint8_t>(said.pid >> 8);
+        copy[22] = static_cast<std::uint8_t>(said.pid);
+        const wurst::Bytes data(said.data);
+        Data reply(257);
+        reply.resize(
+            answer(copy.data(), said.type, data.data, static_cast<std::uint8_t>(data.size), reply.data()));
+        return reply;
+    }
+
+    std::size_t count(std::uint16_t pid) const {
+        std::size_t found = 0;
+        for (const auto &each : asked) {
+            found += each.first == pid;
+        }
+        return found;
+    }
+};
+
+// The answer to a GET of the label, or to a SET of it.
+static wurst::Answer ask(Device &line, const TestTime &time, bool is_set = false,
+                         milliseconds wait = milliseconds(10000)) {
+    wurst::Controller queue(source);
+    auto exchange = [&line](const wurst::Frame &frame) { return line.exchange(frame); };
+    wurst::Asker asker(queue, queue.join(1), exchange, wait, time);
+    return is_set ? asker.set(device, label, lamp) : asker.get(device, label);
+}
+
+static void needs_no_time() {
+    TestTime time;
+    Device prompt{{{WURST_ACK, label, lamp}}};
+    const auto answer = ask(prompt, time);
+    CHECK(!answer.is_late() && answer.completion.data == lamp && answer.queued.empty() && answer.earlier.empty());
+    CHECK(prompt.asked.size() == 1 && time.naps->empty());
+    Device absent{{silence}};
+    CHECK(ask(absent, time).completion.status() == WURST_TIMEOUT && time.naps->empty());
+}
+
+static void waits_as_long_as_it_says() {
+    TestTime time;
+    Device slow{{timer(label, 3), {WURST_ACK, label, lamp}, empty}};
+    const auto answer = ask(slow, time);
+    CHECK(answer.completion.data == lamp && answer.queued.empty());
+    CHECK(time.naps->size() == 1 && time.slept() == milliseconds(300));
+    CHECK(slow.asked.size() == 3 && slow.asked[1].first == queued && slow.asked[1].second == Data{4});
+
+    Device endless{{{WURST_ACK_TIMER, label, {0xff, 0xff}}, empty}};
+    TestTime other;
+    CHECK(ask(endless, other).is_late() && other.slept() == milliseconds(10000));
+    Device impatient{{timer(label, 3)}};
+    CHECK(ask(impatient, other, false, milliseconds(0)).is_late() && impatient.asked.size() == 1);
+}
+
+static void sends_a_set_once() {
+    for (const Said &last : {empty, Said{WURST_NACK, queued, {0, 0}}}) {
+        TestTime time;
+        Device forgetful{{timer(label, 1, true), last}};
+        CHECK(ask(forgetful, time, true).is_late() && forgetful.count(label) == 1);
+        CHECK(time.slept() == milliseconds(10000));
+    }
+    TestTime time;
+    Device refusing{{timer(label, 1, true), {WURST_NACK, label, {0, 6}, true}, empty}};
+    const auto answer = ask(refusing, time, true);
+    CHECK(!answer.is_late() && answer.completion.head.ack == WURST_NACK && answer.completion.data == Data({0, 6}));
+}
+
+static void asks_again() {
+    TestTime time;
+    Device without_queue{{timer(label, 2), {WURST_NACK, queued, {0, 0}}, timer(label, 2), {WURST_ACK, label, lamp}}};
+    CHECK(ask(without_queue, time).completion.data == lamp && without_queue.count(queued) == 1);
+    Device forgetful{{timer(label, 2), empty, empty, {WURST_ACK, label, lamp}}};
+    CHECK(ask(forgetful, time).completion.data == lamp && forgetful.count(label) == 2);
+}
+
+static void keeps_other_messages() {
+    TestTime time;
+    const Said report{WURST_ACK, status, {0, 0, 4, 0, 0x21, 0, 5, 0, 0}};
+    Device busy{{timer(label, 1), {WURST_ACK, hours, Data(4)}, {WURST_ACK, label, {'o', 'l', 'd'}},
+                 {WURST_ACK, label, {}, true}, {WURST_ACK, label, lamp}, report, empty}};
+    const auto answer = ask(busy, time);
+    CHECK(answer.completion.data == lamp && answer.queued.size() == 4);
+    CHECK(answer.queued[0].head.pid == hours && answer.queued[1].head.response_class == WURST_SET_RESPONSE);
+    CHECK(answer.queued[2].data == Data({'o', 'l', 'd'}) && answer.queued[3].data == report.data);
+}
+
+static void knows_whose_sensor_it_is() {
+    TestTime time;
+    Device line{{timer(0x0201, 1), {WURST_ACK, 0x0201, {2, 7}}, {WURST_ACK, 0x0201, {1, 8}}, empty}};
+    wurst::Controller queue(source);
+    auto exchange = [&line](const wurst::Frame &frame) { return line.exchange(frame); };
+    wurst::Asker asker(queue, queue.join(1), exchange, milliseconds(10000), time);
+    const auto answer = asker.get(device, 0x0201, Data{2});
+    CHECK(answer.completion.data == Data({2, 7}) && answer.queued.size() == 1);
+}
+
+static void is_bounded() {
+    for (std::uint8_t tenths : {0, 1, 3}) {
+        TestTime time;
+        Device always_slow{{timer(label, tenths)}};
+        CHECK(ask(always_slow, time).is_late() && always_slow.asked.size() < 250);
+        CHECK(time.slept() == milliseconds(10000));
+    }
+    TestTime time;
+    Device talkative{{timer(label, 1, true), {WURST_ACK, hours, {}}}};
+    CHECK(ask(talkative, time, true).is_late() && talkative.asked.size() <= 1001);
+}
+
+static void repeats_what_was_lost() {
+    TestTime time;
+    Device lossy{{timer(label, 1), {WURST_ACK, hours, Data(4)}, silence, {WURST_ACK, label, lamp}, empty}};
+    const auto answer = ask(lossy, time);
+    CHECK(answer.completion.data == lamp && answer.queued.size() == 1);
+    CHECK(lossy.asked.size() == 5 && lossy.asked[3].second == Data{1} && lossy.asked[4].second == Data{4});
+
+    // It isn't known here whether the repeated message is the lost one or an older one.
+    Device unknown{{timer(label, 1), silence, {WURST_ACK, label, {'o', 'l', 'd'}}, empty, empty,
+                    {WURST_ACK, label, lamp}}};
+    const auto other = ask(unknown, time);
+    CHECK(other.completion.data == lamp && other.queued.size() == 1);
+
+    // The command was lost, and the device repeats what came before.
+    Device line{{timer(label, 1), {WURST_ACK, label, {'o', 'l', 'd'}}, empty,
+                 timer(label, 1), silence, {WURST_ACK, label, {'o', 'l', 'd'}}, {WURST_ACK, label, lamp}, empty}};
+    wurst::Controller queue(source);
+    auto exchange = [&line](const wurst::Frame &frame) { return line.exchange(frame); };
+    wurst::Asker asker(queue, queue.join(1), exchange, milliseconds(10000), time);
+    CHECK(asker.get(device, label).completion.data == Data({'o', 'l', 'd'}));
+    const auto second = asker.get(device, label);
+    CHECK(second.completion.data == lamp && second.queued.empty());
+}
+
+static void fails() {
+    TestTime time;
+    Device line{{timer(label, 1)}};
+    wurst::Session queue(source, 100);
+    const auto client = queue.join(3);
+    auto unplugged = [&line](const wurst::Frame &frame) {
+        return line.asked.empty() ? line.exchange(frame) : std::optional<Data>();
+    };
+    wurst::Asker asker(queue, client, unplugged, milliseconds(10000), time);
+    CHECK(asker.get(device, label).completion.status() == WURST_FAILED_TO_SEND);
+
+    Device prompt{{{WURST_ACK, hours, {}}, {WURST_ACK, label, lamp}}};
+    auto exchange = [&prompt](const wurst::Frame &frame) { return prompt.exchange(frame); };
+    queue.get(client, device, hours);
+    const auto answer = wurst::ask(queue, client, exchange, {device.number(), WURST_GET, 0, label});
+    CHECK(answer.completion.data == lamp && answer.earlier.size() == 1);
+    CHECK(std::get<wurst::Completion>(answer.earlier[0]).head.pid == hours);
+    queue.pause();
+    try {
+        wurst::ask(queue, client, exchange, {device.number(), WURST_GET, 0, label});
+        CHECK(false);
+    } catch (const wurst::Unserved &) {
+        CHECK(prompt.asked.size() == 2);
+    }
+}
+
+int main() {
+    needs_no_time();
+    waits_as_long_as_it_says();
+    sends_a_set_once();
+    asks_again();
+    keeps_other_messages();
+    knows_whose_sensor_it_is();
+    is_bounded();
+    repeats_what_was_lost();
+    fails();
+    return report();
+}
