@@ -3,6 +3,7 @@
 #include <cstdlib>
 #include <cstring>
 #include <ctime>
+#include <ola/Logging.h>
 
 namespace stand_in {
 
@@ -36,11 +37,24 @@ static void read_budget(Settings &found) {
     }
 }
 
+static void read_seconds(Settings &found) {
+    const std::string text = setting("WURSTLINEN_SECONDS");
+    errno = 0;
+    const unsigned long long value = std::strtoull(text.c_str(), nullptr, 10);
+    const bool is_number = text.find_first_not_of("0123456789") == text.npos && errno == 0;
+    if (is_number && value > 0 && value <= 86400) {
+        found.seconds = value;
+    } else if (!text.empty()) {
+        refuse("WURSTLINEN_SECONDS", text, "it is a number of seconds, 1 to 86400; there is no limit");
+    }
+}
+
 static Settings read_settings() {
     Settings found;
     found.is_proved_discovery = !is_second("WURSTLINEN_DISCOVERY", "proved", "adapter");
     found.search = is_second("WURSTLINEN_SEARCH", "quick", "steady") ? WURST_STEADY : WURST_QUICK;
     read_budget(found);
+    read_seconds(found);
     const std::string name = setting("WURSTLINEN_LOG");
     found.log = name.empty() ? nullptr : std::fopen(name.c_str(), "ae");
     if (found.log == nullptr && !name.empty()) {
@@ -54,8 +68,12 @@ const Settings &settings() {
     return found;
 }
 
-void tell(unsigned int controller, const std::string &text) {
-    std::fprintf(stderr, "wurstlinen: controller %u: %s\n", controller, text.c_str());
+void tell(const std::string &adapter, Level level, const std::string &text) {
+    if (level == Level::Warn) {
+        OLA_WARN << "wurstlinen: " << adapter << ": " << text;
+    } else {
+        OLA_INFO << "wurstlinen: " << adapter << ": " << text;
+    }
 }
 
 std::string json(const std::string &text) { return '"' + text + '"'; }

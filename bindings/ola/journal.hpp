@@ -14,13 +14,16 @@ struct Settings {
     bool is_proved_discovery = true;             // WURSTLINEN_DISCOVERY: proved, or adapter for the adapters' own
     wurst_search search = WURST_QUICK;           // WURSTLINEN_SEARCH: quick or steady
     std::uint64_t budget = WURST_DEFAULT_BUDGET; // WURSTLINEN_BUDGET: frames that a discovery may take, from 1
+    std::uint64_t seconds = 0;                   // WURSTLINEN_SECONDS: that a discovery may take; 0 for no limit
     std::FILE *log = nullptr;                    // WURSTLINEN_LOG: a file to add to
 };
 
 const Settings &settings();
 
-// Prints a message about a controller on standard error.
-void tell(unsigned int controller, const std::string &text);
+enum class Level { Inform, Warn };
+
+// Gives a message about an adapter to OLA's logging.
+void tell(const std::string &adapter, Level level, const std::string &text);
 
 // The log's keys and values. No text has a character that JSON escapes.
 std::string json(const std::string &text);
