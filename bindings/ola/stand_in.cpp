@@ -48,9 +48,10 @@ StandIn::StandIn(RDMControllerInterface *lower, unsigned int places)
     : Below(lower), controller_(++controllers_), places_(std::clamp<unsigned int>(places, 1, UINT8_MAX)),
       core_(SOURCE, places_, settings().budget, settings().search), client_(core_.join(places_)) {
     if (places_ != places) {
-        tell(controller_, "its queue has " + std::to_string(places_) + " places, not " + std::to_string(places));
+        tell(name(), Level::Warn,
+             "its queue has " + std::to_string(places_) + " places, not " + std::to_string(places));
     }
-    tell(controller_, DISCOVERY_BY_BRIDGE[static_cast<int>(bridge())]);
+    tell(name(), Level::Inform, DISCOVERY_BY_BRIDGE[static_cast<int>(bridge())]);
     record(controller_, "call", "open", "places", places_);
 }
 
@@ -213,8 +214,9 @@ void StandIn::answer(const wurst::Discovery &done) {
            "given", devices.Size());
     if (done.fault() != WURST_NO_FAULT && !has_ended_ && run_told_ != done.end.run) {
         run_told_ = done.end.run;
-        tell(controller_, "discovery failed: " + text_of(done.end) + "; it found " + std::to_string(done.end.count)
-                              + " devices until then, and OLA is given " + std::to_string(devices.Size()));
+        tell(name(), Level::Warn,
+             "discovery failed: " + text_of(done.end) + "; it found " + std::to_string(done.end.count)
+                 + " devices until then, and OLA is given " + std::to_string(devices.Size()));
     }
     answer_oldest(devices);
 }

@@ -44,6 +44,7 @@ private:
     void handed_back(ola::rdm::RDMReply *reply) override;
     void found(const ola::rdm::UIDSet &devices) override;
 
+    std::string name() const { return "controller " + std::to_string(controller_); }
     template <typename Work> void within(Work work);
     void pump();
     bool send_next();
