@@ -43,9 +43,9 @@ class Files(NamedTuple):
     preload: Path
 
 
-def start(files: Files, scene: Scene, **settings: str) -> Daemon:
+def start(files: Files, scene: Scene, forks: bool = False, **settings: str) -> Daemon:
     """A daemon with the library and these variables."""
-    return Daemon(scene, files.redirect, files.library, settings=settings, others=[files.preload])
+    return Daemon(scene, files.redirect, files.library, settings=settings, others=[files.preload], forks=forks)
 
 
 def records_of(path: Path) -> List[Dict[str, Any]]:
@@ -120,6 +120,18 @@ def check_end(checks: Checks, files: Files) -> None:
         checks.check((daemon.folder / "log").stat().st_mode & 0o777 == 0o640, "the log's mode")
 
 
+def check_background(checks: Checks, files: Files) -> None:
+    """A daemon that goes into the background closes its files and changes its folder, and has a log nevertheless."""
+    scene = random_scene(3, seed=27)
+    with start(files, scene, forks=True, WURSTLINEN_LOG="log") as daemon:
+        checks.check(daemon.discover(True) == uids_of(scene), "a discovery in the background")
+        daemon.signal(signal.SIGTERM)
+        checks.check(daemon.wait() == 0, "the daemon in the background doesn't end")
+        path = daemon.folder / "log"
+        found = [record["found"] for record in records_of(path) if "found" in record] if path.exists() else []
+        checks.check(bool(found) and found[-1] == uids_of(scene), f"the background's log: {found}")
+
+
 def check_version(checks: Checks, files: Files) -> None:
     """OLA's version is compared with that of the headers."""
     scene = random_scene(1, seed=25)
@@ -178,7 +190,8 @@ def main(arguments: Sequence[str]) -> int:
     signal.signal(signal.SIGTERM, ended)
     files = Files(*(Path(argument).resolve() for argument in arguments))
     checks = Checks()
-    for check in (check_stuck_disk, check_kinds_of_files, check_rotation, check_end, check_version, check_script):
+    for check in (check_stuck_disk, check_kinds_of_files, check_rotation, check_end, check_background,
+                  check_version, check_script):
         check(checks, files)
     print(f"{checks.passed} passed, {checks.failed} failed")
     return 1 if checks.failed else 0
