@@ -127,7 +127,7 @@ def check_background(checks: Checks, files: Files) -> None:
         checks.check(daemon.discover(True) == uids_of(scene), "a discovery in the background")
         daemon.signal(signal.SIGTERM)
         checks.check(daemon.wait() == 0, "the daemon in the background doesn't end")
-        path = daemon.folder / "log"
+        path = daemon.start_folder / "log"
         found = [record["found"] for record in records_of(path) if "found" in record] if path.exists() else []
         checks.check(bool(found) and found[-1] == uids_of(scene), f"the background's log: {found}")
 
