@@ -123,19 +123,20 @@ void LogFile::take_back(std::size_t bytes) {
 
 bool LogFile::fail(const std::string &why) {
     const auto now = Clock::now();
-    if (!is_failing_ && (!has_told_ || now - told_ >= BETWEEN_MESSAGES)) {
-        has_told_ = true;
-        told_ = now;
+    if (!is_failing_ && (!last_told_ || now - *last_told_ >= BETWEEN_MESSAGES)) {
         tell("WURSTLINEN_LOG=" + name_, Level::Warn, why + "; records are lost until it can be written");
+        last_told_ = now;
+        is_told_ = true;
     }
     is_failing_ = true;
     return false;
 }
 
 void LogFile::succeed() {
-    if (is_failing_) {
-        is_failing_ = false;
+    if (is_told_) {
         tell("WURSTLINEN_LOG=" + name_, Level::Inform, "it is written again");
     }
+    is_failing_ = false;
+    is_told_ = false;
 }
 } // namespace stand_in

@@ -2,6 +2,7 @@
 #pragma once
 #include <chrono>
 #include <cstdint>
+#include <optional>
 #include <string>
 #include <sys/stat.h>
 
@@ -38,8 +39,9 @@ private:
     int file_ = -1;
     // The file may end within a line, so the next one begins with a newline.
     bool is_torn_ = false;
+    // Whether the last lines couldn't be written, and whether that was reported.
     bool is_failing_ = false;
-    bool has_told_ = false;
-    Clock::time_point told_;
+    bool is_told_ = false;
+    std::optional<Clock::time_point> last_told_;
 };
 } // namespace stand_in

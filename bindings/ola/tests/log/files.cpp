@@ -43,7 +43,7 @@ void test_full_now_and_then() {
         disk.space = -1;
         CHECK(file.add(LINE));
     }
-    CHECK(messages_with("WARN ") == 1);
+    CHECK(messages_with("WARN ") == 1 && messages_with("INFO ") == 1);
 }
 
 // If another process has added to the file meanwhile, nothing is taken back. The next line is whole.
