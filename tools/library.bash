@@ -51,7 +51,7 @@ has_ola_headers() {
     echo '#include <ola/rdm/QueueingRDMController.h>' | c++ "${ola_flags[@]}" -x c++ -fsyntax-only - 2> /dev/null
 }
 
-# Makes that library in a folder that has libwurstlinen.a. It exports only the members of OLA's two classes.
+# Makes that library in a folder that has libwurstlinen.a. It exports only the members of OLA's classes that it defines.
 make_ola_library() {
     local root="$1" folder="$2"
     cat > "$folder/exports" << 'END'
@@ -60,6 +60,8 @@ make_ola_library() {
         extern "C++" {
             ola::rdm::QueueingRDMController::*;
             ola::rdm::DiscoverableQueueingRDMController::*;
+            ola::rdm::DiscoveryAgent::Abort*;
+            ola::plugin::usbpro::*WidgetImpl::Stop*;
             "vtable for ola::rdm::QueueingRDMController";
             "vtable for ola::rdm::DiscoverableQueueingRDMController";
             "typeinfo for ola::rdm::QueueingRDMController";

@@ -111,20 +111,46 @@ static Bytes bytes_for(RDMStatusCode status, const wurst_command &sent) {
     return sent.kind == WURST_REQUEST && is_fault ? judged_as(status, sent) : Bytes();
 }
 
-Heard hear(const RDMReply &reply, const wurst_command &sent) {
+// Whether a response has the fields of another exchange.
+static bool is_of_other_exchange(RDMStatusCode status) {
+    return status == RDM_TRANSACTION_MISMATCH || status == RDM_SRC_UID_MISMATCH || status == RDM_DEST_UID_MISMATCH;
+}
+
+static const char *failure_of(RDMStatusCode status, const wurst_command &sent) {
+    if (status == RDM_FAILED_TO_SEND) {
+        return "the adapter couldn't send a frame";
+    }
+    if (status == RDM_PLUGIN_DISCOVERY_NOT_SUPPORTED && sent.kind != WURST_REQUEST) {
+        return "the adapter doesn't send a discovery's frames";
+    }
+    return sent.kind == WURST_MUTE && is_of_other_exchange(status) ? OUT_OF_STEP : nullptr;
+}
+
+Heard hear_branch(Bytes bytes) {
     Heard heard;
-    heard.status = reply.StatusCode();
-    heard.is_failed = heard.status == RDM_FAILED_TO_SEND
-        || (heard.status == RDM_PLUGIN_DISCOVERY_NOT_SUPPORTED && sent.kind != WURST_REQUEST);
-    if (heard.is_failed) {
-        return heard;
+    wurst_response response{};
+    std::array<std::uint8_t, WURST_MOST_PARAMETER_BYTES> data{};
+    const wurst::Bytes raw(bytes);
+    // No device answers a branch with a response.
+    heard.is_late = wurst_response_read(raw.data, raw.size, &response, data.data(), data.size()) == WURST_DONE;
+    heard.failure = heard.is_late ? OUT_OF_STEP : nullptr;
+    heard.bytes = std::move(bytes);
+    return heard;
+}
+
+Heard hear(const RDMReply &reply, const wurst_command &sent) {
+    const RDMStatusCode status = reply.StatusCode();
+    const char *const failure = failure_of(status, sent);
+    Bytes bytes = failure == nullptr ? bytes_of(reply) : Bytes();
+    if (failure == nullptr && bytes.empty()) {
+        bytes = bytes_for(status, sent);
+    } else if (status == RDM_COMPLETED_OK && sent.kind != WURST_BRANCH) {
+        bytes = readdressed(bytes, sent);
     }
-    heard.bytes = bytes_of(reply);
-    if (heard.bytes.empty()) {
-        heard.bytes = bytes_for(heard.status, sent);
-    } else if (heard.status == RDM_COMPLETED_OK && sent.kind != WURST_BRANCH) {
-        heard.bytes = readdressed(heard.bytes, sent);
-    }
+    Heard heard = sent.kind == WURST_BRANCH && failure == nullptr ? hear_branch(bytes) : Heard{bytes, failure};
+    heard.status = status;
+    heard.is_matched = status == RDM_COMPLETED_OK && reply.Response() != nullptr && sent.kind != WURST_BRANCH;
+    heard.is_late |= is_of_other_exchange(status);
     return heard;
 }
 
