@@ -2,6 +2,8 @@
 # function `say`, and reads tools/library.bash too.
 # shellcheck shell=bash disable=SC2154
 
+no_process=3
+
 # Prints the first of a folder and those above it that others than root can write, if there is one. Links are checked
 # as well as what they lead to.
 writable_by_others() {
@@ -66,51 +68,51 @@ find_ola_daemons() {
 
 # For which OLA a process's library was built: in the file that it has mapped, which may no longer have a name.
 built_for() {
-    local found
-    found="$(grep -aom 1 'built for OLA [0-9.]*' "/proc/$1/map_files/$2" 2> /dev/null)" \
-        || found="$(grep -aom 1 'built for OLA [0-9.]*' "/proc/$1/root$3" 2> /dev/null)" \
-        || found="built for an unknown OLA"
-    echo "${found%.}"
+    local pid="$1" range="$2" path="$3" file found
+    for file in "/proc/$pid/map_files/$range" "/proc/$pid/root$path"; do
+        found="$(grep -aoE 'built for OLA [0-9]+\.[0-9]+\.[0-9]+' "$file" 2> /dev/null | head -n 1)"
+        [ -z "$found" ] || break
+    done
+    echo "${found:-built for an unknown OLA}"
 }
 
-# Says whether a process has the library. Status 0: it has; 1: it hasn't, or not the file that is there now; 125: this
-# can't be found out.
+# Says whether a process has the library. Status 0: it has; 1: it hasn't, or not the file that is there now; 125: it
+# can't be examined; no_process: there is none.
 check_ola_daemon() {
-    local pid="$1" maps found range path
+    local pid="$1" maps found path
     if ! maps="$(cat "/proc/$pid/maps" 2> /dev/null)" || [ -z "$maps" ]; then
-        if [ -e "/proc/$pid" ]; then
-            say "process $pid can't be examined: call this as root, or as the user that runs it"
-        else
-            say "there is no process $pid"
-        fi
+        [ -e "/proc/$pid" ] || return "$no_process"
+        say "process $pid can't be examined: call this as root, or as the user that runs it"
         return 125
     fi
     if ! found="$(grep -m 1 "/${ola_library//./\\.}\( (deleted)\)\?\$" <<< "$maps")"; then
         echo "process $pid runs without the library"
         return 1
     fi
-    range="${found%% *}"
     path="/${found#*/}"
     if [[ "$path" = *" (deleted)" ]]; then
-        path="${path% (deleted)}"
-        echo "process $pid has $path, $(built_for "$pid" "$range" ""), but the file was replaced or removed: restart it"
+        found="$(built_for "$pid" "${found%% *}" "")"
+        echo "process $pid has ${path% (deleted)}, $found, but the file was replaced or removed: restart it"
         return 1
     fi
-    echo "process $pid has $path, $(built_for "$pid" "$range" "$path")"
+    echo "process $pid has $path, $(built_for "$pid" "${found%% *}" "$path")"
 }
 
-# The same for these processes, or for all that are called olad. The status is the greatest.
+# The same for this process, or for all that are called olad. The status is the greatest of theirs.
 check_ola_daemons() {
-    local pid status=0 one pids=("$@")
+    local pid one status=0 count=0 pids=("$@")
     [ $# -gt 0 ] || mapfile -t pids < <(find_ola_daemons)
-    if [ "${#pids[@]}" -eq 0 ]; then
-        say "there is no process olad"
-        return 125
-    fi
     for pid in "${pids[@]}"; do
         check_ola_daemon "$pid"
         one=$?
+        # It has ended meanwhile, or never was.
+        [ "$one" -ne "$no_process" ] || continue
+        count=$((count + 1))
         [ "$one" -le "$status" ] || status="$one"
     done
+    if [ "$count" -eq 0 ]; then
+        say "there is no process ${1-olad}"
+        return 125
+    fi
     return "$status"
 }
