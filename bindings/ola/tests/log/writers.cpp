@@ -56,7 +56,7 @@ void test_order() {
     CHECK(is_ordered);
 }
 
-void test_threads() {
+void test_many_threads() {
     const Folder folder;
     {
         LogWriter writer({folder.path()});
@@ -225,7 +225,7 @@ void test_unused() {
 
 void test_writers() {
     test_order();
-    test_threads();
+    test_many_threads();
     test_stuck_disk();
     test_full_disk();
     test_disk_that_is_full_at_each_byte();
