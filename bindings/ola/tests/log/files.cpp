@@ -5,6 +5,7 @@
 #include <algorithm>
 #include <csignal>
 #include <fcntl.h>
+#include <poll.h>
 #include <sys/resource.h>
 #include <sys/stat.h>
 #include <unistd.h>
@@ -106,10 +107,10 @@ void test_other_kinds_of_files() {
         CHECK(!file.add(LINE) && !file.add(LINE));
         CHECK(messages().size() == 1 && messages_with("WARN ") == 1 && messages_with("WURSTLINEN_LOG=" + name) == 1);
     }
-    const int reader = open(folder.path("fifo").c_str(), O_RDONLY | O_NONBLOCK);
-    char byte = 0;
+    // A reader would notice if somebody had opened the other end.
+    pollfd reader{open(folder.path("fifo").c_str(), O_RDONLY | O_NONBLOCK), POLLIN, 0};
     LogFile file(folder.path("fifo"), 0);
-    CHECK(!file.add(LINE) && read(reader, &byte, 1) == 0 && close(reader) == 0);
+    CHECK(!file.add(LINE) && poll(&reader, 1, 0) == 0 && close(reader.fd) == 0);
     CHECK(seconds() - began < 1);
 }
 
