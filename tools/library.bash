@@ -58,13 +58,13 @@ END
 
 # The library that replaces OLA's controllers, and the flags that it is compiled with.
 ola_library=libwurstlinen-ola.so
-ola_flags=(-std=c++17 -Wall -Wextra -Werror -pedantic)
+ola_flags=(-std=c++17 -pthread -Wall -Wextra -Werror -pedantic)
 
 has_ola_headers() {
     echo '#include <ola/rdm/QueueingRDMController.h>' | c++ "${ola_flags[@]}" -x c++ -fsyntax-only - 2> /dev/null
 }
 
-# Makes that library in a folder that has libwurstlinen.a. It exports only the members of OLA's two classes.
+# Makes that library in a folder that has libwurstlinen.a. It exports only the members of OLA's classes that it defines.
 make_ola_library() {
     local root="$1" folder="$2"
     cat > "$folder/exports" << 'END'
@@ -73,6 +73,8 @@ make_ola_library() {
         extern "C++" {
             ola::rdm::QueueingRDMController::*;
             ola::rdm::DiscoverableQueueingRDMController::*;
+            ola::rdm::DiscoveryAgent::Abort*;
+            ola::plugin::usbpro::*WidgetImpl::Stop*;
             "vtable for ola::rdm::QueueingRDMController";
             "vtable for ola::rdm::DiscoverableQueueingRDMController";
             "typeinfo for ola::rdm::QueueingRDMController";
@@ -83,8 +85,8 @@ make_ola_library() {
     local: *;
 };
 END
-    c++ "${ola_flags[@]}" -O2 -fPIC -shared -I"$root/bindings/c" -I"$root/bindings/cpp" "$root"/bindings/ola/*.cpp \
-        -o "$folder/$ola_library" -Wl,--version-script="$folder/exports" -Wl,--no-undefined \
+    c++ "${ola_flags[@]}" -O2 -fPIC -shared -fmacro-prefix-map="$root/=" -I"$root/bindings/c" -I"$root/bindings/cpp" \
+        "$root"/bindings/ola/*.cpp -o "$folder/$ola_library" -Wl,--version-script="$folder/exports" -Wl,--no-undefined \
         "$folder/libwurstlinen.a" -lolacommon || return
     rm "$folder/exports"
 }

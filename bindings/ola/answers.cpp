@@ -111,18 +111,54 @@ static Bytes bytes_for(RDMStatusCode status, const wurst_command &sent) {
     return sent.kind == WURST_REQUEST && is_fault ? judged_as(status, sent) : Bytes();
 }
 
-Heard hear(const RDMReply &reply, const wurst_command &sent) {
+// Whether a response has the fields of another exchange.
+static bool is_of_other_exchange(RDMStatusCode status) {
+    return status == RDM_TRANSACTION_MISMATCH || status == RDM_SRC_UID_MISMATCH || status == RDM_DEST_UID_MISMATCH;
+}
+
+static const char *failure_of(RDMStatusCode status, const wurst_command &sent) {
+    if (status == RDM_FAILED_TO_SEND) {
+        return NOT_SENT;
+    }
+    if (status == RDM_PLUGIN_DISCOVERY_NOT_SUPPORTED && sent.kind != WURST_REQUEST) {
+        return "the adapter doesn't send a discovery's frames";
+    }
+    return sent.kind == WURST_MUTE && is_of_other_exchange(status) ? OUT_OF_STEP : nullptr;
+}
+
+Heard hear_branch(Bytes bytes) {
+    Heard heard;
+    wurst_response response{};
+    std::array<std::uint8_t, WURST_MOST_PARAMETER_BYTES> data{};
+    const wurst::Bytes raw(bytes);
+    // No device answers a branch with a response.
+    heard.is_late = wurst_response_read(raw.data, raw.size, &response, data.data(), data.size()) == WURST_DONE;
+    heard.failure = heard.is_late ? OUT_OF_STEP : nullptr;
+    heard.bytes = std::move(bytes);
+    return heard;
+}
+
+Heard hear_status(const RDMReply &reply) {
     Heard heard;
     heard.status = reply.StatusCode();
-    heard.is_failed = heard.status == RDM_FAILED_TO_SEND
-        || (heard.status == RDM_PLUGIN_DISCOVERY_NOT_SUPPORTED && sent.kind != WURST_REQUEST);
-    if (heard.is_failed) {
+    heard.is_matched = heard.status == RDM_COMPLETED_OK && reply.Response() != nullptr;
+    heard.is_late = is_of_other_exchange(heard.status);
+    return heard;
+}
+
+Heard hear(const RDMReply &reply, const wurst_command &sent) {
+    Heard heard = hear_status(reply);
+    heard.failure = failure_of(heard.status, sent);
+    if (heard.failure != nullptr) {
         return heard;
     }
     heard.bytes = bytes_of(reply);
     if (heard.bytes.empty()) {
         heard.bytes = bytes_for(heard.status, sent);
-    } else if (heard.status == RDM_COMPLETED_OK && sent.kind != WURST_BRANCH) {
+    } else if (sent.kind == WURST_BRANCH) {
+        heard = hear_branch(std::move(heard.bytes));
+        heard.status = reply.StatusCode();
+    } else if (heard.status == RDM_COMPLETED_OK) {
         heard.bytes = readdressed(heard.bytes, sent);
     }
     return heard;

@@ -2,21 +2,35 @@
 #pragma once
 #include <wurstlinen.hpp>
 #include <ola/rdm/RDMReply.h>
+#include <chrono>
 #include <memory>
 #include <vector>
 
 namespace stand_in {
 
+// Why the line failed, where it is said in several places.
+constexpr const char *NOT_SENT = "the adapter couldn't send a frame";
+constexpr const char *OUT_OF_STEP = "the adapter's answers may be those of earlier frames";
+
 // What the core gets after a frame: the bytes that came (none are silence), or that the line failed.
 struct Heard {
-    bool is_failed = false;
     std::vector<std::uint8_t> bytes;
+    const char *failure = nullptr; // why the line failed, or null
     ola::rdm::RDMStatusCode status = ola::rdm::RDM_COMPLETED_OK; // of the layer below
+    bool is_matched = false; // a response, which the layer below has compared with the request
+    bool is_late = false;    // this may be an earlier frame's answer, or the frame's own answer may still come
+    std::chrono::steady_clock::duration took{};
 };
 
 // What a reply means for the frame that was sent. `sent` is the frame as the core wrote it. The layer below has sent
 // its own source UID and transaction number instead, and has compared them only if its status is RDM_COMPLETED_OK.
 Heard hear(const ola::rdm::RDMReply &reply, const wurst_command &sent);
+
+// What a reply says without its bytes.
+Heard hear_status(const ola::rdm::RDMReply &reply);
+
+// What the bytes after a branch mean.
+Heard hear_branch(std::vector<std::uint8_t> bytes);
 
 // The status that a client gets for the core's status.
 ola::rdm::RDMStatusCode status_of(std::uint32_t status);

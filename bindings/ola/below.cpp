@@ -1,15 +1,64 @@
 #include "below.hpp"
 #include "journal.hpp"
 #include <algorithm>
-#include <cstring>
+#include <cstdlib>
+#include <cxxabi.h>
 #include <typeinfo>
 
 namespace stand_in {
 using namespace ola::rdm;
+using namespace std::chrono_literals;
 
-// This class sends a discovery's frames as requests, which none of OLA's interfaces shows.
-constexpr const char *SENDS_DISCOVERY = "DmxterWidgetImpl";
+// The controller's UID, see stand_in.cpp. No device has it.
+const UID CONTROLLER(0x7ff0, 0x00000001);
 
+// These classes report for each request whether it failed, or nothing came. Their discovery calls, if they have any,
+// report both alike. No interface of OLA shows that they send a discovery's frames as requests.
+constexpr const char *SENDS_DISCOVERY[] = {"DmxterWidgetImpl", "JaRulePortHandleImpl", "RobeWidgetImpl"};
+// This class reads each answer later. So if it answers a discovery call at once, it couldn't send.
+constexpr const char *ANSWERS_LATER = "EnttecPortImpl";
+// This class reports success without bytes if nothing came after a branch.
+constexpr const char *SILENT_SUCCESS = "JaRulePortHandleImpl";
+
+// Silence takes an adapter milliseconds. OLA's watchdog gives up an adapter at the second of two ticks, which come each
+// second, but may be delayed.
+constexpr auto LONGEST_SILENCE = 900ms;
+
+// A late answer has come, and was dropped, if nothing was sent for so long, and then something was answered promptly.
+constexpr auto LONG_IDLE = 2s;
+constexpr auto PROMPT = 200ms;
+
+// The command class's place in a frame (E1.20, packet format).
+constexpr std::size_t COMMAND_CLASS_AT = 20;
+
+// How many exchanges have to come between an answer and its repetition until that is no longer recognized.
+constexpr std::size_t REMEMBERED = 64;
+
+// One exchange, and the callbacks for its answer. The layer below may run one of them, now or later, again, or never.
+class Below::Exchange final : public RDMCallback,
+                              public Target::BranchCallback,
+                              public Target::UnMuteDeviceCallback,
+                              public RDMDiscoveryCallback {
+public:
+    explicit Exchange(Below *below) : below_(below) {}
+
+    void Run(RDMReply *reply) override {
+        below_->end(this, [=](Below &below) { below.replied(reply); });
+    }
+    void Run(const std::uint8_t *data, unsigned int length) override {
+        const auto size = data != nullptr ? std::min<unsigned int>(length, WURST_MOST_FRAME_BYTES) : 0;
+        below_->end(this, [=](Below &below) { below.heard(below.judged(hear_branch({data, data + size})), nullptr); });
+    }
+    void Run() override {
+        below_->end(this, [](Below &below) { below.heard(below.judged(Heard()), nullptr); });
+    }
+    void Run(const UIDSet &devices) override {
+        below_->end(this, [&](Below &below) { below.found(devices); });
+    }
+
+private:
+    Below *const below_;
+};
 
 // The command in the core's own frame.
 static wurst_command read(const wurst::Frame &frame) {
@@ -23,94 +72,197 @@ static UID uid_of(std::uint64_t number) {
     return UID(static_cast<std::uint16_t>(number >> 32), static_cast<std::uint32_t>(number));
 }
 
+// The name of an adapter's class, without namespaces.
+static std::string class_of(const RDMControllerInterface *lower) {
+    if (lower == nullptr) {
+        return "no adapter";
+    }
+    int status = 0;
+    const std::unique_ptr<char, decltype(&std::free)> whole(
+        abi::__cxa_demangle(typeid(*lower).name(), nullptr, nullptr, &status), std::free);
+    const std::string name = whole ? whole.get() : typeid(*lower).name();
+    return name.substr(name.rfind(':') + 1);
+}
+
 Below::Below(RDMControllerInterface *lower)
     : lower_(lower), discoverable_(dynamic_cast<DiscoverableRDMControllerInterface *>(lower)),
-      target_(dynamic_cast<Target *>(lower)), bridge_(choose()) {
-    for (unsigned int turn = 0; turn < callbacks_.size(); turn++) {
-        callbacks_[turn].replied.reset(ola::NewCallback(this, &Below::replied, turn));
-        callbacks_[turn].branched.reset(ola::NewCallback(this, &Below::branched, turn));
-        callbacks_[turn].unmuted.reset(ola::NewCallback(this, &Below::unmuted, turn));
-        callbacks_[turn].found.reset(ola::NewCallback(this, &Below::found_by_itself, turn));
-    }
+      target_(dynamic_cast<Target *>(lower)), class_(class_of(lower)), bridge_(choose()), name_(class_),
+      source_(CONTROLLER), own_uid_(CONTROLLER) {}
+
+Below::~Below() = default;
+
+bool Below::is_request(const wurst::Frame &frame) {
+    return frame.data()[COMMAND_CLASS_AT] != RDMCommand::DISCOVER_COMMAND;
 }
 
 Bridge Below::choose() const {
     const bool is_proved = settings().is_proved_discovery;
+    const auto *const found = std::find(std::begin(SENDS_DISCOVERY), std::end(SENDS_DISCOVERY), class_);
+    if (is_proved && found != std::end(SENDS_DISCOVERY)) {
+        return Bridge::Requests;
+    }
     if (is_proved && target_ != nullptr) {
         return Bridge::Target;
-    }
-    if (is_proved && lower_ != nullptr && std::strstr(typeid(*lower_).name(), SENDS_DISCOVERY) != nullptr) {
-        return Bridge::Requests;
     }
     return discoverable_ != nullptr ? Bridge::Own : Bridge::None;
 }
 
-Below::Callbacks &Below::begin(Awaited awaited) {
-    awaited_ = awaited;
-    turn_ = (turn_ + 1) % callbacks_.size();
-    return callbacks_[turn_];
+bool Below::is_discovering() const {
+    return is_busy() && (kind_ == Kind::Check || (kind_ == Kind::Frame && sent_.kind != WURST_REQUEST));
 }
 
-// Whether an answer is the awaited one. If so, it is no longer awaited.
-bool Below::ends(Awaited awaited, unsigned int turn) {
-    if (awaited_ != awaited || turn_ != turn) {
-        return false;
+// The layer below keeps the exchange's callbacks until it runs one of them. So only exchanges that it has answered are
+// used again, and late: it may repeat an answer.
+Below::Exchange *Below::begin(Kind kind) {
+    if (answered_.size() > REMEMBERED) {
+        awaited_ = answered_.front();
+        answered_.pop_front();
+    } else {
+        exchanges_.push_back(std::make_unique<Exchange>(this));
+        awaited_ = exchanges_.back().get();
     }
-    awaited_ = Awaited::Nothing;
-    return true;
+    kind_ = kind;
+    began_ = Clock::now();
+    return awaited_;
+}
+
+// Passes on an exchange's answer, if it is the awaited one.
+template <typename Answer> void Below::end(Exchange *exchange, Answer answer) {
+    if (exchange != awaited_) {
+        return;
+    }
+    const auto self = kept();
+    awaited_ = nullptr;
+    ended_ = Clock::now();
+    answer(*this);
+    // Not earlier: the layer below may repeat the answer as soon as this call returns.
+    answered_.push_back(exchange);
 }
 
 void Below::send_down(const wurst::Frame &frame, const RDMRequest *request) {
     sent_ = read(frame);
+    auto *const exchange = begin(Kind::Frame);
+    const bool was_sending = std::exchange(is_sending_, true);
     if (bridge_ == Bridge::Target && sent_.kind == WURST_UNMUTE) {
-        target_->UnMuteAll(begin(Awaited::UnMute).unmuted.get());
+        target_->UnMuteAll(exchange);
     } else if (bridge_ == Bridge::Target && sent_.kind == WURST_BRANCH) {
-        target_->Branch(uid_of(sent_.lo), uid_of(sent_.hi), begin(Awaited::Branch).branched.get());
+        target_->Branch(uid_of(sent_.lo), uid_of(sent_.hi), exchange);
     } else {
         const auto size = static_cast<unsigned int>(frame.size());
         auto *const sent = sent_.kind == WURST_REQUEST
             ? request->Duplicate() : RDMRequest::InflateFromData(frame.data() + 1, size - 1);
-        lower_->SendRDMRequest(sent, begin(Awaited::Reply).replied.get());
+        source_ = sent->SourceUID();
+        lower_->SendRDMRequest(sent, exchange);
     }
+    is_sending_ = was_sending;
 }
 
 void Below::hand_down(std::unique_ptr<RDMRequest> request) {
-    lower_->SendRDMRequest(request.release(), begin(Awaited::HandedBack).replied.get());
+    sent_ = {};
+    sent_.kind = WURST_REQUEST;
+    source_ = request->SourceUID();
+    lower_->SendRDMRequest(request.release(), begin(Kind::HandedDown));
+}
+
+bool Below::check_answers(std::vector<UID> devices) {
+    was_idle_ = Clock::now() - ended_ >= LONG_IDLE;
+    unchecked_ = std::move(devices);
+    if (known_) {
+        unchecked_.push_back(*known_);
+    }
+    if (unchecked_.empty() && !was_idle_) {
+        return false;
+    }
+    check_next();
+    return true;
+}
+
+void Below::check_next() {
+    const UID next = unchecked_.empty() ? own_uid_ : unchecked_.back();
+    if (!unchecked_.empty()) {
+        unchecked_.pop_back();
+    }
+    mute_down(next);
+}
+
+void Below::check_adapter() {
+    unchecked_.clear();
+    mute_down(own_uid_);
+}
+
+void Below::mute_down(const UID &uid) {
+    sent_ = {};
+    sent_.kind = WURST_MUTE;
+    source_ = CONTROLLER;
+    lower_->SendRDMRequest(NewMuteRequest(CONTROLLER, uid, 0), begin(Kind::Check));
 }
 
 void Below::discover_below(bool is_full) {
-    auto *const callback = begin(Awaited::Devices).found.get();
+    auto *const exchange = begin(Kind::Devices);
     if (is_full) {
-        discoverable_->RunFullDiscovery(callback);
+        discoverable_->RunFullDiscovery(exchange);
     } else {
-        discoverable_->RunIncrementalDiscovery(callback);
+        discoverable_->RunIncrementalDiscovery(exchange);
     }
 }
 
-void Below::replied(unsigned int turn, RDMReply *reply) {
-    if (ends(Awaited::Reply, turn)) {
-        heard(hear(*reply, sent_), sent_.kind == WURST_REQUEST ? reply : nullptr);
-    } else if (ends(Awaited::HandedBack, turn)) {
-        handed_back(reply);
+// What the time of an answer says. After a discovery's frame no bytes aren't silence if the adapter may have hung, or
+// if the frame couldn't be sent.
+Heard Below::judged(Heard heard) {
+    const bool is_silent = heard.bytes.empty() && !heard.is_matched;
+    heard.took = ended_ - began_;
+    heard.is_late |= is_silent && heard.took >= LONGEST_SILENCE;
+    const bool is_unexplained = heard.failure == nullptr || heard.status == RDM_FAILED_TO_SEND;
+    if (is_silent && is_unexplained && sent_.kind != WURST_REQUEST) {
+        if (heard.is_late) {
+            heard.failure = "the adapter didn't answer for a second";
+        } else if (is_sending_ && class_ == ANSWERS_LATER) {
+            heard.failure = NOT_SENT;
+        }
+    }
+    is_in_doubt_ = heard.is_late || (is_in_doubt_ && !heard.is_matched);
+    return heard;
+}
+
+// The same for a check. Without a matching response it only ends the doubt after a long time without frames.
+Heard Below::judged_check(Heard heard) {
+    const bool was_in_doubt = is_in_doubt_;
+    heard = judged(heard);
+    is_in_doubt_ &= !(heard.failure == nullptr && was_idle_ && heard.took < PROMPT);
+    if (heard.failure == nullptr && was_in_doubt && is_in_doubt_) {
+        heard.failure = OUT_OF_STEP;
+    }
+    return heard;
+}
+
+// Most adapters replace a request's source UID by their own, so a reply shows it.
+void Below::learn(const RDMReply &reply) {
+    const auto *const response = reply.Response();
+    if (reply.StatusCode() == RDM_COMPLETED_OK && response != nullptr) {
+        known_ = response->SourceUID();
+        if (response->DestinationUID() != source_ && response->DestinationUID() != own_uid_) {
+            own_uid_ = response->DestinationUID();
+            name_ = own_uid_.ToString();
+        }
     }
 }
 
-void Below::branched(unsigned int turn, const std::uint8_t *data, unsigned int length) {
-    if (ends(Awaited::Branch, turn)) {
-        const auto size = data != nullptr ? std::min<unsigned int>(length, WURST_MOST_FRAME_BYTES) : 0;
-        heard({false, {data, data + size}, RDM_COMPLETED_OK}, nullptr);
+void Below::replied(RDMReply *reply) {
+    learn(*reply);
+    if (kind_ == Kind::HandedDown) {
+        judged(hear_status(*reply));
+        return handed_back(reply);
     }
-}
-
-void Below::unmuted(unsigned int turn) {
-    if (ends(Awaited::UnMute, turn)) {
-        heard(Heard(), nullptr);
+    Heard answer = hear(*reply, sent_);
+    if (class_ == SILENT_SUCCESS && answer.status == RDM_DUB_RESPONSE && reply->Frames().empty()) {
+        answer.bytes.clear();
     }
-}
-
-void Below::found_by_itself(unsigned int turn, const UIDSet &devices) {
-    if (ends(Awaited::Devices, turn)) {
-        found(devices);
+    if (kind_ == Kind::Check) {
+        answer = judged_check(answer);
+        const bool is_absent = answer.failure != nullptr && answer.status == RDM_TIMEOUT && !answer.is_late;
+        is_absent && !unchecked_.empty() ? check_next() : checked(answer);
+    } else {
+        heard(judged(answer), sent_.kind == WURST_REQUEST ? reply : nullptr);
     }
 }
 } // namespace stand_in

@@ -4,9 +4,14 @@
 #include <ola/Callback.h>
 #include <ola/rdm/DiscoveryAgent.h>
 #include <ola/rdm/RDMControllerInterface.h>
-#include <array>
+#include <chrono>
+#include <deque>
+#include <optional>
+#include <string>
 
 namespace stand_in {
+
+using Clock = std::chrono::steady_clock;
 
 // How a discovery's frames are sent: branches and unmutes as discovery calls, and mutes as requests; all as requests;
 // or not at all, since the adapter makes its own discovery, or none.
@@ -18,54 +23,80 @@ class Below {
 protected:
     // `lower` isn't owned, and may be gone before this object is.
     explicit Below(ola::rdm::RDMControllerInterface *lower);
-    virtual ~Below() = default;
+    virtual ~Below();
 
     Bridge bridge() const { return bridge_; }
-    bool is_busy() const { return awaited_ != Awaited::Nothing; }
+    bool is_busy() const { return awaited_ != nullptr; }
+    // The adapter's UID if a reply has shown it, else the name of its class.
+    const std::string &name() const { return name_; }
+    // Whether a discovery's frame, or a check of the line, is under way.
+    bool is_discovering() const;
+    // What the last frame of the core was.
+    std::uint32_t sent_kind() const { return sent_.kind; }
+    static bool is_request(const wurst::Frame &frame);
 
     // Sends the core's frame. If the frame is a request's, `request` is the client's request, of which a copy is sent.
     void send_down(const wurst::Frame &frame, const ola::rdm::RDMRequest *request);
     // Sends a request that the core can't send.
     void hand_down(std::unique_ptr<ola::rdm::RDMRequest> request);
+    // Whether answers may be those of earlier frames. An answer that was compared with its request says no.
+    bool is_in_doubt() const { return is_in_doubt_; }
+    // Checks by mutes of these devices, and of the one that answered last, whether answers are those of their own
+    // frames. False: that can't be told yet.
+    bool check_answers(std::vector<ola::rdm::UID> devices);
+    // Checks by a mute that no device answers whether the adapter still sends.
+    void check_adapter();
     // Begins the adapter's own discovery.
     void discover_below(bool is_full);
     // Stops waiting: a later answer is dropped.
-    void forget() { awaited_ = Awaited::Nothing; }
+    void forget() { awaited_ = nullptr; }
 
-    // The answers to the three calls above, within the call of the layer below. `reply` is null unless a client's
+    // The answers to these calls, within the call of the layer below. `reply` is null unless a client's
     // request was sent.
     virtual void heard(const Heard &heard, const ola::rdm::RDMReply *reply) = 0;
     virtual void handed_back(ola::rdm::RDMReply *reply) = 0;
+    virtual void checked(const Heard &heard) = 0;
     virtual void found(const ola::rdm::UIDSet &devices) = 0;
+    // Keeps this object until the call of the layer below has returned.
+    virtual std::shared_ptr<void> kept() = 0;
 
 private:
-    enum class Awaited { Nothing, Reply, HandedBack, Branch, UnMute, Devices };
+    enum class Kind { Frame, HandedDown, Check, Devices };
     using Target = ola::rdm::DiscoveryTargetInterface;
-
-    // Callbacks that the layer below may keep. Two sets are used in turn, since a second answer to an exchange may come
-    // while the next one is already under way.
-    struct Callbacks {
-        std::unique_ptr<ola::rdm::RDMCallback> replied;
-        std::unique_ptr<Target::BranchCallback> branched;
-        std::unique_ptr<Target::UnMuteDeviceCallback> unmuted;
-        std::unique_ptr<ola::rdm::RDMDiscoveryCallback> found;
-    };
+    class Exchange;
 
     Bridge choose() const;
-    Callbacks &begin(Awaited awaited);
-    bool ends(Awaited awaited, unsigned int turn);
-    void replied(unsigned int turn, ola::rdm::RDMReply *reply);
-    void branched(unsigned int turn, const std::uint8_t *data, unsigned int length);
-    void unmuted(unsigned int turn);
-    void found_by_itself(unsigned int turn, const ola::rdm::UIDSet &devices);
+    Exchange *begin(Kind kind);
+    template <typename Answer> void end(Exchange *exchange, Answer answer);
+    void check_next();
+    void mute_down(const ola::rdm::UID &uid);
+    Heard judged(Heard heard);
+    Heard judged_check(Heard heard);
+    void learn(const ola::rdm::RDMReply &reply);
+    void replied(ola::rdm::RDMReply *reply);
 
     ola::rdm::RDMControllerInterface *lower_;
     ola::rdm::DiscoverableRDMControllerInterface *discoverable_;
     Target *target_;
-    Bridge bridge_;
-    Awaited awaited_ = Awaited::Nothing;
-    unsigned int turn_ = 0;
+    const std::string class_;
+    const Bridge bridge_;
+    std::string name_;
+    // UIDs: of the last request's source; of the adapter, or the controller until that is known; and of the device that
+    // answered last.
+    ola::rdm::UID source_;
+    ola::rdm::UID own_uid_;
+    std::optional<ola::rdm::UID> known_;
+    std::vector<ola::rdm::UID> unchecked_;
+    Kind kind_ = Kind::Frame;
     wurst_command sent_{};
-    std::array<Callbacks, 2> callbacks_;
+    Clock::time_point began_{};
+    Clock::time_point ended_{};
+    bool is_sending_ = false;
+    bool is_in_doubt_ = false;
+    bool was_idle_ = false;
+    // The exchange under way, all that the layer below may still answer, and those that it has answered, oldest first.
+    Exchange *awaited_ = nullptr;
+    std::vector<std::unique_ptr<Exchange>> exchanges_;
+    std::deque<Exchange *> answered_;
 };
 } // namespace stand_in

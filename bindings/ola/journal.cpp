@@ -1,61 +1,20 @@
 #include "journal.hpp"
-#include <cerrno>
+#include "log_writer.hpp"
+#include <ola/Logging.h>
 #include <cstdlib>
-#include <cstring>
 #include <ctime>
+#include <pthread.h>
 
 namespace stand_in {
 
-// A variable's value; nothing if it is empty.
-static std::string setting(const char *name) {
-    const char *text = std::getenv(name);
-    return text != nullptr ? text : "";
-}
+constexpr std::chrono::seconds MOST_TO_FLUSH{1};
 
-static void refuse(const char *name, const std::string &text, const char *why) {
-    std::fprintf(stderr, "wurstlinen: %s=%s: %s\n", name, text.c_str(), why);
-}
-
-// Whether a variable has the second of two values. The first is used if it has neither.
-static bool is_second(const char *name, const std::string &first, const std::string &second) {
-    const std::string text = setting(name);
-    if (!text.empty() && text != first && text != second) {
-        refuse(name, text, ("it is " + first + " or " + second + "; " + first + " is used").c_str());
+void tell(const std::string &adapter, Level level, const std::string &text) {
+    if (level == Level::Warn) {
+        OLA_WARN << "wurstlinen: " << adapter << ": " << text;
+    } else {
+        OLA_INFO << "wurstlinen: " << adapter << ": " << text;
     }
-    return text == second;
-}
-
-static void read_budget(Settings &found) {
-    const std::string text = setting("WURSTLINEN_BUDGET");
-    errno = 0;
-    const unsigned long long value = std::strtoull(text.c_str(), nullptr, 10);
-    if (text.find_first_not_of("0123456789") == text.npos && errno == 0 && value > 0) {
-        found.budget = value;
-    } else if (!text.empty()) {
-        refuse("WURSTLINEN_BUDGET", text, "it is a number of frames, from 1; the default is used");
-    }
-}
-
-static Settings read_settings() {
-    Settings found;
-    found.is_proved_discovery = !is_second("WURSTLINEN_DISCOVERY", "proved", "adapter");
-    found.search = is_second("WURSTLINEN_SEARCH", "quick", "steady") ? WURST_STEADY : WURST_QUICK;
-    read_budget(found);
-    const std::string name = setting("WURSTLINEN_LOG");
-    found.log = name.empty() ? nullptr : std::fopen(name.c_str(), "ae");
-    if (found.log == nullptr && !name.empty()) {
-        refuse("WURSTLINEN_LOG", name, std::strerror(errno));
-    }
-    return found;
-}
-
-const Settings &settings() {
-    static const Settings found = read_settings();
-    return found;
-}
-
-void tell(unsigned int controller, const std::string &text) {
-    std::fprintf(stderr, "wurstlinen: controller %u: %s\n", controller, text.c_str());
 }
 
 std::string json(const std::string &text) { return '"' + text + '"'; }
@@ -80,17 +39,38 @@ std::string json(const std::vector<wurst::Device> &devices) {
     return '[' + all + ']';
 }
 
-void write_record(unsigned int controller, std::initializer_list<std::string> fields) {
+static std::uint64_t microseconds(clockid_t clock) {
     timespec now{};
-    clock_gettime(CLOCK_REALTIME, &now);
-    const auto microseconds = std::uint64_t(now.tv_sec) * 1000000 + std::uint64_t(now.tv_nsec) / 1000;
-    std::string line = "{\"microseconds\":" + json(microseconds) + ",\"controller\":" + json(controller);
+    clock_gettime(clock, &now);
+    return std::uint64_t(now.tv_sec) * 1000000 + std::uint64_t(now.tv_nsec) / 1000;
+}
+
+std::string stamp() {
+    return "{\"microseconds\":" + json(microseconds(CLOCK_REALTIME)) + ",\"monotonic\":"
+        + json(microseconds(CLOCK_MONOTONIC));
+}
+
+static LogWriter *new_writer();
+
+// It is never destroyed, since other threads may still use it when the process ends.
+static LogWriter &writer() {
+    static LogWriter &made = *new_writer();
+    return made;
+}
+
+static LogWriter *new_writer() {
+    std::atexit([] { writer().flush(MOST_TO_FLUSH); });
+    pthread_atfork(nullptr, nullptr, [] { writer().forget(); });
+    return new LogWriter({settings().log, settings().log_bytes});
+}
+
+void write_record(unsigned int controller, std::initializer_list<std::string> fields) {
+    std::string line = stamp() + ",\"controller\":" + json(controller);
     bool is_key = true;
     for (const auto &each : fields) {
         line += (is_key ? ',' : ':') + each;
         is_key = !is_key;
     }
-    std::fputs((line + "}\n").c_str(), settings().log);
-    std::fflush(settings().log);
+    writer().add(line + "}\n");
 }
 } // namespace stand_in

@@ -1,26 +1,17 @@
-// The settings of a process, and its log.
+// Messages through OLA's logging, and the records of the log.
 #pragma once
-#include <wurstlinen.hpp>
+#include "settings.hpp"
 #include <ola/rdm/UID.h>
-#include <cstdio>
 #include <initializer_list>
 #include <string>
 #include <vector>
 
 namespace stand_in {
 
-// From the environment, read once. A value that can't be used is reported, and the default is used.
-struct Settings {
-    bool is_proved_discovery = true;             // WURSTLINEN_DISCOVERY: proved, or adapter for the adapters' own
-    wurst_search search = WURST_QUICK;           // WURSTLINEN_SEARCH: quick or steady
-    std::uint64_t budget = WURST_DEFAULT_BUDGET; // WURSTLINEN_BUDGET: frames that a discovery may take, from 1
-    std::FILE *log = nullptr;                    // WURSTLINEN_LOG: a file to add to
-};
+enum class Level { Inform, Warn };
 
-const Settings &settings();
-
-// Prints a message about a controller on standard error.
-void tell(unsigned int controller, const std::string &text);
+// Gives a message about an adapter, or about something else with a name, to OLA's logging.
+void tell(const std::string &adapter, Level level, const std::string &text);
 
 // The log's keys and values. No text has a character that JSON escapes.
 std::string json(const std::string &text);
@@ -30,9 +21,14 @@ std::string json(wurst::Bytes bytes);
 std::string json(const std::vector<wurst::Device> &devices);
 void write_record(unsigned int controller, std::initializer_list<std::string> fields);
 
-// Adds a line to the log, if there is one: a JSON object with these keys and values, one after the other.
+// What each line of the log begins with: the time of the clock, which may be set, and the time since the system's
+// start, which only goes forward.
+std::string stamp();
+
+// Adds a line to the log, if there is one: a JSON object with these keys and values, one after the other. It doesn't
+// wait for the file.
 template <typename... Fields> void record(unsigned int controller, const Fields &...fields) {
-    if (settings().log != nullptr) {
+    if (!settings().log.empty()) {
         write_record(controller, {json(fields)...});
     }
 }

@@ -9,6 +9,9 @@ using namespace ola::rdm;
 // or a client's own UID looks like a reply to a frame of the core.
 constexpr wurst::Uid SOURCE{0x7ff0, 0x00000001};
 constexpr unsigned int HEADER_BYTES = 24;
+// A run that hears nothing ends with the silence of this branch.
+constexpr unsigned int SILENT_BRANCHES = 5;
+constexpr const char *STOPPED = "the adapter was stopped";
 constexpr const char *DISCOVERY_BY_BRIDGE[] = {
     "the proved discovery, by the adapter's discovery calls and requests",
     "the proved discovery, by the adapter's requests", "the adapter's own discovery, which isn't proved",
@@ -40,34 +43,48 @@ static UIDSet set_of(const std::vector<wurst::Device> &devices) {
 static std::string text_of(const wurst_end &end) {
     static const char *const faults[] = {
         "no fault", " alone answered its branch, but isn't a new device", "more than 1,024 devices answered",
-        "the run has used up its budget of frames", "the adapter couldn't send a frame", "it was aborted"};
+        "the run has used up its budget of frames", "the line failed", "it was aborted"};
     return (end.fault == WURST_CORRUPT ? wurst::Uid::from_number(end.corrupt)->text() : "") + faults[end.fault];
 }
 
 StandIn::StandIn(RDMControllerInterface *lower, unsigned int places)
-    : Below(lower), controller_(++controllers_), places_(std::clamp<unsigned int>(places, 1, UINT8_MAX)),
+    : Below(lower), controller_(++controllers_), places_asked_(places),
+      places_(std::clamp<unsigned int>(places, 1, UINT8_MAX)),
       core_(SOURCE, places_, settings().budget, settings().search), client_(core_.join(places_)) {
-    if (places_ != places) {
-        tell(controller_, "its queue has " + std::to_string(places_) + " places, not " + std::to_string(places));
-    }
-    tell(controller_, DISCOVERY_BY_BRIDGE[static_cast<int>(bridge())]);
     record(controller_, "call", "open", "places", places_);
+}
+
+// Many controllers are never used. So they say nothing until then.
+void StandIn::introduce() {
+    if (std::exchange(is_introduced_, true)) {
+        return;
+    }
+    if (places_ != places_asked_) {
+        tell(name(), Level::Warn, "its queue has " + std::to_string(places_) + " places, not "
+                                      + std::to_string(places_asked_));
+    }
+    tell(name(), Level::Inform, DISCOVERY_BY_BRIDGE[static_cast<int>(bridge())]);
 }
 
 void StandIn::pause() {
     record(controller_, "call", "pause");
-    is_paused_ = true;
+    if (!std::exchange(is_paused_, true)) {
+        paused_ = Clock::now();
+    }
     core_.pause();
 }
 
 void StandIn::resume() {
     record(controller_, "call", "resume");
-    is_paused_ = false;
+    if (std::exchange(is_paused_, false)) {
+        run_.began += Clock::now() - paused_;
+    }
     core_.resume();
     pump();
 }
 
 void StandIn::send(RDMRequest *taken, RDMCallback *callback) {
+    introduce();
     Request request{requests_made_++, std::unique_ptr<RDMRequest>(taken), callback, {}};
     const bool is_cores = is_for_core(*taken);
     const wurst_request form = form_of(*taken);
@@ -96,7 +113,12 @@ void StandIn::refuse(RDMCallback *callback, const char *why) {
 }
 
 void StandIn::discover(wurst_kind kind, RDMDiscoveryCallback *callback) {
+    introduce();
     record(controller_, "call", kind == WURST_FULL_DISCOVERY ? "full discovery" : "incremental discovery");
+    asked_on_ = std::this_thread::get_id();
+    if (is_aborted_ || has_ended_) {
+        return run({callback}, UIDSet());
+    }
     if (bridge() == Bridge::Own || !ask({kind, {callback}})) {
         waiting_.kind = kind == WURST_FULL_DISCOVERY ? kind : waiting_.kind;
         waiting_.callbacks.push_back(callback);
@@ -132,14 +154,20 @@ bool StandIn::send_next() {
     if (is_handed_down_next()) {
         record(controller_, "sent", "handed down", "request", handed_.front().order);
         hand_down(std::move(handed_.front().request));
+    } else if (bridge() == Bridge::Own && is_aborted_ && !waiting_.callbacks.empty()) {
+        run(std::exchange(waiting_, {}).callbacks, UIDSet());
     } else if (bridge() == Bridge::Own && !is_under_way_ && !waiting_.callbacks.empty()) {
         record(controller_, "sent", "the adapter's own discovery");
         discoveries_.push_back(std::exchange(waiting_, {}));
         discover_below(discoveries_.front().kind == WURST_FULL_DISCOVERY);
     } else if (const auto frame = core_.take()) {
         record(controller_, "sent", "frame", "frame", wurst::Bytes(*frame));
-        is_under_way_ = true;
-        send_down(*frame, requests_.empty() ? nullptr : requests_.front().request.get());
+        const bool is_first = !std::exchange(is_under_way_, true);
+        if (is_request(*frame)) {
+            send_down(*frame, requests_.front().request.get());
+        } else {
+            continue_run(*frame, is_first);
+        }
     } else {
         return false;
     }
@@ -153,7 +181,7 @@ bool StandIn::is_handed_down_next() const {
 }
 
 void StandIn::heard(const Heard &heard, const RDMReply *reply) {
-    record(controller_, "heard", heard.is_failed ? "failed" : "reply", "reply", wurst::Bytes(heard.bytes),
+    record(controller_, "heard", heard.failure != nullptr ? "failed" : "reply", "reply", wurst::Bytes(heard.bytes),
            "status_below", heard.status);
     if (reply != nullptr) {
         Request &request = requests_.front();
@@ -162,13 +190,84 @@ void StandIn::heard(const Heard &heard, const RDMReply *reply) {
         request.status = heard.status;
         request.replies++;
     }
-    within([&] {
-        if (heard.is_failed) {
-            core_.fail();
-        } else {
-            core_.deliver(heard.bytes);
+    within([&] { deliver(heard); });
+}
+
+// A few devices, of which one is still there, unless the rig was changed.
+static std::vector<UID> some_of(const std::vector<wurst::Device> &devices) {
+    std::vector<UID> some;
+    for (std::size_t i = 0; i < std::min<std::size_t>(devices.size(), 4); i++) {
+        some.emplace_back(devices[i].uid.manufacturer(), devices[i].uid.device());
+    }
+    return some;
+}
+
+// Sends a frame of a run. The first one may have to wait for a check of the line.
+void StandIn::continue_run(const wurst::Frame &frame, bool is_first) {
+    if (is_first) {
+        run_ = {};
+        run_.began = Clock::now();
+    }
+    if (is_aborted_) {
+        fail(STOPPED);
+    } else if (!is_first || !is_in_doubt()) {
+        send_down(frame, nullptr);
+    } else {
+        run_.held_frame = frame;
+        if (!check_answers(some_of(core_.devices()))) {
+            fail(OUT_OF_STEP);
         }
+    }
+}
+
+void StandIn::deliver(const Heard &heard) {
+    const bool is_run = sent_kind() != WURST_REQUEST;
+    const char *const failure = is_run ? failure_of(heard) : heard.failure;
+    if (failure != nullptr) {
+        fail(failure);
+    } else if (is_run && is_last_silence(heard)) {
+        check_adapter();
+    } else {
+        core_.deliver(heard.bytes);
         collect();
+    }
+}
+
+void StandIn::fail(const char *why) {
+    failure_ = why;
+    core_.fail();
+    collect();
+}
+
+const char *StandIn::failure_of(const Heard &heard) const {
+    if (is_aborted_) {
+        return STOPPED;
+    }
+    const bool is_too_long = settings().seconds > 0
+        && Clock::now() - run_.began >= std::chrono::seconds(settings().seconds);
+    return heard.failure == nullptr && is_too_long ? "it took longer than WURSTLINEN_SECONDS" : heard.failure;
+}
+
+// A run that has heard nothing says that there is no device. But an adapter that doesn't send is silent too.
+bool StandIn::is_last_silence(const Heard &heard) {
+    run_.is_silent &= heard.bytes.empty();
+    run_.silent_branches += sent_kind() == WURST_BRANCH ? 1 : 0;
+    return run_.is_silent && run_.silent_branches == SILENT_BRANCHES;
+}
+
+// The line was checked: before a run, or before the end of a silent one.
+void StandIn::checked(const Heard &heard) {
+    record(controller_, "heard", heard.failure == nullptr ? "check" : "failed check", "status_below", heard.status);
+    within([&] {
+        const auto frame = std::exchange(run_.held_frame, std::nullopt);
+        if (const char *const failure = failure_of(heard)) {
+            fail(failure);
+        } else if (frame) {
+            send_down(*frame, nullptr);
+        } else {
+            core_.deliver({});
+            collect();
+        }
     });
 }
 
@@ -208,13 +307,15 @@ void StandIn::finish(const wurst::Completion &done) {
 // there was none, it gets what this run has found.
 void StandIn::answer(const wurst::Discovery &done) {
     const bool is_good = done.fault() == WURST_NO_FAULT || core_.devices_run() == 0;
-    const UIDSet devices = set_of(is_good ? done.devices : core_.devices());
+    const UIDSet devices = is_aborted_ ? UIDSet() : set_of(is_good ? done.devices : core_.devices());
     record(controller_, "result", "discovery", "run", done.end.run, "fault", done.end.fault, "found", done.devices,
            "given", devices.Size());
-    if (done.fault() != WURST_NO_FAULT && !has_ended_ && run_told_ != done.end.run) {
+    const bool is_told = is_aborted_ || has_ended_ || run_told_ == done.end.run;
+    if (done.fault() != WURST_NO_FAULT && !is_told) {
         run_told_ = done.end.run;
-        tell(controller_, "discovery failed: " + text_of(done.end) + "; it found " + std::to_string(done.end.count)
-                              + " devices until then, and OLA is given " + std::to_string(devices.Size()));
+        const std::string why = done.fault() == WURST_LINE_FAILED ? failure_ : text_of(done.end);
+        tell(name(), Level::Warn, "discovery failed: " + why + "; it found " + std::to_string(done.end.count)
+                                      + " devices until then, and OLA is given " + std::to_string(devices.Size()));
     }
     answer_oldest(devices);
 }
@@ -222,11 +323,19 @@ void StandIn::answer(const wurst::Discovery &done) {
 void StandIn::answer_oldest(const UIDSet &devices) {
     const Discoveries answered = std::move(discoveries_.front());
     discoveries_.pop_front();
-    last_given_ = devices;
     if (bridge() != Bridge::Own && !waiting_.callbacks.empty() && ask(waiting_)) {
         waiting_ = {};
     }
-    for (auto *callback : answered.callbacks) {
+    run(answered.callbacks, devices);
+}
+
+// OLA's adapters end on another thread, when its ports are gone. Some of them answer then. OLA's own class would run
+// the callbacks.
+void StandIn::run(const std::vector<RDMDiscoveryCallback *> &callbacks, const UIDSet &devices) {
+    if (asked_on_ != std::this_thread::get_id()) {
+        return;
+    }
+    for (auto *callback : callbacks) {
         if (callback != nullptr) {
             callback->Run(devices);
         }
@@ -249,10 +358,35 @@ void StandIn::found(const UIDSet &devices) {
     within([&] { answer_oldest(devices); });
 }
 
+void StandIn::abort() {
+    is_aborted_ = true;
+    if (discoveries_.empty() && waiting_.callbacks.empty()) {
+        return;
+    }
+    record(controller_, "call", "abort");
+    within([this] {
+        if (is_discovering()) {
+            forget();
+            fail(STOPPED);
+        }
+        // The core or the adapter answers the rest later, or never.
+        std::vector<RDMDiscoveryCallback *> callbacks = std::exchange(waiting_, {}).callbacks;
+        for (auto each = discoveries_.rbegin(); each != discoveries_.rend(); ++each) {
+            callbacks.insert(callbacks.begin(), each->callbacks.begin(), each->callbacks.end());
+            each->callbacks.clear();
+        }
+        run(callbacks, UIDSet());
+    });
+}
+
 void StandIn::end() {
     record(controller_, "call", "close");
     has_ended_ = true;
     forget();
+    waiting_ = {};
+    for (auto &each : discoveries_) {
+        each.callbacks.clear();
+    }
     within([this] {
         core_.close();
         if (core_.awaits()) {
@@ -264,12 +398,6 @@ void StandIn::end() {
             auto *const callback = handed_.front().callback;
             handed_.pop_front();
             refuse(callback, "the controller has ended");
-        }
-        while (!discoveries_.empty() || !waiting_.callbacks.empty()) {
-            if (discoveries_.empty()) {
-                discoveries_.push_back(std::exchange(waiting_, {}));
-            }
-            answer_oldest(UIDSet(last_given_));
         }
     });
 }

@@ -1,12 +1,16 @@
 // The replacement for one queueing controller of OLA: a proved controller, with OLA's callbacks and the layer below.
 #pragma once
 #include "below.hpp"
+#include <atomic>
 #include <deque>
+#include <optional>
+#include <thread>
 
 namespace stand_in {
 
-// All calls are on one thread. Each callback runs exactly once, within the layer's call that brings the answer.
-// Callbacks may call this object, and may end it.
+// Calls are made one at a time, but OLA makes and ends objects on another thread than it uses them on. Each callback
+// runs once, within the layer's call that brings the answer. But as in OLA, no callback of a discovery runs from `end`,
+// since what it belongs to may be gone by then. Callbacks may call this object, and may end it.
 class StandIn : public std::enable_shared_from_this<StandIn>, private Below {
 public:
     StandIn(ola::rdm::RDMControllerInterface *lower, unsigned int places);
@@ -17,7 +21,12 @@ public:
     // Takes ownership of the request. The callback may be null here and in `discover`.
     void send(ola::rdm::RDMRequest *taken, ola::rdm::RDMCallback *callback);
     void discover(wurst_kind kind, ola::rdm::RDMDiscoveryCallback *callback);
-    // Runs the callbacks of everything outstanding, without a call of the layer below.
+    // OLA stops the adapter, and what callbacks belong to still exists: ends all discoveries, with the empty set as in
+    // OLA. Later ones get it at once. Requests go on.
+    void abort();
+    // The same if the layer below is about to answer what is under way.
+    void expect_abort() { is_aborted_ = true; }
+    // Runs the callbacks of all outstanding requests, and no others, without a call of the layer below.
     void end();
 
 private:
@@ -42,21 +51,39 @@ private:
 
     void heard(const Heard &heard, const ola::rdm::RDMReply *reply) override;
     void handed_back(ola::rdm::RDMReply *reply) override;
+    void checked(const Heard &heard) override;
     void found(const ola::rdm::UIDSet &devices) override;
+    std::shared_ptr<void> kept() override { return shared_from_this(); }
 
     template <typename Work> void within(Work work);
     void pump();
     bool send_next();
     bool is_handed_down_next() const;
+    void continue_run(const wurst::Frame &frame, bool is_first);
+    void deliver(const Heard &heard);
+    void fail(const char *why);
+    bool is_last_silence(const Heard &heard);
+    const char *failure_of(const Heard &heard) const;
     void collect();
     void finish(const wurst::Completion &done);
     void answer(const wurst::Discovery &done);
     void answer_oldest(const ola::rdm::UIDSet &devices);
+    void run(const std::vector<ola::rdm::RDMDiscoveryCallback *> &callbacks, const ola::rdm::UIDSet &devices);
     bool ask(const Discoveries &discoveries);
     void refuse(ola::rdm::RDMCallback *callback, const char *why);
+    void introduce();
 
-    static inline unsigned int controllers_ = 0;
+    // The core's run. Its first frame is held until the line was checked, if that is in doubt.
+    struct Run {
+        Clock::time_point began{};
+        unsigned int silent_branches = 0;
+        bool is_silent = true;
+        std::optional<wurst::Frame> held_frame;
+    };
+
+    static inline std::atomic<unsigned int> controllers_{0};
     const unsigned int controller_;
+    const unsigned int places_asked_;
     const std::uint8_t places_;
     wurst::Controller core_;
     const wurst::Controller::Client client_;
@@ -67,12 +94,18 @@ private:
     // Discoveries that the core or the adapter has begun or queued, and those that wait until they can be passed on.
     std::deque<Discoveries> discoveries_;
     Discoveries waiting_;
-    ola::rdm::UIDSet last_given_;
+    // OLA's thread, which asks for discoveries.
+    std::thread::id asked_on_;
+    Run run_;
+    const char *failure_ = nullptr;
     std::uint64_t run_told_ = 0;
+    Clock::time_point paused_{};
     // The core's oldest request or its run has begun, and hasn't ended.
     bool is_under_way_ = false;
+    bool is_introduced_ = false;
     bool is_paused_ = false;
     bool is_within_ = false;
+    bool is_aborted_ = false;
     bool has_ended_ = false;
 };
 } // namespace stand_in

@@ -7,6 +7,7 @@
 #include <ola/Callback.h>
 #include <ola/rdm/QueueingRDMController.h>
 
+#include <atomic>
 #include <cstdio>
 #include <functional>
 #include <memory>
@@ -42,15 +43,15 @@ struct Got {
     RDMFrames frames;
 };
 
-// A client, whose callbacks may do something more.
+// A client, whose callbacks may do something more. It keeps them, since a discovery's may never run.
 class Client {
 public:
     std::vector<Got> got;
     std::vector<UIDSet> sets;
     std::function<void()> then = [] {};
 
-    RDMCallback *callback() { return ola::NewSingleCallback(this, &Client::replied); }
-    RDMDiscoveryCallback *discovery() { return ola::NewSingleCallback(this, &Client::found); }
+    RDMCallback *callback() { return callback_.get(); }
+    RDMDiscoveryCallback *discovery() { return discovery_.get(); }
     std::size_t calls() const { return got.size() + sets.size(); }
     RDMStatusCode last() const { return got.back().status; }
 
@@ -67,6 +68,9 @@ private:
         sets.push_back(set);
         then();
     }
+
+    std::unique_ptr<RDMCallback> callback_{ola::NewCallback(this, &Client::replied)};
+    std::unique_ptr<RDMDiscoveryCallback> discovery_{ola::NewCallback(this, &Client::found)};
 };
 
 inline RDMRequest *get(std::uint16_t pid = PID_DEVICE_LABEL, const UID &to = DEVICE, std::uint16_t sub_device = 3,
@@ -113,10 +117,15 @@ void test_requests();
 void test_statuses();
 void test_discoveries();
 void test_ends();
+void test_adapters();
+void test_lines();
+void test_settings();
+void test_threads();
+void test_wild_layers();
 void test_length(unsigned long requests);
 
 // How many blocks of the C library's heap are allocated, and whether allocations fail.
-extern std::size_t blocks;
+extern std::atomic<std::size_t> blocks;
 extern bool is_heap_full;
 
 } // namespace tests

@@ -80,6 +80,36 @@ public:
         }
         return false;
     }
+
+    // The reply that an adapter's class makes of what fixtures do with a request: to a GET or SET, its own data.
+    std::unique_ptr<RDMReply> reply_to(const RDMRequest &request) {
+        if (request.CommandClass() == RDMCommand::DISCOVER_COMMAND) {
+            return discovered(request);
+        }
+        const std::unique_ptr<RDMResponse> response(
+            GetResponseFromData(&request, request.ParamData(), request.ParamDataSize()));
+        return std::unique_ptr<RDMReply>(RDMReply::FromFrame(frame_of(*response), &request));
+    }
+
+private:
+    std::unique_ptr<RDMReply> discovered(const RDMRequest &request) {
+        if (request.ParamId() == PID_DISC_UN_MUTE) {
+            unmute();
+            return std::make_unique<RDMReply>(RDM_WAS_BROADCAST);
+        }
+        if (request.ParamId() == PID_DISC_UNIQUE_BRANCH) {
+            const UID lower(request.ParamData()), upper(request.ParamData() + UID::UID_SIZE);
+            const auto bytes = branch(number_of(lower), number_of(upper));
+            return std::unique_ptr<RDMReply>(bytes.empty() ? new RDMReply(RDM_TIMEOUT)
+                : RDMReply::DUBReply(RDMFrame(bytes.data(), static_cast<unsigned int>(bytes.size()))));
+        }
+        if (!mute(request.DestinationUID())) {
+            return std::make_unique<RDMReply>(RDM_TIMEOUT);
+        }
+        const std::uint8_t control[] = {0, 4};
+        const std::unique_ptr<RDMResponse> response(GetResponseFromData(&request, control, sizeof control));
+        return std::unique_ptr<RDMReply>(RDMReply::FromFrame(frame_of(*response), &request));
+    }
 };
 
 // A layer that only sends requests.
@@ -109,6 +139,9 @@ public:
     }
     // Gives the last answer once more.
     void answer_again() { last_(); }
+    // The last answer, and the one that is awaited, to be given again later.
+    std::function<void()> last() const { return last_; }
+    std::function<void()> last_awaited() const { return pending_; }
     void answer_all() {
         while (awaits()) {
             answer();
@@ -169,34 +202,7 @@ private:
 
     Reply reply_to(const RDMRequest &request) {
         Reply reply = answers ? answers(request) : nullptr;
-        if (reply) {
-            return reply;
-        }
-        if (request.CommandClass() == RDMCommand::DISCOVER_COMMAND) {
-            return discovered(request);
-        }
-        const std::unique_ptr<RDMResponse> response(
-            GetResponseFromData(&request, request.ParamData(), request.ParamDataSize()));
-        return Reply(RDMReply::FromFrame(frame_of(*response), &request));
-    }
-
-    Reply discovered(const RDMRequest &request) {
-        if (request.ParamId() == PID_DISC_UN_MUTE) {
-            wire.unmute();
-            return std::make_unique<RDMReply>(RDM_WAS_BROADCAST);
-        }
-        if (request.ParamId() == PID_DISC_UNIQUE_BRANCH) {
-            const UID lower(request.ParamData()), upper(request.ParamData() + UID::UID_SIZE);
-            const auto bytes = wire.branch(number_of(lower), number_of(upper));
-            return bytes.empty() ? std::make_unique<RDMReply>(RDM_TIMEOUT)
-                : Reply(RDMReply::DUBReply(RDMFrame(bytes.data(), static_cast<unsigned int>(bytes.size()))));
-        }
-        if (!wire.mute(request.DestinationUID())) {
-            return std::make_unique<RDMReply>(RDM_TIMEOUT);
-        }
-        const std::uint8_t control[] = {0, 4};
-        const std::unique_ptr<RDMResponse> response(GetResponseFromData(&request, control, sizeof control));
-        return Reply(RDMReply::FromFrame(frame_of(*response), &request));
+        return reply ? std::move(reply) : wire.reply_to(request);
     }
 
     std::uint8_t transaction_ = 77;

@@ -261,7 +261,7 @@ void test_length(unsigned long requests) {
     std::size_t blocks_before = 0;
     client.then = [&] {
         client.got.clear();
-        blocks_before = done == 100 ? blocks : blocks_before;
+        blocks_before = done == 100 ? blocks.load() : blocks_before;
         if (++done < requests) {
             queue.SendRDMRequest(done % 2 == 0 ? get() : set(), client.callback());
         }

@@ -10,64 +10,24 @@ from __future__ import annotations
 
 import itertools
 import json
-import random
 import signal
 import sys
 from pathlib import Path
-from typing import Any, Dict, List, NoReturn, Sequence, Tuple
+from typing import Dict, List, NoReturn, Sequence, Tuple
 
-from daemon import Daemon
-from wurstlinen.lines.scene import Scene, parse_scene
+from checks import Checks, random_scene, uid_text, uids_of
+from daemon import Daemon, becomes
+from wurstlinen.lines.scene import parse_scene
 
 # The two kinds that OLA distinguishes: below 4.15, label 12 follows the replies to branches.
 FIRMWARES = ((2, 4), (4, 15))
 COUNTS = (3, 5, 40)
 LOSSES = (0.0, 0.2)
-MANUFACTURERS = (0x1234, 0x454E, 0x9ABC)
 TRIES = 5
+SOON_SECONDS = 10.0
 TERMINATED = 143
 # What OLA's tools print if there was no reply.
 NO_REPLY = "Error: Response Timeout"
-
-
-class Checks:
-    """Counts checks, and prints those that fail."""
-
-    def __init__(self) -> None:
-        self.passed = 0
-        self.failed = 0
-
-    def check(self, holds: bool, text: str) -> None:
-        """One check."""
-        if holds:
-            self.passed += 1
-        else:
-            self.failed += 1
-            print(f"failed: {text}", flush=True)
-
-
-def random_scene(count: int, seed: int, loss: float = 0.0, **rig: Any) -> Scene:
-    """This many fixtures with random UIDs, half of them close neighbours, each with a label and an address."""
-    chance = random.Random(seed)
-    uids: List[int] = []
-    while len(uids) < count:
-        near = bool(uids) and chance.random() < 0.5
-        uid = uids[-1] + chance.randint(1, 3) if near else chance.choice(MANUFACTURERS) << 32 | chance.getrandbits(31)
-        if uid not in uids:
-            uids.append(uid)
-    devices = [{"uid": uid_text(uid), "rig": {"label": f"Fixture {number}", "address": number + 1}}
-               for number, uid in enumerate(uids)]
-    return parse_scene({"source": "7ff0:00000001", "devices": devices, "rig": {"loss": loss, "seed": seed, **rig}})
-
-
-def uid_text(uid: int) -> str:
-    """A UID as OLA prints it."""
-    return f"{uid >> 32:04x}:{uid & 0xFFFFFFFF:08x}"
-
-
-def uids_of(scene: Scene) -> List[str]:
-    """The UIDs of a scene's fixtures, ascending, as OLA prints them."""
-    return [uid_text(uid) for uid in sorted(device.uid for device in scene.devices)]
 
 
 def check_line(checks: Checks, files: Tuple[Path, Path], count: int, firmware: Tuple[int, int], loss: float) -> None:
@@ -90,7 +50,7 @@ def check_line(checks: Checks, files: Tuple[Path, Path], count: int, firmware: T
             if not loss:
                 checks.check(daemon.set(uid, "device_label", value) == "", f"{name}: the SET isn't acknowledged")
                 check_value(checks, loss, f"{name}: new label of {uid}", value, daemon, uid, "device_label")
-        checks.check("controller 1: the proved discovery" in daemon.messages, f"{name}: the bridge isn't told")
+        checks.check(": the proved discovery" in daemon.messages, f"{name}: the bridge isn't told")
     checks.check(daemon.status == 0, f"{name}: olad ended with {daemon.status}")
 
 
@@ -123,6 +83,7 @@ def check_settings(checks: Checks, files: Tuple[Path, Path]) -> None:
     with Daemon(scene, files[1], files[0], settings=settings) as daemon:
         checks.check(daemon.discover(True) == uids_of(scene), "a discovery with a log")
         label = daemon.get(uid, "device_label")
+        becomes(lambda: '"request","request"' in last_line(daemon), SOON_SECONDS)
         log = [json.loads(line) for line in (daemon.folder / "log").read_text().splitlines()]
         for text in ("WURSTLINEN_SEARCH=fast: it is quick or steady", "WURSTLINEN_BUDGET=0: it is a number of frames"):
             checks.check(text in daemon.messages, f"the daemon doesn't say: {text}")
@@ -133,6 +94,12 @@ def check_settings(checks: Checks, files: Tuple[Path, Path]) -> None:
     checks.check(bool(found) and all(each == uids_of(scene) for each in found), f"the log's discoveries: {found}")
     checks.check(bytes.fromhex(results[-1]["data"]).decode() == label and results[-1]["status"] == 0,
                  f"the log's last result: {results[-1]}")
+
+
+def last_line(daemon: Daemon) -> str:
+    """The end of the log, which is written a moment later than the values are printed."""
+    lines = (daemon.folder / "log").read_text().splitlines()
+    return lines[-1] if lines else ""
 
 
 def check_search(checks: Checks, files: Tuple[Path, Path]) -> None:
@@ -171,7 +138,7 @@ def check_own_discovery(checks: Checks, files: Tuple[Path, Path]) -> None:
             tries = (daemon.discover(is_full) for _ in range(3))
             is_found = any(found == uids_of(scene) for found in tries)
             checks.check(is_found, "the adapter's own discovery doesn't find its fixtures")
-        checks.check("controller 1: the adapter's own discovery" in daemon.messages, "the bridge isn't told")
+        checks.check(": the adapter's own discovery" in daemon.messages, "the bridge isn't told")
 
 
 def main(arguments: Sequence[str]) -> int:

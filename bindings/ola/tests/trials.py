@@ -14,8 +14,9 @@ from collections import Counter
 from pathlib import Path
 from typing import Sequence
 
+from checks import random_scene, uids_of
 from daemon import Daemon
-from test_daemon import COUNTS, FIRMWARES, random_scene, uids_of
+from test_daemon import COUNTS, FIRMWARES
 
 LOSSES = (0.0, 0.1, 0.2)
 QUIET_SECONDS = 0.5

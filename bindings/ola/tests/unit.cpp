@@ -2,12 +2,13 @@
 // long test.
 #include "checks.hpp"
 
+#include <atomic>
 #include <cstdlib>
 #include <malloc.h>
 
 namespace tests {
 
-std::size_t blocks = 0;
+std::atomic<std::size_t> blocks = 0;
 bool is_heap_full = false;
 
 namespace {
@@ -51,10 +52,15 @@ void rattle_dealloc(unsigned char *at) {
 }
 
 int main(int, char **arguments) {
+    tests::test_settings();
     tests::test_requests();
     tests::test_statuses();
     tests::test_discoveries();
     tests::test_ends();
+    tests::test_adapters();
+    tests::test_lines();
+    tests::test_threads();
+    tests::test_wild_layers();
     const std::size_t before = tests::heap_bytes();
     CHECK(tests::blocks == 0);
     tests::test_length(std::strtoul(arguments[1], nullptr, 10));

@@ -1,0 +1,142 @@
+// Files may be larger than 2 GiB on 32-bit systems too.
+#define _FILE_OFFSET_BITS 64
+#include "log_file.hpp"
+#include "journal.hpp"
+#include <cerrno>
+#include <cstdio>
+#include <cstring>
+#include <fcntl.h>
+#include <unistd.h>
+
+namespace stand_in {
+
+// The records have the values of all parameters, so other users can't read them.
+constexpr mode_t MODE = 0640;
+constexpr int HOW = O_WRONLY | O_APPEND | O_CREAT | O_NONBLOCK | O_CLOEXEC | O_NOCTTY;
+// A disk that is full now and then is reported this often at most.
+constexpr std::chrono::minutes BETWEEN_MESSAGES{1};
+
+LogFile::LogFile(std::string name, std::uint64_t most_bytes) : name_(std::move(name)), most_bytes_(most_bytes) {}
+
+LogFile::~LogFile() { close(); }
+
+bool LogFile::add(const std::string &lines) {
+    if (!prepare(lines.size() + 1)) {
+        return false;
+    }
+    const int fault = write_whole(is_torn_ ? '\n' + lines : lines);
+    if (fault != 0) {
+        return fail(std::strerror(fault));
+    }
+    succeed();
+    return true;
+}
+
+bool LogFile::prepare(std::size_t bytes) {
+    return (is_open_file_at_name() || open()) && make_room(bytes);
+}
+
+// False if the file was renamed or removed, as programs that rotate logs do.
+bool LogFile::is_open_file_at_name() const {
+    struct stat ours {};
+    struct stat named {};
+    return file_ >= 0 && fstat(file_, &ours) == 0 && stat(name_.c_str(), &named) == 0 && ours.st_dev == named.st_dev
+        && ours.st_ino == named.st_ino;
+}
+
+// Whether a file's last byte ends a line. A file that can't be read may end within one.
+static bool ends_with_newline(const char *name, off_t size) {
+    const int file = ::open(name, O_RDONLY | O_NONBLOCK | O_CLOEXEC | O_NOCTTY);
+    char last = 0;
+    const bool is_read = file >= 0 && pread(file, &last, 1, size - 1) == 1;
+    if (file >= 0) {
+        ::close(file);
+    }
+    return is_read && last == '\n';
+}
+
+// Only a regular file is opened: another one may block, or may do something else than keep bytes.
+bool LogFile::open() {
+    struct stat found {};
+    close();
+    if (stat(name_.c_str(), &found) == 0 && !S_ISREG(found.st_mode)) {
+        return fail("it isn't a regular file");
+    }
+    file_ = ::open(name_.c_str(), HOW, MODE);
+    if (file_ < 0) {
+        return fail(std::strerror(errno));
+    }
+    if (fstat(file_, &found) != 0 || !S_ISREG(found.st_mode)) {
+        close();
+        return fail("it isn't a regular file");
+    }
+    is_torn_ = found.st_size > 0 && !ends_with_newline(name_.c_str(), found.st_size);
+    return true;
+}
+
+void LogFile::close() {
+    if (file_ >= 0) {
+        ::close(file_);
+        file_ = -1;
+    }
+}
+
+bool LogFile::make_room(std::size_t bytes) {
+    struct stat now {};
+    if (most_bytes_ == 0 || (fstat(file_, &now) == 0 && (now.st_size == 0 || now.st_size + bytes <= most_bytes_))) {
+        return true;
+    }
+    if (std::rename(name_.c_str(), (name_ + ".1").c_str()) != 0) {
+        return fail("it has reached its limit, and can't be renamed: " + std::string(std::strerror(errno)));
+    }
+    return open();
+}
+
+// 0, or the number of the fault. A part that was written is taken back.
+int LogFile::write_whole(const std::string &text) {
+    std::size_t done = 0;
+    while (done < text.size()) {
+        const ssize_t count = ::write(file_, text.data() + done, text.size() - done);
+        if (count < 0 && errno != EINTR) {
+            const int fault = errno;
+            take_back(done);
+            return fault;
+        }
+        done += count > 0 ? static_cast<std::size_t>(count) : 0;
+    }
+    is_torn_ = false;
+    return 0;
+}
+
+// If another process has added to the file meanwhile, nothing is taken back, since its lines aren't ours.
+void LogFile::take_back(std::size_t bytes) {
+    const off_t end = lseek(file_, 0, SEEK_CUR);
+    struct stat now {};
+    if (bytes == 0) {
+        return;
+    }
+    const bool is_last = end >= 0 && fstat(file_, &now) == 0 && now.st_size == end;
+    if (!is_last || ftruncate(file_, end - static_cast<off_t>(bytes)) != 0) {
+        is_torn_ = true;
+    }
+}
+
+bool LogFile::fail(const std::string &why) {
+    const auto now = Clock::now();
+    if (!is_failing_ && (!last_told_ || now - *last_told_ >= BETWEEN_MESSAGES)) {
+        tell("WURSTLINEN_LOG=" + name_, Level::Warn, why + "; records are lost until it can be written");
+        last_told_ = now;
+        is_told_ = true;
+    }
+    is_failing_ = true;
+    return false;
+}
+
+void LogFile::succeed() {
+    if (is_told_) {
+        tell("WURSTLINEN_LOG=" + name_, Level::Inform, "it is written again");
+    }
+    is_failing_ = false;
+    is_told_ = false;
+}
+} // namespace stand_in

@@ -1,0 +1,47 @@
+// A log's file, which gets whole lines.
+#pragma once
+#include <chrono>
+#include <cstdint>
+#include <optional>
+#include <string>
+#include <sys/stat.h>
+
+namespace stand_in {
+
+// Used by one thread. The file is opened when the first lines are added, and again if it was renamed or removed.
+class LogFile {
+public:
+    // If lines would make the file longer than `most_bytes`, it is first renamed to NAME.1. 0: no limit.
+    LogFile(std::string name, std::uint64_t most_bytes);
+    ~LogFile();
+    LogFile(const LogFile &) = delete;
+    LogFile &operator=(const LogFile &) = delete;
+
+    // Adds lines: all of them, or none. False: the file can't be written now. The first of several failures in a row is
+    // reported.
+    bool add(const std::string &lines);
+
+private:
+    using Clock = std::chrono::steady_clock;
+
+    bool prepare(std::size_t bytes);
+    bool open();
+    void close();
+    bool is_open_file_at_name() const;
+    bool make_room(std::size_t bytes);
+    int write_whole(const std::string &text);
+    void take_back(std::size_t bytes);
+    bool fail(const std::string &why);
+    void succeed();
+
+    const std::string name_;
+    const std::uint64_t most_bytes_;
+    int file_ = -1;
+    // The file may end within a line, so the next one begins with a newline.
+    bool is_torn_ = false;
+    // Whether the last lines couldn't be written, and whether that was reported.
+    bool is_failing_ = false;
+    bool is_told_ = false;
+    std::optional<Clock::time_point> last_told_;
+};
+} // namespace stand_in

@@ -1,0 +1,387 @@
+// Lines that fail, hang and answer late: a discovery is exact, or OLA gets what the last good one found.
+#include "adapters.hpp"
+
+#include <sys/wait.h>
+#include <unistd.h>
+
+#include <cstdlib>
+
+namespace tests {
+namespace {
+
+using namespace std::chrono_literals;
+
+// A queue whose first discovery has found three fixtures.
+template <typename L> struct Known {
+    L lower;
+    UIDSet good;
+    Client client;
+    std::unique_ptr<Queue> queue;
+
+    Known() {
+        lower.wire.fixtures = fixtures(3);
+        good = uids_of(lower.wire);
+        queue = std::make_unique<Queue>(&lower, 20);
+    }
+    bool has_found(const UIDSet &wanted, std::size_t runs) const {
+        return client.sets.size() == runs && client.sets.back() == wanted;
+    }
+};
+
+struct KnownEnttec : Known<EnttecPortImpl> {
+    KnownEnttec() {
+        discover();
+        CHECK(has_found(good, 1));
+    }
+    void discover() {
+        queue->RunFullDiscovery(client.discovery());
+        lower.answer();
+    }
+};
+
+// OLA's watchdog runs a discovery call's callback as if nothing had come.
+void test_hung_adapter() {
+    KnownEnttec known;
+    known.queue->RunFullDiscovery(known.client.discovery());
+    for (int i = 0; i < 3; i++) {
+        known.lower.answer_one();
+    }
+    std::this_thread::sleep_for(950ms);
+    known.lower.fire_watchdog();
+    CHECK(known.has_found(known.good, 2) && !known.lower.awaits());
+    known.queue->SendRDMRequest(get(), known.client.callback());
+    known.lower.answer();
+    CHECK(known.client.got.size() == 1 && known.client.last() == RDM_COMPLETED_OK);
+}
+
+// A frame that can't be sent ends a discovery call at once. It happens at each point of a run.
+void test_unsent_frames() {
+    for (unsigned int sent = 0; sent < 30; sent++) {
+        KnownEnttec known;
+        known.queue->RunFullDiscovery(known.client.discovery());
+        for (unsigned int i = 0; i < sent; i++) {
+            known.lower.answer_one();
+        }
+        known.lower.is_open = false;
+        known.lower.answer();
+        CHECK(known.has_found(known.good, 2));
+    }
+}
+
+// After a run that has heard nothing, one mute shows whether the adapter still sends.
+template <typename L> void test_silent_run() {
+    L lower;
+    Client client;
+    Queue queue(&lower, 20);
+    const auto mutes = [&] { return lower.wire.mutes; };
+    queue.RunFullDiscovery(client.discovery());
+    CHECK(client.sets.size() == 1 && client.sets[0].Size() == 0 && mutes() == 1 && lower.wire.branches == 5);
+    CHECK(lower.sent.back()->ParamId() == PID_DISC_MUTE && lower.sent.back()->DestinationUID() == UID(0x7ff0, 1));
+    lower.wire.fixtures = fixtures(2);
+    queue.RunFullDiscovery(client.discovery());
+    const UIDSet good = uids_of(lower.wire);
+    CHECK(client.sets.back() == good && lower.sent.back()->DestinationUID() != UID(0x7ff0, 1));
+    lower.wire.fixtures.clear();
+    lower.answers = [](const RDMRequest &request) {
+        return std::make_unique<RDMReply>(request.ParamId() == PID_DISC_MUTE ? RDM_FAILED_TO_SEND : RDM_TIMEOUT);
+    };
+    queue.RunFullDiscovery(client.discovery());
+    CHECK(client.sets.back() == good && lower.sent.back()->DestinationUID() == ADAPTER);
+    lower.answers = nullptr;
+    queue.RunIncrementalDiscovery(client.discovery());
+    CHECK(client.sets.size() == 4 && client.sets.back().Size() == 0);
+    CHECK(lower.sent.back()->DestinationUID() == ADAPTER);
+}
+
+// A mute's reply with the number or a UID of another exchange, and a response after a branch.
+void test_late_answers() {
+    for (const auto status : {RDM_TRANSACTION_MISMATCH, RDM_SRC_UID_MISMATCH, RDM_DEST_UID_MISMATCH}) {
+        Known<TargetLower> known;
+        known.queue->RunFullDiscovery(known.client.discovery());
+        unsigned int late = 1;
+        known.lower.answers = [&](const RDMRequest &request) -> Lower::Reply {
+            const bool is_late = request.ParamId() == PID_DISC_MUTE && late > 0;
+            late -= is_late ? 1 : 0;
+            return is_late ? std::make_unique<RDMReply>(status) : nullptr;
+        };
+        const auto mutes = known.lower.wire.mutes;
+        known.queue->RunFullDiscovery(known.client.discovery());
+        CHECK(known.has_found(known.good, 2) && known.lower.wire.mutes == mutes);
+        // The next run begins with a mute whose answer shows that answers are those of their own frames again.
+        const auto sent = known.lower.sent.size();
+        const auto before = known.lower.wire.unmutes;
+        known.queue->RunFullDiscovery(known.client.discovery());
+        CHECK(known.has_found(known.good, 3) && known.lower.sent[sent]->ParamId() == PID_DISC_MUTE);
+        CHECK(known.lower.wire.unmutes == before + 3);
+        // If that is late too, nothing is sent.
+        late = 2;
+        const auto unmutes = known.lower.wire.unmutes;
+        known.queue->RunFullDiscovery(known.client.discovery());
+        known.queue->RunFullDiscovery(known.client.discovery());
+        CHECK(known.has_found(known.good, 5) && known.lower.wire.unmutes == unmutes + 3);
+    }
+}
+
+// What is handed down shows late answers too, and so do GETs.
+void test_late_answers_to_clients() {
+    for (const bool is_handed_down : {true, false}) {
+        Known<TargetLower> known;
+        known.queue->RunFullDiscovery(known.client.discovery());
+        known.lower.answers = [](const RDMRequest &) { return std::make_unique<RDMReply>(RDM_SRC_UID_MISMATCH); };
+        known.queue->SendRDMRequest(is_handed_down ? NewMuteRequest(CLIENT, DEVICE, 1) : get(), nullptr);
+        known.lower.answers = nullptr;
+        const auto sent = known.lower.sent.size();
+        known.queue->RunFullDiscovery(known.client.discovery());
+        CHECK(known.has_found(known.good, 2) && known.lower.sent[sent]->ParamId() == PID_DISC_MUTE);
+        const auto mutes = known.lower.sent.size() - sent;
+        known.queue->RunFullDiscovery(known.client.discovery());
+        CHECK(known.has_found(known.good, 3) && known.lower.sent.size() == sent + mutes + mutes - 1);
+    }
+}
+
+void test_response_after_branch() {
+    Known<DmxterWidgetImpl> known;
+    known.queue->RunFullDiscovery(known.client.discovery());
+    bool is_late = true;
+    known.lower.answers = [&](const RDMRequest &request) -> Lower::Reply {
+        if (request.ParamId() != PID_DISC_UNIQUE_BRANCH || !std::exchange(is_late, false)) {
+            return nullptr;
+        }
+        const RDMGetResponse response(DEVICE, ADAPTER, 3, RDM_ACK, 0, 0, PID_DEVICE_LABEL, nullptr, 0);
+        return Lower::Reply(RDMReply::DUBReply(frame_of(response)));
+    };
+    known.lower.wire.fixtures.pop_back();
+    known.queue->RunFullDiscovery(known.client.discovery());
+    CHECK(known.has_found(known.good, 2));
+    known.queue->RunFullDiscovery(known.client.discovery());
+    CHECK(known.has_found(uids_of(known.lower.wire), 3));
+}
+
+// Adapters that report for each request whether it failed.
+template <typename A> void test_failing_requests() {
+    A adapter;
+    adapter.wire.fixtures = fixtures(3);
+    Client client;
+    Queue queue(&adapter, 20);
+    queue.RunFullDiscovery(client.discovery());
+    adapter.answer();
+    const UIDSet good = uids_of(adapter.wire);
+    CHECK(client.sets.size() == 1 && client.sets[0] == good);
+    adapter.wire.fixtures.clear();
+    queue.RunFullDiscovery(client.discovery());
+    for (int i = 0; i < 4; i++) {
+        adapter.answer_one();
+    }
+    adapter.is_open = false;
+    adapter.answer();
+    CHECK(client.sets.size() == 2 && client.sets[1] == good);
+    adapter.is_open = true;
+    queue.RunFullDiscovery(client.discovery());
+    adapter.answer();
+    CHECK(client.sets.size() == 3 && client.sets[2].Size() == 0);
+}
+
+// An adapter that answers each frame in its order, while OLA's watchdog has given up one of them. EnttecPortImpl gives
+// each answer to whatever it awaits: HandleRDMTimeout, HandleIncomingDataMessage.
+class Shifted : public EnttecPortImpl {
+public:
+    // Gives the oldest answer, which may be that of an earlier frame, and is dropped if nothing is awaited.
+    void answer_oldest() {
+        const Answer oldest = std::exchange(unread_.front(), {});
+        unread_.pop_front();
+        if (branched_ != nullptr) {
+            std::exchange(branched_, nullptr)->Run(oldest.bytes.empty() ? nullptr : oldest.bytes.data(),
+                                                   static_cast<unsigned int>(oldest.bytes.size()));
+        } else if (unmuted_ != nullptr) {
+            std::exchange(unmuted_, nullptr)->Run();
+        } else if (replied != nullptr) {
+            // Only responses are looked at.
+            end_request(oldest.response ? RDMReply_of(*oldest.response) : std::make_unique<RDMReply>(RDM_TIMEOUT));
+        }
+    }
+    void answer_all() {
+        while (!unread_.empty()) {
+            answer_oldest();
+        }
+    }
+    void give_up() {
+        if (branched_ != nullptr) {
+            std::exchange(branched_, nullptr)->Run(nullptr, 0);
+        } else if (unmuted_ != nullptr) {
+            std::exchange(unmuted_, nullptr)->Run();
+        } else if (replied != nullptr) {
+            end_request(std::make_unique<RDMReply>(RDM_FAILED_TO_SEND));
+        }
+    }
+    bool is_waiting() const { return branched_ != nullptr || unmuted_ != nullptr || replied != nullptr; }
+
+    void SendRDMRequest(RDMRequest *taken, RDMCallback *callback) override {
+        EnttecPortImpl::SendRDMRequest(taken, callback);
+        const std::unique_ptr<RDMReply> reply = wire.reply_to(*request);
+        Answer answer;
+        if (reply->Response() != nullptr) {
+            answer.response.reset(reply->Response()->Duplicate());
+        }
+        unread_.push_back(std::move(answer));
+    }
+    void UnMuteAll(UnMuteDeviceCallback *callback) override {
+        unmuted_ = callback;
+        wire.unmute();
+        unread_.push_back({});
+    }
+    void Branch(const UID &lower, const UID &upper, BranchCallback *callback) override {
+        branched_ = callback;
+        unread_.push_back({wire.branch(number_of(lower), number_of(upper)), nullptr});
+    }
+
+private:
+    struct Answer {
+        std::vector<std::uint8_t> bytes;
+        std::shared_ptr<RDMResponse> response;
+    };
+
+    std::unique_ptr<RDMReply> RDMReply_of(const RDMResponse &response) {
+        return std::unique_ptr<RDMReply>(RDMReply::FromFrame(frame_of(response), request.get()));
+    }
+
+    std::deque<Answer> unread_;
+    UnMuteDeviceCallback *unmuted_ = nullptr;
+    BranchCallback *branched_ = nullptr;
+};
+
+// The watchdog gives up one frame, and its answer comes later: in each place of a run, and with or without devices.
+void test_shifted_answers() {
+    for (unsigned int place : {0U, 1U, 3U, 4U, 6U}) {
+        Shifted lower;
+        lower.wire.fixtures = fixtures(3);
+        Client client;
+        Queue queue(&lower, 20);
+        queue.RunFullDiscovery(client.discovery());
+        lower.answer_all();
+        const UIDSet good = uids_of(lower.wire);
+        CHECK(client.sets.size() == 1 && client.sets[0] == good);
+        queue.RunFullDiscovery(client.discovery());
+        for (unsigned int i = 0; i < place; i++) {
+            lower.answer_oldest();
+        }
+        std::this_thread::sleep_for(950ms);
+        // The given up frame's answer is still to come, when the next discoveries are asked for.
+        lower.give_up();
+        CHECK(client.sets.size() == 2 && client.sets[1] == good && !lower.is_waiting());
+        lower.wire.fixtures.pop_back();
+        for (int i = 0; i < 3; i++) {
+            queue.RunFullDiscovery(client.discovery());
+            lower.answer_all();
+        }
+        CHECK(client.sets.size() == 5 && client.sets[2] == good && client.sets[4] == uids_of(lower.wire));
+    }
+}
+
+// Without a device that is known, a long time without frames has to show it.
+void test_shifted_silence() {
+    Shifted lower;
+    Client client;
+    Queue queue(&lower, 20);
+    queue.RunFullDiscovery(client.discovery());
+    std::this_thread::sleep_for(950ms);
+    lower.give_up();
+    lower.wire.fixtures = fixtures(2);
+    queue.RunFullDiscovery(client.discovery());
+    CHECK(client.sets.size() == 2 && !lower.is_waiting());
+    lower.answer_all();
+    std::this_thread::sleep_for(2050ms);
+    queue.RunFullDiscovery(client.discovery());
+    lower.answer_all();
+    CHECK(client.sets.size() == 3 && client.sets[2] == uids_of(lower.wire));
+}
+
+// An answer that comes again, any number of exchanges later, is dropped.
+void test_repeated_answers() {
+    for (unsigned int later = 1; later < 40; later++) {
+        Lower lower;
+        lower.when = When::Later;
+        std::vector<Client> clients(later + 1);
+        Queue queue(&lower, 50);
+        for (unsigned int i = 0; i <= later; i++) {
+            queue.SendRDMRequest(get(PID_DEVICE_LABEL, DEVICE, 3, {static_cast<std::uint8_t>(i)}),
+                                 clients[i].callback());
+        }
+        lower.answer();
+        const auto first = lower.last();
+        for (unsigned int i = 1; i < later; i++) {
+            lower.answer();
+        }
+        first();
+        CHECK(clients[later].calls() == 0 && clients[0].calls() == 1);
+        lower.answer();
+        CHECK(clients[later].calls() == 1 && data_of(*clients[later].got[0].response)[0] == later);
+    }
+}
+
+// With WURSTLINEN_SECONDS=1.
+void test_seconds() {
+    Known<TargetLower> known;
+    known.queue->RunFullDiscovery(known.client.discovery());
+    CHECK(known.has_found(known.good, 1));
+    known.lower.when = When::Later;
+    known.lower.wire.fixtures.pop_back();
+    const UIDSet rest = uids_of(known.lower.wire);
+    known.queue->RunFullDiscovery(known.client.discovery());
+    // Pauses don't count.
+    known.queue->Pause();
+    known.lower.answer();
+    std::this_thread::sleep_for(1100ms);
+    known.queue->Resume();
+    known.lower.answer_all();
+    CHECK(known.has_found(rest, 2));
+    known.lower.wire.fixtures.pop_back();
+    known.queue->RunFullDiscovery(known.client.discovery());
+    known.queue->SendRDMRequest(get(), known.client.callback());
+    for (int i = 0; i < 4; i++) {
+        std::this_thread::sleep_for(300ms);
+        CHECK(known.client.sets.size() == 2);
+        known.lower.answer();
+    }
+    CHECK(known.has_found(rest, 3) && known.client.got.empty());
+    known.lower.answer_all();
+    CHECK(known.client.got.size() == 1 && known.client.last() == RDM_COMPLETED_OK);
+}
+
+} // namespace
+
+// Settings are read once in a process.
+void test_with(const char *name, const char *value, void (*test)()) {
+    const pid_t child = fork();
+    if (child == 0) {
+        setenv(name, value, 1);
+        failed = 0;
+        test();
+        std::fflush(stdout);
+        _exit(failed > 0);
+    }
+    int status = 1;
+    CHECK(child > 0 && waitpid(child, &status, 0) == child && status == 0);
+}
+
+void test_settings() {
+    test_with("WURSTLINEN_SECONDS", "1", &test_seconds);
+    test_with("WURSTLINEN_SEARCH", "steady", &test_silent_run<TargetLower>);
+}
+
+void test_lines() {
+    test_hung_adapter();
+    test_unsent_frames();
+    test_silent_run<TargetLower>();
+    test_silent_run<DmxterWidgetImpl>();
+    test_late_answers();
+    test_late_answers_to_clients();
+    test_response_after_branch();
+    test_failing_requests<RobeWidgetImpl>();
+    test_failing_requests<JaRulePortHandleImpl>();
+    test_failing_requests<EnttecPortImpl>();
+    test_shifted_answers();
+    test_shifted_silence();
+    test_repeated_answers();
+}
+
+} // namespace tests

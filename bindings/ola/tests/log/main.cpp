@@ -1,0 +1,130 @@
+// The tests of the settings, the messages and the log's writer, on a disk that can be full or slow.
+#include "support.hpp"
+
+#include <ola/Logging.h>
+
+#include <algorithm>
+#include <cerrno>
+#include <chrono>
+#include <cstdio>
+#include <cstdlib>
+#include <fstream>
+#include <mutex>
+#include <sstream>
+#include <sys/syscall.h>
+#include <thread>
+#include <unistd.h>
+
+namespace tests {
+
+Disk disk;
+
+namespace {
+
+constexpr double MOST_SECONDS = 10;
+
+std::mutex guard;
+std::vector<std::string> all_messages;
+
+class Kept : public ola::LogDestination {
+public:
+    void Write(ola::log_level level, const std::string &line) override {
+        const std::lock_guard<std::mutex> locked(guard);
+        all_messages.push_back((level == ola::OLA_LOG_WARN ? "WARN " : "INFO ") + line);
+    }
+};
+
+} // namespace
+
+std::vector<std::string> messages() {
+    const std::lock_guard<std::mutex> locked(guard);
+    return all_messages;
+}
+
+void forget_messages() {
+    const std::lock_guard<std::mutex> locked(guard);
+    all_messages.clear();
+}
+
+unsigned int messages_with(const std::string &text) {
+    unsigned int count = 0;
+    for (const auto &each : messages()) {
+        count += each.find(text) != each.npos;
+    }
+    return count;
+}
+
+Folder::Folder() {
+    char name[] = "/tmp/wurstlinen.XXXXXX";
+    path_ = mkdtemp(name) != nullptr ? name : "";
+}
+
+Folder::~Folder() {
+    if (std::system(("rm -rf '" + path_ + "'").c_str()) != 0) {
+        std::printf("%s can't be removed\n", path_.c_str());
+    }
+}
+
+std::string text_of(const std::string &path) {
+    std::ifstream file(path);
+    std::ostringstream text;
+    text << file.rdbuf();
+    return text.str();
+}
+
+std::vector<std::string> lines_of(const std::string &path) {
+    std::ifstream file(path);
+    std::vector<std::string> lines;
+    for (std::string line; std::getline(file, line);) {
+        lines.push_back(line);
+    }
+    return lines;
+}
+
+void write_text(const std::string &path, const std::string &text) { std::ofstream(path) << text; }
+
+double seconds() {
+    const auto now = std::chrono::steady_clock::now().time_since_epoch();
+    return std::chrono::duration<double>(now).count();
+}
+
+bool becomes(const std::function<bool()> &holds) {
+    const double end = seconds() + MOST_SECONDS;
+    while (!holds() && seconds() < end) {
+        std::this_thread::sleep_for(std::chrono::milliseconds(1));
+    }
+    return holds();
+}
+
+} // namespace tests
+
+// In place of the system's: only the code under test calls it here.
+extern "C" ssize_t write(int file, const void *bytes, size_t count) {
+    tests::disk.writes++;
+    while (tests::disk.is_stuck) {
+        std::this_thread::sleep_for(std::chrono::milliseconds(1));
+    }
+    const long space = tests::disk.space;
+    if (space == 0) {
+        if (tests::disk.when_full) {
+            tests::disk.when_full();
+        }
+        errno = ENOSPC;
+        return -1;
+    }
+    const std::size_t fits = space < 0 ? count : std::min<std::size_t>(count, static_cast<std::size_t>(space));
+    const auto written = syscall(SYS_write, file, bytes, fits);
+    if (space > 0 && written > 0) {
+        tests::disk.space -= written;
+    }
+    return written;
+}
+
+int main() {
+    ola::InitLogging(ola::OLA_LOG_INFO, new tests::Kept);
+    tests::test_settings();
+    tests::test_files();
+    tests::test_writers();
+    std::printf("%u passed, %u failed\n", tests::passed, tests::failed);
+    return tests::failed > 0;
+}

@@ -1,0 +1,206 @@
+"""An unchanged olad with the library: its log on bad disks, its messages, and what `wurstlinen --check-ola` says.
+
+usage: test_log.py LIBRARY REDIRECT PRELOAD
+  LIBRARY   libwurstlinen-ola.so
+  REDIRECT  what redirect.c makes
+  PRELOAD   what daemon_preload.c makes
+
+The last line is 'N passed, M failed'.
+"""
+from __future__ import annotations
+
+import json
+import os
+import shutil
+import signal
+import subprocess
+import sys
+import tempfile
+import time
+from pathlib import Path
+from typing import Any, Dict, List, NamedTuple, NoReturn, Optional, Sequence, Tuple
+
+from checks import Checks, random_scene, uids_of
+from daemon import ROOT, Daemon, becomes, other_user
+from wurstlinen.lines.scene import Scene
+
+GETS = 100
+STUCK_MS = 10000
+# How much longer the GETs may take: what a busy machine adds.
+MOST_FACTOR = 1.3
+MOST_SECONDS_TO_END = 3.0
+SOON_SECONDS = 10.0
+MEGABYTE = 1000000
+TERMINATED = 143
+HAS_LIBRARY, HAS_NONE, BAD_ARGUMENTS, NOT_RUN = 0, 1, 2, 125
+
+
+class Files(NamedTuple):
+    """The shared objects."""
+
+    library: Path
+    redirect: Path
+    preload: Path
+
+
+def start(files: Files, scene: Scene, forks: bool = False, **settings: str) -> Daemon:
+    """A daemon with the library and these variables."""
+    return Daemon(scene, files.redirect, files.library, settings=settings, others=[files.preload], forks=forks)
+
+
+def records_of(path: Path) -> List[Dict[str, Any]]:
+    """The records of a log."""
+    return [json.loads(line) for line in path.read_text().splitlines()]
+
+
+def check_stuck_disk(checks: Checks, files: Files) -> None:
+    """A write to the log takes ten seconds, and a hundred GETs take no longer than without a log."""
+    scene = random_scene(3, seed=21)
+    uid = uids_of(scene)[0]
+    seconds = [0.0, 0.0]
+    stuck = {"WURSTLINEN_LOG": "FOLDER/log", "TEST_STUCK_FILE": "FOLDER/log", "TEST_STUCK_MS": str(STUCK_MS)}
+    with start(files, scene, **stuck) as with_log, start(files, scene) as without:
+        for daemon in (with_log, without):
+            daemon.discover(True)
+        for _ in range(GETS):
+            for number, daemon in enumerate((with_log, without)):
+                began = time.monotonic()
+                daemon.get(uid, "device_label")
+                seconds[number] += time.monotonic() - began
+        checks.check(seconds[0] < MOST_FACTOR * seconds[1], f"{GETS} GETs with a log and without: {seconds}")
+        checks.check((with_log.folder / "log").stat().st_size < MEGABYTE // 10, "the disk wasn't stuck")
+        began = time.monotonic()
+        with_log.signal(signal.SIGTERM)
+        checks.check(with_log.wait() == 0, f"olad ended with {with_log.status}")
+        checks.check(time.monotonic() - began < MOST_SECONDS_TO_END, "a stuck disk holds up the end")
+
+
+def check_kinds_of_files(checks: Checks, files: Files) -> None:
+    """A log that isn't a regular file is reported once, and nothing waits."""
+    scene = random_scene(3, seed=22)
+    for name in ("FOLDER/fifo", "/dev/full", "FOLDER/none/log"):
+        daemon = start(files, scene, WURSTLINEN_LOG=name)
+        os.mkfifo(daemon.folder / "fifo")
+        with daemon:
+            checks.check(daemon.discover(True) == uids_of(scene), f"{name}: a discovery")
+            text = f"WURSTLINEN_LOG={name.replace('FOLDER', str(daemon.folder))}: "
+            checks.check(becomes(lambda: text in daemon.messages, SOON_SECONDS), f"{name}: it isn't reported")
+            checks.check(daemon.messages.count(text) == 1, f"{name}: it is reported more than once")
+        checks.check(daemon.status == 0, f"{name}: olad ended with {daemon.status}")
+
+
+def check_rotation(checks: Checks, files: Files) -> None:
+    """The log and its predecessor have at most a megabyte each, and no record is missing between them."""
+    scene = random_scene(40, seed=23)
+    with start(files, scene, WURSTLINEN_LOG="FOLDER/log", WURSTLINEN_LOG_MB="1") as daemon:
+        paths = (daemon.folder / "log.1", daemon.folder / "log")
+        tries = 0
+        while not paths[0].exists() and tries < 40:
+            daemon.discover(True)
+            tries += 1
+        checks.check(paths[0].exists(), "the log isn't renamed")
+        time.sleep(1)
+        checks.check(all(path.stat().st_size <= MEGABYTE for path in paths), "the log is too large")
+        records = [record for path in paths for record in records_of(path)]
+    times = [record["monotonic"] for record in records]
+    checks.check(times == sorted(times) and not any("lost" in record for record in records), "the records' order")
+    exchanges = [kind for record in records for kind in ("sent", "heard") if kind in record]
+    checks.check(all(first != second for first, second in zip(exchanges, exchanges[1:])), "a record is missing")
+
+
+def check_end(checks: Checks, files: Files) -> None:
+    """All that was done is in the log when the daemon has ended."""
+    scene = random_scene(3, seed=24)
+    with start(files, scene, WURSTLINEN_LOG="FOLDER/log") as daemon:
+        daemon.discover(True)
+        daemon.signal(signal.SIGTERM)
+        checks.check(daemon.wait() == 0, f"olad ended with {daemon.status}")
+        records = records_of(daemon.folder / "log")
+        checks.check(records[-1].get("call") == "close", f"the last record is {records[-1]}")
+        checks.check((daemon.folder / "log").stat().st_mode & 0o777 == 0o640, "the log's mode")
+
+
+def check_background(checks: Checks, files: Files) -> None:
+    """A daemon that goes into the background closes its files and changes its folder, and has a log nevertheless."""
+    scene = random_scene(3, seed=27)
+    with start(files, scene, forks=True, WURSTLINEN_LOG="log") as daemon:
+        checks.check(daemon.discover(True) == uids_of(scene), "a discovery in the background")
+        daemon.signal(signal.SIGTERM)
+        checks.check(daemon.wait() == 0, "the daemon in the background doesn't end")
+        path = daemon.start_folder / "log"
+        found = [record["found"] for record in records_of(path) if "found" in record] if path.exists() else []
+        checks.check(bool(found) and found[-1] == uids_of(scene), f"the background's log: {found}")
+
+
+def check_version(checks: Checks, files: Files) -> None:
+    """OLA's version is compared with that of the headers."""
+    scene = random_scene(1, seed=25)
+    with start(files, scene) as daemon:
+        checks.check("wurstlinen: the library: built for OLA " in daemon.messages, "the version isn't told")
+        checks.check("but this is OLA" not in daemon.messages, "the same version is taken for another")
+    with start(files, scene, TEST_REVISION="99") as daemon:
+        checks.check("but this is OLA 0.10.99: build it again" in daemon.messages, "another version isn't told")
+        checks.check(daemon.discover(True) == uids_of(scene), "a discovery with another version")
+
+
+def script(*words: str, user: Optional[str] = None) -> Tuple[int, str]:
+    """The status of `wurstlinen --check-ola`, and what it prints."""
+    done = subprocess.run([str(ROOT / "wurstlinen"), "--check-ola", *words], stdout=subprocess.PIPE,
+                          stderr=subprocess.STDOUT, check=False, **({"user": user} if user else {}))
+    return done.returncode, done.stdout.decode()
+
+
+def check_script(checks: Checks, files: Files) -> None:
+    """Whether a daemon has the library, from which file and for which OLA; also if the file was replaced."""
+    scene = random_scene(1, seed=26)
+    with tempfile.TemporaryDirectory() as folder:
+        os.chmod(folder, 0o755)
+        copy = Path(folder) / files.library.name
+        shutil.copy(files.library, copy)
+        pid = check_running(checks, files, scene, copy)
+    for words, wanted_status in (((str(pid),), NOT_RUN), (("0",), BAD_ARGUMENTS), (("x",), BAD_ARGUMENTS),
+                                 (("",), BAD_ARGUMENTS), (("1", "2"), BAD_ARGUMENTS)):
+        status, text = script(*words)
+        checks.check(status == wanted_status, f"--check-ola {words}: {status} {text}")
+
+
+def check_running(checks: Checks, files: Files, scene: Scene, copy: Path) -> int:
+    """A daemon with this copy of the library, and one without a library. The result is the first one's process."""
+    with Daemon(scene, files.redirect, copy) as daemon, Daemon(scene, files.redirect) as without:
+        status, text = script(str(daemon.pid))
+        wanted = f"process {daemon.pid} has {copy}, built for OLA 0.10."
+        checks.check(status == HAS_LIBRARY and text.startswith(wanted), f"with the library: {status} {text}")
+        status, text = script(str(without.pid))
+        checks.check(status == HAS_NONE and "without the library" in text, f"without the library: {status} {text}")
+        status, text = script()
+        are_found = all(f"process {each.pid} " in text for each in (daemon, without))
+        checks.check(status == HAS_NONE and are_found, f"all daemons: {status} {text}")
+        shutil.copy(files.library, f"{copy}.new")
+        os.replace(f"{copy}.new", copy)
+        status, text = script(str(daemon.pid))
+        checks.check(status == HAS_NONE and "was replaced or removed" in text, f"a replaced file: {status} {text}")
+        if other_user() is not None:
+            status, text = script(str(daemon.pid), user="nobody")
+            checks.check(status == NOT_RUN and "can't be examined" in text, f"as another user: {status} {text}")
+        return daemon.pid
+
+
+def main(arguments: Sequence[str]) -> int:
+    """Runs all."""
+    signal.signal(signal.SIGTERM, ended)
+    files = Files(*(Path(argument).resolve() for argument in arguments))
+    checks = Checks()
+    for check in (check_stuck_disk, check_kinds_of_files, check_rotation, check_end, check_background,
+                  check_version, check_script):
+        check(checks, files)
+    print(f"{checks.passed} passed, {checks.failed} failed")
+    return 1 if checks.failed else 0
+
+
+def ended(number: int, frame: object) -> NoReturn:
+    """Raises an exception, so that the `with` ends the daemon."""
+    sys.exit(TERMINATED)
+
+
+if __name__ == "__main__":
+    sys.exit(main(sys.argv[1:]))
