@@ -118,7 +118,7 @@ static bool is_of_other_exchange(RDMStatusCode status) {
 
 static const char *failure_of(RDMStatusCode status, const wurst_command &sent) {
     if (status == RDM_FAILED_TO_SEND) {
-        return "the adapter couldn't send a frame";
+        return NOT_SENT;
     }
     if (status == RDM_PLUGIN_DISCOVERY_NOT_SUPPORTED && sent.kind != WURST_REQUEST) {
         return "the adapter doesn't send a discovery's frames";

@@ -205,11 +205,12 @@ Heard Below::judged(Heard heard) {
     const bool is_silent = heard.bytes.empty();
     heard.took = ended_ - began_;
     heard.is_late |= is_silent && heard.took >= LONGEST_SILENCE;
-    if (is_silent && heard.failure == nullptr && sent_.kind != WURST_REQUEST) {
-        if (is_sending_ && class_ == ANSWERS_LATER) {
-            heard.failure = "the adapter couldn't send a frame";
-        } else if (heard.is_late) {
+    const bool is_unexplained = heard.failure == nullptr || heard.status == RDM_FAILED_TO_SEND;
+    if (is_silent && is_unexplained && sent_.kind != WURST_REQUEST) {
+        if (heard.is_late) {
             heard.failure = "the adapter didn't answer for a second";
+        } else if (is_sending_ && class_ == ANSWERS_LATER) {
+            heard.failure = NOT_SENT;
         }
     }
     is_in_doubt_ = heard.is_late || (is_in_doubt_ && !heard.is_matched);

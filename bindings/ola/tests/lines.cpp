@@ -123,17 +123,19 @@ void test_late_answers() {
 void test_response_after_branch() {
     Known<DmxterWidgetImpl> known;
     known.queue->RunFullDiscovery(known.client.discovery());
-    known.lower.answers = [](const RDMRequest &request) -> Lower::Reply {
-        if (request.ParamId() != PID_DISC_UNIQUE_BRANCH) {
+    bool is_late = true;
+    known.lower.answers = [&](const RDMRequest &request) -> Lower::Reply {
+        if (request.ParamId() != PID_DISC_UNIQUE_BRANCH || !std::exchange(is_late, false)) {
             return nullptr;
         }
         const RDMGetResponse response(DEVICE, ADAPTER, 3, RDM_ACK, 0, 0, PID_DEVICE_LABEL, nullptr, 0);
         return Lower::Reply(RDMReply::DUBReply(frame_of(response)));
     };
-    const auto branches = known.lower.wire.branches;
     known.lower.wire.fixtures.pop_back();
     known.queue->RunFullDiscovery(known.client.discovery());
-    CHECK(known.has_found(known.good, 2) && known.lower.wire.branches == branches);
+    CHECK(known.has_found(known.good, 2));
+    known.queue->RunFullDiscovery(known.client.discovery());
+    CHECK(known.has_found(uids_of(known.lower.wire), 3));
 }
 
 // Adapters that report for each request whether it failed.
