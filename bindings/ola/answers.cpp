@@ -138,19 +138,29 @@ Heard hear_branch(Bytes bytes) {
     return heard;
 }
 
+Heard hear_status(const RDMReply &reply) {
+    Heard heard;
+    heard.status = reply.StatusCode();
+    heard.is_matched = heard.status == RDM_COMPLETED_OK && reply.Response() != nullptr;
+    heard.is_late = is_of_other_exchange(heard.status);
+    return heard;
+}
+
 Heard hear(const RDMReply &reply, const wurst_command &sent) {
-    const RDMStatusCode status = reply.StatusCode();
-    const char *const failure = failure_of(status, sent);
-    Bytes bytes = failure == nullptr ? bytes_of(reply) : Bytes();
-    if (failure == nullptr && bytes.empty()) {
-        bytes = bytes_for(status, sent);
-    } else if (status == RDM_COMPLETED_OK && sent.kind != WURST_BRANCH) {
-        bytes = readdressed(bytes, sent);
+    Heard heard = hear_status(reply);
+    heard.failure = failure_of(heard.status, sent);
+    if (heard.failure != nullptr) {
+        return heard;
     }
-    Heard heard = sent.kind == WURST_BRANCH && failure == nullptr ? hear_branch(bytes) : Heard{bytes, failure};
-    heard.status = status;
-    heard.is_matched = status == RDM_COMPLETED_OK && reply.Response() != nullptr && sent.kind != WURST_BRANCH;
-    heard.is_late |= is_of_other_exchange(status);
+    heard.bytes = bytes_of(reply);
+    if (heard.bytes.empty()) {
+        heard.bytes = bytes_for(heard.status, sent);
+    } else if (sent.kind == WURST_BRANCH) {
+        heard = hear_branch(std::move(heard.bytes));
+        heard.status = reply.StatusCode();
+    } else if (heard.status == RDM_COMPLETED_OK) {
+        heard.bytes = readdressed(heard.bytes, sent);
+    }
     return heard;
 }
 

@@ -26,6 +26,9 @@ struct Heard {
 // its own source UID and transaction number instead, and has compared them only if its status is RDM_COMPLETED_OK.
 Heard hear(const ola::rdm::RDMReply &reply, const wurst_command &sent);
 
+// What a reply says without its bytes.
+Heard hear_status(const ola::rdm::RDMReply &reply);
+
 // What the bytes after a branch mean.
 Heard hear_branch(std::vector<std::uint8_t> bytes);
 

@@ -28,6 +28,9 @@ constexpr auto LONGEST_SILENCE = 900ms;
 constexpr auto LONG_IDLE = 2s;
 constexpr auto PROMPT = 200ms;
 
+// The command class's place in a frame (E1.20, packet format).
+constexpr std::size_t COMMAND_CLASS_AT = 20;
+
 // How many exchanges have to come between an answer and its repetition until that is no longer recognized.
 constexpr std::size_t REMEMBERED = 64;
 
@@ -88,7 +91,9 @@ Below::Below(RDMControllerInterface *lower)
 
 Below::~Below() = default;
 
-bool Below::is_request(const wurst::Frame &frame) { return read(frame).kind == WURST_REQUEST; }
+bool Below::is_request(const wurst::Frame &frame) {
+    return frame.data()[COMMAND_CLASS_AT] != RDMCommand::DISCOVER_COMMAND;
+}
 
 Bridge Below::choose() const {
     const bool is_proved = settings().is_proved_discovery;
@@ -153,6 +158,8 @@ void Below::send_down(const wurst::Frame &frame, const RDMRequest *request) {
 }
 
 void Below::hand_down(std::unique_ptr<RDMRequest> request) {
+    sent_ = {};
+    sent_.kind = WURST_REQUEST;
     source_ = request->SourceUID();
     lower_->SendRDMRequest(request.release(), begin(Kind::HandedDown));
 }
@@ -202,7 +209,7 @@ void Below::discover_below(bool is_full) {
 // What the time of an answer says. After a discovery's frame no bytes aren't silence if the adapter may have hung, or
 // if the frame couldn't be sent.
 Heard Below::judged(Heard heard) {
-    const bool is_silent = heard.bytes.empty();
+    const bool is_silent = heard.bytes.empty() && !heard.is_matched;
     heard.took = ended_ - began_;
     heard.is_late |= is_silent && heard.took >= LONGEST_SILENCE;
     const bool is_unexplained = heard.failure == nullptr || heard.status == RDM_FAILED_TO_SEND;
@@ -233,7 +240,7 @@ void Below::learn(const RDMReply &reply) {
     const auto *const response = reply.Response();
     if (reply.StatusCode() == RDM_COMPLETED_OK && response != nullptr) {
         known_ = response->SourceUID();
-        if (response->DestinationUID() != source_) {
+        if (response->DestinationUID() != source_ && response->DestinationUID() != own_uid_) {
             own_uid_ = response->DestinationUID();
             name_ = own_uid_.ToString();
         }
@@ -243,6 +250,7 @@ void Below::learn(const RDMReply &reply) {
 void Below::replied(RDMReply *reply) {
     learn(*reply);
     if (kind_ == Kind::HandedDown) {
+        judged(hear_status(*reply));
         return handed_back(reply);
     }
     Heard answer = hear(*reply, sent_);

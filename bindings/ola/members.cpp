@@ -7,6 +7,7 @@
 #include <map>
 #include <memory>
 #include <mutex>
+#include <utility>
 
 using stand_in::StandIn;
 
@@ -97,7 +98,8 @@ QueueingRDMController::QueueingRDMController(RDMControllerInterface *controller,
 }
 
 QueueingRDMController::~QueueingRDMController() {
-    of(this)->end();
+    const auto mine = of(this);
+    mine->end();
     remove(this);
 }
 

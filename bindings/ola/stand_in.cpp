@@ -212,10 +212,11 @@ void StandIn::continue_run(const wurst::Frame &frame, bool is_first) {
         fail(STOPPED);
     } else if (!is_first || !is_in_doubt()) {
         send_down(frame, nullptr);
-    } else if (check_answers(some_of(core_.devices()))) {
-        run_.held_frame = frame;
     } else {
-        fail(OUT_OF_STEP);
+        run_.held_frame = frame;
+        if (!check_answers(some_of(core_.devices()))) {
+            fail(OUT_OF_STEP);
+        }
     }
 }
 
@@ -225,7 +226,6 @@ void StandIn::deliver(const Heard &heard) {
     if (failure != nullptr) {
         fail(failure);
     } else if (is_run && is_last_silence(heard)) {
-        run_.is_silence_held = true;
         check_adapter();
     } else {
         core_.deliver(heard.bytes);

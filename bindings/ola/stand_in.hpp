@@ -73,13 +73,12 @@ private:
     void refuse(ola::rdm::RDMCallback *callback, const char *why);
     void introduce();
 
-    // The core's run. Its first frame is held until the line was checked, and so is what may be its last silence.
+    // The core's run. Its first frame is held until the line was checked, if that is in doubt.
     struct Run {
         Clock::time_point began{};
         unsigned int silent_branches = 0;
         bool is_silent = true;
         std::optional<wurst::Frame> held_frame;
-        bool is_silence_held = false;
     };
 
     static inline std::atomic<unsigned int> controllers_{0};

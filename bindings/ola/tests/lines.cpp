@@ -109,14 +109,33 @@ void test_late_answers() {
         CHECK(known.has_found(known.good, 2) && known.lower.wire.mutes == mutes);
         // The next run begins with a mute whose answer shows that answers are those of their own frames again.
         const auto sent = known.lower.sent.size();
+        const auto before = known.lower.wire.unmutes;
         known.queue->RunFullDiscovery(known.client.discovery());
         CHECK(known.has_found(known.good, 3) && known.lower.sent[sent]->ParamId() == PID_DISC_MUTE);
+        CHECK(known.lower.wire.unmutes == before + 3);
         // If that is late too, nothing is sent.
         late = 2;
         const auto unmutes = known.lower.wire.unmutes;
         known.queue->RunFullDiscovery(known.client.discovery());
         known.queue->RunFullDiscovery(known.client.discovery());
         CHECK(known.has_found(known.good, 5) && known.lower.wire.unmutes == unmutes + 3);
+    }
+}
+
+// What is handed down shows late answers too, and so do GETs.
+void test_late_answers_to_clients() {
+    for (const bool is_handed_down : {true, false}) {
+        Known<TargetLower> known;
+        known.queue->RunFullDiscovery(known.client.discovery());
+        known.lower.answers = [](const RDMRequest &) { return std::make_unique<RDMReply>(RDM_SRC_UID_MISMATCH); };
+        known.queue->SendRDMRequest(is_handed_down ? NewMuteRequest(CLIENT, DEVICE, 1) : get(), nullptr);
+        known.lower.answers = nullptr;
+        const auto sent = known.lower.sent.size();
+        known.queue->RunFullDiscovery(known.client.discovery());
+        CHECK(known.has_found(known.good, 2) && known.lower.sent[sent]->ParamId() == PID_DISC_MUTE);
+        const auto mutes = known.lower.sent.size() - sent;
+        known.queue->RunFullDiscovery(known.client.discovery());
+        CHECK(known.has_found(known.good, 3) && known.lower.sent.size() == sent + mutes + mutes - 1);
     }
 }
 
@@ -355,6 +374,7 @@ void test_lines() {
     test_silent_run<TargetLower>();
     test_silent_run<DmxterWidgetImpl>();
     test_late_answers();
+    test_late_answers_to_clients();
     test_response_after_branch();
     test_failing_requests<RobeWidgetImpl>();
     test_failing_requests<JaRulePortHandleImpl>();
