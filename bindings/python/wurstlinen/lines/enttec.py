@@ -23,7 +23,7 @@ EXCHANGE_SECONDS = 2.0
 ANSWER_SECONDS = 0.2
 # After an exchange without an end the adapter is asked twice, and has this time for each answer.
 SETTLE_TRIES = 2
-SETTLE_SECONDS = 0.5
+SETTLE_SECONDS = 0.9
 # How long the driver waits for the end of an answered exchange until it knows whether the adapter sends one.
 SHORT_SECONDS = 0.1
 # After this time without bytes, whole messages are searched for behind an incomplete one.
