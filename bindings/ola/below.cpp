@@ -227,7 +227,7 @@ Heard Below::judged(Heard heard) {
 // The same for a check. Without a matching response it only ends the doubt after a long time without frames.
 Heard Below::judged_check(Heard heard) {
     const bool was_in_doubt = is_in_doubt_;
-    heard = judged(heard);
+    heard = judged(std::move(heard));
     is_in_doubt_ &= !(heard.failure == nullptr && was_idle_ && heard.took < PROMPT);
     if (heard.failure == nullptr && was_in_doubt && is_in_doubt_) {
         heard.failure = OUT_OF_STEP;
@@ -258,11 +258,11 @@ void Below::replied(RDMReply *reply) {
         answer.bytes.clear();
     }
     if (kind_ == Kind::Check) {
-        answer = judged_check(answer);
+        answer = judged_check(std::move(answer));
         const bool is_absent = answer.failure != nullptr && answer.status == RDM_TIMEOUT && !answer.is_late;
         is_absent && !unchecked_.empty() ? check_next() : checked(answer);
     } else {
-        heard(judged(answer), sent_.kind == WURST_REQUEST ? reply : nullptr);
+        heard(judged(std::move(answer)), sent_.kind == WURST_REQUEST ? reply : nullptr);
     }
 }
 } // namespace stand_in

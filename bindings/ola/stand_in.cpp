@@ -54,16 +54,15 @@ StandIn::StandIn(RDMControllerInterface *lower, unsigned int places)
     record(controller_, "call", "open", "places", places_);
 }
 
-// Many controllers are never used. So they say nothing until then.
-void StandIn::introduce() {
-    if (std::exchange(is_introduced_, true)) {
-        return;
-    }
-    if (places_ != places_asked_) {
+// Many controllers are never used, and some only for requests. So they say nothing until then.
+void StandIn::introduce(bool discovers) {
+    if (!std::exchange(is_used_, true) && places_ != places_asked_) {
         tell(name(), Level::Warn, "its queue has " + std::to_string(places_) + " places, not "
                                       + std::to_string(places_asked_));
     }
-    tell(name(), Level::Inform, DISCOVERY_BY_BRIDGE[static_cast<int>(bridge())]);
+    if (discovers && !std::exchange(has_discovered_, true)) {
+        tell(name(), Level::Inform, DISCOVERY_BY_BRIDGE[static_cast<int>(bridge())]);
+    }
 }
 
 void StandIn::pause() {
@@ -84,7 +83,7 @@ void StandIn::resume() {
 }
 
 void StandIn::send(RDMRequest *taken, RDMCallback *callback) {
-    introduce();
+    introduce(false);
     Request request{requests_made_++, std::unique_ptr<RDMRequest>(taken), callback, {}};
     const bool is_cores = is_for_core(*taken);
     const wurst_request form = form_of(*taken);
@@ -113,7 +112,7 @@ void StandIn::refuse(RDMCallback *callback, const char *why) {
 }
 
 void StandIn::discover(wurst_kind kind, RDMDiscoveryCallback *callback) {
-    introduce();
+    introduce(true);
     record(controller_, "call", kind == WURST_FULL_DISCOVERY ? "full discovery" : "incremental discovery");
     asked_on_ = std::this_thread::get_id();
     if (is_aborted_ || has_ended_) {

@@ -71,7 +71,7 @@ private:
     void run(const std::vector<ola::rdm::RDMDiscoveryCallback *> &callbacks, const ola::rdm::UIDSet &devices);
     bool ask(const Discoveries &discoveries);
     void refuse(ola::rdm::RDMCallback *callback, const char *why);
-    void introduce();
+    void introduce(bool discovers);
 
     // The core's run. Its first frame is held until the line was checked, if that is in doubt.
     struct Run {
@@ -102,7 +102,8 @@ private:
     Clock::time_point paused_{};
     // The core's oldest request or its run has begun, and hasn't ended.
     bool is_under_way_ = false;
-    bool is_introduced_ = false;
+    bool is_used_ = false;
+    bool has_discovered_ = false;
     bool is_paused_ = false;
     bool is_within_ = false;
     bool is_aborted_ = false;
