@@ -139,8 +139,9 @@ public:
     }
     // Gives the last answer once more.
     void answer_again() { last_(); }
-    // The last answer, to be given again later.
+    // The last answer, and the one that is awaited, to be given again later.
     std::function<void()> last() const { return last_; }
+    std::function<void()> last_awaited() const { return pending_; }
     void answer_all() {
         while (awaits()) {
             answer();

@@ -60,6 +60,7 @@ int main(int, char **arguments) {
     tests::test_adapters();
     tests::test_lines();
     tests::test_threads();
+    tests::test_wild_layers();
     const std::size_t before = tests::heap_bytes();
     CHECK(tests::blocks == 0);
     tests::test_length(std::strtoul(arguments[1], nullptr, 10));
