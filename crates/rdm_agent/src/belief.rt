@@ -448,7 +448,11 @@ impl Belief {
         ensures small { IsSmall result }
     {
         let lo = range.lo.number();
-        let back = if lo < self.at { (4 * self.back).min(MOST_BACK) } else { self.back };
+        let back = if lo < self.at {
+            (4 * self.back).min(MOST_BACK)
+        } else {
+            self.back
+        };
         self.split_at(lo, 0, back, range)
     }
 
@@ -458,7 +462,11 @@ impl Belief {
         ensures value { result ≡ all_apart range self.now }
         ensures small { IsSmall result }
     {
-        let at = if range.hi.number() < self.at { range.lo.number() } else { self.at };
+        let at = if range.hi.number() < self.at {
+            range.lo.number()
+        } else {
+            self.at
+        };
         self.split_at(at, self.begun, self.back, range)
     }
 

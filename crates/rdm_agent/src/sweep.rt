@@ -73,7 +73,11 @@ impl Sweep {
     {
         let belief = belief.ready();
         let question = belief.question();
-        let again = if is_same(question.range, last) { silences } else { 0 };
+        let again = if is_same(question.range, last) {
+            silences
+        } else {
+            0
+        };
         Sweep::asking(made, again, question, belief)
     }
 
