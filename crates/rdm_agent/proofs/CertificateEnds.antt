@@ -249,7 +249,8 @@ module _ (sweep : Sweep) (n : ℕ) (x : List Seen) (fewer : sweep.silences < TRI
   -- it was silent no more often than is counted now
   more : (m : ℕ) → EndsWith m (IsSilentBranch range.lo range.hi) (x ++ swept_again ∷ []) → m ≤ sweep.silences + 1
   more zero ends = omega arith
-  more (suc m) ends = let before : m ≤ sweep.silences = k.few m (grown_end m x swept_again ends).1 in omega (arith, before)
+  more (suc m) ends =
+      let before : m ≤ sweep.silences = k.few m (grown_end m x swept_again ends).1 in omega (arith, before)
 
   -- and no other range was
   so_often : (r : Span) (count : ℕ) → (r ≡ range → count ≡ sweep.silences + 1) → (m : ℕ)

@@ -22,7 +22,8 @@ spanning-is lo hi =
 
 -- what is asked is a range
 question-is : (b : Belief) → IsRange (question b).range
-question-is b = cond_both (nat_lt last_uid b.at) _ _ P (λ all. (omega arith, omega arith)) (λ some. lower (part_of b) part)
+question-is b =
+    cond_both (nat_lt last_uid b.at) _ _ P (λ all. (omega arith, omega arith)) (λ some. lower (part_of b) part)
   where
     P : Question → Type 0
     P q = IsRange q.range
@@ -73,7 +74,8 @@ asking-is made silences again last q b range few before counted =
         last = λ five. absurd (none_last five);
       };
       again = inl refl;
-      counted = λ is. absurd (true≢false (sym both.1 ∙ ap not (whole_same last is before (eqb-true (again + 1) TRIES both.0))));
+      counted = λ is. absurd (true≢false
+          (sym both.1 ∙ ap not (whole_same last is before (eqb-true (again + 1) TRIES both.0))));
     })
     (λ other. record {
       made_is = refl;
@@ -90,15 +92,16 @@ asking-is made silences again last q b range few before counted =
     none_last five = omega (arith, five)
 
     -- the last range was asked again, so it was the whole one
-    whole_same : (last : Span) → whole ≡ last → (again ≡ 0) ⊎ ((again ≡ silences) × (q.range ≡ last)) → again + 1 ≡ TRIES
-        → is_whole q.range ≡ true
+    whole_same : (last : Span) → whole ≡ last → (again ≡ 0) ⊎ ((again ≡ silences) × (q.range ≡ last))
+        → again + 1 ≡ TRIES → is_whole q.range ≡ true
     whole_same last is (inl none) five = absurd (omega (arith, none, five))
     whole_same last is (inr same) five =
         subst (λ (r : Span). is_whole r ≡ true) (is ∙ sym same.1) refl
 
     is_whole-of : ((again + 1) == TRIES) ≡ true → (((again + 1) == TRIES) && not (is_whole q.range)) ≡ false
         → q.range ≡ whole
-    is_whole-of five other = same_range q.range whole (by (is_whole q.range) (subst (λ (t : Bool). (t && not (is_whole q.range)) ≡ false) five other))
+    is_whole-of five other = same_range q.range whole (by (is_whole q.range)
+        (subst (λ (t : Bool). (t && not (is_whole q.range)) ≡ false) five other))
       where
         by : (w : Bool) → (true && not w) ≡ false → w ≡ true
         by true p = refl
@@ -109,7 +112,8 @@ pub chosen : (made silences : ℕ) (last : Span) (b : Belief) → silences < TRI
     → IsChosen made silences last (choose made silences last b)
 unfolding choose
 chosen made silences last b few =
-    cond_both (is_same next.range last) silences 0 (λ again. IsChosen made silences last (asking made again next (ready b)))
+    cond_both (is_same next.range last) silences 0
+    (λ again. IsChosen made silences last (asking made again next (ready b)))
     (λ same. asking-is made silences silences last next (ready b) (question-is (ready b)) few
     (inr (refl, same_range next.range last same)) (λ is. refl))
     (λ other. asking-is made silences 0 last next (ready b) (question-is (ready b)) (omega arith) (inl refl)

@@ -1,6 +1,6 @@
 -- The agent as a machine over the replies that it gets.
-use Rattle.std.specs.Prelude.{◌≡◌, ℕ, ◌+◌, ◌-◌, ◌*◌, ◌/◌, Bool, true, false, ◌&&◌, ◌||◌, not, List, [], ◌∷◌, length, fold}
-use Rattle.std.specs.Prelude.{Option, Some, None, ◌==◌, nat_lt, if◌then◌else◌, min, max}
+use Rattle.std.specs.Prelude.{◌≡◌, ℕ, ◌+◌, ◌-◌, ◌*◌, ◌/◌, Bool, true, false, ◌&&◌, ◌||◌, not, List, [], ◌∷◌}
+use Rattle.std.specs.Prelude.{length, fold, Option, Some, None, ◌==◌, nat_lt, if◌then◌else◌, min, max}
 use Rattle.rdm_wire.specs.Uid.{has, is_within, is_broadcast}
 use Rattle.rdm_wire.specs.Devices.{uids_of, with_device}
 use Rattle.rdm_wire.specs.declared.device.Device.{Device}
@@ -360,7 +360,8 @@ sweep_on sweep silences found b =
 abbrev pub sweep_silent : Sweep → ℕ → Phase
 sweep_silent sweep found =
     if (sweep.silences + 1) == TRIES then Ended None
-    else sweep_on sweep (sweep.silences + 1) found (believed_silent sweep.question.part sweep.question.range sweep.belief)
+    else sweep_on sweep (sweep.silences + 1) found
+    (believed_silent sweep.question.part sweep.question.range sweep.belief)
 
 -- whether the whole range was asked after a pass
 abbrev pub is_last : Part → Bool
@@ -436,7 +437,8 @@ sweep_heard a sweep _ = to_phase a (sweep_apart (counted sweep) (length a.found)
 abbrev pub swept_heard : AgentState → ℕ → ℕ → Sweep → Heard → AgentState
 swept_heard a u tries sweep (Acked ack) =
     to_found a (device_from u ack)
-    (sweep_on (counted sweep) 0 (length a.found + 1) (believed_found sweep.question.part sweep.question.range sweep.belief))
+    (sweep_on (counted sweep) 0 (length a.found + 1)
+    (believed_found sweep.question.part sweep.question.range sweep.belief))
 swept_heard a u tries sweep _ =
     to_phase a (if (tries + 1) == TRIES then sweep_apart (doubting u (counted sweep)) (length a.found)
     else MutingSwept u (tries + 1) (counted sweep))

@@ -6,9 +6,9 @@
 pub enum Search {
     /// Each range is branched until it was silent five times in a row. It sends at most `8 + 370 n + 5 k` frames.
     Steady,
-    /// A sweep searches from the lowest UID to the greatest, and one silence of a range is mostly enough for it. It ends
-    /// the run by five silences of the whole range in a row. If it fails, the steady search of the whole range follows.
-    /// It sends at most `213 + 370 n + 5 k` frames. On most lines it sends far fewer than a steady search, also if
-    /// replies are lost.
+    /// A sweep searches from the lowest UID to the greatest. It believes one silence of a range, but asks a range that
+    /// answered until it has found who did. Five silences of the whole range in a row end the run. If the sweep fails,
+    /// the steady search of the whole range follows. It sends at most `213 + 370 n + 5 k` frames. On nearly all lines
+    /// it sends far fewer than a steady search, also if replies are lost.
     Quick,
 }
