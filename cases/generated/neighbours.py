@@ -13,7 +13,7 @@ QUICKLY = ((1, 10), (10, 91), (50, 171), (100, 271), (256, 583))
 
 
 def cases() -> Iterator[Case]:
-    """All rigs. The counts of a steady run are worked out by hand, and those of a quick one by a model of its search."""
+    """All rigs. The counts of a steady run are worked out by hand, those of a quick one by a model of its search."""
     for commands, rows in (((DISCOVER,), STEADY), ((QUICK,), QUICKLY)):
         for count, frames in rows:
             uids = uids_of(count)

@@ -13,7 +13,7 @@ use Rattle.rdm_wire.specs.Honest.Heard.{Failed, Silent, One, Acked, Noise}
 use Rattle.rdm_agent.specs.Machine.{Phase, AgentState, found_uids, is_new, is_one, is_whole, is_wanted, is_last}
 use Rattle.rdm_agent.specs.Machine.{counted, doubting, choose, to_phase, sweep_on, sweep_silent, sweep_apart}
 use Rattle.rdm_agent.specs.Machine.{sweep_heard, swept_heard, believed_silent, believed_found, believed_apart}
-use Rattle.rdm_agent.specs.Machine.Phase.{Searching, Sweeping, MutingSwept, Ended}
+use Rattle.rdm_agent.specs.Machine.Phase.{Searching, Sweeping, MutingSwept}
 use Rattle.rdm_agent.specs.declared.search.Search.{Search}
 use Rattle.rdm_agent.specs.declared.limits.TheConstants.{TRIES}
 use Rattle.rdm_agent.specs.declared.belief.Belief.{Belief}
