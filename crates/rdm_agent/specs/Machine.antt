@@ -84,10 +84,11 @@ wanted (Ended fault) = None
 abbrev pub next_of : AgentState → Option Asked
 next_of a = if nat_lt a.frames a.budget then wanted a.phase else None
 
--- the number of all UIDs, and the greatest UID
+-- how many UIDs there are
 abbrev pub all_uids : ℕ
 all_uids = 0x1000000000000
 
+-- the greatest UID
 abbrev pub last_uid : ℕ
 last_uid = 0xffffffffffff
 
@@ -96,11 +97,13 @@ abbrev pub spanning : ℕ → ℕ → Span
 spanning lo hi = record { lo = min lo (min hi last_uid); hi = min hi last_uid }
 
 -- A sweep searches from UID 0 upward. What it believes:
--- - Each UID from base to at - 1 was swept: nothing answered there, or what answered there is muted.
--- - The range from lo to end answered, and has at least need devices that aren't found (0, 1 or 2). With 0 there is
---   no such range.
--- An answer is certain on an honest line, and a silence may be a loss. So a range that answered is remembered, and is
--- begun again if the silences contradict it.
+-- - The UIDs from base to at - 1 were swept: they were silent, or what answered is muted.
+-- - The range from lo to end answered, and has at least need devices that aren't found (0, 1 or 2). If need is 0, there
+--   is no such range.
+-- On an honest line an answer is certain, and a silence may be a loss. So a sweep remembers the range that answered,
+-- and begins it again if silences contradict it. The definitions below say how it chooses what it asks, and what it
+-- believes after a silence, after one device and after a collision. The certificate and the bound need only this of
+-- them: it asks ranges of UIDs, five silences in a row of the whole range end the run, and its exchanges are limited.
 abbrev pub first_belief : Belief
 first_belief = record {
   base = 0;
@@ -155,17 +158,19 @@ is_new found r u = not (is_broadcast u) && is_within r.lo r.hi u && not (has fou
 abbrev pub is_same : Span → Span → Bool
 is_same r q = (r.lo == q.lo) && (r.hi == q.hi)
 
+-- whether a range is the whole one
 abbrev pub is_whole : Span → Bool
 is_whole r = is_same r whole
 
--- CHOOSE. The next range that wasn't swept, of this width. It looks back as far as ahead, since a device that was
--- missed there answers now. The last one looks back to the start, so that its silence is one of the whole range
+-- CHOOSE. A fresh range is the next one that wasn't swept. It also looks back as far as ahead: a device that was
+-- missed just before answers now. The last one looks back to the start, so that its silence is one of the whole range
 abbrev pub fresh_range : Belief → Span
 fresh_range b =
     spanning (if nat_lt last_uid (b.at + b.width) then b.base else max b.base (b.at - b.width)) (b.at + b.width - 1)
 
--- With no range that answered a fresh one is asked. One that has one more device is asked again: its answer is certain.
--- Of one that has two the lower half of what is left is asked, and after three silences in a row all the rest
+-- If no range has answered, a fresh one is asked. If the range that answered has one more device, all of it is asked
+-- again, since an answer is certain. If it has two, the lower half of what is left is asked. After three silences in a
+-- row all that is left is asked
 abbrev pub part_of : Belief → Question
 part_of b =
     if b.need == 0 then record { part = Fresh; range = fresh_range b }
@@ -173,8 +178,8 @@ part_of b =
     else (if nat_lt b.lo b.at && nat_lt 2 b.quiet then record { part = Rest; range = spanning b.at b.end }
     else record { part = Lower; range = spanning b.at (b.at + (b.end - b.at) / 2) }))
 
--- One UID is asked together with UIDs below it, which were swept: a bad answer of one UID alone would end the run. It
--- is asked alone if those below it were given up
+-- One UID is asked together with UIDs below it, which were swept, because a bad answer of one UID alone would end the
+-- run. It is asked alone if those below it were given up
 abbrev pub with_lower : Belief → Question → Question
 with_lower b q =
     if is_one q.range
@@ -185,11 +190,11 @@ abbrev pub question : Belief → Question
 question b =
     if nat_lt last_uid b.at then record { part = Whole; range = whole } else with_lower b (part_of b)
 
--- BEGIN AGAIN. The range that answered is begun again: one of its silences was a loss
+-- BEGIN AGAIN. One silence in the range that answered was a loss, so the range is swept again
 abbrev pub begin_again : Belief → Belief
 begin_again b = record b { at = b.lo; quiet = 0; begun = min (b.begun + 1) 4 }
 
--- its last UID is given up: it answers, and can't be muted. The sweep looks back no further than behind it
+-- Its last UID is given up, since it answers and can't be muted. The sweep doesn't look back to it in this pass
 abbrev pub give_up : Belief → Belief
 give_up b = record b {
   base = b.end + 1;
@@ -203,7 +208,7 @@ give_up b = record b {
   suspect = Some b.end;
 }
 
--- two devices can't be in what is left of the range that answered if that is one UID: it is begun again, three times
+-- if only one UID is left of a range that has two devices, the range is begun again, and given up the fourth time
 abbrev pub over : Belief → Belief
 over b =
     if not (b.need == 2) || (not (nat_lt b.lo b.at) || nat_lt b.at b.end) then b
@@ -218,7 +223,7 @@ past_zero b =
 abbrev pub swept_all : Belief → Belief
 swept_all b = record b { at = all_uids; need = 0 }
 
--- ready to ask
+-- what a sweep believes when it asks
 abbrev pub ready : Belief → Belief
 ready b = past_zero (over b)
 
@@ -252,11 +257,12 @@ fresh_silent r b = record b {
 abbrev pub lower_silent : Span → Belief → Belief
 lower_silent r b = record b { at = r.hi + 1; quiet = min (b.quiet + 1) 3 }
 
--- all the rest: something was lost. From the second time on the range that answered is asked first, since noise may
--- have been taken for an answer
+-- all that is left: something was lost. From the second time on, all of the range that answered is asked first, since
+-- noise may have been taken for an answer
 abbrev pub rest_silent : Belief → Belief
 rest_silent b = record (begin_again b) { need = if b.begun == 0 then b.need else 1 }
 
+-- after a silence of this part and range. All of the range that answered is just asked again
 abbrev pub believed_silent : Part → Span → Belief → Belief
 believed_silent Fresh r b = fresh_silent r b
 believed_silent Lower r b = lower_silent r b
@@ -264,7 +270,7 @@ believed_silent Rest r b = rest_silent b
 believed_silent All r b = b
 believed_silent Whole r b = b
 
--- ONE. A device was found and is muted, and nothing else answered. What was in vain before isn't counted any more
+-- ONE. A device was found and muted, and nothing else answered. What was counted in vain begins at 0 again
 abbrev pub renewed : Belief → Belief
 renewed b = record b { growth = 2; quiet = 0; begun = 0; back = 1; vain = false }
 
@@ -282,7 +288,7 @@ lower_found r b = record b {
   width = max (r.hi + 1 - b.at) (min (8 * (r.hi + 1 - b.at)) (b.width / 4 * 3));
 }
 
--- in all the rest: the other one is below, where a silence was a loss
+-- in all that is left: the other one is below, where a silence was a loss
 abbrev pub rest_found : Belief → Belief
 rest_found b = record b { at = b.lo; end = b.at - 1; need = 1 }
 
@@ -295,6 +301,7 @@ all_found b = record b {
   width = min b.width (8 * (b.end + 1 - b.lo));
 }
 
+-- after a device was found in this part and range
 abbrev pub believed_found : Part → Span → Belief → Belief
 believed_found Fresh r b = fresh_found r (renewed b)
 believed_found Lower r b = lower_found r (renewed b)
@@ -315,8 +322,8 @@ split_at at begun back r b = record b {
   back = back;
 }
 
--- a lower half or all the rest. If UIDs below it were asked too, some were missed there, and the next single UID is
--- asked with four times as many
+-- a lower half or all that is left. If UIDs below it were asked too, some devices were missed there, and the next
+-- single UID is asked with four times as many
 abbrev pub lower_apart : Span → Belief → Belief
 lower_apart r b =
     split_at r.lo 0 (if nat_lt r.lo b.at then min (4 * b.back) 0x400000000000 else b.back) r b
@@ -330,6 +337,7 @@ abbrev pub whole_apart : Span → Belief → Belief
 whole_apart r b =
     record (split_at 0 0 b.back r b) { base = 0; width = all_uids; suspect = None; vain = true }
 
+-- after a collision in this part and range
 abbrev pub believed_apart : Part → Span → Belief → Belief
 believed_apart Fresh r b = split_at b.at 0 b.back r b
 believed_apart Lower r b = lower_apart r b

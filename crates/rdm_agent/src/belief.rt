@@ -35,7 +35,7 @@ pub(crate) enum Part {
     Fresh,
     /// The lower half of what is left of the range that answered.
     Lower,
-    /// All that is left of the range that answered.
+    /// All that is left of the range that answered, after some silences.
     Rest,
     /// All of the range that answered.
     All,
@@ -130,7 +130,7 @@ impl Belief {
         self.with_lower(self.part())
     }
 
-    /// The same, ready to ask: a range that is through is begun again, and UID 0 is left out.
+    /// The same, ready to ask: a range of which too little is left is begun again, and UID 0 alone is left out.
     pub(crate) fn ready(self) -> Belief
         requires small { IsSmall self }
         ensures value { result ≡ ready self }
@@ -196,7 +196,7 @@ impl Belief {
         }
     }
 
-    // The range that answered is begun again. One of its silences was a loss, since its answer was certain.
+    // One silence in the range that answered was a loss, so the range is swept again.
     fn begin_again(self) -> Belief
         requires small { IsSmall self }
         ensures value { result ≡ begin_again self }
@@ -210,7 +210,7 @@ impl Belief {
         }
     }
 
-    // The last UID of the range that answered is given up: it answers, and can't be muted.
+    // The last UID of the range that answered is given up, since it answers and can't be muted.
     fn give_up(self) -> Belief
         requires small { IsSmall self }
         ensures value { result ≡ give_up self }
@@ -230,7 +230,7 @@ impl Belief {
         }
     }
 
-    // Two devices can't be in what is left of the range that answered if that is one UID.
+    // If only one UID is left of a range that has two devices, the range is begun again, and given up the fourth time.
     fn over(self) -> Belief
         requires small { IsSmall self }
         ensures value { result ≡ over self }
@@ -362,7 +362,7 @@ impl Belief {
         }
     }
 
-    // What was in vain so far isn't counted any more.
+    // What was counted in vain begins at 0 again.
     fn renewed(&self) -> Belief
         requires small { IsSmall self.now }
         ensures value { result ≡ renewed self.now }
