@@ -2,15 +2,15 @@
 use Rattle.std.proofs.Common.{◌≡◌, ℕ, ◌+◌, ◌<◌, ◌≤◌, ◌^◌, Bool, true, false, ◌&&◌, not, refl, sym, ap, ◌∙◌}
 use Rattle.std.proofs.Common.{inl, inr, subst, true≢false, arith}
 use Rattle.std.specs.Prelude.{◌⊎◌, ◌==◌, nat_lt, min}
-use Rattle.std.proofs.lemmas.Bool.{cond_both, and_parts, eqb-true, eq-eqb}
-use Rattle.std.proofs.Math.Nat.{min-le_right}
+use Rattle.std.proofs.lemmas.Bool.{cond_both, and_parts, eqb-true, eq-eqb, ltb-false, not-true}
+use Rattle.std.proofs.Math.Nat.{min-le_left, min-le_right, le-min}
 use Rattle.rdm_wire.specs.Span.{Span, whole}
 use Rattle.rdm_agent.specs.declared.limits.TheConstants.{TRIES}
 use Rattle.rdm_agent.specs.declared.belief.Belief.{Belief}
 use Rattle.rdm_agent.specs.declared.belief.Question.{Question}
 use Rattle.rdm_agent.specs.declared.sweep.Sweep.{Sweep}
 use Rattle.rdm_agent.specs.Machine.{spanning, last_uid, is_same, is_whole, is_one, part_of, with_lower, question}
-use Rattle.rdm_agent.specs.Machine.{ready, asking, choose}
+use Rattle.rdm_agent.specs.Machine.{behind, ready, asking, choose}
 
 -- a range of UIDs
 abbrev pub IsRange : Span → Type 0
@@ -60,6 +60,27 @@ pub record IsChosen (made silences : ℕ) (last : Span) (s : Sweep) : Type 0 whe
   pub again : (s.silences ≡ 0) ⊎ ((s.silences ≡ silences) × (s.question.range ≡ last))
   pub counted : s.question.range ≡ last → s.silences ≡ silences
 
+-- behind a range that isn't the whole one another range is asked
+other_behind : (r : Span) (b : Belief) → is_whole r ≡ false → (question (behind r b)).range ≡ r → ⊥
+other_behind r b other = cond_both (nat_lt last_uid (r.hi + 1)) _ _ (λ (q : Question). q.range ≡ r → ⊥)
+    (λ above is. true≢false (sym (subst (λ (s : Span). is_whole s ≡ true) is refl) ∙ other))
+    (λ within is. past (ltb-false last_uid (r.hi + 1) within) (ap (λ (s : Span). s.hi) is))
+  where
+    fresh : Question
+    fresh = part_of (behind r b)
+
+    asked : Question
+    asked = with_lower (behind r b) fresh
+
+    higher : r.hi + 1 ≤ last_uid → r.hi + 1 ≤ fresh.range.hi
+    higher within = le-min (omega arith) within
+
+    past : r.hi + 1 ≤ last_uid → asked.range.hi ≡ r.hi → ⊥
+    past within = cond_both (is_one fresh.range) _ _ (λ (q : Question). q.range.hi ≡ r.hi → ⊥)
+        (λ one same. let up = higher within in
+        let below : r.hi + 1 ≤ min fresh.range.hi last_uid = le-min up within in omega (arith, below, same))
+        (λ several same. let up = higher within in omega (arith, up, same))
+
 -- what is asked after so many silences in a row
 asking-is : (made silences again : ℕ) (last : Span) (q : Question) (b : Belief) → IsRange q.range → again < TRIES
     → (again ≡ 0) ⊎ ((again ≡ silences) × (q.range ≡ last)) → (q.range ≡ last → again ≡ silences)
@@ -69,13 +90,13 @@ asking-is made silences again last q b range few before counted =
     (λ fifth. let both = and_parts ((again + 1) == TRIES) (not (is_whole q.range)) fifth in record {
       made_is = refl;
       asks = record {
-        range = (omega arith, omega arith);
+        range = question-is (behind q.range b);
         few = omega arith;
         last = λ five. absurd (none_last five);
       };
       again = inl refl;
-      counted = λ is. absurd (true≢false
-          (sym both.1 ∙ ap not (whole_same last is before (eqb-true (again + 1) TRIES both.0))));
+      counted = λ is. absurd (other_behind q.range b (not-true (is_whole q.range) both.1)
+          (is ∙ sym (asked_last before (eqb-true (again + 1) TRIES both.0))));
     })
     (λ other. record {
       made_is = refl;
@@ -91,12 +112,10 @@ asking-is made silences again last q b range few before counted =
     none_last : 0 + 1 ≡ TRIES → ⊥
     none_last five = omega (arith, five)
 
-    -- the last range was asked again, so it was the whole one
-    whole_same : (last : Span) → whole ≡ last → (again ≡ 0) ⊎ ((again ≡ silences) × (q.range ≡ last))
-        → again + 1 ≡ TRIES → is_whole q.range ≡ true
-    whole_same last is (inl none) five = absurd (omega (arith, none, five))
-    whole_same last is (inr same) five =
-        subst (λ (r : Span). is_whole r ≡ true) (is ∙ sym same.1) refl
+    -- the last range was asked again
+    asked_last : (again ≡ 0) ⊎ ((again ≡ silences) × (q.range ≡ last)) → again + 1 ≡ TRIES → q.range ≡ last
+    asked_last (inl none) five = absurd (omega (arith, none, five))
+    asked_last (inr same) five = same.1
 
     is_whole-of : ((again + 1) == TRIES) ≡ true → (((again + 1) == TRIES) && not (is_whole q.range)) ≡ false
         → q.range ≡ whole

@@ -166,7 +166,7 @@ is_whole r = is_same r whole
 -- missed just before answers now. The last one looks back to the start, so that its silence is one of the whole range
 abbrev pub fresh_range : Belief → Span
 fresh_range b =
-    spanning (if nat_lt last_uid (b.at + b.width) then b.base else max b.base (b.at - b.width)) (b.at + b.width - 1)
+    spanning (if nat_lt last_uid (b.at + b.width) then b.base else max b.base (b.at - b.width)) (b.at + (b.width - 1))
 
 -- If no range has answered, a fresh one is asked. If the range that answered has one more device, all of it is asked
 -- again, since an answer is certain. If it has two, the lower half of what is left is asked. After three silences in a
@@ -219,24 +219,19 @@ abbrev pub past_zero : Belief → Belief
 past_zero b =
     if (question b).range.hi == 0 then record b { base = 1; lo = 1; at = 1; need = b.need / 2 } else b
 
--- all UIDs were swept
-abbrev pub swept_all : Belief → Belief
-swept_all b = record b { at = all_uids; need = 0 }
-
 -- what a sweep believes when it asks
 abbrev pub ready : Belief → Belief
 ready b = past_zero (over b)
 
--- No range but the whole one is asked for a fifth silence in a row: the whole range is asked instead
+-- the sweep goes on behind this range
+abbrev pub behind : Span → Belief → Belief
+behind r b = record b { lo = r.hi + 1; at = r.hi + 1; need = 0; quiet = 0; begun = 0 }
+
+-- No range but the whole one is asked for a fifth silence in a row: the sweep goes on behind it
 abbrev pub asking : ℕ → ℕ → Question → Belief → Sweep
 asking made again q b =
     if ((again + 1) == TRIES) && not (is_whole q.range)
-    then record {
-      made = made;
-      silences = 0;
-      question = record { part = Whole; range = whole };
-      belief = swept_all b;
-    }
+    then record { made = made; silences = 0; question = question (behind q.range b); belief = behind q.range b }
     else record { made = made; silences = again; question = q; belief = b }
 
 -- the sweep with this belief and what it asks next, after so many silences in a row of the range that it asked last

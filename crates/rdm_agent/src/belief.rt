@@ -5,7 +5,7 @@ ghost use Rattle.rdm_agent.specs.Machine.{first_belief, suspecting, begin_again,
 ghost use Rattle.rdm_agent.specs.Machine.{spanning, fresh_range, question, with_lower, part_of};
 ghost use Rattle.rdm_agent.specs.Machine.{fresh_silent, lower_silent, rest_silent, renewed, fresh_found, lower_found};
 ghost use Rattle.rdm_agent.specs.Machine.{rest_found, all_found, split_at, lower_apart, all_apart, whole_apart};
-ghost use Rattle.rdm_agent.specs.Machine.{believed_silent, believed_found, believed_apart, swept_all};
+ghost use Rattle.rdm_agent.specs.Machine.{believed_silent, believed_found, believed_apart, behind};
 ghost use Rattle.rdm_agent.specs.body.Sound.{IsSmall};
 
 use rdm_wire::{Uid, UidRange};
@@ -139,15 +139,19 @@ impl Belief {
         self.over().past_zero()
     }
 
-    /// After a pass: all UIDs were swept.
-    pub(crate) fn swept_all(self) -> Belief
+    /// The sweep goes on behind this range.
+    pub(crate) fn behind(self, range: UidRange) -> Belief
         requires small { IsSmall self }
-        ensures value { result ≡ swept_all self }
+        ensures value { result ≡ behind range self }
         ensures small { IsSmall result }
     {
+        let next = range.hi.number() + 1;
         Belief {
-            at: ALL_UIDS,
+            lo: next,
+            at: next,
             need: 0,
+            quiet: 0,
+            begun: 0,
             ..self
         }
     }
@@ -299,13 +303,12 @@ impl Belief {
         requires small { IsSmall self.now }
         ensures value { result ≡ fresh_range self.now }
     {
-        let end = self.at + self.width;
-        let lo = if LAST_UID < end {
+        let lo = if LAST_UID < self.at + self.width {
             self.base
         } else {
             self.base.max(self.at.saturating_sub(self.width))
         };
-        spanning(lo, end.saturating_sub(1))
+        spanning(lo, self.at + self.width.saturating_sub(1))
     }
 
     // One UID is asked together with UIDs below it, which were swept. So a bad answer isn't a fault of the run. It is

@@ -82,7 +82,7 @@ impl Sweep {
     }
 
     // A sweep that asks this, after this many silences in a row. No range but that of all UIDs is asked for a fifth
-    // one: all UIDs are asked instead.
+    // one: the sweep goes on behind it.
     fn asking(made: usize, again: u8, question: Question, belief: Belief) -> Sweep
         requires small { IsSmall belief }
         requires silences { again < TRIES }
@@ -93,14 +93,12 @@ impl Sweep {
     {
         let is_whole = is_whole(question.range);
         if again + 1 == TRIES && !is_whole {
+            let behind = belief.behind(question.range);
             return Sweep {
                 made,
                 silences: 0,
-                question: Question {
-                    part: Part::Whole,
-                    range: UidRange::whole(),
-                },
-                belief: belief.swept_all(),
+                question: behind.question(),
+                belief: behind,
             };
         }
         Sweep {
