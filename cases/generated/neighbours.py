@@ -9,11 +9,11 @@ from .commands import DISCOVER, NO_SCENE, QUICK, file_case
 
 # How many devices, and how many frames a run sends.
 STEADY = ((256, 2290), (1024, 8422))
-QUICKLY = ((1, 10), (10, 129), (50, 247), (100, 395), (256, 855))
+QUICKLY = ((1, 10), (10, 91), (50, 171), (100, 271), (256, 583))
 
 
 def cases() -> Iterator[Case]:
-    """All rigs. The counts of frames are worked out by hand."""
+    """All rigs. The counts of a steady run are worked out by hand, those of a quick one by a model of its search."""
     for commands, rows in (((DISCOVER,), STEADY), ((QUICK,), QUICKLY)):
         for count, frames in rows:
             uids = uids_of(count)

@@ -12,7 +12,7 @@ use Rattle.rdm_wire.specs.Honest.Heard.{Failed, Silent, One, Acked, Noise}
 use Rattle.rdm_agent.specs.Certificate.{known_of}
 use Rattle.rdm_agent.specs.Machine.{Phase, AgentState, Runs, start_by, wanted, fed, found_uids, fault_of}
 use Rattle.rdm_agent.specs.Machine.{heard_by_phase}
-use Rattle.rdm_agent.specs.Machine.Phase.{Unmuting, MutingKnown, Searching, MutingRead, Sweeping, MutingSwept, Doubting}
+use Rattle.rdm_agent.specs.Machine.Phase.{Unmuting, MutingKnown, Searching, MutingRead, Sweeping, MutingSwept}
 use Rattle.rdm_agent.specs.Machine.Phase.{Ended}
 use Rattle.rdm_agent.proofs.Potential.{is_left, left_in, worth, Ahead, Costs, Affords}
 use Rattle.rdm_agent.specs.Bound.{enough_for, enough_by, EndsWithin, EndsInBoundBy, EndsInBound, EndsByDefault}
@@ -25,7 +25,7 @@ use Rattle.rdm_agent.proofs.OneDevice.{NotFailed}
 use Rattle.rdm_agent.proofs.LeftLemmas.{no_more_than}
 use Rattle.rdm_agent.proofs.CoverLemmas.{Covers-some, worth-fewer}
 use Rattle.rdm_agent.proofs.PaidLemmas.{unmuting-affords, known-affords, searching-affords, read-affords, read-some}
-use Rattle.rdm_agent.proofs.SweepPaid.{sweeping-affords, swept-affords, doubting-affords}
+use Rattle.rdm_agent.proofs.SweepPaid.{sweeping-affords, swept-affords}
 use Rattle.rdm_agent.proofs.Runs.{stands_by, wanted_next}
 
 module _ (present : List ℕ) (set : IsDeviceSet present) (few : length present ≤ MOST_DEVICES) (total : ℕ) where
@@ -54,14 +54,11 @@ module _ (present : List ℕ) (set : IsDeviceSet present) (few : length present 
       by_phase (MutingRead u tries top below) h sound costs =
           λ step. read-affords present set few total affords.cost s new a affords.within u tries top below h sound
           affords.finds step costs
-      by_phase (Sweeping sweep top below) h sound costs =
-          λ step. sweeping-affords present set few total affords.cost s new a affords.within sweep top below h sound
-          affords.finds step costs
-      by_phase (MutingSwept u tries sweep top below) h sound costs =
-          λ step. swept-affords present set few total affords.cost s new a affords.within u tries sweep top below h
-          sound affords.finds step costs
-      by_phase (Doubting sweep top below) h sound costs =
-          λ step. doubting-affords present set few total affords.cost s new a affords.within sweep top below h sound
+      by_phase (Sweeping sweep) h sound costs =
+          λ step. sweeping-affords present set few total affords.cost s new a affords.within sweep h sound affords.finds
+          step costs
+      by_phase (MutingSwept u tries sweep) h sound costs =
+          λ step. swept-affords present set few total affords.cost s new a affords.within u tries sweep h sound
           affords.finds step costs
       by_phase (Ended fault) h sound costs = tt
 
@@ -102,12 +99,10 @@ ended_or_pays search present s found (Searching silences top below) cost c = let
     inr (omega arith, λ p. cc)
 ended_or_pays search present s found (MutingRead u tries top below) cost c = let few = c.few in
     let is = c.cost_is in let some = read-some present s found u tries top below cost c in inr (omega arith, λ p. cc)
-ended_or_pays search present s found (Sweeping sweep top below) cost c =
+ended_or_pays search present s found (Sweeping sweep) cost c =
     let below = c.below in let enough = c.enough in inr (omega arith, λ p. cc)
-ended_or_pays search present s found (MutingSwept u tries sweep top below) cost c =
+ended_or_pays search present s found (MutingSwept u tries sweep) cost c =
     let few = c.few in let below = c.below in let enough = c.enough in inr (omega arith, λ p. cc)
-ended_or_pays search present s found (Doubting sweep top below) cost c =
-    let below = c.below in let enough = c.enough in inr (omega arith, λ p. cc)
 ended_or_pays search present s found (Ended fault) cost c = inl (ap Ended c)
 
 -- so it has ended without fault once all is paid

@@ -10,7 +10,7 @@ use Rattle.rdm_agent.specs.Run.{asked_by, heard_by, seen_op, IsReport}
 use Rattle.rdm_agent.specs.Certificate.{Certificate}
 use Rattle.rdm_agent.specs.Cause.{Cause, EndsFailed}
 use Rattle.rdm_agent.specs.Machine.{Phase, AgentState, Runs, start_by, next_of, wanted, fed, fault_of, found_uids}
-use Rattle.rdm_agent.specs.Machine.Phase.{Unmuting, MutingKnown, Searching, MutingRead, Sweeping, MutingSwept, Doubting}
+use Rattle.rdm_agent.specs.Machine.Phase.{Unmuting, MutingKnown, Searching, MutingRead, Sweeping, MutingSwept}
 use Rattle.rdm_agent.specs.Machine.Phase.{Ended}
 use Rattle.rdm_agent.specs.Statements.{IsInOrder, IsInEach, IsInOne}
 use Rattle.rdm_agent.specs.Calls.{op_of, next_op, fits, ended_by_abort, HasRunBy}
@@ -50,9 +50,8 @@ wanted_none (Unmuting more known) end = cc
 wanted_none (MutingKnown u tries known) end = cc
 wanted_none (Searching silences top below) end = cc
 wanted_none (MutingRead u tries top below) end = cc
-wanted_none (Sweeping sweep top below) end = cc
-wanted_none (MutingSwept u tries sweep top below) end = cc
-wanted_none (Doubting sweep top below) end = cc
+wanted_none (Sweeping sweep) end = cc
+wanted_none (MutingSwept u tries sweep) end = cc
 wanted_none (Ended fault) end = refl
 
 pub next_none : (a : AgentState) → next_op a ≡ End → next_of a ≡ None

@@ -23,8 +23,8 @@ use Rattle.rdm_wire.proofs.BytesLemmas.{number_of-uid_bytes}
 use Rattle.rdm_wire.proofs.PacketLemmas.{fields_at-packet}
 use Rattle.rdm_wire.proofs.Text.{text_read-of, of-text_read}
 use Rattle.rdm_wire.proofs.CommandLemmas.{one_command}
-use Rattle.rdm_agent.specs.Machine.{Phase, AgentState, fed, heard_by_phase, wanted, probe, lower_pair}
-use Rattle.rdm_agent.specs.Machine.Phase.{Unmuting, MutingKnown, Searching, MutingRead, Sweeping, MutingSwept, Doubting}
+use Rattle.rdm_agent.specs.Machine.{Phase, AgentState, fed, heard_by_phase, wanted}
+use Rattle.rdm_agent.specs.Machine.Phase.{Unmuting, MutingKnown, Searching, MutingRead, Sweeping, MutingSwept}
 use Rattle.rdm_agent.specs.Machine.Phase.{Ended}
 use Rattle.rdm_agent.specs.Run.{asked_by, heard_by, heard_of_mute, seen_op}
 use Rattle.rdm_agent.specs.Calls.{next_op, op_of}
@@ -205,9 +205,8 @@ noise_is_silence a (Unmuting more known) other = refl
 noise_is_silence a (MutingKnown u tries known) other = refl
 noise_is_silence a (Searching silences top below) other = absurd (other top refl)
 noise_is_silence a (MutingRead u tries top below) other = refl
-noise_is_silence a (Sweeping sweep top below) other = absurd (other (probe sweep.suspect top) refl)
-noise_is_silence a (MutingSwept u tries sweep top below) other = refl
-noise_is_silence a (Doubting sweep top below) other = absurd (other (lower_pair top) refl)
+noise_is_silence a (Sweeping sweep) other = absurd (other sweep.question.range refl)
+noise_is_silence a (MutingSwept u tries sweep) other = refl
 noise_is_silence a (Ended fault) other = refl
 
 -- what an agent that goes on wants

@@ -1,5 +1,5 @@
 -- A run that has a certificate has ended, without fault: what clears the greatest UID is the end of the search.
-use Rattle.std.proofs.Common.{◌≡◌, ℕ, zero, suc, ◌+◌, ◌-◌, ◌*◌, ◌^◌, ◌<◌, ◌≤◌, Bool, true, false, cond, List, [], ◌∷◌}
+use Rattle.std.proofs.Common.{◌≡◌, ℕ, zero, suc, ◌+◌, ◌*◌, ◌^◌, ◌<◌, ◌≤◌, Bool, true, false, cond, List, [], ◌∷◌}
 use Rattle.std.proofs.Common.{◌++◌, length, append_assoc, append-nil, Option, None, Some, refl, sym, ap, ◌∙◌, subst}
 use Rattle.std.proofs.Common.{inl, inr, true≢false, arith}
 use Rattle.std.specs.Prelude.{◌≢◌, ◌⊎◌, ◌==◌, nat_le, nat_lt, MatchOption}
@@ -8,17 +8,18 @@ use Rattle.std.specs.List.{AllByRecursion}
 use Rattle.std.proofs.lemmas.List.{length-append}
 use Rattle.rdm_wire.specs.Uid.{has, IsDevice, IsDeviceSet}
 use Rattle.rdm_wire.specs.Devices.{uids_of}
-use Rattle.rdm_wire.specs.Span.{Span, whole, middle, lower_half, upper_half}
+use Rattle.rdm_wire.specs.Span.{Span, whole}
 use Rattle.rdm_wire.specs.Honest.{Asked, Heard, Seen}
 use Rattle.rdm_wire.specs.Honest.Asked.{Unmute, Branch, Mute, Other}
 use Rattle.rdm_wire.specs.Honest.Heard.{Acked, Failed, Silent, One, Noise}
 use Rattle.rdm_agent.specs.Run.{acked_uid, muted_uid, acked_in, muted_in, InSuccession, IsSilentBranch}
 use Rattle.rdm_agent.specs.Certificate.{SearchShows}
 use Rattle.rdm_agent.specs.Machine.{Phase, AgentState, Runs, start_by, wanted, fed, fault_of, heard_by_phase}
-use Rattle.rdm_agent.specs.Machine.{search_below, found_uids, Sweep, probe, counted, suspecting, is_sibling, sweep_to}
-use Rattle.rdm_agent.specs.Machine.{sweep_past, sweep_silent}
-use Rattle.rdm_agent.specs.Machine.Phase.{Unmuting, MutingKnown, Searching, MutingRead, Sweeping, MutingSwept, Doubting}
-use Rattle.rdm_agent.specs.Machine.Phase.{Ended}
+use Rattle.rdm_agent.specs.Machine.{search_below, found_uids, is_whole, choose, counted, sweep_on, sweep_silent}
+use Rattle.rdm_agent.specs.Machine.{believed_silent}
+use Rattle.rdm_agent.specs.declared.belief.Belief.{Belief}
+use Rattle.rdm_agent.specs.declared.sweep.Sweep.{Sweep}
+use Rattle.rdm_agent.specs.Machine.Phase.{Unmuting, MutingKnown, Searching, MutingRead, Sweeping, MutingSwept, Ended}
 use Rattle.rdm_agent.specs.body.Sound.{IsStack}
 use Rattle.rdm_agent.specs.Statements.{CertificateIsTheEnd}
 use Rattle.rdm_agent.specs.declared.kind.Kind.{Kind}
@@ -28,7 +29,7 @@ use Rattle.rdm_agent.specs.declared.limits.TheConstants.{TRIES}
 use Rattle.rdm_agent.proofs.Members.{member, first_part, last_part, heads, tails, put-has, has-put, has-first}
 use Rattle.rdm_agent.proofs.Sets.{has-set_of}
 use Rattle.rdm_agent.proofs.Stacks.{IsStack-pop, IsStack-ends}
-use Rattle.rdm_agent.proofs.SweepPhase.{probe_is}
+use Rattle.rdm_agent.proofs.Choices.{IsChosen, chosen}
 use Rattle.rdm_agent.proofs.Invariant.{EndsWith, InPhase}
 use Rattle.rdm_agent.proofs.Runs.{stands_by, wanted_next}
 use Rattle.rdm_agent.proofs.CallLemmas.{runs-push}
@@ -114,16 +115,15 @@ module _ {P : Seen → Type 0} where
           → s.front ++ s.run ++ (back ++ last ∷ []) ≡ (s.front ++ s.run ++ back) ++ last ∷ []
       aside back last = sym (append_assoc (s.front ++ s.run) back (last ∷ []))
 
--- while the search goes on, the top range was silent no more often at the end than the phase counts. In a sweep no
--- range with the end of the top one, or with a greater one, was
+-- while the search goes on, the range that it asks was silent no more often at the end than the phase counts
 abbrev FewSilent : Phase → List Seen → Type 0
 FewSilent (Searching silences top below) x = (n : ℕ) → EndsWith n (IsSilentBranch top.lo top.hi) x → n ≤ silences
 FewSilent (Unmuting more known) x = Unit {0}
 FewSilent (MutingKnown u tries known) x = Unit {0}
 FewSilent (MutingRead u tries top below) x = Unit {0}
-FewSilent (Sweeping sweep top below) x = (lo hi n : ℕ) → top.hi ≤ hi → EndsWith n (IsSilentBranch lo hi) x → n ≤ 0
-FewSilent (MutingSwept u tries sweep top below) x = Unit {0}
-FewSilent (Doubting sweep top below) x = (lo hi n : ℕ) → top.hi ≤ hi → EndsWith n (IsSilentBranch lo hi) x → n ≤ 0
+FewSilent (Sweeping sweep) x =
+    (n : ℕ) → EndsWith n (IsSilentBranch sweep.question.range.lo sweep.question.range.hi) x → n ≤ sweep.silences
+FewSilent (MutingSwept u tries sweep) x = Unit {0}
 FewSilent (Ended fault) x = Unit {0}
 
 -- and no range with the greatest UID was silent five times in a row, unless the run has ended without fault
@@ -151,9 +151,8 @@ other_exchange phase new x e goes loud k = record {
     of_phase (Unmuting more known) = tt
     of_phase (MutingKnown u tries known) = tt
     of_phase (MutingRead u tries top below) = tt
-    of_phase (Sweeping sweep top below) = λ lo hi n far ends. none lo hi 0 n ends
-    of_phase (MutingSwept u tries sweep top below) = tt
-    of_phase (Doubting sweep top below) = λ lo hi n far ends. none lo hi 0 n ends
+    of_phase (Sweeping sweep) = none sweep.question.range.lo sweep.question.range.hi sweep.silences
+    of_phase (MutingSwept u tries sweep) = tt
     of_phase (Ended fault) = tt
 
 -- the top range is silent once more
@@ -226,141 +225,101 @@ module _ (silences : ℕ) (top : Span) (below : List Span) (x : List Seen) (stac
       cond_both ((silences + 1) == TRIES) _ _ (λ p. IsUncleared p (x ++ again ∷ [])) (λ five. popped below stack)
       (λ not. silent_again (eqb-false (silences + 1) TRIES not))
 
--- a sweep's top range is silent: the next one ends above it
-module _ (sweep : Sweep) (n : ℕ) (top : Span) (x : List Seen) where
+-- what a sweep asks is silent once more
+module _ (sweep : Sweep) (n : ℕ) (x : List Seen) (fewer : sweep.silences < TRIES)
+    (k : IsUncleared (Sweeping sweep) x) where
+  abbrev range : Span
+  range = sweep.question.range
+
   abbrev swept_again : Seen
-  swept_again = record { asked = Branch (probe sweep.suspect top).lo (probe sweep.suspect top).hi; heard = Silent }
+  swept_again = record { asked = Branch range.lo range.hi; heard = Silent }
 
-  module _ (below : List Span) (stack : IsStack top below) (k : IsUncleared (Sweeping sweep top below) x) where
-    -- no silent branch of a range that ends above the top one is at the end
-    above : (lo hi m : ℕ) → top.hi + 1 ≤ hi → EndsWith m (IsSilentBranch lo hi) (x ++ swept_again ∷ []) → m ≤ 0
-    above lo hi zero far ends = omega arith
-    above lo hi (suc m) far ends =
-        absurd (let to = (probe_is sweep.suspect top).to in let same = high (grown_end m x swept_again ends).0.0 in
-        omega (arith, same, to, far))
-      where
-        high : Branch (probe sweep.suspect top).lo (probe sweep.suspect top).hi ≡ Branch lo hi
-            → (probe sweep.suspect top).hi ≡ hi
-        high e = cc
-
-    -- nor were five of one range
-    not_five : (lo hi : ℕ) → greatest ≤ hi → InSuccession TRIES (IsSilentBranch lo hi) (x ++ swept_again ∷ []) → ⊥
-    not_five lo hi far five = elim (grown_succession TRIES x swept_again five) [
-      | inl before ↦ not_ended (k.cleared_last lo hi far before)
-      | inr ends ↦ let last = (grown_end 4 x swept_again ends).1 in let end = (IsStack-ends top below stack).1 in
-          let none : 4 ≤ 0 = k.few lo hi 4 (omega (arith, far, end)) last in omega (arith, none)
-    ]
-      where
-        not_ended : Sweeping sweep top below ≢ Ended None
-        not_ended e = cc
-
-    -- the steady search begins, where the whole range was silent no more often than it counts
-    steadily : (silences : ℕ) → FewSilent (Searching silences whole []) (x ++ swept_again ∷ [])
-        → IsUncleared (Searching silences whole []) (x ++ swept_again ∷ [])
-    steadily silences few = record { cleared_last = λ lo hi far five. absurd (not_five lo hi far five); few = few }
-
-    goes_to : (memory : Sweep) (r : Span) (rs : List Span) → top.hi + 1 ≤ r.hi → top.hi < greatest
-        → IsUncleared (sweep_to memory n r rs) (x ++ swept_again ∷ [])
-    goes_to memory r rs up under =
-        cond_both (nat_lt memory.made (100 * (n + 2))) _ _ (λ p. IsUncleared p (x ++ swept_again ∷ []))
-        (λ goes. record {
-          cleared_last = λ lo hi far five. absurd (not_five lo hi far five);
-          few = λ lo hi m far ends. above lo hi m (omega (arith, far, up)) ends;
-        })
-        (λ out. steadily 0 (λ m ends. above whole.lo whole.hi m (omega (arith, under)) ends))
-
-  swept_silent : (below : List Span) → IsStack top below → IsUncleared (Sweeping sweep top below) x
-      → IsUncleared (sweep_silent (counted sweep) n top below) (x ++ swept_again ∷ [])
-  swept_silent [] stack k =
-      cond_both (top.lo == 0) 1 0 (λ c. IsUncleared (Searching c whole []) (x ++ swept_again ∷ []))
-      (λ first. steadily [] stack k 1 once)
-      (λ other. steadily [] stack k 0 (none (eqb-false top.lo 0 other)))
+  swept_ends : (lo hi : ℕ) → IsSilentBranch lo hi swept_again → (range.lo ≡ lo) × (range.hi ≡ hi)
+  swept_ends lo hi s = (low s.0, high s.0)
     where
-      end : top.hi + 1 ≡ 2 ^ 48
-      end = stack.rest
-
-      once : (m : ℕ) → EndsWith m (IsSilentBranch whole.lo whole.hi) (x ++ swept_again ∷ []) → m ≤ 1
-      once zero ends = omega arith
-      once (suc m) ends =
-          let before : m ≤ 0 = k.few whole.lo whole.hi m (omega (arith, end)) (grown_end m x swept_again ends).1 in
-          omega (arith, before)
-
-      low : Branch (probe sweep.suspect top).lo (probe sweep.suspect top).hi ≡ Branch whole.lo whole.hi
-          → (probe sweep.suspect top).lo ≡ whole.lo
+      low : Branch range.lo range.hi ≡ Branch lo hi → range.lo ≡ lo
       low e = cc
 
-      none : (top.lo ≡ 0 → ⊥) → (m : ℕ) → EndsWith m (IsSilentBranch whole.lo whole.hi) (x ++ swept_again ∷ []) → m ≤ 0
-      none other zero ends = omega arith
-      none other (suc m) ends =
-          let first : (probe sweep.suspect top).lo ≡ 0 = low (grown_end m x swept_again ends).0.0 in
-          let asked = probe_is sweep.suspect top in let near = asked.near in
-          let is : probe sweep.suspect top ≡ top = asked.same.1 (λ one. omega (arith, near, first, one, end)) in
-          absurd (other (sym (ap (λ (r : Span). r.lo) is) ∙ first))
-  swept_silent (r ∷ rs) stack k = cond_both (is_sibling top r) _ _ (λ p. IsUncleared p (x ++ swept_again ∷ []))
-      (λ sibling. cond_both (middle r == 0) _ _ (λ p. IsUncleared p (x ++ swept_again ∷ []))
-      (λ least. goes_to (r ∷ rs) stack k (suspecting 0 (counted sweep)) (upper_half r) rs (omega (arith, at, ends))
-      under)
-      (λ half. goes_to (r ∷ rs) stack k (counted sweep) (lower_half r) (upper_half r ∷ rs) (omega (arith, at, ends))
-      under))
-      (λ other. goes_to (r ∷ rs) stack k (counted sweep) r rs (omega (arith, at, ends)) under)
-    where
-      at : r.lo ≡ top.hi + 1
-      at = stack.rest.3
-
-      ends : r.lo ≤ r.hi
-      ends = (IsStack-ends r rs (IsStack-pop top r rs stack)).0
-
-      under : top.hi < greatest
-      under = let last = (IsStack-ends r rs (IsStack-pop top r rs stack)).1 in omega (arith, at, ends, last)
-
--- the two UIDs below a sweep's top range are silent: no range that ends at its end or above it was
-module _ (sweep : Sweep) (n : ℕ) (top : Span) (below : List Span) (x : List Seen) (stack : IsStack top below)
-    (some : 1 < top.lo) (k : IsUncleared (Doubting sweep top below) x) where
-  abbrev pair_again : Seen
-  pair_again = record { asked = Branch (top.lo - 2) (top.lo - 1); heard = Silent }
-
-  bounds : (top.lo ≤ top.hi) × (top.hi < 2 ^ 48)
-  bounds = IsStack-ends top below stack
-
-  still : (lo hi m : ℕ) → top.hi ≤ hi → EndsWith m (IsSilentBranch lo hi) (x ++ pair_again ∷ []) → m ≤ 0
-  still lo hi zero far ends = omega arith
-  still lo hi (suc m) far ends =
-      absurd (let same = high (grown_end m x pair_again ends).0.0 in let low = bounds.0 in
-      omega (arith, same, far, low, some))
-    where
-      high : Branch (top.lo - 2) (top.lo - 1) ≡ Branch lo hi → top.lo - 1 ≡ hi
+      high : Branch range.lo range.hi ≡ Branch lo hi → range.hi ≡ hi
       high e = cc
 
-  no_five : (lo hi : ℕ) → greatest ≤ hi → InSuccession TRIES (IsSilentBranch lo hi) (x ++ pair_again ∷ []) → ⊥
-  no_five lo hi far five = elim (grown_succession TRIES x pair_again five) [
-    | inl before ↦ not_ended (k.cleared_last lo hi far before)
-    | inr ends ↦ let end = bounds.1 in let none : 5 ≤ 0 = still lo hi 5 (omega (arith, far, end)) ends in
-        omega (arith, none)
-  ]
-    where
-      not_ended : Doubting sweep top below ≢ Ended None
-      not_ended e = cc
+  sweep_goes : Sweeping sweep ≢ Ended None
+  sweep_goes e = cc
 
-  steady_next : IsUncleared (Searching 0 whole []) (x ++ pair_again ∷ [])
-  steady_next = record {
-    cleared_last = λ lo hi far five. absurd (no_five lo hi far five);
-    few = λ m ends. let end = bounds.1 in still whole.lo whole.hi m (omega (arith, end)) ends;
-  }
+  -- it was silent no more often than is counted now
+  more : (m : ℕ) → EndsWith m (IsSilentBranch range.lo range.hi) (x ++ swept_again ∷ []) → m ≤ sweep.silences + 1
+  more zero ends = omega arith
+  more (suc m) ends =
+      let before : m ≤ sweep.silences = k.few m (grown_end m x swept_again ends).1 in omega (arith, before)
 
-  doubt_silent : IsUncleared (sweep_past (counted sweep) n top below) (x ++ pair_again ∷ [])
-  doubt_silent = by_rest below stack
+  -- and no other range was
+  so_often : (r : Span) (count : ℕ) → (r ≡ range → count ≡ sweep.silences + 1) → (m : ℕ)
+      → EndsWith m (IsSilentBranch r.lo r.hi) (x ++ swept_again ∷ []) → m ≤ count
+  so_often r count counts zero ends = omega arith
+  so_often r count counts (suc m) ends = by (swept_ends r.lo r.hi (grown_end m x swept_again ends).0)
     where
-      by_rest : (rest : List Span) → IsStack top rest
-          → IsUncleared (sweep_past (counted sweep) n top rest) (x ++ pair_again ∷ [])
-      by_rest [] s = steady_next
-      by_rest (r ∷ rs) s =
-          cond_both (nat_lt (sweep.made + 1) (100 * (n + 2))) _ _ (λ p. IsUncleared p (x ++ pair_again ∷ []))
-          (λ goes. record {
-            cleared_last = λ lo hi far five. absurd (no_five lo hi far five);
-            few = λ lo hi m far ends. let at = s.rest.3 in let up = (IsStack-ends r rs (IsStack-pop top r rs s)).0 in
-                still lo hi m (omega (arith, far, at, up)) ends;
-          })
-          (λ out. steady_next)
+      from_to : ℕ → ℕ → Span
+      from_to lo hi = record { lo = lo; hi = hi }
+
+      by : (range.lo ≡ r.lo) × (range.hi ≡ r.hi) → suc m ≤ count
+      by same =
+          let is : r ≡ range = ap (λ l. from_to l r.hi) (sym same.0) ∙ ap (λ h. from_to range.lo h) (sym same.1) in
+          let is_count = counts is in
+          let most : suc m ≤ sweep.silences + 1 = more (suc m)
+          (subst (λ (q : Span). EndsWith (suc m) (IsSilentBranch q.lo q.hi) (x ++ swept_again ∷ [])) is ends) in
+          omega (arith, is_count, most)
+
+  module _ (not_five : sweep.silences + 1 ≡ TRIES → ⊥) where
+    five_before : (lo hi : ℕ) → greatest ≤ hi → InSuccession TRIES (IsSilentBranch lo hi) (x ++ swept_again ∷ []) → ⊥
+    five_before lo hi far five = elim (grown_succession TRIES x swept_again five) [
+      | inl before ↦ sweep_goes (k.cleared_last lo hi far before)
+      | inr ends ↦ no_five (grown_end 4 x swept_again ends)
+    ]
+      where
+        no_five : IsSilentBranch lo hi swept_again × EndsWith 4 (IsSilentBranch lo hi) x → ⊥
+        no_five g =
+            let same = swept_ends lo hi g.0 in
+            let four : 4 ≤ sweep.silences = k.few 4
+            (subst (λ l. EndsWith 4 (IsSilentBranch l range.hi) x) (sym same.0)
+            (subst (λ h. EndsWith 4 (IsSilentBranch lo h) x) (sym same.1) g.1)) in
+            not_five (omega (arith, four, fewer))
+
+    -- the sweep goes on, or the steady search begins
+    goes_to : (b : Belief) → IsUncleared (sweep_on (counted sweep) (sweep.silences + 1) n b) (x ++ swept_again ∷ [])
+    goes_to b =
+        cond_both (nat_lt (sweep.made + 1) (100 * (n + 2))) _ _ (λ p. IsUncleared p (x ++ swept_again ∷ []))
+        (λ goes. next (choose (sweep.made + 1) (sweep.silences + 1) range b)
+        (chosen (sweep.made + 1) (sweep.silences + 1) range b (omega (arith, fewer, not_five_less))))
+        (λ out. cond_both (is_whole range) (sweep.silences + 1) 0
+        (λ c. IsUncleared (Searching c whole []) (x ++ swept_again ∷ []))
+        (λ all. record {
+          cleared_last = λ lo hi far five. absurd (five_before lo hi far five);
+          few = so_often whole (sweep.silences + 1) (λ is. refl);
+        })
+        (λ other. record {
+          cleared_last = λ lo hi far five. absurd (five_before lo hi far five);
+          few = so_often whole 0 (λ is. absurd (true≢false (sym (whole_is is) ∙ other)));
+        }))
+      where
+        not_five_less : sweep.silences + 1 < TRIES
+        not_five_less = grind (arith, fewer, not_five)
+
+        whole_is : whole ≡ range → is_whole range ≡ true
+        whole_is is = subst (λ (r : Span). is_whole r ≡ true) is refl
+
+        next : (c : Sweep) → IsChosen (sweep.made + 1) (sweep.silences + 1) range c
+            → IsUncleared (Sweeping c) (x ++ swept_again ∷ [])
+        next c is = record {
+          cleared_last = λ lo hi far five. absurd (five_before lo hi far five);
+          few = so_often c.question.range c.silences is.counted;
+        }
+
+  swept_silent : IsUncleared (sweep_silent (counted sweep) n) (x ++ swept_again ∷ [])
+  swept_silent =
+      cond_both ((sweep.silences + 1) == TRIES) _ _ (λ p. IsUncleared p (x ++ swept_again ∷ []))
+      (λ five. record { cleared_last = λ lo hi far s. refl; few = tt })
+      (λ other. goes_to (eqb-false (sweep.silences + 1) TRIES other)
+      (believed_silent sweep.question.part sweep.question.range sweep.belief))
 
 module _ (kind : Kind) (known : List ℕ) (budget : ℕ) where
   -- what is asked but a branch is no silent branch, and so is what is heard but silence
@@ -396,31 +355,19 @@ module _ (kind : Kind) (known : List ℕ) (budget : ℕ) where
     by_phase (Searching silences top below) Failed sound p k = absurd (sound refl)
     by_phase (MutingRead u tries top below) h sound p k =
         other_exchange (MutingRead u tries top below) _ x _ (λ e. cc) (loud (Mute u) h (λ lo hi e s. cc)) k
-    by_phase (Sweeping sweep top below) Silent sound p k = swept_silent sweep (length a.found) top x below p.stack k
-    by_phase (Sweeping sweep top below) (One u) sound p k =
-        other_exchange (Sweeping sweep top below) _ x _ (λ e. cc)
-        (loud (Branch (probe sweep.suspect top).lo (probe sweep.suspect top).hi) (One u) (λ lo hi e s. cc)) k
-    by_phase (Sweeping sweep top below) (Acked ack) sound p k =
-        other_exchange (Sweeping sweep top below) _ x _ (λ e. cc)
-        (loud (Branch (probe sweep.suspect top).lo (probe sweep.suspect top).hi) (Acked ack) (λ lo hi e s. cc)) k
-    by_phase (Sweeping sweep top below) Noise sound p k =
-        other_exchange (Sweeping sweep top below) _ x _ (λ e. cc)
-        (loud (Branch (probe sweep.suspect top).lo (probe sweep.suspect top).hi) Noise (λ lo hi e s. cc)) k
-    by_phase (Sweeping sweep top below) Failed sound p k = absurd (sound refl)
-    by_phase (MutingSwept u tries sweep top below) h sound p k =
-        other_exchange (MutingSwept u tries sweep top below) _ x _ (λ e. cc) (loud (Mute u) h (λ lo hi e s. cc)) k
-    by_phase (Doubting sweep top below) Silent sound p k =
-        doubt_silent sweep (length a.found) top below x p.sweeps.stack p.some k
-    by_phase (Doubting sweep top below) (One u) sound p k =
-        other_exchange (Doubting sweep top below) _ x _ (λ e. cc)
-        (loud (Branch (top.lo - 2) (top.lo - 1)) (One u) (λ lo hi e s. cc)) k
-    by_phase (Doubting sweep top below) (Acked ack) sound p k =
-        other_exchange (Doubting sweep top below) _ x _ (λ e. cc)
-        (loud (Branch (top.lo - 2) (top.lo - 1)) (Acked ack) (λ lo hi e s. cc)) k
-    by_phase (Doubting sweep top below) Noise sound p k =
-        other_exchange (Doubting sweep top below) _ x _ (λ e. cc)
-        (loud (Branch (top.lo - 2) (top.lo - 1)) Noise (λ lo hi e s. cc)) k
-    by_phase (Doubting sweep top below) Failed sound p k = absurd (sound refl)
+    by_phase (Sweeping sweep) Silent sound p k = swept_silent sweep (length a.found) x p.asks.few k
+    by_phase (Sweeping sweep) (One u) sound p k =
+        other_exchange (Sweeping sweep) _ x _ (λ e. cc)
+        (loud (Branch sweep.question.range.lo sweep.question.range.hi) (One u) (λ lo hi e s. cc)) k
+    by_phase (Sweeping sweep) (Acked ack) sound p k =
+        other_exchange (Sweeping sweep) _ x _ (λ e. cc)
+        (loud (Branch sweep.question.range.lo sweep.question.range.hi) (Acked ack) (λ lo hi e s. cc)) k
+    by_phase (Sweeping sweep) Noise sound p k =
+        other_exchange (Sweeping sweep) _ x _ (λ e. cc)
+        (loud (Branch sweep.question.range.lo sweep.question.range.hi) Noise (λ lo hi e s. cc)) k
+    by_phase (Sweeping sweep) Failed sound p k = absurd (sound refl)
+    by_phase (MutingSwept u tries sweep) h sound p k =
+        other_exchange (MutingSwept u tries sweep) _ x _ (λ e. cc) (loud (Mute u) h (λ lo hi e s. cc)) k
     by_phase (Ended fault) h sound p k = tt
 
     goes_on : (phase : Phase) (asked : Asked) → wanted phase ≡ Some asked → phase ≢ Ended None

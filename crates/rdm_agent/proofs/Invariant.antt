@@ -13,12 +13,13 @@ use Rattle.rdm_wire.specs.Honest.Heard.{One}
 use Rattle.rdm_agent.specs.Run.{muted_in, acked_in, reported, is_branch, AsFirstAcked, IsSilentBranch, IsLostMute}
 use Rattle.rdm_agent.specs.Certificate.{SearchShows, IsTried, IsCleared, MutesNamed, known_of}
 use Rattle.rdm_agent.specs.Cause.{Cause, IsCorrupt}
-use Rattle.rdm_agent.specs.Machine.{Phase, AgentState, Sweep, is_new, found_uids, probe}
-use Rattle.rdm_agent.specs.Machine.Phase.{Unmuting, MutingKnown, Searching, MutingRead, Sweeping, MutingSwept, Doubting}
-use Rattle.rdm_agent.specs.Machine.Phase.{Ended}
+use Rattle.rdm_agent.specs.Machine.{Phase, AgentState, is_new, found_uids}
+use Rattle.rdm_agent.specs.Machine.Phase.{Unmuting, MutingKnown, Searching, MutingRead, Sweeping, MutingSwept, Ended}
 use Rattle.rdm_agent.specs.declared.kind.Kind.{Kind}
 use Rattle.rdm_agent.specs.declared.fault.AgentFault.{AgentFault}
+use Rattle.rdm_agent.specs.declared.sweep.Sweep.{Sweep}
 use Rattle.rdm_agent.proofs.OneDevice.{NotFailed}
+use Rattle.rdm_agent.proofs.Choices.{IsRange, Asks}
 use Rattle.rdm_agent.specs.body.Sound.{IsStack}
 use Rattle.rdm_agent.specs.declared.limits.TheConstants.{TRIES, UNMUTES}
 
@@ -99,25 +100,20 @@ pub record IsMutingRead (known : List ℕ) (u tries : ℕ) (top : Span) (below :
   pub new : is_new found top u ≡ true
   pub spelt : WasSpelt u tries top x
 
--- a sweep branches its top range; the steady search may begin at any time
-pub record IsSweeping (known : List ℕ) (top : Span) (below : List Span) (x : List Seen) (found : List ℕ) : Type 0 where
+-- a sweep branches a range, so often in silence; the steady search may begin at any time
+pub record IsSweeping (known : List ℕ) (sweep : Sweep) (x : List Seen) (found : List ℕ) : Type 0 where
   pub searches : Searches known None whole [] x found
-  pub stack : IsStack top below
+  pub asks : Asks sweep
+  pub silent : EndsWith sweep.silences (IsSilentBranch sweep.question.range.lo sweep.question.range.hi) x
   pub not_corrupt : (u : ℕ) → IsCorrupt u x → ⊥
 
--- what a sweep's top range spelt, as it was asked, is muted, so far in vain
-pub record IsMutingSwept (known : List ℕ) (u tries : ℕ) (sweep : Sweep) (top : Span) (below : List Span) (x : List Seen)
-    (found : List ℕ) : Type 0 where
+-- what the range spelt may be a new device, and is muted, so far in vain
+pub record IsMutingSwept (known : List ℕ) (u tries : ℕ) (sweep : Sweep) (x : List Seen) (found : List ℕ) : Type 0 where
   pub searches : Searches known (Some u) whole [] x found
-  pub stack : IsStack top below
+  pub range : IsRange sweep.question.range
   pub few : tries < TRIES
-  pub new : is_new found top u ≡ true
-  pub spelt : WasSpelt u tries (probe sweep.suspect top) x
-
--- a range of one UID collided in a sweep, and two UIDs are below it
-pub record IsDoubting (known : List ℕ) (top : Span) (below : List Span) (x : List Seen) (found : List ℕ) : Type 0 where
-  pub sweeps : IsSweeping known top below x found
-  pub some : 1 < top.lo
+  pub new : is_new found sweep.question.range u ≡ true
+  pub spelt : WasSpelt u tries sweep.question.range x
 
 -- a run without fault has its certificate, one with a fault its cause; a failure is last
 pub record HasEnded (kind : Kind) (known : List ℕ) (budget : ℕ) (fault : Option AgentFault) (x : List Seen)
@@ -136,10 +132,9 @@ InPhase kind known budget (Searching silences top below) x found =
     IsSearching (known_of kind known) silences top below x found
 InPhase kind known budget (MutingRead u tries top below) x found =
     IsMutingRead (known_of kind known) u tries top below x found
-InPhase kind known budget (Sweeping sweep top below) x found = IsSweeping (known_of kind known) top below x found
-InPhase kind known budget (MutingSwept u tries sweep top below) x found =
-    IsMutingSwept (known_of kind known) u tries sweep top below x found
-InPhase kind known budget (Doubting sweep top below) x found = IsDoubting (known_of kind known) top below x found
+InPhase kind known budget (Sweeping sweep) x found = IsSweeping (known_of kind known) sweep x found
+InPhase kind known budget (MutingSwept u tries sweep) x found =
+    IsMutingSwept (known_of kind known) u tries sweep x found
 InPhase kind known budget (Ended fault) x found = HasEnded kind known budget fault x found
 
 -- the agent stands after these exchanges

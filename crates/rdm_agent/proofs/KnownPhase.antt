@@ -118,7 +118,8 @@ module _ (kind : Kind) (known : List ℕ) (budget : ℕ) (x : List Seen) (found 
   }
   begins Quick = record {
     searches = searches;
-    stack = IsStack-whole;
+    asks = record { range = (omega arith, omega arith); few = omega arith; last = λ five. refl };
+    silent = EndsWith-none _ x;
     not_corrupt = λ u c. not_corrupt-no_branch u x m.no_branch c;
   }
 

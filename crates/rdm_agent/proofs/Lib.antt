@@ -9,6 +9,7 @@ pub mod SampleHonest
 pub mod SampleCertificate
 pub mod Pushes
 pub mod Stacks
+pub mod Choices
 pub mod Invariant
 pub mod CorruptLemmas
 pub mod FoundLemmas

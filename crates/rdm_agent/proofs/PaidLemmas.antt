@@ -47,7 +47,11 @@ search_from-costs Steady present found line cost [] n enough ahead =
       costs = record { ranges = n; few = omega arith; covered = ahead; cost_is = omega arith };
     }
 search_from-costs Quick present found line cost [] n enough ahead =
-    record { left = n; saves = omega arith; costs = record { below = omega arith; enough = omega (arith, ahead) } }
+    record {
+      left = n;
+      saves = omega arith;
+      costs = record { few = omega arith; below = omega arith; enough = omega (arith, ahead) };
+    }
 search_from-costs search present found line cost (u ∷ known) n enough ahead =
     record {
       left = 10 + 10 * length known + n;

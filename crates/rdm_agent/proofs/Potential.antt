@@ -4,9 +4,9 @@ use Rattle.std.specs.Prelude.{true, ◌&&◌, not, List, [], ◌∷◌, length, 
 use Rattle.rdm_wire.specs.Uid.{has, is_within}
 use Rattle.rdm_wire.specs.Span.{Span, whole}
 use Rattle.rdm_wire.specs.Honest.{LineState}
-use Rattle.rdm_agent.specs.Machine.{Phase, AgentState, Sweep, found_uids, is_new, probe}
-use Rattle.rdm_agent.specs.Machine.Phase.{Unmuting, MutingKnown, Searching, MutingRead, Sweeping, MutingSwept, Doubting}
-use Rattle.rdm_agent.specs.Machine.Phase.{Ended}
+use Rattle.rdm_agent.specs.Machine.{Phase, AgentState, found_uids, is_new}
+use Rattle.rdm_agent.specs.declared.sweep.Sweep.{Sweep}
+use Rattle.rdm_agent.specs.Machine.Phase.{Unmuting, MutingKnown, Searching, MutingRead, Sweeping, MutingSwept, Ended}
 use Rattle.rdm_agent.specs.declared.search.Search.{Search}
 use Rattle.rdm_agent.specs.declared.search.Search.TheVariants.{Steady, Quick}
 
@@ -79,18 +79,19 @@ pub record CostsRead (present : List ℕ) (line : LineState) (found : List ℕ)
 
 -- what a sweep costs, without the exchanges that it made; it is below its limit
 pub record CostsSweeping (present found : List ℕ) (sweep : Sweep) (cost : ℕ) : Type 0 where
+  pub few : sweep.silences ≤ 4
   pub below : sweep.made < 100 * (length found + 2)
   pub enough : sweep_cost present found ≤ cost + 2 * sweep.made
 
 -- the same in the midst of a series of mutes, which may go on past the limit
 pub record CostsSwept (present : List ℕ) (line : LineState) (found : List ℕ)
-    (u tries : ℕ) (sweep : Sweep) (top : Span) (cost : ℕ) : Type 0 where
+    (u tries : ℕ) (sweep : Sweep) (cost : ℕ) : Type 0 where
   pub few : tries ≤ 4
   pub below : sweep.made ≤ 100 * (length found + 2) + tries
   pub enough : sweep_cost present found ≤ cost + 2 * sweep.made
-  pub new : is_new found top u ≡ true
+  pub new : is_new found sweep.question.range u ≡ true
   pub lost : has present u ≡ true → tries ≤ line.lost_mutes
-  pub spelt : (has present u ≡ true) ⊎ (2 ≤ left_in present found (probe sweep.suspect top))
+  pub spelt : (has present u ≡ true) ⊎ (2 ≤ left_in present found sweep.question.range)
 
 -- a phase still costs this many half exchanges at most; a run that has ended costs nothing, and has no fault
 abbrev pub Costs : Search → List ℕ → LineState → List ℕ → Phase → ℕ → Type 0
@@ -100,10 +101,8 @@ Costs search present line found (Searching silences top below) cost =
     CostsSearching present found silences (top ∷ below) cost
 Costs search present line found (MutingRead u tries top below) cost =
     CostsRead present line found u tries top below cost
-Costs search present line found (Sweeping sweep top below) cost = CostsSweeping present found sweep cost
-Costs search present line found (MutingSwept u tries sweep top below) cost =
-    CostsSwept present line found u tries sweep top cost
-Costs search present line found (Doubting sweep top below) cost = CostsSweeping present found sweep cost
+Costs search present line found (Sweeping sweep) cost = CostsSweeping present found sweep cost
+Costs search present line found (MutingSwept u tries sweep) cost = CostsSwept present line found u tries sweep cost
 Costs search present line found (Ended fault) cost = fault ≡ None
 
 -- the found UIDs are muted devices, and there are no more than devices

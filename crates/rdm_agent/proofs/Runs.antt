@@ -1,5 +1,5 @@
 -- What is shown of whole runs.
-use Rattle.std.proofs.Common.{◌≡◌, ℕ, ◌+◌, ◌-◌, ◌<◌, ◌≤◌, Bool, true, false, cond, List, [], ◌∷◌, ◌++◌, length, map}
+use Rattle.std.proofs.Common.{◌≡◌, ℕ, ◌+◌, ◌<◌, ◌≤◌, Bool, true, false, cond, List, [], ◌∷◌, ◌++◌, length, map}
 use Rattle.std.proofs.Common.{Option, None, Some, refl, sym, ap, ◌∙◌, subst, append_assoc, append-nil, arith}
 use Rattle.std.specs.Prelude.{◌≢◌, nat_lt, MatchOption}
 use Rattle.std.specs.List.{AllByRecursion}
@@ -13,8 +13,8 @@ use Rattle.rdm_agent.specs.Run.{FailureIsLast}
 use Rattle.rdm_agent.specs.Certificate.{Certificate, SearchShows, known_of}
 use Rattle.rdm_agent.specs.Cause.{Cause, IsCorrupt, EndsFailed, AllReported}
 use Rattle.rdm_agent.specs.Machine.{Phase, AgentState, Runs, start, start_by, next_of, wanted, fed, fault_of}
-use Rattle.rdm_agent.specs.Machine.{heard_by_phase, to_phase, open_ranges, found_uids, probe}
-use Rattle.rdm_agent.specs.Machine.Phase.{Unmuting, MutingKnown, Searching, MutingRead, Sweeping, MutingSwept, Doubting}
+use Rattle.rdm_agent.specs.Machine.{heard_by_phase, to_phase, open_ranges, found_uids}
+use Rattle.rdm_agent.specs.Machine.Phase.{Unmuting, MutingKnown, Searching, MutingRead, Sweeping, MutingSwept}
 use Rattle.rdm_agent.specs.Machine.Phase.{Ended}
 use Rattle.rdm_agent.specs.Statements.{AsksInOrder, EndsAtFailure, EndsAtBudget, GoesOnSoundly, FindsAcknowledged}
 use Rattle.rdm_agent.specs.Statements.{HasFewRanges, EndsCertified, IsInOrder}
@@ -35,8 +35,7 @@ use Rattle.rdm_agent.proofs.UnmutePhase.{no_branches}
 use Rattle.rdm_agent.proofs.Stacks.{IsStack-length, IsStack-ends}
 use Rattle.rdm_agent.proofs.RunLemmas.{to_phase-stands, reported-same, unmuting-stands, known-stands, searching-stands}
 use Rattle.rdm_agent.proofs.RunLemmas.{muting-stands, is_muting_read-device}
-use Rattle.rdm_agent.proofs.SweepPhase.{probe_is, probe-new}
-use Rattle.rdm_agent.proofs.SweepRuns.{sweeping-stands, swept-stands, doubting-stands, is_muting_swept-device}
+use Rattle.rdm_agent.proofs.SweepRuns.{sweeping-stands, swept-stands, is_muting_swept-device}
 use Rattle.rdm_agent.proofs.Invariant.{IsFound, InPhase, IsUnderWay, RunInvariant}
 
 module _ (kind : Kind) (known : List ℕ) (budget : ℕ) where
@@ -69,19 +68,15 @@ module _ (kind : Kind) (known : List ℕ) (budget : ℕ) where
         λ v c. not_corrupt-spelt v u tries top x found w.is_found (IsStack-ends top below p.searches.stack).1
         (is_new-device found top u p.new) p.spelt p.few c;
   }
-  is_open (Sweeping sweep top below) x found p =
+  is_open (Sweeping sweep) x found p =
       let w = p.searches.under_way in
       record { no_failure = w.no_failure; is_found = w.is_found; not_corrupt = p.not_corrupt }
-  is_open (MutingSwept u tries sweep top below) x found p = let w = p.searches.under_way in record {
+  is_open (MutingSwept u tries sweep) x found p = let w = p.searches.under_way in record {
     no_failure = w.no_failure;
     is_found = w.is_found;
-    not_corrupt = λ v c. not_corrupt-spelt v u tries (probe sweep.suspect top) x found w.is_found
-        (let end = (IsStack-ends top below p.stack).1 in let to = (probe_is sweep.suspect top).to in omega arith)
-        (probe-new sweep.suspect found top u p.new) p.spelt p.few c;
+    not_corrupt = λ v c. not_corrupt-spelt v u tries sweep.question.range x found w.is_found p.range.1
+        (is_new-device found sweep.question.range u p.new) p.spelt p.few c;
   }
-  is_open (Doubting sweep top below) x found p =
-      let w = p.sweeps.searches.under_way in
-      record { no_failure = w.no_failure; is_found = w.is_found; not_corrupt = p.sweeps.not_corrupt }
   is_open (Ended fault) x found p = tt
 
   module _ (x : List Seen) (a : AgentState) (s : RunInvariant kind known budget x a)
@@ -101,12 +96,8 @@ module _ (kind : Kind) (known : List ℕ) (budget : ℕ) where
         searching-stands kind known budget x a s goes silences top below h sound p
     by_phase (MutingRead u tries top below) h sound p =
         muting-stands kind known budget x a s goes u tries top below h sound p
-    by_phase (Sweeping sweep top below) h sound p =
-        sweeping-stands kind known budget x a s goes sweep top below h sound p
-    by_phase (MutingSwept u tries sweep top below) h sound p =
-        swept-stands kind known budget x a s goes u tries sweep top below h sound p
-    by_phase (Doubting sweep top below) h sound p =
-        doubting-stands kind known budget x a s goes sweep top below h sound p
+    by_phase (Sweeping sweep) h sound p = sweeping-stands kind known budget x a s goes sweep h sound p
+    by_phase (MutingSwept u tries sweep) h sound p = swept-stands kind known budget x a s goes u tries sweep h sound p
     by_phase (Ended fault) h sound p = tt
 
     failed-stands : (asked : Asked) → wanted a.phase ≡ Some asked
@@ -238,20 +229,13 @@ wants_in_order kind known budget (MutingRead u tries top below) x found p = (
   (λ early. absurd (too_early (begun-length (known_of kind known) (Some u) x found p.searches.under_way) early)),
   λ late. is_muting_read-device (known_of kind known) u tries top below x found p,
 )
-wants_in_order kind known budget (Sweeping sweep top below) x found p = (
+wants_in_order kind known budget (Sweeping sweep) x found p = (
   (λ early. absurd (too_early (begun-length (known_of kind known) None x found p.searches.under_way) early)),
-  λ late. let ends = IsStack-ends top below p.stack in let low = ends.0 in let high = ends.1 in
-      let asked = probe_is sweep.suspect top in let from = asked.from in let to = asked.to in
-      (omega arith, omega arith),
+  λ late. p.asks.range,
 )
-wants_in_order kind known budget (MutingSwept u tries sweep top below) x found p = (
+wants_in_order kind known budget (MutingSwept u tries sweep) x found p = (
   (λ early. absurd (too_early (begun-length (known_of kind known) (Some u) x found p.searches.under_way) early)),
-  λ late. is_muting_swept-device (known_of kind known) u tries sweep top below x found p,
-)
-wants_in_order kind known budget (Doubting sweep top below) x found p = (
-  (λ early. absurd (too_early (begun-length (known_of kind known) None x found p.sweeps.searches.under_way) early)),
-  λ late. let ends = IsStack-ends top below p.sweeps.stack in let low = ends.0 in let high = ends.1 in
-      (omega arith, omega arith),
+  λ late. is_muting_swept-device (known_of kind known) u tries sweep x found p,
 )
 wants_in_order kind known budget (Ended fault) x found p = tt
 
@@ -293,15 +277,12 @@ ended kind known budget (MutingKnown u tries left) x found goes p end used =
 ended kind known budget (Searching silences top below) x found goes p end used =
     exhausted kind known budget x found (is_open kind known budget (Searching silences top below) x found p)
     (used (not_wanted goes (Branch top.lo top.hi) end))
-ended kind known budget (Sweeping sweep top below) x found goes p end used =
-    exhausted kind known budget x found (is_open kind known budget (Sweeping sweep top below) x found p)
-    (used (not_wanted goes (Branch (probe sweep.suspect top).lo (probe sweep.suspect top).hi) end))
-ended kind known budget (MutingSwept u tries sweep top below) x found goes p end used =
-    exhausted kind known budget x found (is_open kind known budget (MutingSwept u tries sweep top below) x found p)
+ended kind known budget (Sweeping sweep) x found goes p end used =
+    exhausted kind known budget x found (is_open kind known budget (Sweeping sweep) x found p)
+    (used (not_wanted goes (Branch sweep.question.range.lo sweep.question.range.hi) end))
+ended kind known budget (MutingSwept u tries sweep) x found goes p end used =
+    exhausted kind known budget x found (is_open kind known budget (MutingSwept u tries sweep) x found p)
     (used (not_wanted goes (Mute u) end))
-ended kind known budget (Doubting sweep top below) x found goes p end used =
-    exhausted kind known budget x found (is_open kind known budget (Doubting sweep top below) x found p)
-    (used (not_wanted goes (Branch (top.lo - 2) (top.lo - 1)) end))
 ended kind known budget (MutingRead u tries top below) x found goes p end used =
     exhausted kind known budget x found (is_open kind known budget (MutingRead u tries top below) x found p)
     (used (not_wanted goes (Mute u) end))
@@ -337,9 +318,8 @@ few_open_ranges_by search kind known budget x b set run =
     few (MutingKnown u tries left) p = omega arith
     few (Searching silences top below) p = IsStack-length top below p.searches.stack
     few (MutingRead u tries top below) p = IsStack-length top below p.searches.stack
-    few (Sweeping sweep top below) p = IsStack-length top below p.stack
-    few (MutingSwept u tries sweep top below) p = IsStack-length top below p.stack
-    few (Doubting sweep top below) p = IsStack-length top below p.sweeps.stack
+    few (Sweeping sweep) p = omega arith
+    few (MutingSwept u tries sweep) p = omega arith
     few (Ended fault) p = omega arith
 
 -- a failure is the last exchange
@@ -374,12 +354,10 @@ failed_phase kind known budget (MutingKnown u tries left) x found p =
     none_failed x (is_open kind known budget (MutingKnown u tries left) x found p).no_failure
 failed_phase kind known budget (Searching silences top below) x found p =
     none_failed x (is_open kind known budget (Searching silences top below) x found p).no_failure
-failed_phase kind known budget (Sweeping sweep top below) x found p =
-    none_failed x (is_open kind known budget (Sweeping sweep top below) x found p).no_failure
-failed_phase kind known budget (MutingSwept u tries sweep top below) x found p =
-    none_failed x (is_open kind known budget (MutingSwept u tries sweep top below) x found p).no_failure
-failed_phase kind known budget (Doubting sweep top below) x found p =
-    none_failed x (is_open kind known budget (Doubting sweep top below) x found p).no_failure
+failed_phase kind known budget (Sweeping sweep) x found p =
+    none_failed x (is_open kind known budget (Sweeping sweep) x found p).no_failure
+failed_phase kind known budget (MutingSwept u tries sweep) x found p =
+    none_failed x (is_open kind known budget (MutingSwept u tries sweep) x found p).no_failure
 failed_phase kind known budget (MutingRead u tries top below) x found p =
     none_failed x (is_open kind known budget (MutingRead u tries top below) x found p).no_failure
 

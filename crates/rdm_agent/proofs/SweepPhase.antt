@@ -1,178 +1,136 @@
 -- What a sweep's exchanges keep.
-use Rattle.std.proofs.Common.{◌≡◌, ℕ, ◌+◌, ◌-◌, ◌*◌, ◌≤◌, Bool, true, false, ◌&&◌, not, List, [], ◌∷◌, ◌++◌, Option}
-use Rattle.std.proofs.Common.{None, refl, sym, ap, ◌∙◌, subst, true≢false, arith}
+use Rattle.std.proofs.Common.{◌≡◌, ℕ, ◌+◌, ◌*◌, ◌<◌, Bool, true, false, ◌&&◌, not, List, [], ◌∷◌, ◌++◌, None, refl, sym}
+use Rattle.std.proofs.Common.{inl, inr, subst, true≢false, arith}
 use Rattle.std.specs.Prelude.{◌==◌, nat_lt}
-use Rattle.std.proofs.lemmas.Bool.{cond_both, eqb-true, eqb-false, ltb-true, and_parts, eq-eqb}
-use Rattle.rdm_wire.specs.Span.{Span, whole, middle, lower_half, upper_half}
+use Rattle.std.proofs.lemmas.Bool.{cond_both, eqb-true, eqb-false, eq-eqb}
+use Rattle.rdm_wire.specs.Span.{Span, whole}
 use Rattle.rdm_wire.specs.Honest.{Seen}
 use Rattle.rdm_wire.specs.Honest.Asked.{Branch}
 use Rattle.rdm_wire.specs.Honest.Heard.{Silent}
 use Rattle.rdm_agent.specs.Certificate.{known_of}
+use Rattle.rdm_agent.specs.Run.{IsSilentBranch}
 use Rattle.rdm_agent.specs.Cause.{IsCorrupt}
-use Rattle.rdm_agent.specs.body.Sound.{IsStack}
-use Rattle.rdm_agent.specs.Machine.{Phase, Sweep, is_suspect, is_one, is_new, is_wanted, is_sibling, probe, suspecting}
-use Rattle.rdm_agent.specs.Machine.{sweep_to, sweep_below, sweep_halves, sweep_silent, sweep_doubt, sweep_apart}
-use Rattle.rdm_agent.specs.Machine.Phase.{Searching}
+use Rattle.rdm_agent.specs.declared.limits.TheConstants.{TRIES}
+use Rattle.rdm_agent.specs.declared.belief.Belief.{Belief}
+use Rattle.rdm_agent.specs.declared.sweep.Sweep.{Sweep}
+use Rattle.rdm_agent.specs.Machine.{Phase, is_suspect, is_one, is_new, is_whole, is_wanted, is_last, choose}
+use Rattle.rdm_agent.specs.Machine.{sweep_on, sweep_silent, sweep_apart, believed_silent, believed_apart}
+use Rattle.rdm_agent.specs.Machine.Phase.{Searching, Sweeping}
 use Rattle.rdm_agent.specs.declared.kind.Kind.{Kind}
 use Rattle.rdm_agent.proofs.Members.{first_part}
 use Rattle.rdm_agent.proofs.OneDevice.{NotFailed}
-use Rattle.rdm_agent.proofs.Stacks.{IsStack-pop, IsStack-split}
-use Rattle.rdm_agent.proofs.CorruptLemmas.{IsNewDevice, is_new-device}
+use Rattle.rdm_agent.proofs.Choices.{Asks, IsChosen, chosen, same_range}
 use Rattle.rdm_agent.proofs.FoundLemmas.{IsFound-all_reported}
-use Rattle.rdm_agent.proofs.UnderWay.{EndsWith-none, EndsWith-push}
-use Rattle.rdm_agent.proofs.Invariant.{Searches, InPhase}
-
--- what is asked for the top range of a sweep has its end, and begins with it or one before it
-pub record IsProbe (top asked : Span) : Type 0 where
-  pub from : asked.lo ≤ top.lo
-  pub near : top.lo ≤ asked.lo + 1
-  pub to : asked.hi ≡ top.hi
-  pub same : (asked.lo ≡ asked.hi → asked ≡ top) × ((top.lo ≡ top.hi → ⊥) → asked ≡ top)
-
-pub probe_is : (suspect : Option ℕ) (top : Span) → IsProbe top (probe suspect top)
-probe_is suspect top = cond_both (is_one top && not (is_suspect suspect (top.lo - 1))) _ _ (IsProbe top)
-    (λ both. let one : top.lo
-    ≡ top.hi = eqb-true top.lo top.hi (and_parts (is_one top) (not (is_suspect suspect (top.lo - 1))) both).0 in
-    record {
-      from = omega arith;
-      near = omega arith;
-      to = refl;
-      same = (
-        (λ alone. ap (λ n. spanning n top.hi) (let first : top.lo - 1 ≡ top.lo = omega arith in first)),
-        λ several. absurd (several one),
-      );
-    })
-    (λ other. record { from = omega arith; near = omega arith; to = refl; same = ((λ alone. refl), λ several. refl) })
-  where
-    spanning : ℕ → ℕ → Span
-    spanning lo hi = record { lo = lo; hi = hi }
-
--- a new device of the top range is one of what is asked
-pub probe-new : (suspect : Option ℕ) (found : List ℕ) (top : Span) (u : ℕ) → is_new found top u ≡ true
-    → IsNewDevice found (probe suspect top) u
-probe-new suspect found top u new =
-    let device = is_new-device found top u new in let asked = probe_is suspect top in let from = device.from in
-    let to = device.to in let low = asked.from in let high = asked.to in
-    record { own = device.own; from = omega arith; to = omega arith; new = device.new }
+use Rattle.rdm_agent.proofs.UnderWay.{EndsWith-none, EndsWith-push, EndsWith-succession}
+use Rattle.rdm_agent.proofs.SearchPhase.{search-next}
+use Rattle.rdm_agent.proofs.Invariant.{EndsWith, Searches, InPhase}
 
 -- in a range of its own what is new is muted
-pub refused-alone : (found : List ℕ) (sweep : Sweep) (top : Span) (u : ℕ) → is_wanted found sweep top u ≡ false
-    → (probe sweep.suspect top).lo ≡ (probe sweep.suspect top).hi → is_new found (probe sweep.suspect top) u ≡ false
-refused-alone found sweep top u refused alone =
-    subst (λ r. is_new found r u ≡ false) (sym ((probe_is sweep.suspect top).same.0 alone))
-    (unless (is_new found top u) (is_suspect sweep.suspect u) (is_one (probe sweep.suspect top)) (one alone)
-    refused)
+pub refused-alone : (found : List ℕ) (sweep : Sweep) (u : ℕ) → is_wanted found sweep u ≡ false
+    → sweep.question.range.lo ≡ sweep.question.range.hi → is_new found sweep.question.range u ≡ false
+refused-alone found sweep u refused alone =
+    unless (is_new found sweep.question.range u) (is_suspect sweep.belief.suspect u) (is_one sweep.question.range)
+    (eq-eqb sweep.question.range.lo sweep.question.range.hi alone) refused
   where
-    one : (probe sweep.suspect top).lo ≡ (probe sweep.suspect top).hi → is_one (probe sweep.suspect top) ≡ true
-    one same = eq-eqb (probe sweep.suspect top).lo (probe sweep.suspect top).hi same
-
     unless : (new known alone : Bool) → alone ≡ true → (new && not (known && not alone)) ≡ false → new ≡ false
     unless false known alone is never = refl
     unless true true true is never = never
     unless true false true is never = never
     unless true known false is never = absurd (true≢false (sym is))
 
+-- the exchanges end with so many silent branches of the range
+abbrev pub EndsSilent : ℕ → Span → List Seen → Type 0
+EndsSilent n r x = EndsWith n (IsSilentBranch r.lo r.hi) x
+
 module _ (kind : Kind) (known : List ℕ) (budget : ℕ) where
   module _ (x : List Seen) (found : List ℕ) (s : Searches (known_of kind known) None whole [] x found)
       (not_corrupt : (u : ℕ) → IsCorrupt u x → ⊥) where
     -- the steady search begins
-    pub begins-steady : InPhase kind known budget (Searching 0 whole []) x found
-    begins-steady = record { searches = s; few = omega arith; silent = EndsWith-none _ x; not_corrupt = not_corrupt }
+    pub begins-steady : (silences : ℕ) → silences < TRIES → EndsSilent silences whole x
+        → InPhase kind known budget (Searching silences whole []) x found
+    begins-steady silences few silent = record {
+      searches = s;
+      few = few;
+      silent = silent;
+      not_corrupt = not_corrupt;
+    }
+
+    -- the sweep asks what it chose
+    asks-phase : (silences : ℕ) (last : Span) (c : Sweep) (made : ℕ) → EndsSilent silences last x
+        → IsChosen made silences last c → InPhase kind known budget (Sweeping c) x found
+    asks-phase silences last c made silent is = record {
+      searches = s;
+      asks = is.asks;
+      silent = elim is.again [
+        | inl none ↦ subst (λ n. EndsSilent n c.question.range x) (sym none) (EndsWith-none _ x)
+        | inr same ↦ subst (λ (r : Span). EndsSilent c.silences r x) (sym same.1)
+            (subst (λ n. EndsSilent n last x) (sym same.0) silent)
+      ];
+      not_corrupt = not_corrupt;
+    }
 
     -- the sweep goes on, or the steady search begins
-    pub to-phase : (sweep : Sweep) (n : ℕ) (top : Span) (below : List Span) → IsStack top below
-        → InPhase kind known budget (sweep_to sweep n top below) x found
-    to-phase sweep n top below stack =
+    pub on-phase : (sweep : Sweep) (silences n : ℕ) (b : Belief) → silences < TRIES
+        → EndsSilent silences sweep.question.range x
+        → InPhase kind known budget (sweep_on sweep silences n b) x found
+    on-phase sweep silences n b few silent =
         cond_both (nat_lt sweep.made (100 * (n + 2))) _ _ (λ p. InPhase kind known budget p x found)
-        (λ goes. record { searches = s; stack = stack; not_corrupt = not_corrupt }) (λ out. begins-steady)
+        (λ goes. asks-phase silences sweep.question.range (choose sweep.made silences sweep.question.range b) sweep.made
+        silent (chosen sweep.made silences sweep.question.range b few))
+        (λ out. cond_both (is_whole sweep.question.range) silences 0
+        (λ m. InPhase kind known budget (Searching m whole []) x found)
+        (λ all. begins-steady silences few
+        (subst (λ (r : Span). EndsSilent silences r x) (same_range sweep.question.range whole all) silent))
+        (λ other. begins-steady 0 (omega arith) (EndsWith-none _ x)))
 
-    pub below-phase : (sweep : Sweep) (n : ℕ) (top : Span) (below : List Span) → IsStack top below
-        → InPhase kind known budget (sweep_below sweep n below) x found
-    below-phase sweep n top [] stack = begins-steady
-    below-phase sweep n top (r ∷ rs) stack = to-phase sweep n r rs (IsStack-pop top r rs stack)
-
-    pub halves-phase : (sweep : Sweep) (n : ℕ) (r : Span) (below : List Span) → (r.lo ≡ r.hi → ⊥) → IsStack r below
-        → InPhase kind known budget (sweep_halves sweep n r below) x found
-    halves-phase sweep n r below several stack =
-        cond_both (middle r == 0) _ _ (λ p. InPhase kind known budget p x found)
-        (λ least. to-phase (suspecting 0 sweep) n (upper_half r) below
-        (IsStack-pop (lower_half r) (upper_half r) below (IsStack-split r below several stack)))
-        (λ other. to-phase sweep n (lower_half r) (upper_half r ∷ below) (IsStack-split r below several stack))
-
-    pub doubt-phase : (sweep : Sweep) (n : ℕ) (top : Span) (below : List Span) → IsStack top below
-        → InPhase kind known budget (sweep_doubt sweep n top below) x found
-    doubt-phase sweep n top below stack =
-        cond_both (nat_lt 1 top.lo && nat_lt sweep.made (100 * (n + 2))) _ _ (λ p. InPhase kind known budget p x found)
-        (λ both. record {
-          sweeps = record { searches = s; stack = stack; not_corrupt = not_corrupt };
-          some = ltb-true 1 top.lo (and_parts (nat_lt 1 top.lo) (nat_lt sweep.made (100 * (n + 2))) both).0;
-        })
-        (λ other. below-phase (suspecting top.lo sweep) n top below stack)
-
-  -- the top range was silent
-  pub silent-phase : (suspect : Option ℕ) (sweep : Sweep) (n : ℕ) (top : Span) (below : List Span) (x : List Seen)
-      (found : List ℕ) → IsStack top below
+  -- the range was silent
+  pub silent-phase : (sweep : Sweep) (n : ℕ) (x : List Seen) (found : List ℕ) → Asks sweep
+      → EndsSilent sweep.silences sweep.question.range x
       → Searches (known_of kind known) None whole []
-      (x ++ record { asked = Branch (probe suspect top).lo (probe suspect top).hi; heard = Silent } ∷ []) found
+      (x ++ record { asked = Branch sweep.question.range.lo sweep.question.range.hi; heard = Silent } ∷ []) found
       → ((u : ℕ) → IsCorrupt u
-      (x ++ record { asked = Branch (probe suspect top).lo (probe suspect top).hi; heard = Silent } ∷ []) → ⊥)
-      → InPhase kind known budget (sweep_silent sweep n top below)
-      (x ++ record { asked = Branch (probe suspect top).lo (probe suspect top).hi; heard = Silent } ∷ []) found
-  silent-phase suspect sweep n top [] x found stack s not_corrupt =
-      cond_both (top.lo == 0) 1 0 (λ k. InPhase kind known budget (Searching k whole []) (x ++ e ∷ []) found)
-      (λ first. record {
-        searches = s;
-        few = omega arith;
-        silent = EndsWith-push e (EndsWith-none _ x) (of_whole (eqb-true top.lo 0 first), refl);
-        not_corrupt = not_corrupt;
-      })
-      (λ other. begins-steady (x ++ e ∷ []) found s not_corrupt)
+      (x ++ record { asked = Branch sweep.question.range.lo sweep.question.range.hi; heard = Silent } ∷ []) → ⊥)
+      → InPhase kind known budget (sweep_silent sweep n)
+      (x ++ record { asked = Branch sweep.question.range.lo sweep.question.range.hi; heard = Silent } ∷ []) found
+  silent-phase sweep n x found asks silent s not_corrupt =
+      cond_both ((sweep.silences + 1) == TRIES) _ _ (λ p. InPhase kind known budget p (x ++ e ∷ []) found)
+      (λ five. let all = asks.last (eqb-true (sweep.silences + 1) TRIES five) in
+      search-next kind known budget whole [] x e found s
+      (EndsWith-succession (subst (λ m. EndsSilent m whole (x ++ e ∷ [])) (eqb-true (sweep.silences + 1) TRIES five)
+      (subst (λ (r : Span). EndsSilent (sweep.silences + 1) r (x ++ e ∷ [])) all more))) not_corrupt)
+      (λ fewer. on-phase (x ++ e ∷ []) found s not_corrupt sweep (sweep.silences + 1) n
+      (believed_silent sweep.question.part sweep.question.range sweep.belief)
+      (let few = asks.few in let not_five = eqb-false (sweep.silences + 1) TRIES fewer in grind arith) more)
     where
       e : Seen
-      e = record { asked = Branch (probe suspect top).lo (probe suspect top).hi; heard = Silent }
+      e = record { asked = Branch sweep.question.range.lo sweep.question.range.hi; heard = Silent }
 
-      of_whole : top.lo ≡ 0 → Branch (probe suspect top).lo (probe suspect top).hi ≡ Branch whole.lo whole.hi
-      of_whole first =
-          let end = stack.rest in let asked = probe_is suspect top in let from = asked.from in let to = asked.to in
-          let low : (probe suspect top).lo ≡ 0 = omega arith in
-          let high : (probe suspect top).hi ≡ 0xffffffffffff = omega arith in
-          ap (λ l. Branch l (probe suspect top).hi) low ∙ ap (λ h. Branch 0 h) high
-  silent-phase suspect sweep n top (r ∷ rs) x found stack s not_corrupt =
-      cond_both (is_sibling top r) _ _ (λ p. InPhase kind known budget p (x ++ e ∷ []) found)
-      (λ sibling. halves-phase (x ++ e ∷ []) found s not_corrupt sweep n r rs (several sibling)
-      (IsStack-pop top r rs stack))
-      (λ other. to-phase (x ++ e ∷ []) found s not_corrupt sweep n r rs (IsStack-pop top r rs stack))
-    where
-      e : Seen
-      e = record { asked = Branch (probe suspect top).lo (probe suspect top).hi; heard = Silent }
+      more : EndsSilent (sweep.silences + 1) sweep.question.range (x ++ e ∷ [])
+      more = EndsWith-push e silent (refl, refl)
 
-      several : is_sibling top r ≡ true → r.lo ≡ r.hi → ⊥
-      several sibling one =
-          true≢false (sym (and_parts ((r.hi - r.lo) == (top.hi - top.lo)) (not (is_one r)) sibling).1
-          ∙ ap not (eq-eqb r.lo r.hi one))
-
-  -- the top range collided
-  pub apart-phase : (asked : Span) (sweep : Sweep) (n : ℕ) (top : Span) (below : List Span) (x : List Seen) (e : Seen)
-      (found : List ℕ) → IsStack top below → Searches (known_of kind known) None whole [] (x ++ e ∷ []) found
-      → (asked.lo ≡ asked.hi → IsCorrupt asked.lo (x ++ e ∷ []))
-      → ((asked.lo ≡ asked.hi → ⊥) → (u : ℕ) → IsCorrupt u (x ++ e ∷ []) → ⊥)
-      → InPhase kind known budget (sweep_apart asked sweep n top below) (x ++ e ∷ []) found
-  apart-phase asked sweep n top below x e found stack s corrupt not_corrupt = cond_both (is_one asked) _ _ P
+  -- the range collided
+  pub apart-phase : (sweep : Sweep) (n : ℕ) (x : List Seen) (e : Seen) (found : List ℕ)
+      → Searches (known_of kind known) None whole [] (x ++ e ∷ []) found
+      → (sweep.question.range.lo ≡ sweep.question.range.hi → IsCorrupt sweep.question.range.lo (x ++ e ∷ []))
+      → ((sweep.question.range.lo ≡ sweep.question.range.hi → ⊥) → (u : ℕ) → IsCorrupt u (x ++ e ∷ []) → ⊥)
+      → InPhase kind known budget (sweep_apart sweep n) (x ++ e ∷ []) found
+  apart-phase sweep n x e found s corrupt not_corrupt = cond_both (is_one sweep.question.range) _ _ P
       (λ alone. record {
         before = x;
         last = e;
         whole = refl;
         no_failure = first_part NotFailed x (e ∷ []) s.under_way.no_failure;
         certified = (
-          corrupt (eqb-true asked.lo asked.hi alone),
+          corrupt (eqb-true sweep.question.range.lo sweep.question.range.hi alone),
           IsFound-all_reported (x ++ e ∷ []) found s.under_way.is_found,
         );
       })
-      (λ both. cond_both (is_one top) _ _ P
-      (λ one. doubt-phase (x ++ e ∷ []) found s (not_corrupt (eqb-false asked.lo asked.hi both)) sweep n top below
-      stack)
-      (λ several. halves-phase (x ++ e ∷ []) found s (not_corrupt (eqb-false asked.lo asked.hi both)) sweep n top below
-      (eqb-false top.lo top.hi several) stack))
+      (λ several. let not = not_corrupt (eqb-false sweep.question.range.lo sweep.question.range.hi several) in
+      cond_both (is_last sweep.question.part && sweep.belief.vain) _ _ P
+      (λ vain. begins-steady (x ++ e ∷ []) found s not 0 (omega arith) (EndsWith-none _ (x ++ e ∷ [])))
+      (λ goes. on-phase (x ++ e ∷ []) found s not sweep 0 n
+      (believed_apart sweep.question.part sweep.question.range sweep.belief) (omega arith)
+      (EndsWith-none _ (x ++ e ∷ []))))
     where
       P : Phase → Type 0
       P p = InPhase kind known budget p (x ++ e ∷ []) found

@@ -29,7 +29,7 @@ use std::mem::size_of;
 
 /// One discovery run by E1.20's discovery commands, between an exchange and the next.
 ///
-/// It is a plain value of 41,848 bytes, allocates nothing and stores no exchanges. Contracts see it as the state of a
+/// It is a plain value of 41,944 bytes, allocates nothing and stores no exchanges. Contracts see it as the state of a
 /// machine: its budget, how many exchanges it has made, the devices found, and its phase.
 #[derive(Debug, Drop)]
 pub struct Agent {
@@ -40,7 +40,7 @@ pub struct Agent {
 }
 
 // The size that the docs state.
-const _: () = prove!(size_of::<Agent>() == 41_848);
+const _: () = prove!(size_of::<Agent>() == 41_944);
 
 impl Model for Agent {
     ghost use Rattle.rdm_agent.specs.Machine.{AgentState};
@@ -241,20 +241,19 @@ impl Agent {
         }
     }
 
-    /// How many ranges are still open: 1 from the start, [`MOST_RANGES`] at most. A quick run first has those of its
-    /// sweep, and 1 again when its steady search begins. 0 at the end of the search, after a failure and after an
-    /// abort. If the budget was used up during the search, the ranges that were open then still count.
+    /// How many ranges are still open: 1 from the start, [`MOST_RANGES`] at most. It is 1 during the sweep of a quick
+    /// run, and 0 at the end of the search, after a failure and after an abort. If the budget was used up during the
+    /// search, the ranges that were open then still count.
     pub fn open_ranges(&self) -> usize
         ensures value { result ≡ open_ranges self.now.phase }
         ensures at_most { result ≤ MOST_RANGES }
     {
         match self.phase {
-            Phase::Unmuting { .. } | Phase::MutingKnown { .. } => 1,
-            Phase::Searching { .. }
-            | Phase::MutingRead { .. }
+            Phase::Unmuting { .. }
+            | Phase::MutingKnown { .. }
             | Phase::Sweeping { .. }
-            | Phase::MutingSwept { .. }
-            | Phase::Doubting { .. } => self.run_state.below.len() + 1,
+            | Phase::MutingSwept { .. } => 1,
+            Phase::Searching { .. } | Phase::MutingRead { .. } => self.run_state.below.len() + 1,
             Phase::Ended(_) => 0,
         }
     }

@@ -2,6 +2,7 @@
 #![tactic(auto)]
 
 mod agent;
+mod belief;
 mod fault;
 mod kind;
 mod known;

@@ -6,7 +6,7 @@ ghost use Rattle.rdm_agent.specs.Calls.{op_of};
 
 use crate::fault::AgentFault;
 use crate::op::Op;
-use crate::sweep::{Sweep, lower_pair};
+use crate::sweep::Sweep;
 use rdm_wire::{Uid, UidRange};
 
 /// The phase of a run. Contracts see it together with the known UIDs that are left and the ranges below the top one.
@@ -40,29 +40,18 @@ pub(crate) enum Phase {
         /// The range.
         top: UidRange,
     },
-    /// The top range is branched once, in a sweep.
+    /// The range of a sweep's question is branched.
     Sweeping {
-        /// The range.
-        top: UidRange,
-        /// What the sweep remembers.
+        /// The sweep.
         sweep: Sweep,
     },
-    /// A UID that the top range's branch spelt in a sweep is being muted, and this many tries had no answer.
+    /// A UID that a sweep's branch spelt is being muted, and this many tries had no answer.
     MutingSwept {
         /// The UID.
         uid: Uid,
         /// Below [`TRIES`](crate::TRIES).
         tries: u8,
-        /// The range.
-        top: UidRange,
-        /// What the sweep remembers.
-        sweep: Sweep,
-    },
-    /// In a sweep a range of one UID collided with the UID below it. A branch shows whether that one replied.
-    Doubting {
-        /// The range.
-        top: UidRange,
-        /// What the sweep remembers.
+        /// The sweep.
         sweep: Sweep,
     },
     /// The run has ended.
@@ -82,8 +71,7 @@ impl Phase {
             | Phase::MutingRead { uid, .. }
             | Phase::MutingSwept { uid, .. } => Op::Mute(uid),
             Phase::Searching { top, .. } => Op::Branch(top),
-            Phase::Sweeping { top, sweep } => Op::Branch(sweep.probe(top)),
-            Phase::Doubting { top, .. } => Op::Branch(lower_pair(top)),
+            Phase::Sweeping { sweep } => Op::Branch(sweep.question.range),
             Phase::Ended(_) => Op::End,
         }
     }

@@ -7,17 +7,16 @@ ghost use Rattle.rdm_wire.specs.Uid.{is_broadcast, IsDevice, IsDeviceSet};
 ghost use Rattle.rdm_wire.specs.Devices.{uids_of};
 ghost use Rattle.rdm_agent.specs.Machine.{fed, wanted, to_found, split, search_from, search_below, is_new};
 ghost use Rattle.rdm_agent.specs.Machine.{known_heard, branch_heard, mute_heard, first_phase, sweep_heard, swept_heard};
-ghost use Rattle.rdm_agent.specs.Machine.{sweep_to, sweep_below, sweep_silent, sweep_halves, sweep_apart};
-ghost use Rattle.rdm_agent.specs.Machine.{sweep_past, sweep_doubt, doubt_heard};
-ghost use Rattle.rdm_agent.specs.Machine.{is_one, is_sibling, is_wanted};
+ghost use Rattle.rdm_agent.specs.Machine.{sweep_on, sweep_silent, sweep_apart, is_wanted};
 ghost use Rattle.rdm_agent.specs.Machine.Phase.{Unmuting as unmuting, Searching as searching};
 ghost use Rattle.rdm_agent.specs.Certificate.{known_of};
 ghost use Rattle.rdm_agent.specs.Run.{heard_by, heard_of_mute, heard_of_branch, device_from};
 ghost use Rattle.rdm_agent.specs.Calls.{fits, op_of};
-ghost use Rattle.rdm_agent.specs.body.Sound.{IsSound, IsFresh, IsStack};
+ghost use Rattle.rdm_agent.specs.body.Sound.{IsSound, IsFresh, IsStack, IsSmall};
 ghost use Rattle.rdm_agent.specs.declared.fault.AgentFault.TheVariants.{TooMany};
-ghost use Rattle.rdm_agent.specs.body.AgentFields.{seen_phase, phase_of, sweep_of, Steps};
+ghost use Rattle.rdm_agent.specs.body.AgentFields.{seen_phase, phase_of, Steps};
 
+use crate::belief::{Belief, Part};
 use crate::fault::AgentFault;
 use crate::kind::Kind;
 use crate::known::KnownLeft;
@@ -26,7 +25,7 @@ use crate::op::OpReply;
 use crate::phase::Phase;
 use crate::ranges::RangesBelow;
 use crate::search::Search;
-use crate::sweep::{Sweep, lower_pair};
+use crate::sweep::{Sweep, is_whole};
 use rdm_wire::{BranchReply, Device, DeviceSet, MuteAck, SetFull, Uid, UidRange, UidSet};
 
 /// What a run has found, and what it still has to search.
@@ -78,20 +77,9 @@ impl RunState {
             (Phase::MutingRead { uid, tries, top }, OpReply::Mute(ack)) => {
                 self.read_muted(uid, tries, top, ack)
             }
-            (Phase::Sweeping { top, sweep }, OpReply::Branch(reply)) => {
-                self.swept(top, sweep, reply)
-            }
-            (
-                Phase::MutingSwept {
-                    uid,
-                    tries,
-                    top,
-                    sweep,
-                },
-                OpReply::Mute(ack),
-            ) => self.swept_muted(uid, tries, top, sweep, ack),
-            (Phase::Doubting { top, sweep }, OpReply::Branch(reply)) => {
-                self.doubted(top, sweep, reply)
+            (Phase::Sweeping { sweep }, OpReply::Branch(reply)) => self.swept(sweep, reply),
+            (Phase::MutingSwept { uid, tries, sweep }, OpReply::Mute(ack)) => {
+                self.swept_muted(uid, tries, sweep, ack)
             }
             _ => unreachable!(),
         }
@@ -138,7 +126,6 @@ impl RunState {
         match self.search {
             Search::Steady => searching_all(0),
             Search::Quick => Phase::Sweeping {
-                top: UidRange::whole(),
                 sweep: Sweep::new(),
             },
         }
@@ -257,217 +244,66 @@ impl RunState {
         }
     }
 
-    // After a branch of a sweep's top range.
-    fn swept(&mut self, top: UidRange, sweep: Sweep, reply: BranchReply) -> Phase
+    // After a branch of a sweep.
+    fn swept(&mut self, sweep: Sweep, reply: BranchReply) -> Phase
         requires made { sweep.made < 2 ^ 20 }
-        requires ranges { IsStack top self.old.below }
-        ensures state { Steps (λ a. sweep_heard a (sweep_of sweep) top self.old.below (heard_of_branch reply))
-            (Phase.Sweeping top sweep) self.old result self.new }
+        requires silences { sweep.silences < TRIES }
+        requires small { IsSmall sweep.belief }
+        requires fresh { self.old.below ≡ [] }
+        ensures state { Steps (λ a. sweep_heard a sweep (heard_of_branch reply))
+            (Phase.Sweeping sweep) self.old result self.new }
         ensures sound { IsSound (seen_phase result self.new) }
-        ensures fresh { IsFresh (seen_phase result self.new) self.new.below }
+        ensures fresh { self.new.below ≡ [] }
     {
         let found = self.found.len();
         let counted = sweep.counted();
         match reply {
-            BranchReply::Silent => self.sweep_silent(counted, found, top),
-            BranchReply::One(uid) if self.is_wanted(uid, &sweep, top) => Phase::MutingSwept {
+            BranchReply::Silent => sweep_silent(counted, found),
+            BranchReply::One(uid) if self.is_wanted(uid, &sweep) => Phase::MutingSwept {
                 uid,
                 tries: 0,
-                top,
                 sweep: counted,
             },
-            BranchReply::One(_) | BranchReply::Collision => {
-                self.sweep_apart(sweep.probe(top), counted, found, top)
-            }
+            BranchReply::One(_) | BranchReply::Collision => sweep_apart(counted, found),
         }
     }
 
-    // After a branch of the two UIDs below a sweep's top range. That is of one UID, and collided with the one below it.
-    fn doubted(&mut self, top: UidRange, sweep: Sweep, reply: BranchReply) -> Phase
-        requires made { sweep.made < 2 ^ 20 }
-        requires some { 1 < top.lo }
-        requires ranges { IsStack top self.old.below }
-        ensures state { Steps (λ a. doubt_heard a (sweep_of sweep) top self.old.below (heard_of_branch reply))
-            (Phase.Doubting top sweep) self.old result self.new }
-        ensures sound { IsSound (seen_phase result self.new) }
-        ensures fresh { IsFresh (seen_phase result self.new) self.new.below }
-    {
-        let found = self.found.len();
-        let counted = sweep.counted();
-        match reply {
-            BranchReply::Silent => self.sweep_past(counted, found, top),
-            BranchReply::One(_) | BranchReply::Collision => {
-                let suspect = lower_pair(top).hi;
-                self.sweep_to(counted.suspecting(suspect), found, top)
-            }
-        }
-    }
-
-    // After the mute of a UID that a branch of a sweep's top range spelt.
-    fn swept_muted(
-        &mut self,
-        uid: Uid,
-        tries: u8,
-        top: UidRange,
-        sweep: Sweep,
-        ack: Option<MuteAck>,
-    ) -> Phase
+    // After the mute of a UID that a sweep's branch spelt.
+    fn swept_muted(&mut self, uid: Uid, tries: u8, sweep: Sweep, ack: Option<MuteAck>) -> Phase
         requires device { IsDevice uid }
         requires tries { tries < TRIES }
         requires made { sweep.made ≤ 2 ^ 20 + tries }
-        requires ranges { IsStack top self.old.below }
-        ensures state { Steps (λ a. swept_heard a uid tries (sweep_of sweep) top self.old.below (heard_of_mute ack))
-            (Phase.MutingSwept uid tries top sweep) self.old result self.new }
+        requires silences { sweep.silences < TRIES }
+        requires small { IsSmall sweep.belief }
+        requires fresh { self.old.below ≡ [] }
+        ensures state { Steps (λ a. swept_heard a uid tries sweep (heard_of_mute ack))
+            (Phase.MutingSwept uid tries sweep) self.old result self.new }
         ensures sound { IsSound (seen_phase result self.new) }
-        ensures fresh { IsFresh (seen_phase result self.new) self.new.below }
+        ensures fresh { self.new.below ≡ [] }
     {
         let found = self.found.len();
         let counted = sweep.counted();
         if let Some(ack) = ack {
-            let onward = self.sweep_below(counted, found + 1);
+            let belief = sweep.belief.found(sweep.question);
+            let onward = sweep_on(counted, 0, found + 1, belief);
             return self.find(device_from(uid, ack), onward);
         }
         match tries + 1 {
-            TRIES => self.sweep_apart(sweep.probe(top), counted.suspecting(uid), found, top),
+            TRIES => sweep_apart(counted.suspecting(uid), found),
             tries => Phase::MutingSwept {
                 uid,
                 tries,
-                top,
                 sweep: counted,
             },
         }
     }
 
-    // A sweep that has found this many devices goes on with this range. At its limit the steady search begins.
-    fn sweep_to(&mut self, sweep: Sweep, found: usize, top: UidRange) -> Phase
-        requires found { found ≤ 1025 }
-        requires ranges { IsStack top self.old.below }
-        ensures phase { seen_phase result self.new ≡ sweep_to (sweep_of sweep) found top self.old.below }
-        ensures search { self.new.search ≡ self.old.search }
-        ensures found { self.new.found ≡ self.old.found }
-        ensures sound { IsSound (seen_phase result self.new) }
-        ensures fresh { IsFresh (seen_phase result self.new) self.new.below }
-    {
-        if sweep.made < SWEEP_FRAMES * (found + 2) {
-            return Phase::Sweeping { top, sweep };
-        }
-        self.below.clear();
-        searching_all(0)
-    }
-
-    // A sweep's top range is removed. If there is none below it, the steady search begins.
-    fn sweep_below(&mut self, sweep: Sweep, found: usize) -> Phase
-        requires found { found ≤ 1025 }
-        requires ranges { (top : Span) × IsStack top self.old.below }
-        ensures phase { seen_phase result self.new ≡ sweep_below (sweep_of sweep) found self.old.below }
-        ensures search { self.new.search ≡ self.old.search }
-        ensures found { self.new.found ≡ self.old.found }
-        ensures sound { IsSound (seen_phase result self.new) }
-        ensures fresh { IsFresh (seen_phase result self.new) self.new.below }
-    {
-        match self.below.pop() {
-            Some(top) => self.sweep_to(sweep, found, top),
-            None => searching_all(0),
-        }
-    }
-
-    // A sweep's top range was silent.
-    fn sweep_silent(&mut self, sweep: Sweep, found: usize, top: UidRange) -> Phase
-        requires found { found ≤ 1025 }
-        requires ranges { IsStack top self.old.below }
-        ensures phase { seen_phase result self.new ≡ sweep_silent (sweep_of sweep) found top self.old.below }
-        ensures search { self.new.search ≡ self.old.search }
-        ensures found { self.new.found ≡ self.old.found }
-        ensures sound { IsSound (seen_phase result self.new) }
-        ensures fresh { IsFresh (seen_phase result self.new) self.new.below }
-    {
-        let Some(next) = self.below.pop() else {
-            return searching_all(if top.lo.number() == 0 { 1 } else { 0 });
-        };
-        if is_sibling(top, next) {
-            self.sweep_halves(sweep, found, next)
-        } else {
-            self.sweep_to(sweep, found, next)
-        }
-    }
-
-    // The halves of a range of several UIDs are swept, the lower one first. UID 0 is given up, since no UID is below
-    // it.
-    fn sweep_halves(&mut self, sweep: Sweep, found: usize, range: UidRange) -> Phase
-        requires found { found ≤ 1025 }
-        requires several { is_one range ≡ false }
-        requires ranges { IsStack range self.old.below }
-        ensures phase { seen_phase result self.new ≡ sweep_halves (sweep_of sweep) found range self.old.below }
-        ensures search { self.new.search ≡ self.old.search }
-        ensures found { self.new.found ≡ self.old.found }
-        ensures sound { IsSound (seen_phase result self.new) }
-        ensures fresh { IsFresh (seen_phase result self.new) self.new.below }
-    {
-        let Some((lower_half, upper_half)) = range.halves() else {
-            unreachable!()
-        };
-        if lower_half.hi.number() == 0 {
-            return self.sweep_to(sweep.suspecting(lower_half.hi), found, upper_half);
-        }
-        self.below.push(upper_half);
-        self.sweep_to(sweep, found, lower_half)
-    }
-
-    // A sweep's top range, of one UID, is given up.
-    fn sweep_past(&mut self, sweep: Sweep, found: usize, top: UidRange) -> Phase
-        requires found { found ≤ 1025 }
-        requires ranges { IsStack top self.old.below }
-        ensures phase { seen_phase result self.new ≡ sweep_past (sweep_of sweep) found top self.old.below }
-        ensures search { self.new.search ≡ self.old.search }
-        ensures found { self.new.found ≡ self.old.found }
-        ensures sound { IsSound (seen_phase result self.new) }
-        ensures fresh { IsFresh (seen_phase result self.new) self.new.below }
-    {
-        self.sweep_below(sweep.suspecting(top.lo), found)
-    }
-
-    // A sweep's top range, of one UID, collided with the UID below it.
-    fn sweep_doubt(&mut self, sweep: Sweep, found: usize, top: UidRange) -> Phase
-        requires found { found ≤ 1025 }
-        requires ranges { IsStack top self.old.below }
-        ensures phase { seen_phase result self.new ≡ sweep_doubt (sweep_of sweep) found top self.old.below }
-        ensures search { self.new.search ≡ self.old.search }
-        ensures found { self.new.found ≡ self.old.found }
-        ensures sound { IsSound (seen_phase result self.new) }
-        ensures fresh { IsFresh (seen_phase result self.new) self.new.below }
-    {
-        if top.lo.number() > 1 && sweep.made < SWEEP_FRAMES * (found + 2) {
-            Phase::Doubting { top, sweep }
-        } else {
-            self.sweep_past(sweep, found, top)
-        }
-    }
-
-    // The range that was asked for a sweep's top range collided. One UID that was asked alone is corrupt.
-    fn sweep_apart(&mut self, asked: UidRange, sweep: Sweep, found: usize, top: UidRange) -> Phase
-        requires found { found ≤ 1025 }
-        requires ranges { IsStack top self.old.below }
-        ensures phase { seen_phase result self.new ≡ sweep_apart asked (sweep_of sweep) found top self.old.below }
-        ensures search { self.new.search ≡ self.old.search }
-        ensures found { self.new.found ≡ self.old.found }
-        ensures sound { IsSound (seen_phase result self.new) }
-        ensures fresh { IsFresh (seen_phase result self.new) self.new.below }
-    {
-        if asked.lo == asked.hi {
-            Phase::Ended(Some(AgentFault::Corrupt(asked.lo)))
-        } else if top.lo == top.hi {
-            self.sweep_doubt(sweep, found, top)
-        } else {
-            self.sweep_halves(sweep, found, top)
-        }
-    }
-
     // Whether a UID that a sweep's branch spelt is muted.
-    fn is_wanted(&self, uid: Uid, sweep: &Sweep, top: UidRange) -> bool
-        ensures wanted { result ≡ is_wanted (uids_of self.now.found) (sweep_of sweep.now) top uid }
+    fn is_wanted(&self, uid: Uid, sweep: &Sweep) -> bool
+        ensures wanted { result ≡ is_wanted (uids_of self.now.found) sweep.now uid }
     {
-        let asked = sweep.probe(top);
-        self.is_new(uid, top) && !(sweep.suspect == Some(uid) && asked.lo != asked.hi)
+        let asked = sweep.question.range;
+        self.is_new(uid, asked) && !(sweep.belief.suspect == Some(uid) && asked.lo != asked.hi)
     }
 
     // Whether a UID may be that of a device of the range that wasn't found yet.
@@ -490,14 +326,54 @@ fn searching_all(silences: u8) -> Phase
     }
 }
 
-// Whether a range may be the upper half of a range with this lower half, and has halves itself.
-fn is_sibling(lower: UidRange, upper: UidRange) -> bool
-    requires lower { lower.lo ≤ lower.hi }
-    requires upper { upper.lo ≤ upper.hi }
-    ensures { result ≡ is_sibling lower upper }
+// A sweep that has found this many devices goes on with this belief, after this many silences in a row of the range
+// that it asked. At its limit the steady search begins.
+fn sweep_on(sweep: Sweep, silences: u8, found: usize, belief: Belief) -> Phase
+    requires found { found ≤ 1025 }
+    requires silences { silences < TRIES }
+    requires small { IsSmall belief }
+    ensures phase { (known : List ℕ) → phase_of result known [] ≡ sweep_on sweep silences found belief }
+    ensures sound { (known : List ℕ) → IsSound (phase_of result known []) }
 {
-    let size = upper.hi.number() - upper.lo.number();
-    size == lower.hi.number() - lower.lo.number() && upper.lo != upper.hi
+    let asked = sweep.question.range;
+    if sweep.made < SWEEP_FRAMES * (found + 2) {
+        return Phase::Sweeping {
+            sweep: Sweep::choose(sweep.made, silences, asked, belief),
+        };
+    }
+    searching_all(if is_whole(asked) { silences } else { 0 })
+}
+
+// What a sweep asked was silent. Five silences in a row of all UIDs end the run.
+fn sweep_silent(sweep: Sweep, found: usize) -> Phase
+    requires found { found ≤ 1025 }
+    requires silences { sweep.silences < TRIES }
+    requires small { IsSmall sweep.belief }
+    ensures phase { (known : List ℕ) → phase_of result known [] ≡ sweep_silent sweep found }
+    ensures sound { (known : List ℕ) → IsSound (phase_of result known []) }
+{
+    match sweep.silences + 1 {
+        TRIES => Phase::Ended(None),
+        silences => sweep_on(sweep, silences, found, sweep.belief.silent(sweep.question)),
+    }
+}
+
+// What a sweep asked collided. One UID that was asked alone is corrupt. If all UIDs collide after a pass that found
+// nothing, the steady search begins.
+fn sweep_apart(sweep: Sweep, found: usize) -> Phase
+    requires found { found ≤ 1025 }
+    requires small { IsSmall sweep.belief }
+    ensures phase { (known : List ℕ) → phase_of result known [] ≡ sweep_apart sweep found }
+    ensures sound { (known : List ℕ) → IsSound (phase_of result known []) }
+{
+    let asked = sweep.question;
+    if asked.range.lo == asked.range.hi {
+        return Phase::Ended(Some(AgentFault::Corrupt(asked.range.lo)));
+    }
+    if asked.part == Part::Whole && sweep.belief.vain {
+        return searching_all(0);
+    }
+    sweep_on(sweep, 0, found, sweep.belief.apart(asked))
 }
 
 // The device with the data of the acknowledgement of its mute.

@@ -6,8 +6,9 @@
 pub enum Search {
     /// Each range is branched until it was silent five times in a row. It sends at most `8 + 370 n + 5 k` frames.
     Steady,
-    /// A sweep comes first, for which one silence is enough. It finds nearly all devices. Then the steady search of the
-    /// whole range finds those that the sweep missed. It sends at most `213 + 370 n + 5 k` frames. On a line that loses
-    /// few replies it sends far fewer than a steady search.
+    /// A sweep searches from the lowest UID to the greatest. It believes one silence of a range, but asks a range that
+    /// answered until it has found who did. Five silences of the whole range in a row end the run. If the sweep fails,
+    /// the steady search of the whole range follows. It sends at most `213 + 370 n + 5 k` frames. On nearly all lines
+    /// it sends far fewer than a steady search, also if replies are lost.
     Quick,
 }

@@ -1,71 +1,125 @@
-//! What a sweep remembers.
-ghost use Rattle.std.specs.Prelude.{◌≡◌, ◌<◌, ◌^◌};
-ghost use Rattle.rdm_agent.specs.Machine.{counted, suspecting, first_sweep, probe, lower_pair};
-ghost use Rattle.rdm_agent.specs.body.AgentFields.{sweep_of};
+//! A sweep: the part of a quick run that finds nearly all devices.
+ghost use Rattle.std.specs.Prelude.{◌≡◌, ◌<◌, ◌≤◌, ◌^◌, ◌+◌};
+ghost use Rattle.rdm_wire.specs.Span.{Span};
+ghost use Rattle.rdm_agent.specs.Machine.{first_sweep, counted, doubting, choose, asking, is_whole, is_same};
+ghost use Rattle.rdm_agent.specs.body.Sound.{IsSmall};
 
+use crate::belief::{Belief, Part, Question};
+use crate::limits::TRIES;
 use rdm_wire::{Uid, UidRange};
 
-/// What a sweep remembers from exchange to exchange.
+/// A sweep that asks a question: what it remembers from exchange to exchange.
 #[derive(Clone, Copy, Debug, PartialEq, Eq)]
 pub(crate) struct Sweep {
     /// How many exchanges it has made.
     pub(crate) made: usize,
-    /// The UID that it gave up last: its mutes weren't acknowledged, or the range with only this UID collided.
-    pub(crate) suspect: Option<Uid>,
+    /// How often in a row the range that it asks was silent: below [`TRIES`].
+    pub(crate) silences: u8,
+    /// What it asks.
+    pub(crate) question: Question,
+    /// What it believes.
+    pub(crate) belief: Belief,
 }
 
 impl Sweep {
-    /// A sweep at its start.
+    /// A sweep at its start, which asks all UIDs.
     pub(crate) fn new() -> Sweep
-        ensures { sweep_of result ≡ first_sweep }
+        ensures value { result ≡ first_sweep }
+        ensures small { IsSmall result.belief }
     {
         Sweep {
             made: 0,
-            suspect: None,
+            silences: 0,
+            question: Question {
+                part: Part::Fresh,
+                range: UidRange::whole(),
+            },
+            belief: Belief::new(),
         }
     }
 
     /// The sweep after one more exchange.
-    pub(crate) fn counted(&self) -> Sweep
-        requires { self.now.made < 2 ^ 32 }
-        ensures { sweep_of result ≡ counted (sweep_of self.now) }
+    pub(crate) fn counted(self) -> Sweep
+        requires { self.made < 2 ^ 32 }
+        ensures { result ≡ counted self }
     {
         Sweep {
             made: self.made + 1,
-            suspect: self.suspect,
+            ..self
         }
     }
 
     /// The sweep after it gives up this UID.
-    pub(crate) fn suspecting(&self, uid: Uid) -> Sweep
-        ensures { sweep_of result ≡ suspecting uid (sweep_of self.now) }
+    pub(crate) fn suspecting(self, uid: Uid) -> Sweep
+        requires small { IsSmall self.belief }
+        ensures value { result ≡ doubting uid self }
+        ensures small { IsSmall result.belief }
     {
         Sweep {
-            made: self.made,
-            suspect: Some(uid),
+            belief: self.belief.suspecting(uid),
+            ..self
         }
     }
 
-    /// The range that it branches for its top one. One UID is branched together with the UID below it, which was swept
-    /// before. So a bad answer isn't a fault of the run. It is branched alone if that one was just given up.
-    pub(crate) fn probe(&self, top: UidRange) -> UidRange
-        ensures asked { result ≡ probe self.now.suspect top }
+    /// A sweep with this belief chooses what it asks next, after this many silences in a row of the range `last`.
+    #[tactic(auto, unfolding(crate::specs::Machine::choose))]
+    pub(crate) fn choose(made: usize, silences: u8, last: UidRange, belief: Belief) -> Sweep
+        requires small { IsSmall belief }
+        requires silences { silences < TRIES }
+        ensures value { result ≡ choose made silences last belief }
+        ensures small { IsSmall result.belief }
+        ensures silences { result.silences < TRIES }
+        ensures made { result.made ≡ made }
     {
-        let below = top.lo.number().saturating_sub(1);
-        match Uid::from_number(below) {
-            Some(lo) if top.lo == top.hi && self.suspect != Some(lo) => UidRange { lo, hi: top.hi },
-            _ => top,
+        let belief = belief.ready();
+        let question = belief.question();
+        let again = if is_same(question.range, last) {
+            silences
+        } else {
+            0
+        };
+        Sweep::asking(made, again, question, belief)
+    }
+
+    // A sweep that asks this, after this many silences in a row. No range but that of all UIDs is asked for a fifth
+    // one: the sweep goes on behind it.
+    fn asking(made: usize, again: u8, question: Question, belief: Belief) -> Sweep
+        requires small { IsSmall belief }
+        requires silences { again < TRIES }
+        ensures value { result ≡ asking made again question belief }
+        ensures small { IsSmall result.belief }
+        ensures silences { result.silences < TRIES }
+        ensures made { result.made ≡ made }
+    {
+        let is_whole = is_whole(question.range);
+        if again + 1 == TRIES && !is_whole {
+            let behind = belief.behind(question.range);
+            return Sweep {
+                made,
+                silences: 0,
+                question: behind.question(),
+                belief: behind,
+            };
+        }
+        Sweep {
+            made,
+            silences: again,
+            question,
+            belief,
         }
     }
 }
 
-/// The two UIDs below a range, or those from UID 0 on if there are fewer.
-pub(crate) fn lower_pair(top: UidRange) -> UidRange
-    ensures { result ≡ lower_pair top }
+/// Whether a range is that of all UIDs.
+pub(crate) fn is_whole(range: UidRange) -> bool
+    ensures { result ≡ is_whole range }
 {
-    let number = top.lo.number();
-    UidRange {
-        lo: Uid::from_number(number.saturating_sub(2)).unwrap(),
-        hi: Uid::from_number(number.saturating_sub(1)).unwrap(),
-    }
+    is_same(range, UidRange::whole())
+}
+
+// Whether two ranges are the same.
+fn is_same(range: UidRange, other: UidRange) -> bool
+    ensures { result ≡ is_same range other }
+{
+    range.lo == other.lo && range.hi == other.hi
 }

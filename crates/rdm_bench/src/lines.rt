@@ -294,11 +294,22 @@ fn replied(odd: Odd, uid: Uid, range: UidRange, others: LineReply) -> Option<Lin
 }
 
 // Lines on which each run finds all devices.
-const HONEST: [Wrong; 4] = [
+const HONEST: [Wrong; 6] = [
     Wrong::Nothing,
     Wrong::Lost(100),
+    Wrong::Lost(20),
     Wrong::Lost(10),
+    Wrong::Lost(5),
     Wrong::Phantom(10),
+];
+
+// How the devices of these lines are spread.
+const SPREADS: [Spread; 5] = [
+    Spread::Random,
+    Spread::Consecutive,
+    Spread::Close,
+    Spread::Block,
+    Spread::Makers,
 ];
 
 // Lines that aren't honest, although each device keeps to the rules.
@@ -346,7 +357,7 @@ impl Ends {
 
 /// Prints the frames of both searches over this many devices, on honest lines. Each run has to find its devices.
 pub fn honest<R: Print>(bench: &Bench<'_, R>, size: usize) -> Option<()> {
-    for spread in [Spread::Random, Spread::Consecutive, Spread::Close] {
+    for spread in SPREADS {
         for wrong in HONEST {
             holds(print(bench, wrong, spread, size)? == bench.rounds.wrapping_mul(2))?;
         }
@@ -419,6 +430,10 @@ pub enum Spread {
     Consecutive,
     /// Those of four makers, with serial numbers close together.
     Close,
+    /// One after another, from anywhere.
+    Block,
+    /// Those of four makers, each with serial numbers close to one of its own.
+    Makers,
 }
 
 /// This many devices, others for each seed unless they are consecutive. Of the UIDs that are tried, a few are broadcast
@@ -426,6 +441,15 @@ pub enum Spread {
 pub fn devices(count: usize, spread: Spread, seed: u64) -> Option<UidSet> {
     let mut set = UidSet::new();
     let mut random = Random::new(seed);
+    let firsts = match spread {
+        Spread::Block | Spread::Makers => [
+            first(&mut random),
+            first(&mut random),
+            first(&mut random),
+            first(&mut random),
+        ],
+        _ => [0; 4],
+    };
     for index in 0..10_000 {
         if set.len() == count {
             return Some(set);
@@ -434,6 +458,8 @@ pub fn devices(count: usize, spread: Spread, seed: u64) -> Option<UidSet> {
             Spread::Random => random.next() >> 16,
             Spread::Consecutive => index,
             Spread::Close => close(&mut random, seed, count as u64),
+            Spread::Block => firsts.first()?.wrapping_add(index),
+            Spread::Makers => near(&mut random, *firsts.get(index as usize % 4)?, count as u64),
         });
         holds(uid.is_broadcast() || set.insert(uid).is_ok())?;
     }
@@ -445,6 +471,17 @@ fn close(random: &mut Random, seed: u64, count: u64) -> u64 {
     let maker = random.below(4).wrapping_add(seed) % 0x1_0000;
     let serial = random.below(count.wrapping_mul(4)).wrapping_add(seed << 16) % 0x1_0000_0000;
     (maker << 32) | serial
+}
+
+// The first UID of a maker: any maker below 8000, and any serial number below 80000000.
+fn first(random: &mut Random) -> u64 {
+    let maker = random.next() >> 49;
+    (maker << 32) | (random.next() >> 33)
+}
+
+// One of the UIDs from this one on: four times as many as there are devices, and at least 40.
+fn near(random: &mut Random, first: u64, count: u64) -> u64 {
+    first.wrapping_add(random.below(count.wrapping_mul(4).max(40)))
 }
 
 /// The UID with this number, below 2^48.

@@ -4,16 +4,11 @@ use Rattle.rdm_wire.specs.Span.{Span}
 use Rattle.rdm_agent.specs.Machine as machine
 use Rattle.rdm_agent.specs.Machine.Phase.{Unmuting as unmuting, MutingKnown as muting_known, Searching as searching}
 use Rattle.rdm_agent.specs.Machine.Phase.{MutingRead as muting_read, Ended as ended}
-use Rattle.rdm_agent.specs.Machine.Phase.{Sweeping as sweeping, MutingSwept as muting_swept, Doubting as doubting}
-use Rattle.rdm_agent.specs.declared.sweep.Sweep.{Sweep}
+use Rattle.rdm_agent.specs.Machine.Phase.{Sweeping as sweeping, MutingSwept as muting_swept}
 use Rattle.rdm_agent.specs.declared.phase.Phase.{Phase}
 use Rattle.rdm_agent.specs.declared.phase.Phase.TheVariants.{Unmuting, MutingKnown, Searching, MutingRead, Ended}
-use Rattle.rdm_agent.specs.declared.phase.Phase.TheVariants.{Sweeping, MutingSwept, Doubting}
+use Rattle.rdm_agent.specs.declared.phase.Phase.TheVariants.{Sweeping, MutingSwept}
 use Rattle.rdm_agent.specs.declared.run_state.RunState.{RunState}
-
--- the machine's sweep
-abbrev pub sweep_of : Sweep → machine.Sweep
-sweep_of sweep = record { made = sweep.made; suspect = sweep.suspect }
 
 -- the machine's phase, with the known UIDs that are left and the ranges below the top one
 abbrev pub phase_of : Phase → List ℕ → List Span → machine.Phase
@@ -21,9 +16,8 @@ phase_of (Unmuting more) known below = unmuting more known
 phase_of (MutingKnown uid tries) known below = muting_known uid tries known
 phase_of (Searching top silences) known below = searching silences top below
 phase_of (MutingRead uid tries top) known below = muting_read uid tries top below
-phase_of (Sweeping top sweep) known below = sweeping (sweep_of sweep) top below
-phase_of (MutingSwept uid tries top sweep) known below = muting_swept uid tries (sweep_of sweep) top below
-phase_of (Doubting top sweep) known below = doubting (sweep_of sweep) top below
+phase_of (Sweeping sweep) known below = sweeping sweep
+phase_of (MutingSwept uid tries sweep) known below = muting_swept uid tries sweep
 phase_of (Ended fault) known below = ended fault
 
 -- the same for all that a run keeps

@@ -5,7 +5,8 @@ use Rattle.rdm_wire.specs.Uid.{IsDevice}
 use Rattle.rdm_wire.specs.Span.{Span}
 use Rattle.rdm_agent.specs.Machine.{Phase}
 use Rattle.rdm_agent.specs.Machine.Phase.{Unmuting, MutingKnown, Searching, MutingRead, Ended}
-use Rattle.rdm_agent.specs.Machine.Phase.{Sweeping, MutingSwept, Doubting}
+use Rattle.rdm_agent.specs.Machine.Phase.{Sweeping, MutingSwept}
+use Rattle.rdm_agent.specs.declared.belief.Belief.{Belief}
 use Rattle.rdm_agent.specs.declared.limits.TheConstants.{TRIES}
 
 -- ranges that cover the UIDs from this one on. Each has 2^l UIDs, where l is at least the level and rises
@@ -21,20 +22,34 @@ pub record IsStack (top : Span) (below : List Span) : Type 0 where
   pub size : top.hi + 1 ≡ top.lo + 2 ^ level
   pub rest : Ascends (top.hi + 1) level below
 
+-- what a sweep believes is in small numbers
+pub record IsSmall (b : Belief) : Type 0 where
+  pub base : b.base ≤ 2 ^ 48
+  pub lo : b.lo ≤ 2 ^ 48
+  pub at : b.at ≤ 2 ^ 48
+  pub end : b.end < 2 ^ 48
+  pub need : b.need ≤ 2
+  pub width : b.width ≤ 2 ^ 48
+  pub growth : b.growth ≤ 2 ^ 32
+  pub quiet : b.quiet ≤ 3
+  pub begun : b.begun ≤ 4
+  pub back : b.back ≤ 2 ^ 46
+
 -- a phase's UIDs are those of devices, its counts are below TRIES or small, and its ranges are got by halving
 abbrev pub IsSound : Phase → Type 0
 IsSound (Unmuting more known) = AllByRecursion IsDevice known
 IsSound (MutingKnown u tries known) = IsDevice u × (tries < TRIES) × AllByRecursion IsDevice known
 IsSound (Searching silences top below) = (silences < TRIES) × IsStack top below
 IsSound (MutingRead u tries top below) = IsDevice u × (tries < TRIES) × IsStack top below
-IsSound (Sweeping sweep top below) = (sweep.made < 2 ^ 20) × IsStack top below
-IsSound (MutingSwept u tries sweep top below) =
-    IsDevice u × (tries < TRIES) × (sweep.made ≤ 2 ^ 20 + tries) × IsStack top below
-IsSound (Doubting sweep top below) = (sweep.made < 2 ^ 20) × (1 < top.lo) × IsStack top below
+IsSound (Sweeping sweep) = (sweep.made < 2 ^ 20) × (sweep.silences < TRIES) × IsSmall sweep.belief
+IsSound (MutingSwept u tries sweep) =
+    IsDevice u × (tries < TRIES) × (sweep.made ≤ 2 ^ 20 + tries) × (sweep.silences < TRIES) × IsSmall sweep.belief
 IsSound (Ended fault) = Unit {0}
 
--- before the search there is no other range
+-- before the steady search there is no other range
 abbrev pub IsFresh : Phase → List Span → Type 0
 IsFresh (Unmuting more known) below = below ≡ []
 IsFresh (MutingKnown u tries known) below = below ≡ []
+IsFresh (Sweeping sweep) below = below ≡ []
+IsFresh (MutingSwept u tries sweep) below = below ≡ []
 IsFresh _ below = Unit {0}

@@ -1,8 +1,10 @@
 use Rattle.std.proofs.Common.{refl}
 use Rattle.rdm_agent.proofs.SampleLines.{swept_honest}
+use Rattle.rdm_agent.specs.Machine.{choose}
 use Rattle.rdm_agent.proofs.laws.quick_runs.Goals as goal
 
 pub returns : goal.returns
+unfolding choose
 returns c = record {
   empty = refl;
   one = (refl, (refl, (refl, (refl, (refl, (refl, (refl, (refl, (refl, (refl, refl))))))))));

@@ -1,7 +1,6 @@
 use Rattle.std.proofs.Common.{◌∙◌, sym}
 use Rattle.rdm_agent.specs.body.AgentFields.{state_of}
 use Rattle.rdm_agent.specs.declared.phase.Phase.TheVariants.{MutingKnown, MutingRead, Searching, MutingSwept, Sweeping}
-use Rattle.rdm_agent.specs.declared.phase.Phase.TheVariants.{Doubting}
 use Rattle.rdm_agent.proofs.FedLemmas.{fed-mute, fed-branch}
 use Rattle.rdm_agent.proofs.run_state.RunState.heard.Goals as goal
 
@@ -31,18 +30,10 @@ returns-in-MutingSwept-Mute-clause-state c = λ budget frames.
     rw (c.in-MutingSwept-Mute.is-0, c.in-MutingSwept-Mute.is-1)
     (c.swept_muted.ensures.state budget frames ∙ sym
     (fed-mute (state_of budget frames (MutingSwept c.in-MutingSwept-Mute.uid c.in-MutingSwept-Mute.tries
-    c.in-MutingSwept-Mute.top c.in-MutingSwept-Mute.sweep) c.args.self.now) c.in-MutingSwept-Mute.ack))
+    c.in-MutingSwept-Mute.sweep) c.args.self.now) c.in-MutingSwept-Mute.ack))
 
 pub returns-in-Sweeping-Branch-clause-state : goal.returns-in-Sweeping-Branch-clause-state
 returns-in-Sweeping-Branch-clause-state c = λ budget frames.
     rw (c.in-Sweeping-Branch.is-0, c.in-Sweeping-Branch.is-1)
     (c.swept.ensures.state budget frames ∙ sym (fed-branch
-    (state_of budget frames (Sweeping c.in-Sweeping-Branch.top c.in-Sweeping-Branch.sweep) c.args.self.now)
-    c.in-Sweeping-Branch.reply))
-
-pub returns-in-Doubting-Branch-clause-state : goal.returns-in-Doubting-Branch-clause-state
-returns-in-Doubting-Branch-clause-state c = λ budget frames.
-    rw (c.in-Doubting-Branch.is-0, c.in-Doubting-Branch.is-1)
-    (c.doubted.ensures.state budget frames ∙ sym (fed-branch
-    (state_of budget frames (Doubting c.in-Doubting-Branch.top c.in-Doubting-Branch.sweep) c.args.self.now)
-    c.in-Doubting-Branch.reply))
+    (state_of budget frames (Sweeping c.in-Sweeping-Branch.sweep) c.args.self.now) c.in-Sweeping-Branch.reply))

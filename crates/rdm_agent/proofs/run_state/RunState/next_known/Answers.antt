@@ -10,7 +10,22 @@ use Rattle.rdm_agent.proofs.run_state.RunState.next_known.Goals as goal
 
 begins : (search : Search) → IsSound (first_phase search)
 begins Steady = (omega arith, IsStack-whole)
-begins Quick = (omega arith, IsStack-whole)
+begins Quick = (
+  omega arith,
+  omega arith,
+  record {
+    base = omega arith;
+    lo = omega arith;
+    at = omega arith;
+    end = omega arith;
+    need = omega arith;
+    width = omega arith;
+    growth = omega arith;
+    quiet = omega arith;
+    begun = omega arith;
+    back = omega arith;
+  },
+)
 
 pub returns-in-None-clause-sound : goal.returns-in-None-clause-sound
 returns-in-None-clause-sound c =

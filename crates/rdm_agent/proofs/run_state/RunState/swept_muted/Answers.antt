@@ -1,0 +1,25 @@
+use Rattle.std.proofs.Common.{◌≡◌, ◌+◌, length, refl, ap, ◌∙◌}
+use Rattle.rdm_wire.specs.declared.device.Device.{Device}
+use Rattle.rdm_agent.specs.Machine.{Phase, AgentState, to_found, counted, sweep_on, believed_found}
+use Rattle.rdm_agent.specs.Run.{device_from}
+use Rattle.rdm_agent.specs.body.AgentFields.{state_of, seen_phase}
+use Rattle.rdm_agent.proofs.run_state.RunState.swept_muted.Goals as goal
+
+pub returns-in-Some-clause-state : goal.returns-in-Some-clause-state
+returns-in-Some-clause-state c = λ budget frames.
+    let a : AgentState = state_of budget frames c.sweep_on-onward.result c.args.self.now in
+    rw c.in-Some.is
+    (c.find.ensures.state budget frames
+    ∙ ap (λ (d : Device). to_found a d (seen_phase c.sweep_on-onward.result c.args.self.now)) c.device_from.ensures
+    ∙ ap (λ (p : Phase). to_found a (device_from c.args.uid c.in-Some.ack) p) onward)
+  where
+    onward : seen_phase c.sweep_on-onward.result c.args.self.now
+        ≡ sweep_on (counted c.args.sweep) 0 (length c.args.self.now.found + 1)
+        (believed_found c.args.sweep.question.part c.args.sweep.question.range c.args.sweep.belief)
+    onward = rw (
+      c.requires.fresh,
+      c.sweep_on-onward.ensures.phase c.args.self.now.known,
+      c.counted-counted.ensures,
+      c.found-belief.ensures.value,
+      c.len-found.ensures.value,
+    ) refl

@@ -1,0 +1,523 @@
+//! What a sweep believes about the UIDs.
+ghost use Rattle.std.specs.Prelude.{◌≡◌, ◌≤◌, ◌<◌, ◌^◌};
+ghost use Rattle.rdm_wire.specs.Span.{Span};
+ghost use Rattle.rdm_agent.specs.Machine.{first_belief, suspecting, begin_again, give_up, over, past_zero, ready};
+ghost use Rattle.rdm_agent.specs.Machine.{spanning, fresh_range, question, with_lower, part_of};
+ghost use Rattle.rdm_agent.specs.Machine.{fresh_silent, lower_silent, rest_silent, renewed, fresh_found, lower_found};
+ghost use Rattle.rdm_agent.specs.Machine.{rest_found, all_found, split_at, lower_apart, all_apart, whole_apart};
+ghost use Rattle.rdm_agent.specs.Machine.{believed_silent, believed_found, believed_apart, behind};
+ghost use Rattle.rdm_agent.specs.body.Sound.{IsSmall};
+
+use rdm_wire::{Uid, UidRange};
+
+/// How many UIDs there are.
+const ALL_UIDS: u64 = 1 << 48;
+
+/// The greatest UID's number.
+const LAST_UID: u64 = ALL_UIDS - 1;
+
+/// After this many silences in a row in a range that answered, all the rest of it is asked.
+const BELIEVED: u8 = 3;
+
+/// The last UID of a range is given up instead of beginning the range this often.
+const BEGUN: u8 = 4;
+
+/// By how much the width of the next range grows at most.
+const MOST_GROWTH: u64 = 1 << 32;
+
+/// With how many UIDs below it a single UID is asked at most.
+const MOST_BACK: u64 = 1 << 46;
+
+/// Which part of the UIDs a sweep asks.
+#[derive(Clone, Copy, Debug, PartialEq, Eq)]
+pub(crate) enum Part {
+    /// One that wasn't swept, and as many UIDs below it.
+    Fresh,
+    /// The lower half of what is left of the range that answered.
+    Lower,
+    /// All that is left of the range that answered, after some silences.
+    Rest,
+    /// All of the range that answered.
+    All,
+    /// All UIDs, after a pass.
+    Whole,
+}
+
+/// What a sweep asks: a part of the UIDs, and its range.
+#[derive(Clone, Copy, Debug, PartialEq, Eq)]
+pub(crate) struct Question {
+    /// The part.
+    pub(crate) part: Part,
+    /// The range.
+    pub(crate) range: UidRange,
+}
+
+/// What a sweep believes. An answer is certain, and a silence may be a loss. So it remembers the range that answered.
+/// No promise depends on this: it decides only what the sweep asks.
+#[derive(Clone, Copy, Debug, PartialEq, Eq)]
+pub(crate) struct Belief {
+    /// The UIDs below were given up in this pass.
+    pub(crate) base: u64,
+    /// The first UID of the range that answered.
+    pub(crate) lo: u64,
+    /// The first UID that wasn't swept.
+    pub(crate) at: u64,
+    /// The last UID of the range that answered.
+    pub(crate) end: u64,
+    /// How many devices that aren't found the range that answered has at least: 0 to 2. With 0 there is no such range.
+    pub(crate) need: u8,
+    /// How many UIDs the next fresh range has.
+    pub(crate) width: u64,
+    /// By how much the width grows after a silence.
+    pub(crate) growth: u64,
+    /// How many silences in a row there were in the range that answered, up to [`BELIEVED`].
+    pub(crate) quiet: u8,
+    /// How often the range that answered was begun again.
+    pub(crate) begun: u8,
+    /// How many UIDs below it a single UID is asked with.
+    pub(crate) back: u64,
+    /// The UID that it gave up last: its mutes weren't acknowledged, or its range couldn't be searched.
+    pub(crate) suspect: Option<Uid>,
+    /// Whether nothing was found in this pass, which isn't the first.
+    pub(crate) vain: bool,
+}
+
+impl Belief {
+    /// That of a sweep at its start.
+    pub(crate) fn new() -> Belief
+        ensures value { result ≡ first_belief }
+        ensures small { IsSmall result }
+    {
+        Belief {
+            base: 0,
+            lo: 0,
+            at: 0,
+            end: LAST_UID,
+            need: 0,
+            width: ALL_UIDS,
+            growth: 2,
+            quiet: 0,
+            begun: 0,
+            back: 1,
+            suspect: None,
+            vain: false,
+        }
+    }
+
+    /// The same with this UID given up.
+    pub(crate) fn suspecting(self, uid: Uid) -> Belief
+        requires small { IsSmall self }
+        ensures value { result ≡ suspecting uid self }
+        ensures small { IsSmall result }
+    {
+        Belief {
+            suspect: Some(uid),
+            ..self
+        }
+    }
+
+    /// What it asks next, once [`Belief::ready`].
+    pub(crate) fn question(&self) -> Question
+        requires small { IsSmall self.now }
+        ensures value { result ≡ question self.now }
+    {
+        if LAST_UID < self.at {
+            return Question {
+                part: Part::Whole,
+                range: UidRange::whole(),
+            };
+        }
+        self.with_lower(self.part())
+    }
+
+    /// The same, ready to ask: a range of which too little is left is begun again, and UID 0 alone is left out.
+    pub(crate) fn ready(self) -> Belief
+        requires small { IsSmall self }
+        ensures value { result ≡ ready self }
+        ensures small { IsSmall result }
+    {
+        self.over().past_zero()
+    }
+
+    /// The sweep goes on behind this range.
+    pub(crate) fn behind(self, range: UidRange) -> Belief
+        requires small { IsSmall self }
+        ensures value { result ≡ behind range self }
+        ensures small { IsSmall result }
+    {
+        let next = range.hi.number() + 1;
+        Belief {
+            lo: next,
+            at: next,
+            need: 0,
+            quiet: 0,
+            begun: 0,
+            ..self
+        }
+    }
+
+    /// After a silence.
+    pub(crate) fn silent(self, asked: Question) -> Belief
+        requires small { IsSmall self }
+        ensures value { result ≡ believed_silent asked.part asked.range self }
+        ensures small { IsSmall result }
+    {
+        match asked.part {
+            Part::Fresh => self.fresh_silent(asked.range),
+            Part::Lower => self.lower_silent(asked.range),
+            Part::Rest => self.rest_silent(),
+            Part::All | Part::Whole => self,
+        }
+    }
+
+    /// After a device was found. Nothing else answered in the range that was asked.
+    pub(crate) fn found(&self, asked: Question) -> Belief
+        requires small { IsSmall self.now }
+        ensures value { result ≡ believed_found asked.part asked.range self.now }
+        ensures small { IsSmall result }
+    {
+        let renewed = self.renewed();
+        match asked.part {
+            Part::Fresh => renewed.fresh_found(asked.range),
+            Part::Lower => renewed.lower_found(asked.range),
+            Part::Rest => renewed.rest_found(),
+            Part::All => renewed.all_found(),
+            Part::Whole => renewed,
+        }
+    }
+
+    /// After a collision. The range that was asked has two devices.
+    pub(crate) fn apart(self, asked: Question) -> Belief
+        requires small { IsSmall self }
+        ensures value { result ≡ believed_apart asked.part asked.range self }
+        ensures small { IsSmall result }
+    {
+        match asked.part {
+            Part::Fresh => self.split_at(self.at, 0, self.back, asked.range),
+            Part::Lower | Part::Rest => self.lower_apart(asked.range),
+            Part::All => self.all_apart(asked.range),
+            Part::Whole => self.whole_apart(asked.range),
+        }
+    }
+
+    // One silence in the range that answered was a loss, so the range is swept again.
+    fn begin_again(self) -> Belief
+        requires small { IsSmall self }
+        ensures value { result ≡ begin_again self }
+        ensures small { IsSmall result }
+    {
+        Belief {
+            at: self.lo,
+            quiet: 0,
+            begun: (self.begun + 1).min(BEGUN),
+            ..self
+        }
+    }
+
+    // The last UID of the range that answered is given up, since it answers and can't be muted.
+    fn give_up(self) -> Belief
+        requires small { IsSmall self }
+        ensures value { result ≡ give_up self }
+        ensures small { IsSmall result }
+    {
+        Belief {
+            base: self.end + 1,
+            lo: self.end + 1,
+            at: self.end + 1,
+            need: 0,
+            width: 2,
+            growth: 2,
+            quiet: 0,
+            begun: 0,
+            suspect: Uid::from_number(self.end),
+            ..self
+        }
+    }
+
+    // If only one UID is left of a range that has two devices, the range is begun again, and given up the fourth time.
+    fn over(self) -> Belief
+        requires small { IsSmall self }
+        ensures value { result ≡ over self }
+        ensures small { IsSmall result }
+    {
+        if self.need != 2 || self.at <= self.lo || self.at < self.end {
+            self
+        } else if self.begun + 1 < BEGUN {
+            self.begin_again()
+        } else {
+            self.give_up()
+        }
+    }
+
+    // UID 0 alone isn't asked, since no UID is below it.
+    fn past_zero(self) -> Belief
+        requires small { IsSmall self }
+        ensures value { result ≡ past_zero self }
+        ensures small { IsSmall result }
+    {
+        if self.question().range.hi.number() != 0 {
+            return self;
+        }
+        Belief {
+            base: 1,
+            lo: 1,
+            at: 1,
+            need: self.need / 2,
+            ..self
+        }
+    }
+
+    // The part that is asked next, before the end of a pass.
+    fn part(&self) -> Question
+        requires small { IsSmall self.now }
+        requires before { self.now.at < 2 ^ 48 }
+        ensures value { result ≡ part_of self.now }
+    {
+        if self.need == 0 {
+            return Question {
+                part: Part::Fresh,
+                range: self.fresh_range(),
+            };
+        }
+        if self.need == 1 {
+            return Question {
+                part: Part::All,
+                range: spanning(self.lo, self.end),
+            };
+        }
+        if self.lo < self.at && BELIEVED <= self.quiet {
+            return Question {
+                part: Part::Rest,
+                range: spanning(self.at, self.end),
+            };
+        }
+        Question {
+            part: Part::Lower,
+            range: spanning(self.at, self.at + self.end.saturating_sub(self.at) / 2),
+        }
+    }
+
+    // The next range that wasn't swept. It looks back as far as ahead, so that a device that was missed there answers
+    // now. The last one looks back to the start.
+    fn fresh_range(&self) -> UidRange
+        requires small { IsSmall self.now }
+        ensures value { result ≡ fresh_range self.now }
+    {
+        let lo = if LAST_UID < self.at + self.width {
+            self.base
+        } else {
+            self.base.max(self.at.saturating_sub(self.width))
+        };
+        spanning(lo, self.at + self.width.saturating_sub(1))
+    }
+
+    // One UID is asked together with UIDs below it, which were swept. So a bad answer isn't a fault of the run. It is
+    // asked alone if those below it were given up.
+    fn with_lower(&self, asked: Question) -> Question
+        ensures value { result ≡ with_lower self.now asked }
+    {
+        if asked.range.lo != asked.range.hi {
+            return asked;
+        }
+        let number = asked.range.hi.number();
+        Question {
+            part: asked.part,
+            range: spanning(self.base.max(number.saturating_sub(self.back)), number),
+        }
+    }
+
+    // A fresh range was silent. The next one begins above it and is wider, the more so the more were silent.
+    fn fresh_silent(self, range: UidRange) -> Belief
+        requires small { IsSmall self }
+        ensures value { result ≡ fresh_silent range self }
+        ensures small { IsSmall result }
+    {
+        Belief {
+            at: range.hi.number() + 1,
+            width: self.width.saturating_mul(self.growth).min(ALL_UIDS),
+            growth: self.growth.saturating_mul(self.growth).min(MOST_GROWTH),
+            ..self
+        }
+    }
+
+    // A lower half was silent: the devices are above it.
+    fn lower_silent(self, range: UidRange) -> Belief
+        requires small { IsSmall self }
+        ensures value { result ≡ lower_silent range self }
+        ensures small { IsSmall result }
+    {
+        Belief {
+            at: range.hi.number() + 1,
+            quiet: (self.quiet + 1).min(BELIEVED),
+            ..self
+        }
+    }
+
+    // All of the rest was silent: something was lost. From the second time on it asks first whether anything answers.
+    fn rest_silent(self) -> Belief
+        requires small { IsSmall self }
+        ensures value { result ≡ rest_silent self }
+        ensures small { IsSmall result }
+    {
+        Belief {
+            need: if self.begun == 0 { self.need } else { 1 },
+            ..self.begin_again()
+        }
+    }
+
+    // What was counted in vain begins at 0 again.
+    fn renewed(&self) -> Belief
+        requires small { IsSmall self.now }
+        ensures value { result ≡ renewed self.now }
+        ensures small { IsSmall result }
+    {
+        Belief {
+            growth: 2,
+            quiet: 0,
+            begun: 0,
+            back: 1,
+            vain: false,
+            ..*self
+        }
+    }
+
+    // A device was found in a fresh range. The next one begins above it.
+    fn fresh_found(self, range: UidRange) -> Belief
+        requires small { IsSmall self }
+        ensures value { result ≡ fresh_found range self }
+        ensures small { IsSmall result }
+    {
+        let next = range.hi.number() + 1;
+        Belief {
+            lo: next,
+            at: next,
+            ..self
+        }
+    }
+
+    // A device was found in a lower half. The range that answered has another one, above it if nothing was lost. The
+    // next fresh range has the width of a find, or up to eight times that.
+    fn lower_found(self, range: UidRange) -> Belief
+        requires small { IsSmall self }
+        ensures value { result ≡ lower_found range self }
+        ensures small { IsSmall result }
+    {
+        let next = range.hi.number() + 1;
+        let found = next.saturating_sub(self.at);
+        Belief {
+            lo: if self.at == self.lo { next } else { self.lo },
+            at: next,
+            need: 1,
+            width: found.max((8 * found).min(self.width / 4 * 3)),
+            ..self
+        }
+    }
+
+    // A device was found in all the rest. The other one answers below, where a silence was a loss.
+    fn rest_found(self) -> Belief
+        requires small { IsSmall self }
+        ensures value { result ≡ rest_found self }
+        ensures small { IsSmall result }
+    {
+        Belief {
+            at: self.lo,
+            end: self.at.saturating_sub(1),
+            need: 1,
+            ..self
+        }
+    }
+
+    // The last device of the range that answered was found.
+    fn all_found(self) -> Belief
+        requires small { IsSmall self }
+        ensures value { result ≡ all_found self }
+        ensures small { IsSmall result }
+    {
+        let next = self.end + 1;
+        Belief {
+            lo: next,
+            at: next,
+            need: 0,
+            width: self.width.min(8 * next.saturating_sub(self.lo)),
+            ..self
+        }
+    }
+
+    // A lower half or all the rest collided. If UIDs below it were asked too, some were missed there: the next single
+    // UID is asked with four times as many.
+    fn lower_apart(&self, range: UidRange) -> Belief
+        requires small { IsSmall self.now }
+        ensures value { result ≡ lower_apart range self.now }
+        ensures small { IsSmall result }
+    {
+        let lo = range.lo.number();
+        let back = if lo < self.at {
+            (4 * self.back).min(MOST_BACK)
+        } else {
+            self.back
+        };
+        self.split_at(lo, 0, back, range)
+    }
+
+    // All of the range that answered collided again.
+    fn all_apart(&self, range: UidRange) -> Belief
+        requires small { IsSmall self.now }
+        ensures value { result ≡ all_apart range self.now }
+        ensures small { IsSmall result }
+    {
+        let at = if range.hi.number() < self.at {
+            range.lo.number()
+        } else {
+            self.at
+        };
+        self.split_at(at, self.begun, self.back, range)
+    }
+
+    // After a pass all UIDs collided: something was missed, and another pass begins.
+    fn whole_apart(&self, range: UidRange) -> Belief
+        requires small { IsSmall self.now }
+        ensures value { result ≡ whole_apart range self.now }
+        ensures small { IsSmall result }
+    {
+        Belief {
+            base: 0,
+            width: ALL_UIDS,
+            suspect: None,
+            vain: true,
+            ..self.split_at(0, 0, self.back, range)
+        }
+    }
+
+    // This range has two devices, and is searched from `at` on.
+    fn split_at(&self, at: u64, begun: u8, back: u64, range: UidRange) -> Belief
+        requires small { IsSmall self.now }
+        requires at { at ≤ 2 ^ 48 }
+        requires begun { begun ≤ 4 }
+        requires back { back ≤ 2 ^ 46 }
+        ensures value { result ≡ split_at at begun back range self.now }
+        ensures small { IsSmall result }
+    {
+        Belief {
+            lo: range.lo.number(),
+            at,
+            end: range.hi.number(),
+            need: 2,
+            growth: 2,
+            quiet: 0,
+            begun,
+            back,
+            ..*self
+        }
+    }
+}
+
+// The UIDs from `lo` to `hi`, up to the greatest UID; `hi` alone if `lo` is above it.
+fn spanning(lo: u64, hi: u64) -> UidRange
+    ensures { result ≡ spanning lo hi }
+{
+    let hi = hi.min(LAST_UID);
+    UidRange {
+        lo: Uid::from_number(lo.min(hi)).unwrap(),
+        hi: Uid::from_number(hi).unwrap(),
+    }
+}
