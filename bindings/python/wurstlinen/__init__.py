@@ -28,7 +28,7 @@ from ._wire import (
     read_branch_reply, read_command, read_mute_ack, write_branch_reply)
 from . import entries
 from ._queue import Client, Controller
-from ._session import Log, Session
+from ._session import Log, Page, Session
 from ._agent import DiscoveryAgent
 from .line import Line, LineFailed
 
