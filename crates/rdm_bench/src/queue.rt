@@ -3,12 +3,12 @@ use crate::agent::tape;
 use crate::bench::{Bench, holds};
 use crate::lines::{Spread, bytes_of, devices};
 use crate::packets::Replay;
-use crate::served::{CLIENTS, Job, Served, Timing, config, written_log};
+use crate::served::{CLIENTS, Ending, Job, Served, Timing, config, written_log};
 use rdm_agent::Kind;
 use rdm_client::Told;
 use rdm_join::LineEvent;
 use rdm_line::Line;
-use rdm_queue::{ClientId, Controller, Outcome, Session};
+use rdm_queue::{ClientId, Controller, Entry, Outcome, Page, Session};
 use rdm_rig::request;
 use rdm_wire::{DeviceSet, Frame};
 use std::alloc::Global;
@@ -112,6 +112,25 @@ impl Served for Clients {
         };
         holds(end.fault.is_none())?;
         Some(self.found.len())
+    }
+
+    fn ask(&mut self, _client: usize, _tag: u64) -> Option<bool> {
+        None
+    }
+
+    fn collect_next(&mut self, _client: usize) -> Option<Ending> {
+        None
+    }
+
+    fn drain(&mut self, next: Vec<Entry>) -> Option<Page> {
+        match &mut self.queue {
+            Queue::Plain(_) => None,
+            Queue::Logged(queue) => {
+                let first = queue.log().gone();
+                let entries = queue.drain(next).ok()?;
+                Some(Page { first, entries })
+            }
+        }
     }
 }
 

@@ -6,7 +6,7 @@ use crate::bench::{Bench, Sample, holds};
 use crate::packets::TAG;
 use rdm_agent::DEFAULT_BUDGET;
 use rdm_client::Told;
-use rdm_queue::{Config, Entry, Log, MOST_PLACES};
+use rdm_queue::{Config, Entry, Log, MOST_PLACES, Page};
 use rdm_rig::log;
 use rdm_wire::Uid;
 use std::fmt;
@@ -20,6 +20,15 @@ pub const FREE: usize = 1_000_000;
 
 /// The queue depth of each client of a port, and the slots of its rings.
 pub const PLACES: u8 = 8;
+
+/// What a client is told of an outcome.
+#[derive(Drop)]
+pub enum Ending {
+    /// A request has ended.
+    Request(Told),
+    /// The discovery with this tag, or number, has ended with this many devices; None: with a fault.
+    Discovery(u64, Option<usize>),
+}
 
 /// Clients of a session, with their worker and its line. None: a call didn't return what it should.
 pub trait Served {
@@ -42,12 +51,27 @@ pub trait Served {
     fn pause(&mut self, _pauses: bool) -> Option<()> {
         Some(())
     }
+
+    /// A client asks for a full discovery with this tag. Returns whether its queue had a place for it.
+    fn ask(&mut self, client: usize, tag: u64) -> Option<bool>;
+
+    /// What a client is told next. None: it is told nothing.
+    fn collect_next(&mut self, client: usize) -> Option<Ending>;
+
+    /// The entries that the log stores; it goes on in this memory. None: there is no log, or too little memory.
+    fn drain(&mut self, next: Vec<Entry>) -> Option<Page>
+        requires { next.items ≡ [] };
 }
 
 /// What is done with the clients of a session.
 pub trait Job {
     /// Does it.
     fn perform<S: Served>(&mut self, served: &mut S) -> Option<()>;
+
+    /// Whether it drains the log.
+    fn drains(&self) -> bool {
+        false
+    }
 }
 
 /// A controller `7a70:00000100` with all the places that there may be.
