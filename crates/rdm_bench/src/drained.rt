@@ -55,6 +55,7 @@ pub fn print<R: Files + AllocGlobal + Print + Eprint + Wait>(
     };
     let mut soak = Soak {
         bench,
+        name: name_of(port),
         requests,
         discovers,
         random: Random::new(2),
@@ -83,6 +84,26 @@ pub fn print<R: Files + AllocGlobal + Print + Eprint + Wait>(
         }
         Port::Locked => on_session(bench, true, CLIENTS, log, Vec::new(alloc), line, &mut soak),
         Port::Rings => on_session(bench, false, CLIENTS, log, Vec::new(alloc), line, &mut soak),
+    }
+}
+
+/// The same for each session, without discoveries and with them.
+pub fn print_all<R: Files + AllocGlobal + Print + Eprint + Wait>(
+    bench: &Bench<'_, R>,
+    requests: u64,
+) -> Option<()> {
+    for port in [Port::Alone, Port::Locked, Port::Rings] {
+        print(bench, port, false, requests)?;
+        print(bench, port, true, requests)?;
+    }
+    Some(())
+}
+
+fn name_of(port: Port) -> &'static str {
+    match port {
+        Port::Alone => "Drained session",
+        Port::Locked => "Drained port",
+        Port::Rings => "Drained rings",
     }
 }
 
@@ -293,6 +314,7 @@ fn follows(next: &mut u64, number: u64) -> Option<()> {
 #[derive(Drop)]
 struct Soak<'a, R> {
     bench: &'a Bench<'a, R>,
+    name: &'static str,
     requests: u64,
     discovers: bool,
     random: Random,
@@ -460,6 +482,7 @@ impl<R: Files + AllocGlobal + Print + Eprint> Soak<'_, R> {
 
     fn print(&self) -> Option<()> {
         let rt = self.bench.rt;
+        let name = self.name;
         let Tally {
             completed,
             timeouts,
@@ -467,12 +490,10 @@ impl<R: Files + AllocGlobal + Print + Eprint> Soak<'_, R> {
             discovered,
             aborted,
         } = self.told;
-        println!(rt; "{completed} completed, {timeouts} timeouts, {failed} failed").ok()?;
-        if self.discovers {
-            println!(rt; "{discovered} discovered, {aborted} failed").ok()?;
-        }
-        println!(rt; "{} entries", self.pages.entries).ok()?;
+        println!(rt; "{name}: {completed} completed, {timeouts} timeouts, {failed} failed").ok()?;
+        println!(rt; "{name}: {discovered} discovered, {aborted} failed").ok()?;
+        println!(rt; "{name}: {} entries", self.pages.entries).ok()?;
         let kilobytes = resident(rt).unwrap_or(0);
-        eprintln!(rt; "{kilobytes} kB").ok()
+        eprintln!(rt; "{name}: {kilobytes} kB").ok()
     }
 }

@@ -42,6 +42,7 @@ usage: rdm_bench SUBJECT SIZE ROUNDS
   scenes          ends of both searches over SIZE devices, 1 to 1000, on ROUNDS lines of each kind that aren't honest
   soak_locked     SIZE requests, 1 to 100000, of sixteen clients of each of ROUNDS ports with a mutex
   soak_rings      the same with ring buffers
+  drained         those that follow, without discoveries and with them
   drained_session SIZE requests, 1 to 100000, ROUNDS times, of sixteen clients of one session whose log is drained
   drained_port    the same with a mutex
   drained_rings   the same with ring buffers
@@ -50,7 +51,7 @@ usage: rdm_bench SUBJECT SIZE ROUNDS
 ROUNDS: 1 to 1000; else how often each of the 21 samples repeats its work";
 
 // What `all` measures. The other subjects are among these.
-const ALL: [&str; 19] = [
+const ALL: [&str; 14] = [
     "agent",
     "calls",
     "queue",
@@ -64,12 +65,7 @@ const ALL: [&str; 19] = [
     "scenes",
     "soak_locked",
     "soak_rings",
-    "drained_session",
-    "drained_port",
-    "drained_rings",
-    "runs_session",
-    "runs_port",
-    "runs_rings",
+    "drained",
 ];
 
 fn main(rt: HostRuntime) -> ExitCode {
@@ -150,6 +146,7 @@ fn measure<R: Files + AllocGlobal + CpuClock + Print + Eprint + Wait>(
         "scenes" => lines::dishonest(bench, within(size, 1_000)?),
         "soak_locked" => soak::print(bench, true, within(size, 100_000)? as u64),
         "soak_rings" => soak::print(bench, false, within(size, 100_000)? as u64),
+        "drained" => drained::print_all(bench, within(size, 100_000)? as u64),
         "drained_session" => drained::print(
             bench,
             Port::Alone,
