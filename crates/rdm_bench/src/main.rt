@@ -30,6 +30,7 @@ usage: rdm_bench SUBJECT SIZE ROUNDS
   queue           requests and discoveries of a queue in which SIZE requests wait, 1 to 4080
   controller      its requests without a log alone
   session         its requests with a log alone
+  session_drained the same with a log that is drained
   answer          the same by Session::answer
   run             the same by Session::run
   ports           requests with a mutex and with ring buffers, while SIZE wait, 1 to 8
@@ -134,6 +135,7 @@ fn measure<R: Files + AllocGlobal + CpuClock + Print + Eprint + Wait>(
         "queue" => queue::time(bench, within(size, 4_080)?),
         "controller" => queue::time_requests(bench, false, false, within(size, 4_080)?),
         "session" => queue::time_requests(bench, true, false, within(size, 4_080)?),
+        "session_drained" => queue::time_drained(bench, within(size, 4_080)?),
         "answer" => events::time(bench, false, within(size, 4_080)?),
         "run" => events::time(bench, true, within(size, 4_080)?),
         "ports" => ports::time(bench, within(size, 8)?),

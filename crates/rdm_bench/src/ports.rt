@@ -57,6 +57,7 @@ pub fn time_requests<R: CpuClock + Print + Eprint + Wait>(
         clients,
         waiting,
         discovery: None,
+        drained_after: 0,
     };
     on_session(bench, with_mutex, clients, log, record, line, &mut timing)
 }
@@ -78,6 +79,7 @@ pub fn time_discoveries<R: CpuClock + Print + Eprint + Wait>(
         clients: 1,
         waiting: 0,
         discovery: Some((line.replies.len() as u64, devices)),
+        drained_after: 0,
     };
     on_session(bench, with_mutex, 1, log, record, line, &mut timing)
 }
