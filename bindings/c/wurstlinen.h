@@ -14,14 +14,14 @@
  * - No call is made from a signal handler, or in the forked child of a process with threads.
  *
  * Threads: calls on one handle are made one at a time, on any thread, ordered by a lock, a thread's start or a join.
- * Calls on different handles may run at the same time, and so may calls without a handle. _rotate is a call on both
- * of its handles. No call blocks, starts a thread, does input or output, or reads a clock.
+ * Calls on different handles may run at the same time, and so may calls without a handle. _rotate and _drain are calls
+ * on both of their handles. No call blocks, starts a thread, does input or output, or reads a clock.
  *
  * UIDs are numbers below 2^48: manufacturer * 2^32 + device. Buffers are passed as a pointer and a length; `room` is
  * the capacity of a buffer. Strings have no 0 at the end.
  *
- * Memory is allocated by _open, _join, _start and _rotate, and by _deliver for a request's data. The other calls
- * allocate nothing. */
+ * Memory is allocated by _open, _join, _start and _rotate, by _drain with a closed log, and by _deliver for a request's
+ * data. The other calls allocate nothing. */
 #ifndef WURSTLINEN_H
 #define WURSTLINEN_H
 
@@ -375,9 +375,10 @@ uint32_t wurst_controller_awaits(struct wurst_controller *handle, bool *answer);
 /* ---- Sessions: a controller with a log of all that it does.
  *
  * The log has a fixed capacity of entries. A request takes 5, and 2 for each further frame. A discovery takes 3, and
- * its run 2 for each frame. _rotate continues with a fresh log. Some entries are reserved: 1 for a close, 1 for a reply
- * that is awaited, 2 for each request and discovery that hasn't ended, 1 for each outcome that isn't collected. A log
- * with fewer than WURST_LEAST_FREE free entries refuses some calls; replies, closes and collects always fit.
+ * its run 2 for each frame. _drain empties the log at any time, best when half of it is taken. Some entries are
+ * reserved: 1 for a close, 1 for a reply that is awaited, 2 for each request and discovery that hasn't ended, 1 for
+ * each outcome that isn't collected. A log with fewer than WURST_LEAST_FREE free entries refuses some calls; replies,
+ * closes and collects always fit.
  *
  * Calls that a controller also has do the same as the controller's. What is said here is in addition. On a closed
  * handle each call except _open and _dispose returns WURST_NOT_OPEN. */
@@ -432,10 +433,10 @@ uint32_t wurst_session_awaits(struct wurst_session *handle, bool *answer);
 /* Writes how many entries of the log are free: neither taken nor reserved. */
 uint32_t wurst_session_free_entries(struct wurst_session *handle, size_t *count);
 
-/* Writes how many entries the log has. */
+/* Writes how many entries the log stores. */
 uint32_t wurst_session_entry_count(struct wurst_session *handle, size_t *count);
 
-/* Writes the entry of this index, counted from 0, oldest first, and its bytes into the buffer.
+/* Writes the stored entry of this index, counted from 0, oldest first, and its bytes into the buffer.
  * WURST_NO_ENTRY; WURST_BUFFER_TOO_SMALL: only entry->len is written, the number of bytes needed.
  * WURST_MOST_FRAME_BYTES are enough for each entry. */
 uint32_t wurst_session_entry(struct wurst_session *handle, size_t index, struct wurst_entry *entry, uint8_t *buffer,
@@ -447,6 +448,13 @@ uint32_t wurst_session_entry(struct wurst_session *handle, size_t index, struct 
  * WURST_ALREADY_OPEN (`log`); WURST_TOO_MANY_ENTRIES; WURST_LOG_FULL, for fewer than WURST_LEAST_FREE entries;
  * WURST_NOT_IDLE; WURST_OUT_OF_MEMORY. */
 uint32_t wurst_session_rotate(struct wurst_session *handle, size_t entries, struct wurst_log *log);
+
+/* Hands out all entries that the log stores, at any time, and continues in other memory. An open handle `log` is
+ * emptied, its memory is used next, whatever `entries` is, and nothing is allocated. With a closed one, memory for this
+ * many entries and a close is allocated. Then `log` holds what was handed out. Writes the number of its first entry,
+ * from 0 for the session's first, or the first after its last rotation. WURST_LOG_FULL, for less capacity than is
+ * reserved, or more than 2^62 entries in all; WURST_TOO_MANY_ENTRIES; WURST_OUT_OF_MEMORY. */
+uint32_t wurst_session_drain(struct wurst_session *handle, size_t entries, struct wurst_log *log, uint64_t *first);
 
 /* Frees the log that the handle holds, and closes the handle. Without effect on a closed handle. */
 void wurst_log_dispose(struct wurst_log *handle);

@@ -430,7 +430,6 @@ public:
 
 protected:
     Queue() = default;
-
     Handle<typename Calls::Form, Calls::dispose> handle_;
 
 private:
@@ -471,9 +470,10 @@ public:
     }
 };
 
-// The log of a session that continued with a fresh one.
+// The log of a session that continued with a fresh one, or what a session has handed out of its log.
 class Log {
 public:
+    Log() = default; // Holds nothing, until Session::drain fills it: other calls throw WURST_NOT_OPEN.
     std::size_t entry_count() { return entries.count(handle_.get()); }
 
     // The entry of this index, with its bytes in the caller's buffer; WURST_MOST_FRAME_BYTES are enough. Throws
@@ -484,8 +484,6 @@ public:
 
 private:
     friend class Session;
-    Log() = default;
-
     static constexpr detail::Entries<wurst_log> entries{wurst_log_entry_count, wurst_log_entry};
     detail::Handle<wurst_log, wurst_log_dispose> handle_;
 };
@@ -513,12 +511,18 @@ public:
         return log_entries.entry(handle_.get(), index, buffer, room);
     }
 
-    // Continues with a fresh log with capacity for this many entries, and returns the old one. Throws WURST_NOT_IDLE,
-    // WURST_LOG_FULL, WURST_TOO_MANY_ENTRIES or WURST_OUT_OF_MEMORY.
+    // Continues with a fresh log with capacity for this many entries, and returns the old one. Throws as in C.
     Log rotate(std::size_t entries) {
         Log log;
         check(wurst_session_rotate(handle_.get(), entries, log.handle_.get()));
         return log;
+    }
+
+    // As wurst_session_drain: hands out all that the log stores to `log`. Returns the number of the first entry.
+    std::uint64_t drain(Log &log, std::size_t entries) {
+        std::uint64_t first = 0;
+        check(wurst_session_drain(handle_.get(), entries, log.handle_.get(), &first));
+        return first;
     }
 
 private:

@@ -8,7 +8,7 @@ static_assert(!std::is_copy_constructible<wurst::Session>::value, "a session is 
 static_assert(!std::is_copy_constructible<wurst::Log>::value, "a log is moved alone");
 static_assert(!std::is_copy_constructible<wurst::Agent>::value, "an agent is moved alone");
 
-static std::uint32_t fault_of(void (*call)()) {
+template <typename Call> static std::uint32_t fault_of(const Call &call) {
     try {
         call();
     } catch (const wurst::Fault &fault) {
@@ -123,6 +123,22 @@ static void sessions() {
     CHECK(log.entry_count() == 0);
 }
 
+static void drains() {
+    wurst::Session session(source, 100);
+    const auto client = session.join(2);
+    session.get(client, device, 0x0082);
+    wurst::Log page;
+    CHECK(fault_of([&page] { page.entry_count(); }) == WURST_NOT_OPEN);
+    CHECK(fault_of([&] { session.drain(page, 1); }) == WURST_LOG_FULL && session.entry_count() == 2);
+    CHECK(session.drain(page, 50) == 0 && page.entry_count() == 2 && session.entry_count() == 0);
+    std::uint8_t bytes[WURST_MOST_FRAME_BYTES];
+    CHECK(page.entry(1, bytes, sizeof bytes).kind() == WURST_ENTRY_ACCEPT && session.free_entries() == 48);
+    CHECK(session.run([](wurst::Bytes) { return std::optional<std::vector<std::uint8_t>>(); }) == 1);
+    CHECK(session.drain(page, 0) == 2 && page.entry_count() == 3 && session.free_entries() == 99);
+    CHECK(session.next_completion(client)->status() == WURST_FAILED_TO_SEND);
+    CHECK(session.drain(page, 0) == 5 && page.entry_count() == 1);
+}
+
 int main() {
     CHECK(wurst::Uid::parse("7a70:00000001") == source && source.text() == "7a70:00000001");
     CHECK(!wurst::Uid::from_number(UINT64_C(1) << 48) && wurst::Uid::all().is_broadcast());
@@ -156,6 +172,7 @@ int main() {
     views();
     corrupt_ranges();
     sessions();
+    drains();
 
     wurst::Agent agent(source, WURST_INCREMENTAL, {device}, 4);
     while (agent.next()) {

@@ -99,6 +99,34 @@ static uint32_t one_rotation(bool *lacked_memory) {
     return status;
 }
 
+/* A session whose log is drained while a request waits, first into new memory, and then into the memory that it had. */
+static uint32_t one_drain(bool *lacked_memory) {
+    struct wurst_session queue = {0};
+    struct wurst_log log = {0};
+    uint8_t client = 0;
+    uint64_t number, first = 99;
+    size_t count = 0;
+    uint32_t status = wurst_session_open(&queue, &setup, 20);
+    if (status == WURST_DONE) status = wurst_session_join(&queue, 10, &client);
+    if (status == WURST_DONE) status = wurst_session_submit(&queue, client, &device_info, no_bytes, 0, &number);
+    if (status == WURST_DONE) {
+        status = wurst_session_drain(&queue, 30, &log, &first);
+        /* A drain that lacks memory changes nothing. */
+        CHECK(log.is_open == (status == WURST_DONE) && first == (status == WURST_DONE ? 0 : 99));
+        CHECK(wurst_session_entry_count(&queue, &count) == WURST_DONE && count == (status == WURST_DONE ? 0 : 2));
+    }
+    if (status == WURST_DONE) {
+        const size_t before = blocks;
+        left = 0;
+        CHECK(wurst_session_drain(&queue, 30, &log, &first) == WURST_DONE && first == 2 && blocks == before);
+        left = SIZE_MAX;
+    }
+    *lacked_memory = status == WURST_OUT_OF_MEMORY;
+    wurst_session_dispose(&queue);
+    wurst_log_dispose(&log);
+    return status;
+}
+
 /* Lets each allocation fail in turn, until none is left to fail. */
 static void refuses_each(uint32_t (*scene)(bool *), const char *name) {
     size_t allocations = 0;
@@ -166,11 +194,41 @@ static void rotates_a_thousand_times(void) {
     CHECK(blocks == 0);
 }
 
+/* A session that never ends, whose log is drained before its replies come. No drain but the first allocates. */
+static void drains_a_thousand_times(void) {
+    struct wurst_session queue = {0};
+    struct wurst_log log = {0};
+    struct wurst_completion done;
+    uint8_t client = 0;
+    uint64_t number, first = 0, next = 1;
+    size_t count, drained = 0;
+    CHECK(wurst_session_open(&queue, &setup, 20) == WURST_DONE);
+    CHECK(wurst_session_join(&queue, 10, &client) == WURST_DONE);
+    CHECK(wurst_session_drain(&queue, 20, &log, &first) == WURST_DONE && first == 0);
+    const size_t before = blocks;
+    for (int i = 0; i < 1000; i++) {
+        wurst_session_submit(&queue, client, &device_info, no_bytes, 0, &number);
+        wurst_session_take(&queue, frame, sizeof frame, &len);
+        drained += wurst_session_drain(&queue, 0, &log, &first) == WURST_DONE && first == next;
+        wurst_log_entry_count(&log, &count);
+        next = first + count;
+        wurst_session_deliver(&queue, reply, answer(frame, 0, (const uint8_t *)"four", 4, reply));
+        wurst_session_next_completion(&queue, client, &done, data, sizeof data);
+    }
+    /* A request has five entries. The last three are still stored. */
+    CHECK(drained == 1000 && blocks == before && next == 1 + 1000 * 5 - 3);
+    wurst_session_dispose(&queue);
+    wurst_log_dispose(&log);
+    CHECK(blocks == 0);
+}
+
 int main(void) {
     refuses_each(one_request, "a controller with one request");
     refuses_each(one_rotation, "a session with one request and a rotation");
+    refuses_each(one_drain, "a session with one request and two drains");
     refuses_an_agent();
     serves_a_million();
     rotates_a_thousand_times();
+    drains_a_thousand_times();
     return report();
 }

@@ -248,6 +248,60 @@ static void rotates(void) {
     wurst_log_dispose(&second);
 }
 
+/* Drains while a request waits, while its reply is awaited, while its outcome isn't collected, and afterwards. */
+static void drains(void) {
+    struct wurst_session session = {0};
+    struct wurst_log log = {0}, second = {0};
+    struct wurst_entry entry;
+    uint64_t first = 99;
+    CHECK(wurst_session_drain(&session, 50, &log, &first) == WURST_NOT_OPEN && !log.is_open && first == 99);
+    CHECK(wurst_session_open(&session, &setup, 50) == WURST_DONE);
+    CHECK(wurst_session_join(&session, 2, &client) == WURST_DONE);
+    CHECK(wurst_session_submit(&session, 0, &label, (const uint8_t *)"xyz", 3, &number) == WURST_DONE);
+    /* Three entries are reserved: for a close, the request's end and its collect. */
+    CHECK(wurst_session_drain(&session, 1, &log, &first) == WURST_LOG_FULL && !log.is_open);
+    CHECK(wurst_session_drain(&session, WURST_MOST_ENTRIES + 1, &log, &first) == WURST_TOO_MANY_ENTRIES);
+    CHECK(wurst_session_drain(&session, SIZE_MAX, &log, &first) == WURST_TOO_MANY_ENTRIES);
+    CHECK(first == 99 && entries(&session) == 2 && free_entries(&session) == 46);
+    CHECK(wurst_session_drain(&session, 20, &log, &first) == WURST_DONE && first == 0 && log.is_open);
+    CHECK(entries(&session) == 0 && free_entries(&session) == 18);
+    CHECK(wurst_log_entry_count(&log, &count) == WURST_DONE && count == 2);
+    CHECK(wurst_log_entry(&log, 1, &entry, buffer, 3) == WURST_DONE);
+    CHECK(entry.kind == WURST_ENTRY_ACCEPT && entry.number == 0 && is_same(buffer, entry.len, "78797a"));
+    CHECK(wurst_session_take(&session, frame, sizeof frame, &len) == WURST_DONE);
+    /* The open log had memory for 51 entries, of which 4 are reserved now. */
+    CHECK(wurst_session_drain(&session, SIZE_MAX, &log, &first) == WURST_DONE && first == 2);
+    CHECK(entries(&session) == 0 && free_entries(&session) == 47);
+    CHECK(wurst_log_entry_count(&log, &count) == WURST_DONE && count == 1);
+    CHECK(wurst_log_entry(&log, 0, &entry, buffer, sizeof buffer) == WURST_DONE && entry.kind == WURST_ENTRY_SEND);
+    CHECK(wurst_log_entry(&log, 1, &entry, buffer, sizeof buffer) == WURST_NO_ENTRY);
+    CHECK(wurst_session_fail(&session) == WURST_DONE);
+    CHECK(wurst_session_drain(&session, 0, &log, &first) == WURST_DONE && first == 3 && free_entries(&session) == 19);
+    CHECK(wurst_log_entry_count(&log, &count) == WURST_DONE && count == 2);
+    CHECK(wurst_log_entry(&log, 1, &entry, buffer, 0) == WURST_DONE && entry.status == WURST_FAILED_TO_SEND);
+    CHECK(wurst_session_next_completion(&session, 0, &done, buffer, 0) == WURST_DONE && done.number == 0);
+    CHECK(wurst_session_entry(&session, 0, &entry, buffer, 0) == WURST_DONE && entry.kind == WURST_ENTRY_COLLECT);
+    CHECK(wurst_session_drain(&session, 0, &second, &first) == WURST_DONE && first == 5 && free_entries(&session) == 0);
+    CHECK(wurst_session_submit(&session, 0, &label, no_bytes, 0, &number) == WURST_LOG_FULL);
+    CHECK(wurst_session_drain(&session, 0, &second, &first) == WURST_DONE && first == 6);
+    CHECK(wurst_log_entry_count(&second, &count) == WURST_DONE && count == 0);
+    CHECK(wurst_session_submit(&session, 0, &label, no_bytes, 0, &number) == WURST_DONE && number == 1);
+    /* The second log now has memory for one entry. */
+    CHECK(wurst_session_drain(&session, 50, &second, &first) == WURST_LOG_FULL && first == 6 && entries(&session) == 1);
+    CHECK(wurst_session_close(&session) == WURST_DONE);
+    CHECK(wurst_session_drain(&session, 50, &log, &first) == WURST_DONE && first == 6);
+    CHECK(wurst_log_entry_count(&log, &count) == WURST_DONE && count == 3);
+    /* After a rotation, entries are numbered from 0 again. */
+    CHECK(wurst_session_next_completion(&session, 0, &done, buffer, 0) == WURST_DONE && done.number == 1);
+    wurst_log_dispose(&second);
+    CHECK(wurst_session_rotate(&session, 50, &second) == WURST_DONE);
+    CHECK(wurst_log_entry_count(&second, &count) == WURST_DONE && count == 1);
+    CHECK(wurst_session_drain(&session, 50, &log, &first) == WURST_DONE && first == 0);
+    wurst_session_dispose(&session);
+    wurst_log_dispose(&log);
+    wurst_log_dispose(&second);
+}
+
 int main(void) {
     logs_a_request();
     logs_discoveries();
@@ -255,5 +309,6 @@ int main(void) {
     refuses_reads();
     fills_its_log();
     rotates();
+    drains();
     return report();
 }

@@ -367,6 +367,47 @@ class Sessions(unittest.TestCase):
                 held.entry_count()
 
 
+    def test_drains(self) -> None:
+        with Session(SOURCE, 100) as session:
+            client = session.join(2)
+            client.get(DEVICE, 1)
+            for entry_count, fault in [(1, wurstlinen.LogFull), (1_000_001, wurstlinen.TooManyEntries)]:
+                with self.assertRaises(fault):
+                    session.drain(entry_count)
+            waiting = session.entries()
+            page = session.drain(50)
+            self.assertEqual((page.first, page.entry_count(), page.entries()), (0, 2, waiting))
+            self.assertEqual((session.entry_count(), session.free_entries()), (0, 48))
+            session.take()
+            sent = session.drain()
+            session.fail()
+            with session.drain(50) as failed:
+                self.assertEqual((sent.first, failed.first), (2, 3))
+                self.assertEqual([type(entry) for entry in (*page, *sent, *failed)], [
+                    entries.Join, entries.Accept, entries.Send, entries.Came, entries.Finish])
+            self.assertEqual((list(page), list(failed)), ([], []))
+            with self.assertRaises(wurstlinen.NotOpen):
+                page.entry_count()
+            self.assertEqual(client.next_completion().status, wurstlinen.Status.FAILED_TO_SEND)
+            self.assertEqual([(rest.first, list(rest)) for rest in (session.drain(),)], [(5, [entries.Collect(0)])])
+            left = session.drain()
+        self.assertEqual((left.first, list(left)), (6, []))
+
+    def test_a_session_that_never_ends(self) -> None:
+        with Session(SOURCE, 40) as session:
+            client, line, pages = session.join(2), Fixtures(DEVICE), []
+            for number in range(200):
+                self.assertEqual(client.get(DEVICE, 0x0060), number)
+                pages.append(session.drain(40))
+                session.run(line)
+                client.next_completion()
+            pages.append(session.drain(40))
+            numbered = [(page.first + index, entry) for page in pages for index, entry in enumerate(page)]
+            self.assertEqual([number for number, _ in numbered], list(range(1 + 200 * 5)))
+            accepts = [entry.number for _, entry in numbered if isinstance(entry, entries.Accept)]
+            self.assertEqual(accepts, list(range(200)))
+
+
 class Agents(unittest.TestCase):
     def test_a_run(self) -> None:
         line = Fixtures(DEVICE, Uid(0x4321, 1))

@@ -29,7 +29,7 @@ from ._wire import (
 from . import entries
 from ._ask import Answer, Asker, Unserved
 from ._queue import Client, Controller
-from ._session import Log, Session
+from ._session import Log, Page, Session
 from ._agent import DiscoveryAgent
 from .line import Line, LineFailed
 

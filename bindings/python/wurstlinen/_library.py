@@ -109,6 +109,7 @@ CALLS = {
     "wurst_session_entry_count": [_HANDLE, _LENGTH],
     "wurst_session_entry": [_HANDLE, c_size_t, POINTER(EntryForm), _BYTES, c_size_t],
     "wurst_session_rotate": [_HANDLE, c_size_t, _HANDLE],
+    "wurst_session_drain": [_HANDLE, c_size_t, _HANDLE, POINTER(c_uint64)],
     "wurst_log_dispose": [_HANDLE],
     "wurst_log_entry_count": [_HANDLE, _LENGTH],
     "wurst_log_entry": [_HANDLE, c_size_t, POINTER(EntryForm), _BYTES, c_size_t],

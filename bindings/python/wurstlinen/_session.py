@@ -25,7 +25,7 @@ class _Entries(Held):
         return entry_in(form, bytes(data[:form.len]))
 
     def entry_count(self) -> int:
-        """How many entries the log has."""
+        """How many entries the log stores."""
         with self._lock:
             return self._count()
 
@@ -51,11 +51,42 @@ class Log(_Entries):
     _calls = Calls("wurst_log_")
 
 
+class Page(_Entries):
+    """The entries that `Session.drain` has handed out, as an iterator, oldest first.
+
+    Entries are numbered from 0 at the session's first one, or the first after its last rotation; `first` is the number
+    of this page's first. The page is disposed of after its last entry. Calls may be made from any thread: each holds a
+    lock of this object. It is a context manager, which disposes of it.
+    """
+
+    _calls = Calls("wurst_log_")
+
+    def __init__(self) -> None:
+        super().__init__()
+        self.first = 0
+        self._read = 0
+
+    def __iter__(self) -> "Page":
+        return self
+
+    def __next__(self) -> Entry:
+        with self._lock:
+            if not self._handle.is_open:
+                raise StopIteration
+            if self._read == self._count():
+                self._calls.dispose(self._handle)
+                raise StopIteration
+            entry = self._entry(self._read)
+            self._read += 1
+            return entry
+
+
 class Session(Queue, _Entries):
     """A queue with a log, which has a fixed capacity of entries.
 
     A request takes 5 entries, and 2 for each further frame. A discovery takes 3, and its run 2 for each frame. With
-    fewer than three free entries, calls raise LogFull; replies, closes and collects always fit.
+    fewer than three free entries, calls raise LogFull; replies, closes and collects always fit. `drain` empties the log
+    at any time.
     """
 
     _calls = Calls("wurst_session_")
@@ -82,3 +113,14 @@ class Session(Queue, _Entries):
         with self._lock:
             check(self._calls.rotate(self._handle, whole(entries, 64, "entries"), log._handle))
         return log
+
+    def drain(self, entries: int = 10_000) -> Page:
+        """Hands out all entries that the log stores, at any time, and continues with capacity for this many.
+
+        Raises LogFull if that is less than what is reserved, TooManyEntries or OutOfMemory; then nothing has changed.
+        """
+        page, first = Page(), ctypes.c_uint64()
+        with self._lock:
+            check(self._calls.drain(self._handle, whole(entries, 64, "entries"), page._handle, first))
+        page.first = first.value
+        return page

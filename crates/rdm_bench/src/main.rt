@@ -4,6 +4,7 @@
 
 mod agent;
 mod bench;
+mod drained;
 mod events;
 mod lines;
 mod packets;
@@ -14,6 +15,7 @@ mod soak;
 mod views;
 
 use crate::bench::{Bench, holds};
+use crate::drained::Port;
 use crate::served::CLIENTS;
 use std::env::{self, Env};
 use std::process::ExitCode;
@@ -28,6 +30,7 @@ usage: rdm_bench SUBJECT SIZE ROUNDS
   queue           requests and discoveries of a queue in which SIZE requests wait, 1 to 4080
   controller      its requests without a log alone
   session         its requests with a log alone
+  session_drained the same with a log that is drained
   answer          the same by Session::answer
   run             the same by Session::run
   ports           requests with a mutex and with ring buffers, while SIZE wait, 1 to 8
@@ -40,11 +43,16 @@ usage: rdm_bench SUBJECT SIZE ROUNDS
   scenes          ends of both searches over SIZE devices, 1 to 1000, on ROUNDS lines of each kind that aren't honest
   soak_locked     SIZE requests, 1 to 100000, of sixteen clients of each of ROUNDS ports with a mutex
   soak_rings      the same with ring buffers
+  drained         those that follow, without discoveries and with them
+  drained_session SIZE requests, 1 to 100000, ROUNDS times, of sixteen clients of one session whose log is drained
+  drained_port    the same with a mutex
+  drained_rings   the same with ring buffers
+  runs_session, runs_port, runs_rings  the same with discoveries among them
   all             all of these with SIZE, 1 to 8; soaks with a hundred times as many requests
 ROUNDS: 1 to 1000; else how often each of the 21 samples repeats its work";
 
 // What `all` measures. The other subjects are among these.
-const ALL: [&str; 13] = [
+const ALL: [&str; 14] = [
     "agent",
     "calls",
     "queue",
@@ -58,6 +66,7 @@ const ALL: [&str; 13] = [
     "scenes",
     "soak_locked",
     "soak_rings",
+    "drained",
 ];
 
 fn main(rt: HostRuntime) -> ExitCode {
@@ -96,10 +105,17 @@ fn measure_all<R: Files + AllocGlobal + CpuClock + Print + Eprint + Wait>(
     size: usize,
 ) -> Option<()> {
     for subject in ALL {
-        let requests = if subject.starts_with("soak") { 100 } else { 1 };
+        let requests = if is_soak(subject) { 100 } else { 1 };
         measure(bench, subject, size.wrapping_mul(requests))?;
     }
     Some(())
+}
+
+// Whether its size is a number of requests.
+fn is_soak(subject: &str) -> bool {
+    ["soak", "drained", "runs"]
+        .iter()
+        .any(|front| subject.starts_with(*front))
 }
 
 // The number, if it is from 1 to this one.
@@ -119,6 +135,7 @@ fn measure<R: Files + AllocGlobal + CpuClock + Print + Eprint + Wait>(
         "queue" => queue::time(bench, within(size, 4_080)?),
         "controller" => queue::time_requests(bench, false, false, within(size, 4_080)?),
         "session" => queue::time_requests(bench, true, false, within(size, 4_080)?),
+        "session_drained" => queue::time_drained(bench, within(size, 4_080)?),
         "answer" => events::time(bench, false, within(size, 4_080)?),
         "run" => events::time(bench, true, within(size, 4_080)?),
         "ports" => ports::time(bench, within(size, 8)?),
@@ -131,6 +148,18 @@ fn measure<R: Files + AllocGlobal + CpuClock + Print + Eprint + Wait>(
         "scenes" => lines::dishonest(bench, within(size, 1_000)?),
         "soak_locked" => soak::print(bench, true, within(size, 100_000)? as u64),
         "soak_rings" => soak::print(bench, false, within(size, 100_000)? as u64),
+        "drained" => drained::print_all(bench, within(size, 100_000)? as u64),
+        "drained_session" => drained::print(
+            bench,
+            Port::Alone,
+            false,
+            within(size, 100_000)? as u64,
+        ),
+        "drained_port" => drained::print(bench, Port::Locked, false, within(size, 100_000)? as u64),
+        "drained_rings" => drained::print(bench, Port::Rings, false, within(size, 100_000)? as u64),
+        "runs_session" => drained::print(bench, Port::Alone, true, within(size, 100_000)? as u64),
+        "runs_port" => drained::print(bench, Port::Locked, true, within(size, 100_000)? as u64),
+        "runs_rings" => drained::print(bench, Port::Rings, true, within(size, 100_000)? as u64),
         _ => None,
     }
 }

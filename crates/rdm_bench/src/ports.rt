@@ -5,7 +5,7 @@ ghost use Rattle.rdm_lanes.specs.Workers.{book_of};
 use crate::bench::{Bench, holds};
 use crate::packets::Replay;
 use crate::queue::replay_of;
-use crate::served::{CLIENTS, FREE, Job, PLACES, Served, Timing, config, written_log};
+use crate::served::{CLIENTS, Ending, FREE, Job, PLACES, Served, Timing, config, written_log};
 use left_right::Absorb;
 use rdm_agent::Kind;
 use rdm_client::{AskTold, Collected, DeviceView, Told};
@@ -13,8 +13,8 @@ use rdm_join::LineEvent;
 use rdm_lanes::views::{BlankHistory, Shown, ViewHistory};
 use rdm_lanes::{Lanes, RingFault, WorkerEnd, open_lanes};
 use rdm_line::Line;
-use rdm_locked::{CallShare, Exchange, Left, LockedClient, Port};
-use rdm_queue::{Log, SubmitFault};
+use rdm_locked::{CallShare, DiscoverFault, Exchange, Left, LockedClient, Port};
+use rdm_queue::{AskFault, Entry, Log, Page, SubmitFault};
 use rdm_rig::{AskNote, Note, cancels, log, request};
 use rdm_wire::Frame;
 use std::alloc::Global;
@@ -57,6 +57,7 @@ pub fn time_requests<R: CpuClock + Print + Eprint + Wait>(
         clients,
         waiting,
         discovery: None,
+        drained_after: 0,
     };
     on_session(bench, with_mutex, clients, log, record, line, &mut timing)
 }
@@ -78,8 +79,17 @@ pub fn time_discoveries<R: CpuClock + Print + Eprint + Wait>(
         clients: 1,
         waiting: 0,
         discovery: Some((line.replies.len() as u64, devices)),
+        drained_after: 0,
     };
     on_session(bench, with_mutex, 1, log, record, line, &mut timing)
+}
+
+// What a client collected.
+fn ending_of(collected: Collected) -> Ending {
+    match collected {
+        Collected::Request(told) => Ending::Request(told),
+        Collected::Ask(told) => Ending::Discovery(told.tag, count_of(&told)),
+    }
 }
 
 // How many devices a discovery found. None: it ended with a fault.
@@ -151,6 +161,28 @@ impl<L: Ledger, R: Wait, X: Line> Served for Locked<'_, L, R, X> {
             self.port.resume(self.bench.rt).ok()
         }
     }
+
+    fn ask(&mut self, client: usize, tag: u64) -> Option<bool> {
+        let client = self.clients.get_mut(client)?;
+        match client.discover(self.bench.rt, self.bench.alloc, Kind::Full, AskNote(tag)) {
+            Ok(_) => Some(true),
+            Err((DiscoverFault::Refused(AskFault::Full), _)) => Some(false),
+            Err(_) => None,
+        }
+    }
+
+    #[inline(never)]
+    fn collect_next(&mut self, client: usize) -> Option<Ending> {
+        let collected = self.clients.get_mut(client)?.collect(self.bench.rt)?;
+        Some(ending_of(collected))
+    }
+
+    // The record can't be compared with a log that was drained, so it begins anew.
+    fn drain(&mut self, next: Vec<Entry>) -> Option<Page> {
+        let page = self.port.drain(self.bench.rt, next).ok()?;
+        self.record.clear();
+        Some(page)
+    }
 }
 
 /// Opens a port, or ring buffers, for this many clients over this log and this line. Does this, and ends the clients. A
@@ -208,7 +240,8 @@ fn on_port<L: Ledger, X: Line + Drop, D: Job, R: Wait>(
     let shares = leave(bench, clients);
     joined?;
     done?;
-    holds(port.finish(shares?, record.as_slice()).is_ok())
+    // A port whose log was drained isn't ended.
+    holds(port.finish(shares?, record.as_slice()).is_ok() != job.drains())
 }
 
 // A record for this many exchanges, whose memory was written before.
@@ -303,6 +336,25 @@ impl<J: ViewHistory, W: Wait + Drop, X: Line> Served for Rings<J, Shown<J>, W, X
         } else {
             self.lanes.operator.resume().ok()
         }
+    }
+
+    fn ask(&mut self, client: usize, tag: u64) -> Option<bool> {
+        let client = self.lanes.clients.get_mut(client)?;
+        match client.discover(Kind::Full, AskNote(tag)) {
+            Ok(()) => Some(true),
+            Err((RingFault::Full | RingFault::RingFull, _)) => Some(false),
+            Err(_) => None,
+        }
+    }
+
+    #[inline(never)]
+    fn collect_next(&mut self, client: usize) -> Option<Ending> {
+        let collected = self.lanes.clients.get_mut(client)?.collect()?;
+        Some(ending_of(collected))
+    }
+
+    fn drain(&mut self, next: Vec<Entry>) -> Option<Page> {
+        self.lanes.worker.drain(next).ok()
     }
 }
 

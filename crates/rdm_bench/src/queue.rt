@@ -1,15 +1,17 @@
 //! The queue of requests in one thread, with a log and without, and its discoveries.
+ghost use Rattle.std.specs.Prelude.{◌≡◌, []};
+
 use crate::agent::tape;
 use crate::bench::{Bench, holds};
 use crate::lines::{Spread, bytes_of, devices};
 use crate::packets::Replay;
-use crate::served::{CLIENTS, Job, Served, Timing, config, written_log};
+use crate::served::{CLIENTS, Ending, Job, Served, Timing, config, page_room, written_log};
 use rdm_agent::Kind;
 use rdm_client::Told;
 use rdm_join::LineEvent;
 use rdm_line::Line;
-use rdm_queue::{ClientId, Controller, Outcome, Session};
-use rdm_rig::request;
+use rdm_queue::{ClientId, Controller, Entry, Log, Outcome, Page, Session};
+use rdm_rig::{log, request};
 use rdm_wire::{DeviceSet, Frame};
 use std::alloc::Global;
 use std::time::CpuClock;
@@ -113,6 +115,25 @@ impl Served for Clients {
         holds(end.fault.is_none())?;
         Some(self.found.len())
     }
+
+    fn ask(&mut self, _client: usize, _tag: u64) -> Option<bool> {
+        None
+    }
+
+    fn collect_next(&mut self, _client: usize) -> Option<Ending> {
+        None
+    }
+
+    fn drain(&mut self, next: Vec<Entry>) -> Option<Page> {
+        match &mut self.queue {
+            Queue::Plain(_) => None,
+            Queue::Logged(queue) => {
+                let first = queue.log().gone();
+                let entries = queue.drain(next).ok()?;
+                Some(Page { first, entries })
+            }
+        }
+    }
 }
 
 /// The client with this number, below 256.
@@ -126,6 +147,7 @@ pub fn time<R: CpuClock + Print + Eprint>(bench: &Bench<'_, R>, waiting: usize) 
         time_requests(bench, false, by_outcome, waiting)?;
         time_requests(bench, true, by_outcome, waiting)?;
     }
+    time_drained(bench, waiting)?;
     let line = replay_of(bench.alloc, DEVICES)?;
     let mut timing = Timing {
         bench,
@@ -134,6 +156,7 @@ pub fn time<R: CpuClock + Print + Eprint>(bench: &Bench<'_, R>, waiting: usize) 
         clients: CLIENTS,
         waiting,
         discovery: Some((line.replies.len() as u64, DEVICES)),
+        drained_after: 0,
     };
     let queue = queue_of(bench, false, waiting)?;
     timing.perform(&mut clients_of(bench.alloc, queue, line, false))
@@ -166,8 +189,29 @@ pub fn time_requests<R: CpuClock + Print + Eprint>(
         clients: CLIENTS,
         waiting,
         discovery: None,
+        drained_after: 0,
     };
     timing.perform(&mut clients_of(bench.alloc, queue, line, by_outcome))
+}
+
+/// Times requests of a queue with a log that is drained after every hundredth.
+pub fn time_drained<R: CpuClock + Print + Eprint>(
+    bench: &Bench<'_, R>,
+    waiting: usize,
+) -> Option<()> {
+    let mut timing = Timing {
+        bench,
+        subject: "queue with drained log",
+        work: "NextCompletion",
+        clients: CLIENTS,
+        waiting,
+        discovery: None,
+        drained_after: 100,
+    };
+    let line = Replay::of_two_bytes(bench.alloc)?;
+    let log = log(bench.alloc, page_room(100, waiting)).ok()?;
+    let queue = Queue::Logged(session_over(bench.alloc, log)?);
+    timing.perform(&mut clients_of(bench.alloc, queue, line, false))
 }
 
 // A queue of sixteen clients, for the requests that are timed while this many wait.
@@ -181,10 +225,16 @@ fn queue_of<R>(bench: &Bench<'_, R>, with_log: bool, waiting: usize) -> Option<Q
 
 /// A session of sixteen clients, for the requests that are timed while this many wait.
 pub fn session<R>(bench: &Bench<'_, R>, waiting: usize) -> Option<Session> {
-    let log = written_log(bench, waiting)?;
-    let mut session = Session::new(bench.alloc, config(), log).ok()?;
+    session_over(bench.alloc, written_log(bench, waiting)?)
+}
+
+// A session of sixteen clients over this log.
+fn session_over(alloc: Global, log: Log) -> Option<Session>
+    requires { log.entries ≡ [] }
+{
+    let mut session = Session::new(alloc, config(), log).ok()?;
     for _ in 0..CLIENTS {
-        session.join_client(bench.alloc, u8::MAX).ok()?;
+        session.join_client(alloc, u8::MAX).ok()?;
     }
     Some(session)
 }

@@ -6,11 +6,12 @@ use crate::bench::{Bench, Sample, holds};
 use crate::packets::TAG;
 use rdm_agent::DEFAULT_BUDGET;
 use rdm_client::Told;
-use rdm_queue::{Config, Entry, Log, MOST_PLACES};
+use rdm_queue::{Config, Entry, Log, MOST_PLACES, Page};
 use rdm_rig::log;
 use rdm_wire::Uid;
-use std::fmt;
+use std::alloc::Global;
 use std::time::CpuClock;
+use std::{fmt, mem};
 
 /// How many clients there are, unless there is one.
 pub const CLIENTS: u8 = 16;
@@ -20,6 +21,15 @@ pub const FREE: usize = 1_000_000;
 
 /// The queue depth of each client of a port, and the slots of its rings.
 pub const PLACES: u8 = 8;
+
+/// What a client is told of an outcome.
+#[derive(Drop)]
+pub enum Ending {
+    /// A request has ended.
+    Request(Told),
+    /// The discovery with this tag, or number, has ended with this many devices; None: with a fault.
+    Discovery(u64, Option<usize>),
+}
 
 /// Clients of a session, with their worker and its line. None: a call didn't return what it should.
 pub trait Served {
@@ -42,12 +52,27 @@ pub trait Served {
     fn pause(&mut self, _pauses: bool) -> Option<()> {
         Some(())
     }
+
+    /// A client asks for a full discovery with this tag. Returns whether its queue had a place for it.
+    fn ask(&mut self, client: usize, tag: u64) -> Option<bool>;
+
+    /// What a client is told next. None: it is told nothing.
+    fn collect_next(&mut self, client: usize) -> Option<Ending>;
+
+    /// The entries that the log stores; it goes on in this memory. None: there is no log, or too little memory.
+    fn drain(&mut self, next: Vec<Entry>) -> Option<Page>
+        requires { next.items ≡ [] };
 }
 
 /// What is done with the clients of a session.
 pub trait Job {
     /// Does it.
     fn perform<S: Served>(&mut self, served: &mut S) -> Option<()>;
+
+    /// Whether it drains the log.
+    fn drains(&self) -> bool {
+        false
+    }
 }
 
 /// A controller `7a70:00000100` with all the places that there may be.
@@ -86,6 +111,8 @@ pub struct Timing<'a, R, W> {
     pub clients: u8,
     pub waiting: usize,
     pub discovery: Option<(u64, usize)>,
+    /// How many turns there are between two drains of the log; 0: it isn't drained.
+    pub drained_after: usize,
 }
 
 impl<R: CpuClock + Print + Eprint, W: fmt::Display + Copy> Job for Timing<'_, R, W> {
@@ -100,6 +127,9 @@ impl<R: CpuClock + Print + Eprint, W: fmt::Display + Copy> Job for Timing<'_, R,
             waiting: self.waiting,
             turn: 0,
             discovery: self.discovery,
+            drained_after: self.drained_after,
+            alloc: self.bench.alloc,
+            next: written_page(self.bench.alloc, self.drained_after, self.waiting)?,
         };
         self.bench.time(self.subject, self.work, &mut turns)
     }
@@ -113,6 +143,9 @@ struct Turns<'a, S> {
     waiting: usize,
     turn: usize,
     discovery: Option<(u64, usize)>,
+    drained_after: usize,
+    alloc: Global,
+    next: Vec<Entry>,
 }
 
 impl<S: Served> Sample for Turns<'_, S> {
@@ -128,6 +161,42 @@ impl<S: Served> Sample for Turns<'_, S> {
         let told = self.served.collect(self.turn % self.clients.max(1))?;
         holds(told.done.bytes.len() == 2 && self.served.submit(submitter, TAG)?)?;
         self.turn = self.turn.wrapping_add(1);
+        if self.turn.checked_rem(self.drained_after) == Some(0) {
+            self.drain()?;
+        }
         Some(1)
     }
+}
+
+impl<S: Served> Turns<'_, S> {
+    // The page that was drained before is the memory of the next.
+    fn drain(&mut self) -> Option<()> {
+        let mut next = mem::replace(&mut self.next, Vec::new(self.alloc));
+        next.clear();
+        self.next = self.served.drain(next)?.entries;
+        Some(())
+    }
+}
+
+// Memory for the entries of this many turns, and for those that are reserved while this many requests wait. It was
+// written before.
+fn written_page(alloc: Global, turns: usize, waiting: usize) -> Option<Vec<Entry>> {
+    let mut page = Vec::new(alloc);
+    if turns > 0 {
+        let room = page_room(turns, waiting);
+        page.reserve(room).ok()?;
+        for _ in 0..room {
+            page.push(Entry::Pause).ok()?;
+        }
+        page.clear();
+    }
+    Some(page)
+}
+
+/// How many entries of a log are enough for this many turns, five entries each, while this many requests wait.
+pub fn page_room(turns: usize, waiting: usize) -> usize {
+    turns
+        .wrapping_mul(5)
+        .wrapping_add(waiting.wrapping_mul(3))
+        .wrapping_add(100)
 }

@@ -32,8 +32,8 @@ pub fn print<R: Files + AllocGlobal + Print + Eprint + Wait>(
     Some(())
 }
 
-// How many kilobytes of memory the process holds now, if the system says it, as Linux does.
-fn resident<R: Files + AllocGlobal>(rt: &R) -> Option<u64> {
+/// How many kilobytes of memory the process holds now, if the system says it, as Linux does.
+pub fn resident<R: Files + AllocGlobal>(rt: &R) -> Option<u64> {
     let text = fs::read_to_string(rt, "/proc/self/status").ok()?;
     let line = text
         .as_str()
@@ -87,8 +87,8 @@ fn line_for(alloc: Global, requests: u64, seed: u64) -> Option<SimLine> {
     line_of(alloc, line).ok()
 }
 
-// The tag of the request with this number. One in 8 asks for the parameter in three parts.
-fn tag_of(number: u64) -> u64 {
+/// The tag of the request with this number. One in 8 asks for the parameter in three parts.
+pub fn tag_of(number: u64) -> u64 {
     if number % 8 == 0 {
         number.wrapping_add(LONG)
     } else {

@@ -1,6 +1,6 @@
 -- The statuses of calls on a session that the session's own calls don't have.
-use Rattle.std.specs.Prelude.{ℕ, nat_lt, if◌then◌else◌}
-use Rattle.rdm_log.specs.log.History.{is_idle}
+use Rattle.std.specs.Prelude.{ℕ, ◌+◌, nat_lt, if◌then◌else◌}
+use Rattle.rdm_log.specs.log.History.{is_idle, reserved}
 use Rattle.rdm_log.specs.log.LogState.{LogState, is_full_log}
 use Rattle.rdm_handles.specs.Statuses as status
 use Rattle.rdm_handles.specs.Forms.{setup_status}
@@ -24,3 +24,10 @@ abbrev pub rotate_status : LogState → ℕ → ℕ
 rotate_status k entries =
     first_of (entries_status entries)
     (if nat_lt entries 3 then status.log_full else (if is_idle k.entries then status.done else status.not_idle))
+
+-- the first fault of going on in a log for this many entries and one more: it must have capacity for those that are
+-- reserved
+abbrev pub drain_status : LogState → ℕ → ℕ
+drain_status k entries =
+    first_of (if nat_lt (entries + 1) (reserved k.opening k.entries) then status.log_full else status.done)
+    (entries_status entries)

@@ -2,6 +2,7 @@
 ghost use Rattle.std.specs.Prelude.{◌≡◌, ◌≢◌, List, ℕ, length, take, Some, slice_get};
 ghost use Rattle.rdm_join.specs.Statuses.{number_of_status};
 ghost use Rattle.rdm_log.specs.declared.entry.Entry.{Entry};
+ghost use Rattle.rdm_log.specs.log.LogState.{stored};
 ghost use Rattle.rdm_handles.specs.Forms.{corrupt_uid, number_of_fault};
 ghost use Rattle.rdm_handles.specs.Entries.{plain_entry, entry_with_client, entry_with_caller, entry_with_request};
 ghost use Rattle.rdm_handles.specs.Entries.{entry_with_call, entry_with_owner, entry_with_event, form_of_entry};
@@ -20,10 +21,10 @@ use rdm_wire::Request;
 /// Writes the entry with this index, from 0, with its bytes at the front of a buffer. `BUFFER_TOO_SMALL` writes how
 /// many bytes it needs into `len`.
 pub fn read(log: &Log, index: usize, form: &mut EntryForC, buffer: &mut [u8]) -> u32
-    ensures status { result ≡ entry_status log.now.entries index (length buffer.old) }
-    ensures needed { (e : Entry) → slice_get log.now.entries index ≡ Some e → result ≡ BUFFER_TOO_SMALL →
+    ensures status { result ≡ entry_status (stored log.now) index (length buffer.old) }
+    ensures needed { (e : Entry) → slice_get (stored log.now) index ≡ Some e → result ≡ BUFFER_TOO_SMALL →
         form.new.len ≡ length (bytes_of_entry e) }
-    ensures written { (e : Entry) → slice_get log.now.entries index ≡ Some e → result ≡ DONE →
+    ensures written { (e : Entry) → slice_get (stored log.now) index ≡ Some e → result ≡ DONE →
         (form.new ≡ form_of_entry e) × (take form.new.len buffer.new ≡ bytes_of_entry e) }
     ensures only_len { result ≡ BUFFER_TOO_SMALL → form.new ≡ record form.old { len = form.new.len } }
     ensures none { result ≡ NO_ENTRY → form.new ≡ form.old }

@@ -1,6 +1,6 @@
 //! C's calls on a session, with their statuses.
 ghost use Rattle.std.specs.Prelude.{◌≡◌, ◌≢◌, ◌≤◌, ◌<◌, ◌↔◌, ◌+◌, List, [], length, take, map, Some, None, Ok, IfOk};
-ghost use Rattle.std.specs.Prelude.{IfErr, if◌then◌else◌, ◌==◌, ◌⊎◌, nat_lt, ℕ, true, false, option_map};
+ghost use Rattle.std.specs.Prelude.{IfErr, if◌then◌else◌, ◌==◌, ◌⊎◌, ◌-◌, nat_lt, ℕ, true, false, option_map};
 ghost use Rattle.arrayvec.specs.ArrayVec.{ArrayVec as Bytes};
 ghost use Rattle.rdm_wire.specs.declared.device.Device.{Device};
 ghost use Rattle.rdm_join.specs.declared.event.LineEvent.TheVariants.{Reply};
@@ -10,7 +10,7 @@ ghost use Rattle.rdm_log.specs.declared.outcome.DiscoveryEnd.{DiscoveryEnd};
 ghost use Rattle.rdm_log.specs.declared.outcome.OutcomeKind.TheVariants as kinds;
 ghost use Rattle.rdm_log.specs.log.History.{awaited, is_idle};
 ghost use Rattle.rdm_log.specs.log.Legal.{Legal};
-ghost use Rattle.rdm_log.specs.log.LogState.{is_full_log, begun, blank_log, opening_after};
+ghost use Rattle.rdm_log.specs.log.LogState.{is_full_log, begun, blank_log, opening_after, drained, MayGoOn};
 ghost use Rattle.rdm_log.specs.promises.Blocks.{JoinLogs, SubmitLogs, DiscoverLogs, PauseLogs, ResumeLogs, TakeLogs};
 ghost use Rattle.rdm_log.specs.promises.Blocks.{DeliverAdds, CollectAdds, GrowsBy};
 ghost use Rattle.rdm_log.specs.promises.Outcomes.{oldest_kind, request_outcome, discovery_outcome};
@@ -19,7 +19,7 @@ ghost use Rattle.rdm_handles.specs.Forms.{setup_of, request_status, request_of, 
 ghost use Rattle.rdm_handles.specs.Forms.{form_of_completion, form_of_end, form_of_device};
 ghost use Rattle.rdm_handles.specs.Answers.{join_answer, submit_answer, ask_answer, collect_status, oldest_status};
 ghost use Rattle.rdm_handles.specs.Answers.{number_of_outcome_kind, join_fault_of, submit_fault_of, ask_fault_of};
-ghost use Rattle.rdm_handles.specs.Sessions.{open_status, full_status, rotate_status};
+ghost use Rattle.rdm_handles.specs.Sessions.{open_status, full_status, rotate_status, drain_status};
 
 use crate::convert::{
     completion_for_c, end_for_c, kind_of, put_bytes, put_devices, request_of, setup_of,
@@ -330,6 +330,7 @@ pub fn rotate(session: &mut Session, alloc: Global, entries: usize) -> Result<Bo
           entries = [];
           room = entries + 1;
           search = session.old.search;
+          gone = 0;
         })) }
     ensures refused { IfErr result (λ fault. (session.new ≡ session.old) × (fault
         ≡ (if rotate_status session.old entries == 0 then OUT_OF_MEMORY else rotate_status session.old entries))) }
@@ -356,6 +357,68 @@ pub fn rotate(session: &mut Session, alloc: Global, entries: usize) -> Result<Bo
             *session = unchanged;
             Err(NOT_IDLE)
         }
+    }
+}
+
+/// Hands out all entries that the log stores to another log, in place of that log's own, and goes on in its memory.
+/// `LOG_FULL`: it has no capacity for all that are reserved, or there would be more than 2^62 entries in all.
+pub fn drain_into(session: &mut Session, page: &mut Log) -> u32
+    ensures statuses { (result ≡ DONE) ⊎ (result ≡ LOG_FULL) }
+    ensures full { result ≡ LOG_FULL → MayGoOn session.old (page.old.room - page.old.gone) → ⊥ }
+    ensures drained { result ≡ DONE → session.new ≡ drained session.old (page.old.room - page.old.gone) }
+    ensures handed_out { result ≡ DONE → page.new ≡ record page.old {
+      entries = session.old.entries;
+      room = session.old.room;
+      gone = session.old.gone;
+    } }
+    ensures legal { Legal session.new.opening session.new.entries }
+    ensures unchanged { result ≢ DONE → (session.new ≡ session.old) × (page.new ≡ page.old) }
+{
+    match session.drain_into(page) {
+        Ok(_) => DONE,
+        Err(_) => LOG_FULL,
+    }
+}
+
+/// Goes on in memory for this many entries and one more, and returns all entries that the log stored, as a log.
+/// Err: the status of the first fault, or `OUT_OF_MEMORY`. `LOG_FULL` too if there would be more than 2^62 entries in
+/// all. Then the session is unchanged.
+pub fn drain(session: &mut Session, alloc: Global, entries: usize) -> Result<Box<Log>, u32>
+    ensures drained { IfOk result (λ page. (drain_status session.old entries ≡ 0)
+        × (session.new ≡ drained session.old (entries + 1))) }
+    ensures handed_out { IfOk result (λ page. page.value ≡ record (blank_log session.old.room) {
+      entries = session.old.entries;
+      gone = session.old.gone;
+    }) }
+    ensures refused { IfErr result (λ fault. (session.new ≡ session.old)
+        × ((drain_status session.old entries ≢ 0 → fault ≡ drain_status session.old entries)
+        × (drain_status session.old entries ≡ 0 → (fault ≡ OUT_OF_MEMORY) ⊎ (fault ≡ LOG_FULL)))) }
+{
+    if entries < session.reserved().saturating_sub(1) {
+        return Err(LOG_FULL);
+    }
+    if entries > MOST_FREE_ENTRIES {
+        return Err(TOO_MANY_ENTRIES);
+    }
+    let Ok(page) = page_for(alloc, entries) else {
+        return Err(OUT_OF_MEMORY);
+    };
+    let mut page = page;
+    match session.drain_into(&mut page) {
+        Ok(_) => Ok(page),
+        Err(_) => Err(LOG_FULL),
+    }
+}
+
+// A log for this many entries, in a box.
+fn page_for(alloc: Global, entries: usize) -> Result<Box<Log>, NoMemory>
+    requires { entries ≤ 1000000 }
+    ensures { IfOk result (λ page. page.value ≡ blank_log (entries + 1)) }
+{
+    let log = Log::new(alloc, entries)?;
+    match Box::new(alloc, log) {
+        Ok(page) => Ok(page),
+        Err(_) => Err(NoMemory),
     }
 }
 

@@ -88,15 +88,18 @@ collects_need_nothing : (block : List Entry) → AllCollects block → added_by 
 collects_need_nothing [] all = refl
 collects_need_nothing (e ∷ block) all = omega (arith, collect_needs_nothing e all.0, collects_need_nothing block all.1)
 
-free_stays : (o : Opening) (h block : List Entry) (room : ℕ) (search : Search) → EachAfter (MayFollow o) (h ++ block)
-    → AllCollects block
-    → free_entries (record { opening = o; entries = h ++ block; room = room; search = search }) ≡ free_entries (record {
+free_stays : (o : Opening) (h block : List Entry) (room : ℕ) (search : Search) (gone : ℕ)
+    → EachAfter (MayFollow o) (h ++ block) → AllCollects block
+    → free_entries (record { opening = o; entries = h ++ block; room = room; search = search; gone = gone })
+    ≡ free_entries (record {
       opening = o;
       entries = h;
       room = room;
       search = search;
+      gone = gone;
     })
-free_stays o h block room search each all = omega (arith, used_block o h block each, collects_need_nothing block all)
+free_stays o h block room search gone each all =
+    omega (arith, used_block o h block each, collects_need_nothing block all)
 
 pub full_stays : (old new : LogState) → OnlyCollects old new → Legal new.opening new.entries
     → is_full_log new ≡ is_full_log old
@@ -104,7 +107,7 @@ full_stays old new is legal =
     let each : EachAfter (MayFollow old.opening) (old.entries ++ is.block) = subst
     (λ (k : LogState). EachAfter (MayFollow k.opening) k.entries) is.grows legal.each in
     ap is_full_log is.grows
-    ∙ ap (λ (n : ℕ). nat_lt n 3) (free_stays old.opening old.entries is.block old.room old.search each is.each)
+    ∙ ap (λ (n : ℕ). nat_lt n 3) (free_stays old.opening old.entries is.block old.room old.search old.gone each is.each)
 
 -- where no frame might be sent, none may be
 module _ (o : Opening) (h : List Entry) (c : ClientId) where

@@ -185,16 +185,17 @@ module _ (o : Opening) (h : List Entry) (d : ClientId) (each : EachAfter (MayFol
       omega (arith, same, finishes_more, is.other)
 
 -- the outcome that was collected is on the client's ring
-collected_fits : (o : Opening) (h : List Entry) (room : ℕ) (search : Search) (d : ClientId) (x : Entry)
+collected_fits : (o : Opening) (h : List Entry) (room : ℕ) (search : Search) (gone : ℕ) (d : ClientId) (x : Entry)
     (item : RingOutcome) (lane next : Lane) (requests asks : ℕ)
     → EachAfter (MayFollow o) (h ++ Collect d ∷ []) → slice_get (uncollected o d.0 h) 0 ≡ Some x
     → outcome_of h x ≡ Some (value_in item)
     → outstanding_requests o d.0 (h ++ Collect d ∷ []) ≡ requests
     → outstanding_discoveries o d.0 (h ++ Collect d ∷ []) ≡ asks
-    → Fits d.0 (record { opening = o; entries = h; room = room; search = search }) lane → IsNext lane next requests asks
+    → Fits d.0 (record { opening = o; entries = h; room = room; search = search; gone = gone }) lane
+    → IsNext lane next requests asks
     → pushed next.replies ≡ pushed lane.replies ++ item ∷ []
-    → Fits d.0 (record { opening = o; entries = h ++ Collect d ∷ []; room = room; search = search }) next
-collected_fits o h room search d x item lane next requests asks each oldest told counted asked f isnext replies =
+    → Fits d.0 (record { opening = o; entries = h ++ Collect d ∷ []; room = room; search = search; gone = gone }) next
+collected_fits o h room search gone d x item lane next requests asks each oldest told counted asked f isnext replies =
     record {
       calls_are = ap work_in isnext.calls_are ∙ f.calls_are
           ∙ ap (λ (xs : List ClientCall). xs ++ []) (sym (calls_stay d.0 h (Collect d) refl));
@@ -261,7 +262,7 @@ fits_completion old new d n done item lane next g legal is f isnext replies =
     let kind = finish_of old.entries x n (completion_value done) adds.0.told in
     let fewer = fewer_requests old.opening old.entries d each x adds.0.oldest kind in
     let same = same_asks old.opening old.entries d each x adds.0.oldest kind in
-    rw grows (collected_fits old.opening old.entries old.room old.search d x item lane next (lane.requests - 1)
+    rw grows (collected_fits old.opening old.entries old.room old.search old.gone d x item lane next (lane.requests - 1)
     lane.asks each adds.0.oldest (adds.0.told ∙ ap (λ v. Some v) (sym is))
     (less_one lane.requests _ _ f.requests_are fewer) (same ∙ sym f.asks_are) f isnext replies)
 
@@ -280,6 +281,6 @@ fits_discovery old new d n done item lane next g legal is f isnext replies =
     let kind = answer_of old.entries x n (discovered done) adds.0.told in
     let fewer = fewer_asks old.opening old.entries d each x adds.0.oldest kind in
     let same = same_requests old.opening old.entries d each x adds.0.oldest kind in
-    rw grows (collected_fits old.opening old.entries old.room old.search d x item lane next lane.requests
+    rw grows (collected_fits old.opening old.entries old.room old.search old.gone d x item lane next lane.requests
     (lane.asks - 1) each adds.0.oldest (adds.0.told ∙ ap (λ v. Some v) (sym is))
     (same ∙ sym f.requests_are) (less_one lane.asks _ _ f.asks_are fewer) f isnext replies)

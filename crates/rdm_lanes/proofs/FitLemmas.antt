@@ -221,29 +221,31 @@ pub record IsNext (old new : Lane) (requests asks : ℕ) : Type 0 where
   pub left_is : new.left ≡ old.left
 
 -- a call that is accepted, or refused otherwise than by a close
-made : (x : ClientCall) (c : ℕ) (o : Opening) (h : List Entry) (room : ℕ) (search : Search) (e : Entry)
+made : (x : ClientCall) (c : ℕ) (o : Opening) (h : List Entry) (room : ℕ) (search : Search) (gone : ℕ) (e : Entry)
     (lane new : Lane) (requests asks : ℕ)
     → EachAfter (MayFollow o) (h ++ e ∷ []) → FitsBut (x ∷ []) c (record {
       opening = o;
       entries = h;
       room = room;
       search = search;
+      gone = gone;
     }) lane
     → is_quiet e ≡ true → collector_of e ≡ None → call_by c e ≡ Some x → is_closed_refusal c e ≡ false
     → outstanding_requests o c (h ++ e ∷ []) ≡ requests → outstanding_discoveries o c (h ++ e ∷ []) ≡ asks
     → IsNext lane new requests asks → pushed new.replies ≡ pushed lane.replies
-    → Fits c (record { opening = o; entries = h ++ e ∷ []; room = room; search = search }) new
-made x c o h room search e lane new requests asks each f quiet collect call other counted asked next replies = record {
-  calls_are = ap work_in next.calls_are ∙ f.calls_are ∙ sym (append-nil _ ∙ calls_more c h e x call);
-  moved_are = rw (
-    replies,
-    uncollected_same o h e each quiet c (no_collect_of c e collect),
-    told_same o h e each quiet c other,
-  ) f.moved_are;
-  requests_are = next.requests_are ∙ sym counted;
-  asks_are = next.asks_are ∙ sym asked;
-  left_is = next.left_is ∙ f.left_is ∙ ap (list_any is_leave) (sym next.calls_are);
-}
+    → Fits c (record { opening = o; entries = h ++ e ∷ []; room = room; search = search; gone = gone }) new
+made x c o h room search gone e lane new requests asks each f quiet collect call other counted asked next
+    replies = record {
+      calls_are = ap work_in next.calls_are ∙ f.calls_are ∙ sym (append-nil _ ∙ calls_more c h e x call);
+      moved_are = rw (
+        replies,
+        uncollected_same o h e each quiet c (no_collect_of c e collect),
+        told_same o h e each quiet c other,
+      ) f.moved_are;
+      requests_are = next.requests_are ∙ sym counted;
+      asks_are = next.asks_are ∙ sym asked;
+      left_is = next.left_is ∙ f.left_is ∙ ap (list_any is_leave) (sym next.calls_are);
+    }
 
 pub fits_accept : (old new : LogState) (d : ClientId) (n : ℕ) (request : Request) (lane next : Lane)
     → new ≡ grown old (Accept d n request ∷ []) → Legal new.opening new.entries
@@ -253,7 +255,8 @@ fits_accept old new d n request lane next is legal f isnext replies =
     let e = Accept d n request in
     let each : EachAfter (MayFollow old.opening) (old.entries ++ e ∷ []) = subst
     (λ (k : LogState). EachAfter (MayFollow k.opening) k.entries) is legal.each in
-    rw is (made (Submit request) d.0 old.opening old.entries old.room old.search e lane next (lane.requests + 1)
+    rw is (made (Submit request) d.0 old.opening old.entries old.room old.search old.gone e lane next
+    (lane.requests + 1)
     lane.asks each f refl refl (own_call d n request) refl
     (requests_more old.opening old.entries d n request each ∙ ap (λ (m : ℕ). m + 1) (sym f.requests_are))
     (asks_stay old.opening old.entries e d.0 each refl refl ∙ sym f.asks_are) isnext replies)
@@ -269,7 +272,7 @@ fits_ask old new d n kind lane next is legal f isnext replies =
     let e = Ask d n kind in
     let each : EachAfter (MayFollow old.opening) (old.entries ++ e ∷ []) = subst
     (λ (k : LogState). EachAfter (MayFollow k.opening) k.entries) is legal.each in
-    rw is (made (Discover kind) d.0 old.opening old.entries old.room old.search e lane next lane.requests
+    rw is (made (Discover kind) d.0 old.opening old.entries old.room old.search old.gone e lane next lane.requests
     (lane.asks + 1) each f refl refl (own_call d n kind) refl
     (requests_stay old.opening old.entries e d.0 each refl refl ∙ sym f.requests_are)
     (asks_more_left old.opening old.entries d n kind each ∙ ap (λ (m : ℕ). m + 1) (sym f.asks_are)) isnext replies)
@@ -290,7 +293,8 @@ fits_refused old new d call cause x lane next is legal mine other f isnext repli
     let e = Refuse (Some d) call cause in
     let each : EachAfter (MayFollow old.opening) (old.entries ++ e ∷ []) = subst
     (λ (k : LogState). EachAfter (MayFollow k.opening) k.entries) is legal.each in
-    rw is (made x d.0 old.opening old.entries old.room old.search e lane next lane.requests lane.asks each f refl refl
+    rw is (made x d.0 old.opening old.entries old.room old.search old.gone e lane next lane.requests lane.asks each f
+    refl refl
     (own_refusal d call cause x mine) (rw other refl)
     (requests_stay old.opening old.entries e d.0 each refl refl ∙ sym f.requests_are)
     (asks_stay old.opening old.entries e d.0 each refl refl ∙ sym f.asks_are) isnext replies)

@@ -1,3 +1,4 @@
+pub mod DrainLemmas
 pub mod Fronts
 pub mod ViewFacts
 pub mod HistoryLemmas

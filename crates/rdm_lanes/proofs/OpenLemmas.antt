@@ -236,7 +236,13 @@ publishes_opened setup room ps p shown added = record {
 
 -- a session in which clients have joined
 abbrev pub empty_log : Setup → ℕ → LogState
-empty_log setup room = record { opening = opened setup.config; entries = []; room = room; search = setup.search }
+empty_log setup room = record {
+  opening = opened setup.config;
+  entries = [];
+  room = room;
+  search = setup.search;
+  gone = 0;
+}
 
 served_empty : (setup : Setup) (room : ℕ) → IsBetweenTurns (empty_log setup room)
 unfolding awaited

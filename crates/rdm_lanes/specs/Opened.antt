@@ -61,7 +61,13 @@ join_entries n (p ∷ ps) = Join (record { 0 = n }) p ∷ join_entries (n + 1) p
 -- a session with this set-up, in which clients with these queue depths have joined, and nothing else has happened
 abbrev pub opened_with : Setup → ℕ → List ℕ → LogState
 opened_with setup room places =
-    record { opening = opened setup.config; entries = join_entries 0 places; room = room; search = setup.search }
+    record {
+      opening = opened setup.config;
+      entries = join_entries 0 places;
+      room = room;
+      search = setup.search;
+      gone = 0;
+    }
 
 module _ {J : Type 0} {h : Ghosts J} {C A : Type 0} where
   -- A client with this queue depth, and with rings of this many slots. It has sent and got nothing, hasn't left, and

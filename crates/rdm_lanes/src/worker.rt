@@ -7,6 +7,7 @@ ghost use Rattle.rdm_lanes.specs.Lanes.{AllFit};
 
 pub(crate) mod compared;
 pub(crate) mod comparing;
+pub(crate) mod draining;
 pub(crate) mod lane;
 pub(crate) mod moving;
 pub(crate) mod operating;

@@ -22,7 +22,8 @@ pub struct Exchange {
 
 /// Whether the log's exchanges are those of the record. The log is legal, so each event belongs to the frame before it.
 pub(crate) fn has_exchanges(log: &Log, exchanges: &[Exchange]) -> bool
-    requires { Legal log.now.opening log.now.entries }
+    requires legal { Legal log.now.opening log.now.entries }
+    requires whole { log.now.gone ≡ 0 }
     ensures { Decides result (log_exchanges log.now.entries ≡ recorded exchanges.now) }
 {
     has_events(log.entries(), exchanges) && begins_with_frames(log.entries(), exchanges)

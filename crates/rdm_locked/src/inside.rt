@@ -1,6 +1,7 @@
 //! What a port's mutex holds.
 ghost use Rattle.std.specs.Prelude.{◌≡◌, ◌≢◌, ◌≤◌, ◌<◌, ◌+◌, ℕ, [], length, Ok, Err, Some, OnOk, OnErr, IfOk, IfErr};
-ghost use Rattle.std.specs.Prelude.{IfSome, IfNone, OnSome, nat_lt, if◌then◌else◌};
+ghost use Rattle.std.specs.Prelude.{IfSome, IfNone, OnSome, nat_lt, if◌then◌else◌, vec_capacity};
+ghost use Rattle.rdm_log.specs.log.LogState.{stored, drained, MayGoOn};
 ghost use Rattle.rdm_log.specs.log.Config.{steady};
 ghost use Rattle.rdm_log.specs.log.History.{next_client};
 ghost use Rattle.rdm_log.specs.log.Legal.{Legal};
@@ -24,8 +25,8 @@ use rdm_agent::Kind;
 use rdm_client::{BoxedAsk, DeviceView};
 use rdm_join::LineEvent;
 use rdm_queue::{
-    AskFault, ClientId, Completion, Config, DiscoveryEnd, JoinFault, Log, LogFull, NoMemory,
-    NotAsked, OutcomeKind, Session, Setup, SubmitFault,
+    AskFault, ClientId, Completion, Config, DiscoveryEnd, Entry, JoinFault, Log, LogFull, NoMemory,
+    NotAsked, OutcomeKind, Page, Session, Setup, SubmitFault,
 };
 use rdm_wire::{DeviceSet, Request};
 use std::alloc::Global;
@@ -138,11 +139,7 @@ impl<L: Ledger> Inside<L> {
     {
         let Inside { session, calls, .. } = self;
         let answer = session.submit(client, request);
-        mine.add_calls(
-            calls,
-            submits_logged(&answer),
-            session.log().entries().len(),
-        );
+        mine.add_calls(calls, submits_logged(&answer), session.log().len_in_all());
         answer
     }
 
@@ -161,12 +158,25 @@ impl<L: Ledger> Inside<L> {
     {
         let Inside { session, calls, .. } = self;
         let answer = session.discover(client, kind);
-        mine.add_calls(
-            calls,
-            discovers_logged(&answer),
-            session.log().entries().len(),
-        );
+        mine.add_calls(calls, discovers_logged(&answer), session.log().len_in_all());
         answer
+    }
+
+    /// Hands out all entries that the log stores, as [`Session::drain`] does, with the number of the first.
+    /// Err: as `Session::drain` returns; nothing has changed, and the memory is returned.
+    pub fn drain(&mut self, next: Vec<Entry>) -> Result<Page, (LogFull, Vec<Entry>)>
+        requires { next.items ≡ [] }
+        ensures first { IfOk result (λ page. page.first ≡ self.old.session.gone) }
+        ensures handed_out { IfOk result (λ page. page.entries.items ≡ stored self.old.session) }
+        ensures log { OnOk result (self.new.session ≡ drained self.old.session (vec_capacity next)) }
+        ensures back { IfErr result (λ e. e.1 ≡ next) }
+        ensures refused { OnErr result (MayGoOn self.old.session (vec_capacity next) → ⊥) }
+        ensures unchanged { OnErr result (self.new.session ≡ self.old.session) }
+        ensures clients { (self.new.joined ≡ self.old.joined) × (self.new.left ≡ self.old.left) }
+    {
+        let first = self.session.log().gone();
+        let entries = self.session.drain(next)?;
+        Ok(Page { first, entries })
     }
 
     /// The kind of a client's oldest uncollected outcome, as [`Session::oldest`] says. None: there is none.
@@ -196,7 +206,7 @@ impl<L: Ledger> Inside<L> {
     {
         let Inside { session, calls, .. } = self;
         let outcome = session.next_completion(client)?;
-        mine.add_calls(calls, 1, session.log().entries().len());
+        mine.add_calls(calls, 1, session.log().len_in_all());
         Some(outcome)
     }
 
@@ -222,7 +232,7 @@ impl<L: Ledger> Inside<L> {
     {
         let Inside { session, calls, .. } = self;
         let end = session.next_discovery(client, set)?;
-        mine.add_calls(calls, 1, session.log().entries().len());
+        mine.add_calls(calls, 1, session.log().len_in_all());
         Some(end)
     }
 

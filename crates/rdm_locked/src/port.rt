@@ -18,7 +18,7 @@ use crate::turn::Turn;
 use rdm_client::{Desk, Tells, TellsAsk, WorkerEnd};
 use rdm_join::LineEvent;
 use rdm_line::{Line, LineFault};
-use rdm_queue::{Config, JoinFault, Log, LogFull, NoMemory, Setup};
+use rdm_queue::{Config, Entry, JoinFault, Log, LogFull, NoMemory, Page, Setup};
 use rdm_wire::Frame;
 use std::alloc::Global;
 use std::sync::ledger::{Blank, Ledger};
@@ -116,6 +116,17 @@ impl<L: Ledger> Port<L> {
         self.inside.lock(rt).close();
     }
 
+    /// Hands out all entries that the log stores, as [`Session::drain`](rdm_queue::Session::drain) does, with the
+    /// number of the first. From then on [`finish`](Port::finish) refuses the port. Drain when half of the log is used:
+    /// a full one refuses the clients' calls.
+    /// Err: as `Session::drain` returns; nothing has changed, and the memory is returned.
+    pub fn drain<R: Wait>(&self, rt: &R, next: Vec<Entry>) -> Result<Page, (LogFull, Vec<Entry>)>
+        requires { next.items ≡ [] }
+        ensures back { IfErr result (λ e. e.1 ≡ next) }
+    {
+        self.inside.lock(rt).drain(next)
+    }
+
     /// Serves the line for this many turns. It ends earlier if each client that has joined has left and no frame may be
     /// sent, or if the log is full. A turn first reserves capacity in the record; if that allocation fails, the turn
     /// does nothing else. Then it takes a frame with the mutex, makes the exchange without it, delivers what came with
@@ -161,8 +172,8 @@ impl<L: Ledger> Port<L> {
     ///   queue was closed before.
     ///
     /// A frame whose reply is awaited is no exchange yet.
-    /// Err: SharesMissing, or else ExchangesDiffer, as [`Inside::finish`] returns. The port, which is as open as
-    /// before, and the shares are returned.
+    /// Err: SharesMissing, or else HandedOut, or else ExchangesDiffer, as [`Inside::finish`] returns. The port, which
+    /// is as open as before, and the shares are returned.
     pub fn finish(
         self,
         shares: Vec<CallShare<L>>,
@@ -173,6 +184,7 @@ impl<L: Ledger> Port<L> {
         ensures calls { IfOk result (λ e. e.calls ≡ sum_by (λ s. s.count) shares.items) }
         ensures counted { IfOk result (λ e. e.calls ≡ count_calls e.session.entries) }
         ensures exchanges { IfOk result (λ e. log_exchanges e.session.entries ≡ recorded exchanges.now) }
+        ensures whole { IfOk result (λ e. e.session.gone ≡ 0) }
         ensures legal { IfOk result (λ e. Legal e.session.opening e.session.entries) }
         ensures promised { IfOk result (λ e. Promised e.session) }
         ensures back { IfErr result (λ e. e.2 ≡ shares) }

@@ -25,7 +25,7 @@ impl<L: Ledger> CallShare<L> {
     }
 
     // Counts this many more calls, and adds them to the book, which then has `most` at most.
-    pub(crate) fn add_calls(&mut self, book: &mut Book<L>, calls: u64, most: usize)
+    pub(crate) fn add_calls(&mut self, book: &mut Book<L>, calls: u64, most: u64)
         requires { book.old.total + calls ≤ most }
         ensures count { self.new.count ≡ self.old.count + calls }
         ensures total { book.new.total ≡ book.old.total + calls }

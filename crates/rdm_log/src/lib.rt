@@ -18,6 +18,7 @@ mod fault;
 pub mod laws;
 mod log;
 mod outcome;
+mod page;
 
 pub use config::{Config, MOST_PLACES, Setup};
 pub use entry::{
@@ -26,6 +27,7 @@ pub use entry::{
 };
 pub use event::{Answer, Event};
 pub use fault::{AskFault, JoinFault, LogFull, NotAsked, NotIdle, SubmitFault};
-pub use log::{LEAST_FREE, Log, MOST_FREE_ENTRIES};
+pub use log::{LEAST_FREE, Log, MOST_ENTRIES, MOST_FREE_ENTRIES};
 pub use outcome::{AskCompletion, BoxedOutcome, Completion, DiscoveryEnd, Outcome, OutcomeKind};
+pub use page::{Page, PageSink};
 pub use rdm_wire::NoMemory;

@@ -100,12 +100,14 @@ fn serve_file<'a, R: Read, G: OpensLog, P: Progress + Send, T: Threads + Wait + 
     }
 }
 
-/// What is printed for a session that was served. Its log is written. Err: there was no memory, and nothing is written.
+/// What is printed for a session that was served. Its log, which stores all its entries, is written. Err: there was no
+/// memory, and nothing is written.
 pub(crate) fn answer_served<'a, G: Write>(
     alloc: Global,
     served: Served,
     log: &mut LogOutput<G>,
 ) -> Result<Answered<'a>, Refused<'a>>
+    requires whole { served.session.gone ≡ 0 }
     ensures text { IfOk result (λ a. answer_bytes a.text ≡ session_text served.outcomes.items) }
     ensures status { IfOk result (λ a. a.status ≡ 0) }
     ensures logged { OnOk result (Logs log.old log.new (log_text served.session.entries)) }

@@ -11,8 +11,8 @@ use rdm_agent::Kind;
 use rdm_join::LineEvent;
 use rdm_log::{
     AskFault, Call, Cause, ClientId, Completion, Config, DiscoveryEnd, Entry, JoinFault,
-    LEAST_FREE, Log, LogFull, NoMemory, NotAsked, NotIdle, Opening, Outcome, OutcomeKind, Setup,
-    SubmitFault,
+    LEAST_FREE, Log, LogFull, MOST_ENTRIES, NoMemory, NotAsked, NotIdle, Opening, Outcome,
+    OutcomeKind, Setup, SubmitFault,
 };
 use rdm_wire::{DeviceSet, Frame, Request, copy_of_frame};
 use std::alloc::Global;
@@ -40,12 +40,13 @@ impl Model for Session {
 }
 
 impl Session {
-    ghost use Rattle.std.specs.Prelude.{◌≡◌, ◌≢◌, [], length, ◌+◌, IfOk, IfErr, OnOk, OnErr, IfNone, IfSome, Some};
-    ghost use Rattle.std.specs.Prelude.{true, false};
+    ghost use Rattle.std.specs.Prelude.{◌≡◌, ◌≢◌, [], length, ◌+◌, ◌-◌, ◌≤◌, IfOk, IfErr, OnOk, OnErr, IfNone};
+    ghost use Rattle.std.specs.Prelude.{IfSome, Some, true, false, vec_capacity};
     ghost use Rattle.rdm_log.specs.log.History.{awaited, is_paused, is_closed, is_idle, reserved};
     ghost use Rattle.rdm_log.specs.log.Legal.{Legal};
     ghost use Rattle.rdm_log.specs.log.Config.{IsConfig, steady};
-    ghost use Rattle.rdm_log.specs.log.LogState.{free_entries, is_full_log, begun, opening_after};
+    ghost use Rattle.rdm_log.specs.log.LogState.{free_entries, is_full_log, begun, opening_after, stored, drained};
+    ghost use Rattle.rdm_log.specs.log.LogState.{MayGoOn};
     ghost use Rattle.rdm_log.specs.promises.Promised.{Promised};
     ghost use Rattle.rdm_log.specs.promises.Blocks.{JoinLogs, SubmitLogs, PauseLogs, ResumeLogs, TakeLogs};
     ghost use Rattle.rdm_log.specs.log.Runs.{known_devices, devices_run};
@@ -318,12 +319,78 @@ impl Session {
         ensures free { result ≡ free_entries self.now }
         ensures kept { length self.now.entries + reserved self.now.opening self.now.entries + result ≡ self.now.room }
     {
-        let room = self.log.room();
+        self.log.room() - self.log.entries().len() - self.reserved()
+    }
+
+    /// How many entries are reserved, as [`free`](Session::free) says. A drain needs memory for as many at least.
+    pub fn reserved(&self) -> usize
+        ensures reserved { result ≡ reserved self.now.opening self.now.entries }
+        ensures kept { length self.now.entries + result ≤ self.now.room }
+    {
+        // Only for the proof: it bounds the sums below.
+        self.log.room();
         let close = one_if(!self.controller.is_closed());
         let reply = one_if(self.controller.awaits());
         let unended = self.controller.waiting() + self.controller.asked();
         let uncollected = self.controller.uncollected();
-        room - self.log.entries().len() - (close + reply + 2 * unended + uncollected)
+        close + reply + 2 * unended + uncollected
+    }
+
+    /// Hands out all entries that the log stores, oldest first, and goes on in other memory. That is possible at any
+    /// time. It copies no entry and allocates nothing. Contracts speak of all entries nonetheless, so that nothing that
+    /// clients are promised depends on when this is called. The memory must be empty. Memory that was handed out, once
+    /// it is cleared, can be the next. The number of the first entry that it hands out is what [`Log::gone`] returned
+    /// before.
+    /// Err: the memory has no capacity for all entries that are [`reserved`](Session::reserved), or there would be more
+    /// than 2^62 entries in all; nothing has changed, and the memory is returned.
+    pub fn drain(&mut self, next: Vec<Entry>) -> Result<Vec<Entry>, (LogFull, Vec<Entry>)>
+        requires empty { next.items ≡ [] }
+        ensures handed_out { IfOk result (λ page. page.items ≡ stored self.old) }
+        ensures log { OnOk result (self.new ≡ drained self.old (vec_capacity next)) }
+        ensures history { (self.new.opening ≡ self.old.opening) × (self.new.entries ≡ self.old.entries) }
+        ensures back { IfErr result (λ e. e.1 ≡ next) }
+        ensures refused { OnErr result (MayGoOn self.old (vec_capacity next) → ⊥) }
+        ensures unchanged { OnErr result (self.new ≡ self.old) }
+        ensures legal { Legal self.new.opening self.new.entries }
+    {
+        // The log is legal, even if nothing is handed out.
+        self.log();
+        if !self.can_go_on(next.capacity()) {
+            return Err((LogFull, next));
+        }
+        Ok(self.log.drain(next))
+    }
+
+    /// The same, to another log, in place of that log's own entries, and goes on in its memory
+    /// ([`Log::drain_into`]).
+    /// Err: as `drain` returns; nothing has changed.
+    pub fn drain_into(&mut self, page: &mut Log) -> Result<(), LogFull>
+        ensures handed_out { OnOk result (page.new ≡ record page.old {
+          entries = self.old.entries;
+          room = self.old.room;
+          gone = self.old.gone;
+        }) }
+        ensures log { OnOk result (self.new ≡ drained self.old (page.old.room - page.old.gone)) }
+        ensures history { (self.new.opening ≡ self.old.opening) × (self.new.entries ≡ self.old.entries) }
+        ensures refused { OnErr result (MayGoOn self.old (page.old.room - page.old.gone) → ⊥) }
+        ensures unchanged { OnErr result ((self.new ≡ self.old) × (page.new ≡ page.old)) }
+        ensures legal { Legal self.new.opening self.new.entries }
+    {
+        // The log is legal, even if nothing is handed out.
+        self.log();
+        if !self.can_go_on(page.room()) {
+            return Err(LogFull);
+        }
+        self.log.drain_into(page);
+        Ok(())
+    }
+
+    // Whether the log can go on in memory for this many entries.
+    fn can_go_on(&self, room: usize) -> bool
+        ensures may { result ≡ true → MayGoOn self.now room }
+        ensures may_not { result ≡ false → MayGoOn self.now room → ⊥ }
+    {
+        room >= 1 && room >= self.reserved() && room as u64 <= MOST_ENTRIES - self.log.len_in_all()
     }
 
     // Whether the log is too full for the calls that a full log refuses.
@@ -405,6 +472,7 @@ impl Session {
           entries = [];
           room = log.room;
           search = self.search;
+          gone = log.gone;
         }) }
         ensures handed_back { IfOk result (λ r. r.1 ≡ self) }
         ensures unchanged { IfErr result (λ e. (e.1 ≡ self) × (e.2 ≡ log)) }

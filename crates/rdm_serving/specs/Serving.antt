@@ -37,12 +37,14 @@ pub record IsInTurns (turns : ℕ) (o : Outcomes) : Type 0 where
   pub few : o.turns ≤ turns
 
 -- What is left of a session with these clients: the outcomes of all their calls, which agree with its log. The log has
--- exactly these clients and calls. The worker made at most this many exchanges, and each client at most as many turns.
--- With ring buffers, the first client's rings had this many slots, and a worker whose turns ran out made all of them.
+-- exactly these clients and calls, and all its entries are stored. The worker made at most this many exchanges, and
+-- each client at most as many turns. With ring buffers, the first client's rings had this many slots, and a worker
+-- whose turns ran out made all of them.
 pub record IsServedBy (port : PortKind) (clients : List ClientFile) (ring turns : ℕ) (s : Served) : Type 0 where
   pub settled : AllSettled clients s.outcomes.items
   pub logged : IsLogOf s.session.opening s.session.entries s.outcomes.items
   pub called : HasCalls s.session.entries clients
+  pub whole : s.session.gone ≡ 0
   pub in_turns : exchange_count s.session ≤ turns
   pub client_turns : All (IsInTurns turns) s.outcomes.items
   pub slots : s.slots ≡ slots_by port ring clients

@@ -185,10 +185,12 @@ fn settled(
     ensures settled { IfOk result (λ s. AllSettled clients.now s.outcomes.items) }
     ensures logged { IfOk result (λ s. IsLogOf s.session.opening s.session.entries s.outcomes.items) }
     ensures called { IfOk result (λ s. HasCalls s.session.entries clients.now) }
+    ensures whole { IfOk result (λ s. s.session.gone ≡ 0) }
     ensures client_turns { IfOk result (λ s. All (IsInTurns turns) s.outcomes.items) }
     ensures same { IfOk result (λ s. s ≡ served) }
 {
-    if served.session.free() < LEAST_FREE {
+    // Nobody drains the log here, so all its entries are stored.
+    if served.session.free() < LEAST_FREE || served.session.log().gone() > 0 {
         return Err(ServeFault::Log);
     }
     laws::legal_keeps_promises();

@@ -159,6 +159,8 @@ pub fn joined(
     ensures fault { IfErr result (λ e. IsLaterFault log.room places.now e.0) }
     ensures back { IfErr result (λ e. e.1 ≡ blank_log log.room) }
 {
+    // Only for the proof: nothing was handed out.
+    log.gone();
     let mut session = match Session::new_with(alloc, setup, log) {
         Ok(session) => session,
         Err((_, log)) => return Err((OpenFault::NoMemory, log.cleared())),
@@ -178,7 +180,7 @@ fn join_all(alloc: Global, session: &mut Session, places: &[u8]) -> Result<(), O
     requires no_clients { session.old.opening.places.items ≡ [] }
     requires not_closed { session.old.opening.closed ≡ false }
     ensures joined { OnOk result (session.new ≡ record session.old { entries = join_entries 0 places.now }) }
-    ensures room { session.new.room ≡ session.old.room }
+    ensures room { (session.new.room ≡ session.old.room) × (session.new.gone ≡ session.old.gone) }
     ensures fits { OnOk result (IsFullFor session.old.room places.now → ⊥) }
     ensures fault { IfErr result (IsLaterFault session.old.room places.now) }
 {

@@ -31,7 +31,8 @@ impl<L: Ledger> Inside<L> {
     /// - their sum is the number of calls in the log;
     /// - the log keeps all that clients are promised.
     ///
-    /// Err: SharesMissing, or else ExchangesDiffer; the session and the shares are returned unchanged.
+    /// Err: SharesMissing, or else HandedOut, or else ExchangesDiffer; the session and the shares are returned
+    /// unchanged.
     pub fn finish(
         self,
         shares: Vec<CallShare<L>>,
@@ -48,6 +49,8 @@ impl<L: Ledger> Inside<L> {
         ensures promised { IfOk result (λ e. Promised e.session) }
         ensures back { IfErr result (λ e. (e.1 ≡ self) × (e.2 ≡ shares)) }
         ensures missing { IfErr result (λ e. e.0 ≡ FinishFault.SharesMissing → length shares.items < self.joined) }
+        ensures handed_out { IfErr result (λ e. e.0 ≡ FinishFault.HandedOut → self.session.gone ≢ 0) }
+        ensures whole { IfOk result (λ e. e.session.gone ≡ 0) }
         ensures differ { IfErr result (λ e. e.0 ≡ FinishFault.ExchangesDiffer → (self.joined ≤ length shares.items)
             × (log_exchanges self.session.entries ≢ recorded exchanges.now)) }
     {
@@ -60,13 +63,18 @@ impl<L: Ledger> Inside<L> {
     // Why it can't be ended with this many shares and these exchanges.
     fn finish_fault(&self, shares: usize, exchanges: &[Exchange]) -> Option<FinishFault>
         ensures missing { result ≡ Some FinishFault.SharesMissing → shares < self.now.joined }
+        ensures handed_out { result ≡ Some FinishFault.HandedOut → self.now.session.gone ≢ 0 }
         ensures differ { result ≡ Some FinishFault.ExchangesDiffer → (self.now.joined ≤ shares)
             × (log_exchanges self.now.session.entries ≢ recorded exchanges.now) }
+        ensures whole { IfNone result (self.now.session.gone ≡ 0) }
         ensures none { IfNone result ((self.now.joined ≤ shares)
             × (log_exchanges self.now.session.entries ≡ recorded exchanges.now)) }
     {
         if shares < usize::from(self.joined) {
             return Some(FinishFault::SharesMissing);
+        }
+        if self.session.log().gone() > 0 {
+            return Some(FinishFault::HandedOut);
         }
         if !has_exchanges(self.session.log(), exchanges) {
             return Some(FinishFault::ExchangesDiffer);
@@ -86,7 +94,7 @@ impl<L: Ledger> Inside<L> {
         ensures legal { Legal result.session.opening result.session.entries }
         ensures promised { Promised result.session }
     {
-        let most = self.session().log().entries().len();
+        let most = self.session().log().len_in_all();
         let Inside {
             session,
             calls: mut book,
@@ -105,7 +113,7 @@ fn gather<L: Ledger>(
     book: &mut Book<L>,
     rest: &mut Share<L>,
     shares: Vec<CallShare<L>>,
-    most: usize,
+    most: u64,
 ) -> u64
     requires { (rest.old.amount ≡ 0) × (book.old.total ≤ most) × (rest.old.parts ≤ L.parts) }
     ensures within { rest.new.parts ≤ L.parts }

@@ -158,5 +158,10 @@ in_bound old es rs new explains each front back n r fault present is calm =
         (sym (ap (λ k. k.entries) added.grows) ∙ is ∙ append_assoc old.entries front (answer ∷ back))
 
     bound : FaultNeedsClose (with_entries new (old.entries ++ front)) answer
-    bound = rw (ap (λ k. k.opening) added.grows, ap (λ k. k.room) added.grows, ap (λ k. k.search) added.grows)
+    bound = rw (
+      ap (λ k. k.opening) added.grows,
+      ap (λ k. k.room) added.grows,
+      ap (λ k. k.search) added.grows,
+      ap (λ k. k.gone) added.grows,
+    )
         (within_block old front answer back (rw block_is at added.adds))

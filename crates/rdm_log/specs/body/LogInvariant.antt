@@ -1,8 +1,11 @@
 -- What a log keeps of its memory.
-use Rattle.std.specs.Prelude.{ℕ, ◌≤◌}
+use Rattle.std.specs.Prelude.{◌≡◌, ℕ, ◌+◌, ◌^◌, ◌≤◌, List, length}
+use Rattle.rdm_log.specs.declared.entry.Entry.{Entry}
 
--- this many entries stand in a room for at least one, for all of which there is memory
-pub record LogInvariant (room len capacity : ℕ) : Type 0 where
+-- This many entries stand in a room for at least one, for all of which there is memory. These were handed out, so many.
+pub record LogInvariant (room len capacity : ℕ) (past : List Entry) (gone : ℕ) : Type 0 where
   pub some : 1 ≤ room
   pub within : len ≤ room
   pub reserved : room ≤ capacity
+  pub counted : gone ≡ length past
+  pub in_all : gone + room ≤ 2 ^ 62

@@ -1,20 +1,36 @@
 -- How contracts see a log and a session.
-use Rattle.std.specs.Prelude.{ℕ, Bool, false, List, [], ◌++◌, nat_lt}
+use Rattle.std.specs.Prelude.{ℕ, ◌+◌, ◌^◌, ◌≤◌, Bool, false, List, [], ◌++◌, nat_lt, length, drop}
 use Rattle.rdm_agent.specs.declared.search.Search.{Search}
 use Rattle.rdm_agent.specs.declared.search.Search.TheVariants.{Steady}
 use Rattle.rdm_log.specs.declared.config.Config.{Config}
 use Rattle.rdm_log.specs.declared.config.Setup.{Setup}
 use Rattle.rdm_log.specs.declared.entry.Opening.{Opening}
 use Rattle.rdm_log.specs.declared.entry.Entry.{Entry}
-use Rattle.rdm_log.specs.log.History.{free_room, is_paused, is_closed, places, next_request, next_ask, next_tn}
+use Rattle.rdm_log.specs.log.History.{free_room, reserved, is_paused, is_closed, places}
+use Rattle.rdm_log.specs.log.History.{next_request, next_ask, next_tn}
 use Rattle.rdm_log.specs.log.Runs.{next_run, known_devices, devices_run}
 
--- the opening, the entries after it, how many entries fit, and how the session's runs search
+-- The opening, all entries after it, how many entries fit, and how the session's runs search. The oldest of the entries
+-- may have been handed out, `gone` of them. They still count as entries, and as entries that fit.
 pub record LogState : Type 0 where
   pub opening : Opening
   pub entries : List Entry
   pub room : ℕ
   pub search : Search
+  pub gone : ℕ
+
+-- the entries that weren't handed out
+abbrev pub stored : LogState → List Entry
+stored k = drop k.gone k.entries
+
+-- the log after all its entries were handed out, with room for this many more
+abbrev pub drained : LogState → ℕ → LogState
+drained k room = record k { room = length k.entries + room; gone = length k.entries }
+
+-- whether the log, once all its entries are handed out, can go on in memory for this many: it has capacity for those
+-- that are reserved, and there are at most 2^62 in all
+abbrev pub MayGoOn : LogState → ℕ → Type 0
+MayGoOn k room = (1 ≤ room) × ((reserved k.opening k.entries ≤ room) × (length k.entries + room ≤ 2 ^ 62))
 
 -- the log with these entries in place of its own
 abbrev pub with_entries : LogState → List Entry → LogState
@@ -51,7 +67,7 @@ blank_opening = record {
 
 -- a new log for this many entries
 abbrev pub blank_log : ℕ → LogState
-blank_log room = record { opening = blank_opening; entries = []; room = room; search = Steady }
+blank_log room = record { opening = blank_opening; entries = []; room = room; search = Steady; gone = 0 }
 
 -- the opening of a session with this configuration: no clients, no devices, neither paused nor closed; the first run
 -- will be number 1, and all other numbers begin at 0

@@ -85,7 +85,7 @@ closed_two = accepted_two ++ Close ∷ []
 
 -- a session that kept this log, with capacity for eleven entries
 abbrev pub logged_with : List Entry → LogState
-logged_with h = record { opening = sample_opening; entries = h; room = 11; search = Steady }
+logged_with h = record { opening = sample_opening; entries = h; room = 11; search = Steady; gone = 0 }
 
 -- the calls of closed_log, and their answers
 abbrev pub sample_events : List Event

@@ -191,7 +191,7 @@ wasted_opening = record sample_opening { budget = 8 }
 
 -- a session with that opening and these entries
 abbrev pub wasted_with : List Entry → LogState
-wasted_with h = record { opening = wasted_opening; entries = h; room = 40; search = Steady }
+wasted_with h = record { opening = wasted_opening; entries = h; room = 40; search = Steady; gone = 0 }
 
 -- the log of the failed run, after a Collect
 abbrev pub collected_failed : List Entry

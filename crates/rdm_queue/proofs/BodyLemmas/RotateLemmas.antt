@@ -161,18 +161,25 @@ rotated o h s idle after = record {
     none = no_run o h s rest stands
 
 -- and the session's entries still fit
-pub session_rotated : (o : Opening) (h : List Entry) (s : QueueState) (room : ℕ) → 1 ≤ room → is_idle h ≡ true
+pub session_rotated : (o : Opening) (h : List Entry) (s : QueueState) (room gone : ℕ) → 1 ≤ room → is_idle h ≡ true
     → StandsAfter o h s → SessionInvariant s (record {
       opening = opening_after o h;
       entries = [];
       room = room;
       search = s.search;
+      gone = gone;
     })
 unfolding accepts asks finishes answers collectors awaited is_closed
-session_rotated o h s room some idle after = record {
+session_rotated o h s room gone some idle after = record {
   after = rotated o h s idle after;
   search_is = refl;
-  in_bound = empty_in_bound (record { opening = opening_after o h; entries = []; room = room; search = s.search }) refl;
+  in_bound = empty_in_bound (record {
+    opening = opening_after o h;
+    entries = [];
+    room = room;
+    search = s.search;
+    gone = gone;
+  }) refl;
   room = let close = at_most_one (is_closed o h) in omega arith;
 }
   where

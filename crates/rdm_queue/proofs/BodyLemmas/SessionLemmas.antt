@@ -9,7 +9,7 @@ use Rattle.rdm_log.specs.declared.entry.Entry.{Entry}
 use Rattle.rdm_log.specs.declared.entry.Entry.TheVariants.{Came, Finish, Answer, Close}
 use Rattle.rdm_log.specs.log.Entries.{accepts, asks, finishes, answers, collectors}
 use Rattle.rdm_log.specs.log.History.{is_closed, awaited, reserved}
-use Rattle.rdm_log.specs.log.LogState.{LogState, grown, free_entries, is_full_log, opened}
+use Rattle.rdm_log.specs.log.LogState.{LogState, grown, free_entries, is_full_log, opened, drained}
 use Rattle.rdm_log.specs.promises.Blocks.{UnlessFull, is_result, AllResults, IsWithResults, CloseAdds, DeliverAdds}
 use Rattle.rdm_log.specs.promises.Blocks.{GrowsBy}
 use Rattle.rdm_log.specs.promises.InBound.{FaultNeedsClose, AnswersInBound}
@@ -106,10 +106,16 @@ all_results_more [] e all is = (is, tt)
 all_results_more (x ∷ block) e all is = (all.0, all_results_more block e all.1 is)
 
 -- a session that begins
-pub session_first : (s : QueueState) (setup : Setup) (room : ℕ) → 1 ≤ room → IsSetUp setup s
-    → SessionInvariant s (record { opening = opened setup.config; entries = []; room = room; search = setup.search })
+pub session_first : (s : QueueState) (setup : Setup) (room gone : ℕ) → 1 ≤ room → IsSetUp setup s
+    → SessionInvariant s (record {
+      opening = opened setup.config;
+      entries = [];
+      room = room;
+      search = setup.search;
+      gone = gone;
+    })
 unfolding accepts asks finishes answers collectors awaited is_closed
-session_first s setup room some is = record {
+session_first s setup room gone some is = record {
   after = is.after;
   search_is = is.search;
   room = omega (arith, some);
@@ -118,7 +124,22 @@ session_first s setup room some is = record {
     entries = [];
     room = room;
     search = setup.search;
+    gone = gone;
   }) refl;
+}
+
+-- a session whose entries were handed out
+pub session_drained : (s : QueueState) (k : LogState) (room : ℕ) → SessionInvariant s k
+    → reserved k.opening k.entries ≤ room → SessionInvariant s (drained k room)
+session_drained s k room kept fits = record {
+  after = kept.after;
+  search_is = kept.search_is;
+  in_bound = record {
+    closed_first = λ front back n r fault present is calm.
+        kept.in_bound.closed_first front back n r fault present is
+        (record { calm = calm.calm; budgeted = calm.budgeted });
+  };
+  room = omega (arith, fits);
 }
 
 -- an entry that is no Answer, and then what was due

@@ -16,9 +16,10 @@ use rdm_reports::{Discovered, Outcomes};
 use std::alloc::{AllocError, Global};
 
 /// Whether each client received the outcomes of all its requests and discoveries that ended, in order, and each agrees
-/// with the log: a request in its status and the number of its bytes, a discovery in its fault. Err: there was no
-/// memory.
+/// with the log: a request in its status and the number of its bytes, a discovery in its fault. The log must store all
+/// its entries. Err: there was no memory.
 pub fn are_logged(alloc: Global, log: &Log, told: &[Outcomes]) -> Result<bool, AllocError>
+    requires whole { log.now.gone ≡ 0 }
     ensures { IfOk result (λ same. OnTrue same (AllLogged log.now.opening log.now.entries 0 told.now)) }
 {
     let askers = Askers::new(alloc, log)?;
@@ -39,6 +40,7 @@ struct Askers {
 
 impl Askers {
     fn new(alloc: Global, log: &Log) -> Result<Askers, AllocError>
+        requires whole { log.now.gone ≡ 0 }
         ensures requests { IfOk result (λ a. a.requests.items ≡ map (λ s. s.client) (accepts log.now.entries)) }
         ensures discoveries { IfOk result (λ a. a.discoveries.items ≡ map (λ s. s.client) (asks log.now.entries)) }
     {
@@ -76,6 +78,7 @@ fn discoverers(alloc: Global, entries: &[Entry]) -> Result<Vec<u8>, AllocError>
 }
 
 fn is_logged(log: &Log, askers: &Askers, client: usize, told: &Outcomes) -> bool
+    requires whole { log.now.gone ≡ 0 }
     requires requests { askers.now.requests.items ≡ map (λ s. s.client) (accepts log.now.entries) }
     requires discoveries { askers.now.discoveries.items ≡ map (λ s. s.client) (asks log.now.entries) }
     ensures { OnTrue result (AreLogged log.now.opening log.now.entries client told.now) }

@@ -4,5 +4,5 @@ use Rattle.rdm_handles.proofs.controllers.hear.Goals as goal
 
 pub returns-in-Err-clause-not_asked : goal.returns-in-Err-clause-not_asked
 returns-in-Err-clause-not_asked c asked o h after =
-    let k : LogState = record { opening = o; entries = h; room = 0; search = c.args.controller.now.search } in
+    let k : LogState = record { opening = o; entries = h; room = 0; search = c.args.controller.now.search; gone = 0 } in
     (c.in-Err.ensures.adds.each k refl after).adds.0

@@ -13,7 +13,13 @@ returns-clause-collected c done = (
   c.completion_for_c.ensures,
   c.in-Some.ensures.adds,
   λ o h after.
-      let k : LogState = record { opening = o; entries = h; room = 0; search = c.args.controller.now.search } in
+      let k : LogState = record {
+        opening = o;
+        entries = h;
+        room = 0;
+        search = c.args.controller.now.search;
+        gone = 0;
+      } in
       let outcome : Outcome = request_outcome (c.in-Some.number, c.in-Some.done) in
       let is : IsOldest o h c.args.client outcome = (c.in-Some.ensures.adds.each k refl after).adds.0 in
       let needs : c.unwrap_or-needed.result ≡ length c.in-Some.done.bytes.items = c.unwrap_or-needed.ensures

@@ -14,7 +14,13 @@ returns-clause-collected c done = (
   c.end_for_c.ensures ∙ ap (λ n. form_of_end c.in-Some.ended n) c.len.ensures.value,
   c.in-Some.ensures.adds,
   λ o h after.
-      let k : LogState = record { opening = o; entries = h; room = 0; search = c.args.controller.now.search } in
+      let k : LogState = record {
+        opening = o;
+        entries = h;
+        room = 0;
+        search = c.args.controller.now.search;
+        gone = 0;
+      } in
       let outcome : Outcome = discovery_outcome c.in-Some.ended c.next_discovery.new.set in
       let is : IsOldest o h c.args.client outcome = (c.in-Some.ensures.adds.each k refl after).adds.0 in
       let needs : c.unwrap_or-needed.result ≡ length c.next_discovery.new.set = c.unwrap_or-needed.ensures

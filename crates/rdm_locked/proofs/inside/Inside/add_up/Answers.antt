@@ -6,7 +6,7 @@ pub gather-calls-requires : goal.gather-calls-requires
 gather-calls-requires g c =
     let me = c.args.self in (
       me.unused,
-      rw (c.entries-most.ensures, c.log.ensures.log, c.session.ensures.session)
+      rw (c.len_in_all-most.ensures.all, c.log.ensures.log, c.session.ensures.session)
           (omega (arith, calls_few me.session.entries, me.counted)),
       omega (arith, me.one_part_each, c.requires.parts),
     )

@@ -9,7 +9,8 @@ add_calls-requires g c =
     let after = c.next_discovery.new.self in
     let counts = grown_counts k _ after 1 0 c.in_ok-end.ensures.adds
     (λ block. collect_brings k.opening k.entries c.args.client _ block) in
-    rw (c.entries.ensures, c.log.ensures.log) (omega (arith, counts.calls_are, me.counted, calls_few after.entries))
+    rw (c.len_in_all.ensures.all, c.log.ensures.log)
+    (omega (arith, counts.calls_are, me.counted, calls_few after.entries))
 
 pub invariant_of-self-2 : goal.invariant_of-self-2
 invariant_of-self-2 g c =

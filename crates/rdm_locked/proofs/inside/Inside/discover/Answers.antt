@@ -9,7 +9,7 @@ add_calls-requires g c =
     let after = c.discover-answer.new.self in
     let counts = grown_counts k _ after _ 0 c.discover-answer.ensures.adds
     (λ block. discover_brings k c.args.client c.args.kind c.discover-answer.result block) in
-    rw (c.entries.ensures, c.log.ensures.log, c.discovers_logged.ensures)
+    rw (c.len_in_all.ensures.all, c.log.ensures.log, c.discovers_logged.ensures)
     (omega (arith, counts.calls_are, me.counted, calls_few after.entries))
 
 pub invariant_of-self : goal.invariant_of-self

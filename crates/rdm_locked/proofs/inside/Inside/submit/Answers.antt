@@ -9,7 +9,7 @@ add_calls-requires g c =
     let after = c.submit-answer.new.self in
     let counts = grown_counts k _ after _ 0 c.submit-answer.ensures.adds
     (λ block. submit_brings k c.args.client c.args.request c.submit-answer.result block) in
-    rw (c.entries.ensures, c.log.ensures.log, c.submits_logged.ensures)
+    rw (c.len_in_all.ensures.all, c.log.ensures.log, c.submits_logged.ensures)
     (omega (arith, counts.calls_are, me.counted, calls_few after.entries))
 
 pub invariant_of-self : goal.invariant_of-self

@@ -17,5 +17,5 @@ invariant_of-self c =
       c.opening.ensures k.opening k.entries after,
       c.search.ensures,
     )
-    (session_rotated k.opening k.entries c.self.inside.controller c.args.log.room c.after-next_log.ensures.some idle
-    after)
+    (session_rotated k.opening k.entries c.self.inside.controller c.args.log.room c.args.log.gone
+    c.after-next_log.ensures.some idle after)

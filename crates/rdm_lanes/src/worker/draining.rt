@@ -1,0 +1,53 @@
+//! How the entries of a worker's log are handed out.
+ghost use Rattle.std.specs.Prelude.{◌≡◌, [], IfOk, IfErr, OnOk, OnErr, vec_capacity};
+ghost use Rattle.rdm_log.specs.log.LogState.{stored, drained, MayGoOn};
+ghost use Rattle.rdm_lanes.specs.Workers.{session_of, lanes_of, operator_has_left, published_by};
+
+use crate::views::history::ViewHistory;
+use crate::views::publishing::Shown;
+use crate::worker::Worker;
+use crate::worker::view_worker::ViewWorker;
+use rdm_queue::{Entry, LogFull, Page};
+use std::sync::Wait;
+
+impl Worker {
+    // Hands out all entries that the log stores.
+    fn drain(&mut self, next: Vec<Entry>) -> Result<Page, (LogFull, Vec<Entry>)>
+        requires { next.items ≡ [] }
+        ensures first { IfOk result (λ page. page.first ≡ self.old.session.gone) }
+        ensures handed_out { IfOk result (λ page. page.entries.items ≡ stored self.old.session) }
+        ensures log { OnOk result (self.new.session ≡ drained self.old.session (vec_capacity next)) }
+        ensures back { IfErr result (λ e. e.1 ≡ next) }
+        ensures refused { OnErr result (MayGoOn self.old.session (vec_capacity next) → ⊥) }
+        ensures unchanged { OnErr result (self.new.session ≡ self.old.session) }
+        ensures opening { self.new.session.opening ≡ self.old.session.opening }
+        ensures entries { self.new.session.entries ≡ self.old.session.entries }
+        ensures lanes { self.new.lanes ≡ self.old.lanes }
+        ensures operator { (self.new.operator ≡ self.old.operator) × (self.new.operator_left ≡ self.old.operator_left) }
+    {
+        let first = self.session.log().gone();
+        let entries = self.session.drain(next)?;
+        Ok(Page { first, entries })
+    }
+}
+
+impl<J: ViewHistory, R: Wait + Drop> ViewWorker<J, Shown<J>, R> {
+    /// Hands out all entries that the log stores, as [`Session::drain`](rdm_queue::Session::drain) does, with the
+    /// number of the first. That is possible between two calls of [`work`](ViewWorker::work). What contracts say of the
+    /// log they say of all its entries nonetheless.
+    /// Err: as `Session::drain` returns; nothing has changed, and the memory is returned.
+    pub fn drain(&mut self, next: Vec<Entry>) -> Result<Page, (LogFull, Vec<Entry>)>
+        requires { next.items ≡ [] }
+        ensures first { IfOk result (λ page. page.first ≡ (session_of self.old).gone) }
+        ensures handed_out { IfOk result (λ page. page.entries.items ≡ stored (session_of self.old)) }
+        ensures log { OnOk result (session_of self.new ≡ drained (session_of self.old) (vec_capacity next)) }
+        ensures back { IfErr result (λ e. e.1 ≡ next) }
+        ensures refused { OnErr result (MayGoOn (session_of self.old) (vec_capacity next) → ⊥) }
+        ensures unchanged { OnErr result (session_of self.new ≡ session_of self.old) }
+        ensures lanes { lanes_of self.new ≡ lanes_of self.old }
+        ensures operator { operator_has_left self.new ≡ operator_has_left self.old }
+        ensures views { published_by self.new ≡ published_by self.old }
+    {
+        self.server.drain(next)
+    }
+}
