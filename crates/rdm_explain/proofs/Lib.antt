@@ -1,0 +1,5 @@
+pub mod MapLemmas
+pub mod StandingLemmas
+pub mod EndLemmas
+pub mod RuleLemmas
+pub mod WatchLemmas

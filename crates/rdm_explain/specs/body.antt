@@ -1,0 +1,3 @@
+-- What only the proofs need.
+pub mod Standings
+pub mod Watching

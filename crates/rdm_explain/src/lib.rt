@@ -1,0 +1,10 @@
+//! Explains what a discovery's exchanges show: whether they certify the reported set, which devices broke a rule of an
+//! honest line, and where. All of it is the profile of this project.
+#![tactic(auto)]
+
+mod exchange;
+mod rule;
+mod standing;
+
+pub use exchange::{Asked, Exchange, Heard};
+pub use rule::{Breach, DeviceFinding, Rule, first_breaches};
