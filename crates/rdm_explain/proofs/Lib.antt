@@ -1,3 +1,4 @@
+pub mod FrameLemmas
 pub mod MapLemmas
 pub mod StandingLemmas
 pub mod EndLemmas

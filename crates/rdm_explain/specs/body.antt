@@ -1,3 +1,4 @@
 -- What only the proofs need.
 pub mod Standings
 pub mod Watching
+pub mod FrameTests

@@ -3,8 +3,9 @@
 #![tactic(auto)]
 
 mod exchange;
+mod frame;
 mod rule;
 mod standing;
 
-pub use exchange::{Asked, Exchange, Heard};
+pub use exchange::{Asked, Exchange, Heard, read_exchange};
 pub use rule::{Breach, DeviceFinding, Rule, first_breaches};
