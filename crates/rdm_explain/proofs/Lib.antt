@@ -1,5 +1,8 @@
 pub mod FrameLemmas
 pub mod MapLemmas
+pub mod GapLemmas
+pub mod CoverLemmas
+pub mod SortedLemmas
 pub mod StandingLemmas
 pub mod EndLemmas
 pub mod RuleLemmas

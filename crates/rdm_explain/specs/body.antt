@@ -2,3 +2,4 @@
 pub mod Standings
 pub mod Watching
 pub mod FrameTests
+pub mod Covering

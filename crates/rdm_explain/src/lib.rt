@@ -2,10 +2,12 @@
 //! honest line, and where. All of it is the profile of this project.
 #![tactic(auto)]
 
+mod cover;
 mod exchange;
 mod frame;
 mod rule;
 mod standing;
 
+pub use cover::first_uncovered;
 pub use exchange::{Asked, Exchange, Heard, read_exchange};
 pub use rule::{Breach, DeviceFinding, Rule, first_breaches};
