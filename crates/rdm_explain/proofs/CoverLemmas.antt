@@ -1,5 +1,5 @@
 -- The state after some exchanges says exactly which UIDs they cover.
-use Rattle.std.proofs.Common.{◌≡◌, ℕ, ◌+◌, ◌-◌, ◌^◌, ◌<◌, ◌≤◌, Bool, true, false, ◌&&◌, ◌||◌, List, [], ◌∷◌, ◌++◌, length}
+use Rattle.std.proofs.Common.{◌≡◌, ℕ, ◌+◌, ◌<◌, ◌≤◌, Bool, true, false, ◌&&◌, ◌||◌, List, [], ◌∷◌, ◌++◌, length}
 use Rattle.std.proofs.Common.{refl, sym, ap, ◌∙◌, subst, inl, inr, true≢false, arith, append_assoc, append-nil}
 use Rattle.std.proofs.Common.{length-append}
 use Rattle.std.specs.Prelude.{◌⊎◌, ◌==◌, nat_le, fold, if◌then◌else◌}
@@ -8,11 +8,10 @@ use Rattle.std.proofs.lemmas.List.Elements.{filter_map-append}
 use Rattle.std.proofs.lemmas.List.Folds.{list_any-append}
 use Rattle.std.proofs.lemmas.Bool.{eqb-true, eq-eqb, or_cases, and_parts, and_from, leb-true, leb-false, le-leb}
 use Rattle.rdm_wire.specs.Uid.{has, is_within}
-use Rattle.rdm_wire.specs.Honest.{Asked, Heard, Seen, is_silent, is_acked}
+use Rattle.rdm_wire.specs.Honest.{Asked, Heard, Seen}
 use Rattle.rdm_wire.specs.Honest.Asked.{Unmute, Branch, Mute, Other}
 use Rattle.rdm_wire.specs.Honest.Heard.{Failed, Silent, One, Acked, Noise}
 use Rattle.rdm_agent.specs.Run.{acked_in, acked_by, InSuccession, IsSilentBranch}
-use Rattle.rdm_agent.specs.Certificate.{IsCleared}
 use Rattle.rdm_agent.proofs.Members.{first_part, last_part}
 use Rattle.rdm_explain.specs.declared.cover.Stretch.{Stretch}
 use Rattle.rdm_explain.specs.Rules.{EndsWith}

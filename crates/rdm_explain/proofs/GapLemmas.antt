@@ -4,7 +4,7 @@ use Rattle.std.proofs.Common.{true≢false, refl, sym, ap, ◌∙◌, subst, inl
 use Rattle.std.specs.Prelude.{◌⊎◌, ◌↔◌, IsSome, IfSome, nat_le, if◌then◌else◌}
 use Rattle.std.specs.List.{AllByRecursion}
 use Rattle.std.specs.List.Sorted.{IsNonDecreasingBy}
-use Rattle.std.proofs.lemmas.List.{take_more, take-append-drop, take_all}
+use Rattle.std.proofs.lemmas.List.{take_more, take-append-drop}
 use Rattle.std.proofs.lemmas.Bool.{cases_lt, leb-true, leb-false}
 use Rattle.rdm_explain.specs.declared.cover.Stretch.{Stretch}
 use Rattle.rdm_explain.specs.body.Covering.{In, IsIn, FirstGap, IsFirstGap}

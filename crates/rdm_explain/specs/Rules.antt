@@ -1,7 +1,7 @@
 -- The rules of a line that is honest to one device, and where a device breaks one first.
 use Rattle.std.specs.Prelude.{◌≡◌, ◌≢◌, ℕ, ◌+◌, ◌<◌, true, false, List, ◌++◌, length, take, map, Option, Some, None}
 use Rattle.std.specs.List.{AllByRecursion}
-use Rattle.rdm_wire.specs.Uid.{is_within}
+use Rattle.rdm_wire.specs.Uid.{is_within, IsDevice}
 use Rattle.rdm_wire.specs.Honest.{Seen, HonestTo, is_acked}
 use Rattle.rdm_wire.specs.Honest.Asked.{Branch, Mute}
 use Rattle.rdm_wire.specs.Honest.Heard.{Silent, Failed}
@@ -66,3 +66,8 @@ AreFirstBreaches xs found = AllByRecursion (λ (f : DeviceFinding). FirstBreach 
 -- the devices of the findings, in order
 abbrev pub uids_of_findings : List DeviceFinding → List ℕ
 uids_of_findings found = map (λ (f : DeviceFinding). f.uid) found
+
+-- by this finding a device followed the rules
+pub record Followed (f : DeviceFinding) : Type 0 where
+  pub device : IsDevice f.uid
+  pub honest : f.breach ≡ None

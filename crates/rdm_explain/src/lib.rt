@@ -5,6 +5,7 @@
 mod cover;
 mod exchange;
 mod frame;
+pub mod laws;
 mod rule;
 mod standing;
 

@@ -1,4 +1,4 @@
-use Rattle.std.proofs.Common.{◌+◌, ◌<◌, arith, sym, ap, ◌∙◌, subst, rules, ◌≡◌, get_or}
+use Rattle.std.proofs.Common.{◌+◌, ◌<◌, arith, sym, ap, ◌∙◌, subst}
 use Rattle.std.specs.Prelude.{nat_le, if◌then◌else◌}
 use Rattle.rdm_explain.specs.body.Covering.{stretch}
 use Rattle.rdm_explain.proofs.GapLemmas.{Swept, gap_is, swept_more}
