@@ -147,7 +147,8 @@ no_tail x e lo hi front tail never whole each some = by_last (split_last x front
         never lo hi (last_part (IsSilentBranch lo hi) s.rest (e ∷ [])
         (subst (λ l. AllByRecursion (IsSilentBranch lo hi) l) s.tail_is each)).0
 
-broken_run : (x : List Seen) (e : Seen) (c : CoverState) (ss : List Stretch) → ((lo hi : ℕ) → IsSilentBranch lo hi e → ⊥)
+broken_run : (x : List Seen) (e : Seen) (c : CoverState) (ss : List Stretch)
+    → ((lo hi : ℕ) → IsSilentBranch lo hi e → ⊥)
     → ((u : ℕ) → IsIn ss u → IsCovered (x ++ e ∷ []) u) → ((u : ℕ) → IsCovered x u → IsIn ss u)
     → ((u : ℕ) → has (acked_in (e ∷ [])) u ≡ true → IsIn ss u)
     → Says (x ++ e ∷ []) (other_after c ss)
@@ -249,7 +250,8 @@ longest_tail : (x : List Seen) (c : CoverState) (lo hi : ℕ) → Says x c → (
     → AllByRecursion (IsSilentBranch lo' hi') tail → 1 ≤ length tail → Longest c lo hi lo' hi' (length tail)
 longest_tail x c lo hi says lo' hi' front tail whole each some = by_last (split_last x front tail (silence lo hi) whole)
   where
-    by_rest : (rest : List Seen) → x ≡ front ++ rest → AllByRecursion (IsSilentBranch lo' hi') rest → lo' ≡ lo → hi' ≡ hi
+    by_rest : (rest : List Seen) → x ≡ front ++ rest → AllByRecursion (IsSilentBranch lo' hi') rest → lo' ≡ lo
+        → hi' ≡ hi
         → length rest + 1 ≤ count_after c lo hi
     by_rest [] w a p q = omega (arith, (counted c lo hi).some)
     by_rest (r ∷ rest) w a p q =
@@ -280,7 +282,8 @@ silent_step x c lo hi says = record {
   longest = λ lo' hi' front tail whole each some. of_longest lo' hi' (length tail)
       (longest_tail x c lo hi says lo' hi' front tail whole each some);
   sound = λ u is. sound_by (nat_le 5 (count_after c lo hi)) refl u is;
-  complete = λ u covered. complete_by (nat_le 5 (count_after c lo hi)) refl u (covered_last x (silence lo hi) u covered);
+  complete = λ u covered.
+      complete_by (nat_le 5 (count_after c lo hi)) refl u (covered_last x (silence lo hi) u covered);
 }
   where
     of_longest : (lo' hi' n : ℕ) → Longest c lo hi lo' hi' n → (lo' ≡ lo) × (hi' ≡ hi) × (n ≤ count_after c lo hi)
@@ -332,8 +335,8 @@ silent_step x c lo hi says = record {
         let l = long_tail u t in absurd (omega (arith, l.within))
 
 -- which exchanges are no silent branches
-not_silent : (a : Asked) (h : Heard) → (h ≡ Silent → ⊥) → (lo hi : ℕ) → IsSilentBranch lo hi (record { asked = a; heard = h })
-    → ⊥
+not_silent : (a : Asked) (h : Heard) → (h ≡ Silent → ⊥) → (lo hi : ℕ)
+    → IsSilentBranch lo hi (record { asked = a; heard = h }) → ⊥
 not_silent a h never lo hi s = never s.1
 
 not_branch : (a : Asked) (h : Heard) → ((lo hi : ℕ) → a ≡ Branch lo hi → ⊥) → (lo hi : ℕ)
@@ -345,7 +348,8 @@ step_by : (x : List Seen) (c : CoverState) (a : Asked) (h : Heard) → Says x c
 step_by x c (Branch lo hi) Silent says = silent_step x c lo hi says
 step_by x c (Branch lo hi) Failed says = other_step x _ c (not_silent (Branch lo hi) Failed (λ e. cc)) refl says
 step_by x c (Branch lo hi) (One u) says = other_step x _ c (not_silent (Branch lo hi) (One u) (λ e. cc)) refl says
-step_by x c (Branch lo hi) (Acked ack) says = other_step x _ c (not_silent (Branch lo hi) (Acked ack) (λ e. cc)) refl says
+step_by x c (Branch lo hi) (Acked ack) says =
+    other_step x _ c (not_silent (Branch lo hi) (Acked ack) (λ e. cc)) refl says
 step_by x c (Branch lo hi) Noise says = other_step x _ c (not_silent (Branch lo hi) Noise (λ e. cc)) refl says
 step_by x c (Mute u) (Acked ack) says = acked_step x _ u c (not_branch (Mute u) (Acked ack) (λ l h e. cc)) refl says
 step_by x c (Mute u) Silent says = other_step x _ c (not_branch (Mute u) Silent (λ l h e. cc)) refl says
@@ -369,7 +373,8 @@ says_nothing = record {
   complete = λ u covered. absurd (none u covered);
 }
   where
-    no_room : (front tail : List Seen) → [] ≡ front ++ tail → 1 ≤ length tail → (P Q : Type 0) → P × Q × (length tail ≤ 0)
+    no_room : (front tail : List Seen) → [] ≡ front ++ tail → 1 ≤ length tail → (P Q : Type 0)
+        → P × Q × (length tail ≤ 0)
     no_room front tail whole some P Q =
         let zero_long : length tail ≡ 0 = ap length (none_left front tail whole) in absurd (omega arith)
 

@@ -1,5 +1,6 @@
 -- What frames ask, by their bytes.
-use Rattle.std.proofs.Common.{◌≡◌, ℕ, ◌++◌, ◌<◌, ◌≤◌, Bool, true, false, cond, List, [], ◌∷◌, Option, Some, None, refl, sym, ap, ◌∙◌}
+use Rattle.std.proofs.Common.{◌≡◌, ℕ, ◌++◌, ◌<◌, ◌≤◌, Bool, true, false, cond, List, [], ◌∷◌, Option, Some, None}
+use Rattle.std.proofs.Common.{refl, sym, ap, ◌∙◌}
 use Rattle.std.proofs.Common.{length, arith, bytes_eq}
 use Rattle.std.specs.Prelude.{slice_index}
 use Rattle.std.proofs.lemmas.Slice.Eq.{bytes_eq-Decides}
@@ -9,7 +10,8 @@ use Rattle.rdm_wire.specs.Bytes.{uid_bytes}
 use Rattle.rdm_wire.specs.Packet.{fields_at, packet}
 use Rattle.rdm_explain.specs.body.FrameTests.{is_branch_frame, heard_event}
 use Rattle.rdm_wire.specs.CommandFrames.{all_devices, discovery_fields, branch_frame, mute_frame, unmute_frame}
-use Rattle.rdm_wire.specs.Frames.{asked_in, heard_in, seen_exchange, heard_bytes, lower_bound, upper_bound, one_or_noise}
+use Rattle.rdm_wire.specs.Frames.{asked_in, heard_in, seen_exchange, heard_bytes, lower_bound, upper_bound}
+use Rattle.rdm_wire.specs.Frames.{one_or_noise}
 use Rattle.rdm_wire.specs.Honest.{Asked, Heard, Seen}
 use Rattle.rdm_wire.specs.Honest.Asked.{Unmute, Branch, Mute, Other}
 use Rattle.rdm_wire.specs.Honest.Heard.{Noise}

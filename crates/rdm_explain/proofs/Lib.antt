@@ -4,6 +4,7 @@ pub mod GapLemmas
 pub mod CoverLemmas
 pub mod SortedLemmas
 pub mod StandingLemmas
+pub mod CountLemmas
 pub mod EndLemmas
 pub mod RuleLemmas
 pub mod WatchLemmas

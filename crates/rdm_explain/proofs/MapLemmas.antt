@@ -1,7 +1,8 @@
 -- A list whose elements are replaced one after another.
 use Rattle.std.proofs.Common.{◌≡◌, ℕ, ◌+◌, ◌<◌, List, [], ◌∷◌, ◌++◌, sym, ap, ◌∙◌, arith, length, take, drop, map}
 use Rattle.std.proofs.Common.{get_or, set, append_assoc, Result, Ok, Err, IfOk}
-use Rattle.std.proofs.lemmas.List.{length-map, map-append, drop_more, take_more, set_at, get_or_at, length-take-le, take_at}
+use Rattle.std.proofs.lemmas.List.{length-map, map-append, drop_more, take_more, set_at, get_or_at, length-take-le}
+use Rattle.std.proofs.lemmas.List.{take_at}
 
 pub map_step : {X : Type 0} (f : X → X) (xs now : List X) (i : ℕ) (x y : X) → i < length xs
     → now ≡ map f (take i xs) ++ drop i xs → y ≡ f (get_or now i x)

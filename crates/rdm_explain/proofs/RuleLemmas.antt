@@ -110,7 +110,8 @@ ends_after u x p e ends on = by_stopped (cases_Bool p.stopped) (heard_failed e.h
   where
     by_stopped : (p.stopped ≡ true) ⊎ (p.stopped ≡ false) → (e.heard ≡ Failed) ⊎ (e.heard ≢ Failed)
         → Ends u (x ++ e ∷ []) (after u p e)
-    by_stopped (inl stopped) h = absurd (true≢false (sym stopped ∙ ap (λ q. q.stopped) (sym (stays_stopped u p e stopped)) ∙ on))
+    by_stopped (inl stopped) h =
+        absurd (true≢false (sym stopped ∙ ap (λ q. q.stopped) (sym (stays_stopped u p e stopped)) ∙ on))
     by_stopped (inr running) (inl failed) =
         absurd (true≢false (ap (λ q. q.stopped) (sym (after_failure u p e running failed)) ∙ on))
     by_stopped (inr running) (inr ok) =
@@ -158,7 +159,10 @@ garbled u v x h same ok loud not_acked = record {
   last = exchange_of (Mute v) h ∷ [];
   whole = refl;
   many = refl;
-  each = (record { asked = ap (λ w. Mute w) (sym same); not_failed = ok; not_silent = loud; not_acked = not_acked }, tt);
+  each = (
+    record { asked = ap (λ w. Mute w) (sym same); not_failed = ok; not_silent = loud; not_acked = not_acked },
+    tt,
+  );
 }
 
 dies_mute : (u v : ℕ) (x : List Seen) (p : Standing) (h : Heard) → is_alive p ≡ true → Ends u x p → h ≢ Failed

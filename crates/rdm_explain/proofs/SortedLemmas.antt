@@ -1,5 +1,6 @@
 -- Stretches in another order cover the same UIDs.
-use Rattle.std.proofs.Common.{◌≡◌, ℕ, zero, suc, ◌<◌, List, [], ◌∷◌, Option, Some, None, sym, subst, inl, inr, length, get_or, arith}
+use Rattle.std.proofs.Common.{◌≡◌, ℕ, zero, suc, ◌<◌, List, [], ◌∷◌, Option, Some, None, sym, subst, inl, inr}
+use Rattle.std.proofs.Common.{length, get_or, arith}
 use Rattle.std.specs.List.{Contains}
 use Rattle.std.specs.List.Sorted.{IsPermutation}
 use Rattle.std.proofs.lemmas.List.Sorted.{IsPermutation-sym, Contains-permutation}
@@ -33,10 +34,12 @@ in_permutation ss ts u same h =
 pub uncovered_of : (xs : List Exchange) (ss ts : List Stretch) (r : Option ℕ)
     → ss ≡ (cover_state (seen_all xs)).covered → IsPermutation ss ts → FirstGap ts r → FirstUncovered xs r
 uncovered_of xs ss ts None is same gap =
-    λ u below. in_covered (seen_all xs) u (subst (λ l. IsIn l u) is (in_permutation ts ss u (IsPermutation-sym ss ts same) (gap u below)))
+    λ u below. in_covered (seen_all xs) u
+        (subst (λ l. IsIn l u) is (in_permutation ts ss u (IsPermutation-sym ss ts same) (gap u below)))
 uncovered_of xs ss ts (Some g) is same gap = record {
   below = gap.below;
-  uncovered = λ covered. gap.gap (in_permutation ss ts g same (subst (λ l. IsIn l g) (sym is) (covered_in (seen_all xs) g covered)));
+  uncovered = λ covered. gap.gap
+      (in_permutation ss ts g same (subst (λ l. IsIn l g) (sym is) (covered_in (seen_all xs) g covered)));
   before = λ v less. in_covered (seen_all xs) v
       (subst (λ l. IsIn l v) is (in_permutation ts ss v (IsPermutation-sym ss ts same) (gap.before v less)));
 }

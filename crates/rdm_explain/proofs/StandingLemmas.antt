@@ -122,7 +122,8 @@ branch_back u lo hi p new h a = of_may a.may
           ),
         )
     of_may (inr m) =
-        let both = and_parts p.unmuted (nat_le (if is_within lo hi u && is_silent h then p.lost_branches + 1 else 0) 4) m.1 in
+        let b = if is_within lo hi u && is_silent h then p.lost_branches + 1 else 0 in
+        let both = and_parts p.unmuted (nat_le b 4) m.1 in
         let lost : lost_after (due_in (u ∷ []) (λ v. false) lo hi) h p.lost_branches
         ≡ (if is_within lo hi u && is_silent h then p.lost_branches + 1 else 0)
         = unmuted_lost (is_within lo hi u) false u p.lost_branches h refl in (
@@ -389,7 +390,8 @@ back u p new (Mute v) h is = by_test (u == v) is
 pub goes_on : (u : ℕ) (p : Standing) (a : Asked) (h : Heard) → (after_asked u p a h).stopped ≡ p.stopped
 goes_on u p Unmute h = by_third (nat_le 3 (p.unmutes + 1))
   where
-    by_third : (b : Bool) → (if b then record (with_counts p 0 0 (p.unmutes + 1)) { muted = false; unmuted = is_alive p }
+    by_third : (b : Bool)
+        → (if b then record (with_counts p 0 0 (p.unmutes + 1)) { muted = false; unmuted = is_alive p }
         else record (with_counts p 0 0 (p.unmutes + 1)) { unmuted = is_alive p }).stopped ≡ p.stopped
     by_third true = refl
     by_third false = refl
@@ -433,7 +435,8 @@ not_failed u p a (One v) ok = refl
 not_failed u p a (Acked ack) ok = refl
 not_failed u p a Noise ok = refl
 
-pub after_failure : (u : ℕ) (p : Standing) (e : Seen) → p.stopped ≡ false → e.heard ≡ Failed → after u p e ≡ stopped_at p
+pub after_failure : (u : ℕ) (p : Standing) (e : Seen) → p.stopped ≡ false → e.heard ≡ Failed
+    → after u p e ≡ stopped_at p
 after_failure u p e on failed =
     ap (λ b. after_either u b p e.asked e.heard) on ∙ ap (λ h. after_heard u p e.asked h) failed
 
@@ -587,56 +590,3 @@ standing_front u xs n alive =
     ∙ ap (λ y. is_alive (standing u y)) (sym (map-append seen_of (take n xs) (drop n xs)))
     ∙ ap (λ y. is_alive (standing u (seen_all y))) (take-append-drop n xs)
     ∙ alive)
-
--- each count grows by one at most
-abbrev pub AtMostOneMore : Standing → Standing → Type 0
-AtMostOneMore p q =
-    (q.lost_branches ≤ p.lost_branches + 1) × (q.lost_mutes ≤ p.lost_mutes + 1) × (q.unmutes ≤ p.unmutes + 1)
-
-asked_grow : (u : ℕ) (p : Standing) (a : Asked) (h : Heard) → AtMostOneMore p (after_asked u p a h)
-asked_grow u p Unmute h = by_third (nat_le 3 (p.unmutes + 1))
-  where
-    by_third : (b : Bool)
-        → AtMostOneMore p (if b then record (with_counts p 0 0 (p.unmutes + 1)) { muted = false; unmuted = is_alive p }
-        else record (with_counts p 0 0 (p.unmutes + 1)) { unmuted = is_alive p })
-    by_third true = (omega arith, omega arith, omega arith)
-    by_third false = (omega arith, omega arith, omega arith)
-asked_grow u p (Branch lo hi) h = by_test (is_within lo hi u && is_silent h)
-  where
-    by_test : (b : Bool) → AtMostOneMore p (after_branch p (if b then p.lost_branches + 1 else 0))
-    by_test true = (omega arith, omega arith, omega arith)
-    by_test false = (omega arith, omega arith, omega arith)
-asked_grow u p Other h = (omega arith, omega arith, omega arith)
-asked_grow u p (Mute v) h = by_test (u == v)
-  where
-    by_silent : (b : Bool)
-        → AtMostOneMore p (if b then record (with_counts p 0 (p.lost_mutes + 1) 0) { muted = is_alive p }
-        else record (with_counts p 0 0 0) { muted = false; unmuted = false })
-    by_silent true = (omega arith, omega arith, omega arith)
-    by_silent false = (omega arith, omega arith, omega arith)
-
-    by_acked : (b : Bool)
-        → AtMostOneMore p (if b then record (with_counts p 0 0 0) { muted = is_alive p; unmuted = false }
-        else (if is_silent h && nat_le (p.lost_mutes + 1) 4
-        then record (with_counts p 0 (p.lost_mutes + 1) 0) { muted = is_alive p }
-        else record (with_counts p 0 0 0) { muted = false; unmuted = false }))
-    by_acked true = (omega arith, omega arith, omega arith)
-    by_acked false = by_silent (is_silent h && nat_le (p.lost_mutes + 1) 4)
-
-    by_test : (b : Bool) → AtMostOneMore p (if b then after_mute p h else with_counts p 0 0 0)
-    by_test true = by_acked (is_acked h)
-    by_test false = (omega arith, omega arith, omega arith)
-
-pub counts_grow : (u : ℕ) (p : Standing) (e : Seen) → AtMostOneMore p (after u p e)
-counts_grow u p e = by_stopped p.stopped
-  where
-    by_heard : (h : Heard) → AtMostOneMore p (after_heard u p e.asked h)
-    by_heard Failed = (omega arith, omega arith, omega arith)
-    by_heard Silent = asked_grow u p e.asked Silent
-    by_heard (One v) = asked_grow u p e.asked (One v)
-    by_heard (Acked ack) = asked_grow u p e.asked (Acked ack)
-    by_heard Noise = asked_grow u p e.asked Noise
-
-    by_stopped : (b : Bool) → AtMostOneMore p (after_either u b p e.asked e.heard)
-    by_stopped true = (omega arith, omega arith, omega arith)
-    by_stopped false = by_heard e.heard

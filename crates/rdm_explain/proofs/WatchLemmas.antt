@@ -15,7 +15,8 @@ use Rattle.rdm_explain.specs.Rules.{FirstBreach, IsFirstBreach, EndsBy, AreFirst
 use Rattle.rdm_explain.specs.body.Standings.{is_alive, after, at_start, standing}
 use Rattle.rdm_explain.specs.body.Watching.{watched_by, watched_with, watch_of, finding_of, rule_by}
 use Rattle.rdm_explain.specs.body.Watching.{CountsAtMost, Watches}
-use Rattle.rdm_explain.proofs.StandingLemmas.{honest_alive, alive_honest, alive_through, counts_grow}
+use Rattle.rdm_explain.proofs.StandingLemmas.{honest_alive, alive_honest, alive_through}
+use Rattle.rdm_explain.proofs.CountLemmas.{counts_grow}
 use Rattle.rdm_explain.proofs.EndLemmas.{ends_none}
 use Rattle.rdm_explain.proofs.RuleLemmas.{EndsUnlessStopped, ends_after, breaks_rule}
 

@@ -121,7 +121,11 @@ fn first_gap(stretches: &[Stretch]) -> Option<Uid>
         }
         next = after_stretch(next, hi);
     }
-    if next < END { Uid::from_number(next) } else { None }
+    if next < END {
+        Uid::from_number(next)
+    } else {
+        None
+    }
 }
 
 /// The least UID that the exchanges don't cover. They cover a UID that was acknowledged, or that is in a range that was

@@ -114,7 +114,9 @@ fn bounds_in(frame: &[u8]) -> Option<(Uid, Uid)>
     ensures lo { IfSome result (λ bounds. bounds.0 ≡ lower_bound (fields_at frame.now)) }
     ensures hi { IfSome result (λ bounds. bounds.1 ≡ upper_bound (fields_at frame.now)) }
 {
-    if frame.len() != LEAST_FRAME_BYTES + BOUNDS_LENGTH || usize::from(frame[PDL]) != BOUNDS_LENGTH {
+    if frame.len() != LEAST_FRAME_BYTES + BOUNDS_LENGTH
+        || usize::from(frame[PDL]) != BOUNDS_LENGTH
+    {
         return None;
     }
     let bounds = &frame[HEADER_LENGTH..HEADER_LENGTH + BOUNDS_LENGTH];
@@ -194,12 +196,7 @@ fn uid_at(bytes: &[u8], at: usize) -> Uid
     ensures { result ≡ number_at at 6 bytes.now }
 {
     let manufacturer = u16::from_be_bytes([bytes[at], bytes[at + 1]]);
-    let device = u32::from_be_bytes([
-        bytes[at + 2],
-        bytes[at + 3],
-        bytes[at + 4],
-        bytes[at + 5],
-    ]);
+    let device = u32::from_be_bytes([bytes[at + 2], bytes[at + 3], bytes[at + 4], bytes[at + 5]]);
     Uid::new(manufacturer, device)
 }
 

@@ -16,4 +16,4 @@ pub returns-clause-heard : goal.returns-clause-heard
 returns-clause-heard c =
     let b = c.args.frame.now in
     λ bytes. ap (λ s. heard_bytes s (slice_index_or b 15 0) (asked_in b) bytes) c.uid_at-source.ensures
-        ∙ ap (λ n. heard_bytes (number_at 9 6 b) n (asked_in b) bytes) (sym (number_of-one 15 b (omega arith)))
+    ∙ ap (λ n. heard_bytes (number_at 9 6 b) n (asked_in b) bytes) (sym (number_of-one 15 b (omega arith)))

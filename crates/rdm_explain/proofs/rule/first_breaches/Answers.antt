@@ -1,4 +1,5 @@
-use Rattle.std.proofs.Common.{◌≡◌, ◌∙◌, ◌++◌, ◌+◌, ◌<◌, ℕ, [], ◌∷◌, List, sym, ap, subst, arith, rules, take, drop, length, map, get_or}
+use Rattle.std.proofs.Common.{◌≡◌, ◌∙◌, ◌++◌, ◌+◌, ◌<◌, ℕ, [], ◌∷◌, List, sym, ap, subst, arith, rules, take, drop}
+use Rattle.std.proofs.Common.{length, map, get_or}
 use Rattle.std.specs.List.{AllByRecursion}
 use Rattle.std.proofs.lemmas.List.{length-map, take_all, take_more, length-take-le}
 use Rattle.rdm_explain.specs.declared.exchange.Exchange.{Exchange}
@@ -7,15 +8,17 @@ use Rattle.rdm_explain.specs.Exchanges.{seen_of}
 use Rattle.rdm_explain.specs.Rules.{AreFirstBreaches, uids_of_findings}
 use Rattle.rdm_explain.specs.body.Watching.{watched_by, finding_of, CountsAtMost, watch_of, Watches}
 use Rattle.rdm_explain.proofs.MapLemmas.{written_back, if_ok}
-use Rattle.rdm_explain.proofs.WatchLemmas.{all_watch_start, all_watch_more, all_counts, uids_watched, same_uids, start_uids}
+use Rattle.rdm_explain.proofs.WatchLemmas.{all_watch_start, all_watch_more, all_counts, uids_watched, same_uids}
+use Rattle.rdm_explain.proofs.WatchLemmas.{start_uids}
 use Rattle.rdm_explain.proofs.WatchLemmas.{finding_uids, all_found}
 use Rattle.rdm_explain.proofs.rule.first_breaches.Goals as goal
 
 pub loop-at-init : goal.loop-at-init
 loop-at-init c =
-    let is : c.in_ok-watched.watched.items ≡ map watch_of c.args.uids.now = search rules in
-    (subst (λ l. AllByRecursion (Watches []) l) (sym is) (all_watch_start c.args.uids.now),
-     ap uids_watched is ∙ start_uids c.args.uids.now)
+    let is : c.in_ok-watched.watched.items ≡ map watch_of c.args.uids.now = search rules in (
+      subst (λ l. AllByRecursion (Watches []) l) (sym is) (all_watch_start c.args.uids.now),
+      ap uids_watched is ∙ start_uids c.args.uids.now,
+    )
 
 pub hear_all-requires-clause-counts : goal.hear_all-requires-clause-counts
 hear_all-requires-clause-counts c =
@@ -48,7 +51,8 @@ written xs us n old new long same all = subst (WatchesAll xs us) (sym (written_b
 
 pub loop-at-preserved : goal.loop-at-preserved
 loop-at-preserved c =
-    let is : c.hear_all.new.watched ≡ map (watched_by c.loop-at.at (seen_of c.index-exchanges-at.result)) c.loop-at.watched.items
+    let is : c.hear_all.new.watched
+    ≡ map (watched_by c.loop-at.at (seen_of c.index-exchanges-at.result)) c.loop-at.watched.items
     = c.hear_all.ensures.next
     ∙ ap (map (watched_by c.loop-at.at (seen_of c.index-exchanges-at.result))) c.deref_mut.ensures.value in
     written (take (c.loop-at.at + 1) c.args.exchanges.now) c.args.uids.now c.loop-at.watched.len
