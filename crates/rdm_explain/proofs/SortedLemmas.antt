@@ -35,7 +35,7 @@ pub uncovered_of : (xs : List Exchange) (ss ts : List Stretch) (r : Option ℕ)
     → ss ≡ (cover_state (seen_all xs)).covered → IsPermutation ss ts → FirstGap ts r → FirstUncovered xs r
 uncovered_of xs ss ts None is same gap =
     λ u below. in_covered (seen_all xs) u
-        (subst (λ l. IsIn l u) is (in_permutation ts ss u (IsPermutation-sym ss ts same) (gap u below)))
+    (subst (λ l. IsIn l u) is (in_permutation ts ss u (IsPermutation-sym ss ts same) (gap u below)))
 uncovered_of xs ss ts (Some g) is same gap = record {
   below = gap.below;
   uncovered = λ covered. gap.gap
