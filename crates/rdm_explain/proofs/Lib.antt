@@ -1,0 +1,10 @@
+pub mod FrameLemmas
+pub mod MapLemmas
+pub mod GapLemmas
+pub mod CoverLemmas
+pub mod SortedLemmas
+pub mod StandingLemmas
+pub mod CountLemmas
+pub mod EndLemmas
+pub mod RuleLemmas
+pub mod WatchLemmas

@@ -1,0 +1,78 @@
+use Rattle.std.proofs.Common.{◌≡◌, ◌∙◌, ◌++◌, ◌+◌, ◌<◌, ℕ, [], ◌∷◌, List, sym, ap, subst, arith, rules, take, drop}
+use Rattle.std.proofs.Common.{length, map, get_or}
+use Rattle.std.specs.List.{AllByRecursion}
+use Rattle.std.proofs.lemmas.List.{length-map, take_all, take_more, length-take-le}
+use Rattle.rdm_explain.specs.declared.exchange.Exchange.{Exchange}
+use Rattle.rdm_explain.specs.declared.rule.Watched.{Watched}
+use Rattle.rdm_explain.specs.Exchanges.{seen_of}
+use Rattle.rdm_explain.specs.Rules.{AreFirstBreaches, uids_of_findings}
+use Rattle.rdm_explain.specs.body.Watching.{watched_by, finding_of, CountsAtMost, watch_of, Watches}
+use Rattle.rdm_explain.proofs.MapLemmas.{written_back, if_ok}
+use Rattle.rdm_explain.proofs.WatchLemmas.{all_watch_start, all_watch_more, all_counts, uids_watched, same_uids}
+use Rattle.rdm_explain.proofs.WatchLemmas.{start_uids}
+use Rattle.rdm_explain.proofs.WatchLemmas.{finding_uids, all_found}
+use Rattle.rdm_explain.proofs.rule.first_breaches.Goals as goal
+
+pub loop-at-init : goal.loop-at-init
+loop-at-init c =
+    let is : c.in_ok-watched.watched.items ≡ map watch_of c.args.uids.now = search rules in (
+      subst (λ l. AllByRecursion (Watches []) l) (sym is) (all_watch_start c.args.uids.now),
+      ap uids_watched is ∙ start_uids c.args.uids.now,
+    )
+
+pub hear_all-requires-clause-counts : goal.hear_all-requires-clause-counts
+hear_all-requires-clause-counts c =
+    subst (λ l. AllByRecursion (CountsAtMost c.loop-at.at) l) (sym c.deref_mut.ensures.value)
+    (subst (λ n. AllByRecursion (CountsAtMost n) c.loop-at.watched.items)
+    (length-take-le c.loop-at.at c.args.exchanges.now (omega arith))
+    (all_counts (take c.loop-at.at c.args.exchanges.now) c.loop-at.watched.items c.loop-at.invariant.0))
+
+-- the devices after an exchange
+abbrev WatchesAll : List Exchange → List ℕ → List Watched → Type 0
+WatchesAll xs us ws = AllByRecursion (Watches xs) ws × (uids_watched ws ≡ us)
+
+heard : (xs : List Exchange) (us : List ℕ) (at : ℕ) (e : Exchange) (old new : List Watched) → at < length xs
+    → e ≡ get_or xs at e → WatchesAll (take at xs) us old → new ≡ map (watched_by at (seen_of e)) old
+    → WatchesAll (take (at + 1) xs) us new
+heard xs us at e old new within read all is =
+    let long : length (take at xs) ≡ at = length-take-le at xs (omega arith) in
+    let whole : take (at + 1) xs ≡ take at xs ++ e ∷ []
+    = take_more xs at e within ∙ ap (λ x. take at xs ++ x ∷ []) (sym read) in
+    subst (WatchesAll (take (at + 1) xs) us) (sym is) (
+      subst (λ l. AllByRecursion (Watches l) (map (watched_by at (seen_of e)) old)) (sym whole)
+          (subst (λ n. AllByRecursion (Watches (take at xs ++ e ∷ [])) (map (watched_by n (seen_of e)) old)) long
+          (all_watch_more (take at xs) e old all.0)),
+      same_uids at (seen_of e) old ∙ all.1,
+    )
+
+written : (xs : List Exchange) (us : List ℕ) (n : ℕ) (old new : List Watched) → n ≡ length old
+    → length new ≡ length old → WatchesAll xs us new → WatchesAll xs us (take n (new ++ drop (length new) old))
+written xs us n old new long same all = subst (WatchesAll xs us) (sym (written_back old new n long same)) all
+
+pub loop-at-preserved : goal.loop-at-preserved
+loop-at-preserved c =
+    let is : c.hear_all.new.watched
+    ≡ map (watched_by c.loop-at.at (seen_of c.index-exchanges-at.result)) c.loop-at.watched.items
+    = c.hear_all.ensures.next
+    ∙ ap (map (watched_by c.loop-at.at (seen_of c.index-exchanges-at.result))) c.deref_mut.ensures.value in
+    written (take (c.loop-at.at + 1) c.args.exchanges.now) c.args.uids.now c.loop-at.watched.len
+    c.loop-at.watched.items c.hear_all.new.watched (c.loop-at.watched.ok.0)
+    (ap length is ∙ length-map c.loop-at.watched.items _)
+    (heard c.args.exchanges.now c.args.uids.now c.loop-at.at c.index-exchanges-at.result c.loop-at.watched.items
+    c.hear_all.new.watched c.loop-at-test.true c.index-exchanges-at.is c.loop-at.invariant is)
+
+pub returns-clause-devices : goal.returns-clause-devices
+returns-clause-devices c =
+    if_ok _ _ c.findings.result
+    (λ v is. ap uids_of_findings (is ∙ ap (map finding_of) c.deref.ensures.value)
+    ∙ finding_uids c.loop-at.watched.items ∙ c.loop-at.invariant.1)
+    c.findings.ensures
+
+pub returns-clause-first : goal.returns-clause-first
+returns-clause-first c =
+    let all : take c.loop-at.at c.args.exchanges.now ≡ c.args.exchanges.now = take_all _ _ c.loop-at-test.false in
+    if_ok _ _ c.findings.result
+    (λ v is. subst (AreFirstBreaches c.args.exchanges.now) (sym (is ∙ ap (map finding_of) c.deref.ensures.value))
+    (all_found c.args.exchanges.now c.loop-at.watched.items
+    (subst (λ l. AllByRecursion (Watches l) c.loop-at.watched.items) all c.loop-at.invariant.0)))
+    c.findings.ensures

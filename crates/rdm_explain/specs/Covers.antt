@@ -1,0 +1,23 @@
+-- Which UIDs exchanges cover.
+use Rattle.std.specs.Prelude.{◌≡◌, ◌⊎◌, ℕ, ◌<◌, ◌^◌, true, List, Option, Some, None}
+use Rattle.rdm_wire.specs.Uid.{has}
+use Rattle.rdm_wire.specs.Honest.{Seen}
+use Rattle.rdm_agent.specs.Run.{acked_in}
+use Rattle.rdm_agent.specs.Certificate.{IsCleared}
+use Rattle.rdm_explain.specs.declared.exchange.Exchange.{Exchange}
+use Rattle.rdm_explain.specs.Exchanges.{seen_all}
+
+-- u was acknowledged, or is in a range that was branched five times in a row without a byte
+abbrev pub IsCovered : List Seen → ℕ → Type 0
+IsCovered x u = (has (acked_in x) u ≡ true) ⊎ IsCleared x u
+
+-- u is the least UID that isn't covered
+pub record IsFirstUncovered (x : List Seen) (u : ℕ) : Type 0 where
+  pub below : u < 2 ^ 48
+  pub uncovered : IsCovered x u → ⊥
+  pub before : (v : ℕ) → v < u → IsCovered x v
+
+-- all UIDs are covered, or this is the first that isn't
+abbrev pub FirstUncovered : List Exchange → Option ℕ → Type 0
+FirstUncovered xs None = (u : ℕ) → u < 2 ^ 48 → IsCovered (seen_all xs) u
+FirstUncovered xs (Some u) = IsFirstUncovered (seen_all xs) u

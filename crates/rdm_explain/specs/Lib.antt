@@ -1,0 +1,4 @@
+pub mod Exchanges
+pub mod Rules
+pub mod Covers
+pub mod body

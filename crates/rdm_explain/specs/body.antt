@@ -1,0 +1,5 @@
+-- What only the proofs need.
+pub mod Standings
+pub mod Watching
+pub mod FrameTests
+pub mod Covering

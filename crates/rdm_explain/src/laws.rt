@@ -1,0 +1,31 @@
+//! Laws of findings, each the contract of a function that does nothing. The definitions are in `specs`.
+ghost use Rattle.std.specs.Prelude.{◌≡◌, ◌⊎◌, ℕ, ◌<◌, ◌^◌, true, List, None, Some};
+ghost use Rattle.std.specs.List.{AllByRecursion};
+ghost use Rattle.rdm_wire.specs.Uid.{has, set_of};
+ghost use Rattle.rdm_wire.specs.Devices.{uids_of};
+ghost use Rattle.rdm_wire.specs.declared.device.Device.{Device};
+ghost use Rattle.rdm_agent.specs.Run.{acked_in};
+ghost use Rattle.rdm_agent.specs.Certificate.{Certificate, IsCleared};
+ghost use Rattle.rdm_agent.specs.declared.kind.Kind.{Kind};
+ghost use Rattle.rdm_explain.specs.declared.exchange.Exchange.{Exchange};
+ghost use Rattle.rdm_explain.specs.declared.rule.DeviceFinding.{DeviceFinding};
+ghost use Rattle.rdm_explain.specs.Exchanges.{seen_all};
+ghost use Rattle.rdm_explain.specs.Rules.{AreFirstBreaches, Followed};
+ghost use Rattle.rdm_explain.specs.Covers.{FirstUncovered};
+
+/// If the exchanges have the certificate of a set, and by their findings some devices followed the rules, the set has
+/// each of these devices.
+pub fn followers_are_reported()
+    ensures { (kind : Kind) (known : List ℕ) (xs : List Exchange) (s : List Device) (found : List DeviceFinding) →
+        Certificate kind known (seen_all xs) s → AreFirstBreaches xs found → AllByRecursion Followed found
+        → AllByRecursion (λ (f : DeviceFinding). has (uids_of s) f.uid ≡ true) found }
+{}
+
+/// If no UID is uncovered, the exchanges have that part of the certificate of the acknowledged UIDs. If one is, they
+/// certify no set.
+pub fn coverage_is_the_certificates()
+    ensures complete { (xs : List Exchange) → FirstUncovered xs None → (u : ℕ) → u < 2 ^ 48
+        → (has (set_of (acked_in (seen_all xs))) u ≡ true) ⊎ IsCleared (seen_all xs) u }
+    ensures incomplete { (kind : Kind) (known : List ℕ) (xs : List Exchange) (s : List Device) (u : ℕ) →
+        FirstUncovered xs (Some u) → Certificate kind known (seen_all xs) s → ⊥ }
+{}
