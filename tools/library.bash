@@ -29,13 +29,14 @@ is_for_pkg_config() {
 
 # Puts the library, its headers and the Python package below a prefix.
 install_library() {
-    local root="$1" folder="$2" prefix="$3" python="$3/lib/python3/site-packages"
+    local root="$1" folder="$2" prefix="$3" python="$3/lib/python3/site-packages" header
     make_folder "$prefix/lib/pkgconfig" && make_folder "$prefix/include" && make_folder "$python" || return
     put "$folder/libwurstlinen.a" "$prefix/lib/libwurstlinen.a" || return
     put "$folder/$soname" "$prefix/lib/$soname" || return
     ln -sfT -- "$soname" "$prefix/lib/libwurstlinen.so" || return
-    put "$root/bindings/c/wurstlinen.h" "$prefix/include/wurstlinen.h" || return
-    put "$root/bindings/cpp/wurstlinen.hpp" "$prefix/include/wurstlinen.hpp" || return
+    for header in "$root"/bindings/c/*.h "$root"/bindings/cpp/*.hpp; do
+        put "$header" "$prefix/include/${header##*/}" || return
+    done
     put_package "$root/bindings/python/wurstlinen" "$python/wurstlinen" || return
     write_pkg_config "$root" "$prefix" > "$folder/wurstlinen.pc" || return
     put "$folder/wurstlinen.pc" "$prefix/lib/pkgconfig/wurstlinen.pc"

@@ -101,8 +101,11 @@ struct Device {
     std::optional<Uid> binding;
 
     static Device of(const wurst_device &form) {
-        const auto binding = form.has_binding ? Uid::from_number(form.binding) : std::nullopt;
-        return {*Uid::from_number(form.uid), form.control, binding};
+        Device device{*Uid::from_number(form.uid), form.control, std::nullopt};
+        if (form.has_binding) {
+            device.binding = Uid::from_number(form.binding);
+        }
+        return device;
     }
 
     wurst_device form() const {
@@ -430,6 +433,7 @@ public:
 
 protected:
     Queue() = default;
+
     Handle<typename Calls::Form, Calls::dispose> handle_;
 
 private:
@@ -473,7 +477,9 @@ public:
 // The log of a session that continued with a fresh one, or what a session has handed out of its log.
 class Log {
 public:
-    Log() = default; // Holds nothing, until Session::drain fills it: other calls throw WURST_NOT_OPEN.
+    // Holds nothing, until Session::drain fills it: other calls throw WURST_NOT_OPEN.
+    Log() = default;
+
     std::size_t entry_count() { return entries.count(handle_.get()); }
 
     // The entry of this index, with its bytes in the caller's buffer; WURST_MOST_FRAME_BYTES are enough. Throws
@@ -484,6 +490,7 @@ public:
 
 private:
     friend class Session;
+
     static constexpr detail::Entries<wurst_log> entries{wurst_log_entry_count, wurst_log_entry};
     detail::Handle<wurst_log, wurst_log_dispose> handle_;
 };
@@ -511,7 +518,8 @@ public:
         return log_entries.entry(handle_.get(), index, buffer, room);
     }
 
-    // Continues with a fresh log with capacity for this many entries, and returns the old one. Throws as in C.
+    // Continues with a fresh log with capacity for this many entries, and returns the old one. Throws WURST_NOT_IDLE,
+    // WURST_LOG_FULL, WURST_TOO_MANY_ENTRIES or WURST_OUT_OF_MEMORY.
     Log rotate(std::size_t entries) {
         Log log;
         check(wurst_session_rotate(handle_.get(), entries, log.handle_.get()));
@@ -529,76 +537,8 @@ private:
     static constexpr detail::Entries<wurst_session> log_entries{wurst_session_entry_count, wurst_session_entry};
 };
 
-// A single discovery run, on a line of the caller's own.
-class Agent {
-public:
-    explicit Agent(Uid source, wurst_kind kind = WURST_FULL_DISCOVERY, const std::vector<Uid> &known = {},
-                   std::uint64_t budget = WURST_DEFAULT_BUDGET, wurst_search search = WURST_STEADY,
-                   std::uint8_t tn = 0) {
-        std::vector<std::uint64_t> numbers;
-        numbers.reserve(known.size() + 1);
-        for (Uid uid : known) {
-            numbers.push_back(uid.number());
-        }
-        const wurst_start start{source.number(), budget, static_cast<std::uint32_t>(kind),
-                                static_cast<std::uint32_t>(search), tn};
-        check(wurst_agent_start(handle_.get(), &start, numbers.data(), numbers.size()));
-    }
-
-    // What the run asks next, and its frame; nullopt: it has ended.
-    std::optional<std::pair<wurst_operation, Frame>> next() {
-        std::optional<std::pair<wurst_operation, Frame>> asked(std::in_place);
-        std::uint32_t operation = 0;
-        Frame &frame = asked->second;
-        if (!detail::given(wurst_agent_next(handle_.get(), &operation, frame.data(), Frame::room, frame.length()))) {
-            return std::nullopt;
-        }
-        asked->first = static_cast<wurst_operation>(operation);
-        return asked;
-    }
-
-    void hear(Bytes reply) { check(wurst_agent_hear(handle_.get(), reply.data, reply.size)); }
-    void fail() { check(wurst_agent_fail(handle_.get())); }
-    void stop() { check(wurst_agent_stop(handle_.get())); }
-
-    // The devices found so far.
-    std::vector<Device> devices() {
-        std::vector<wurst_device> forms(WURST_MOST_DEVICES);
-        return detail::copied(devices(forms.data(), forms.size()));
-    }
-
-    // The same, in the caller's array. Throws WURST_BUFFER_TOO_SMALL.
-    Devices devices(wurst_device *forms, std::size_t room) {
-        std::size_t count = 0;
-        check(wurst_agent_devices(handle_.get(), forms, room, &count));
-        return Devices(forms, count);
-    }
-
-    // Why it ended early. Throws WURST_NOT_ENDED before the end.
-    wurst_fault fault() { return static_cast<wurst_fault>(fault_and_uid().first); }
-
-    // The UID of WURST_CORRUPT; nullopt after any other end. Throws WURST_NOT_ENDED before the end.
-    std::optional<Uid> corrupt() {
-        const auto [fault, number] = fault_and_uid();
-        return fault == WURST_CORRUPT ? Uid::from_number(number) : std::nullopt;
-    }
-
-    std::uint64_t frames() {
-        std::uint64_t frames = 0;
-        check(wurst_agent_frames(handle_.get(), &frames));
-        return frames;
-    }
-
-private:
-    std::pair<std::uint32_t, std::uint64_t> fault_and_uid() {
-        std::pair<std::uint32_t, std::uint64_t> both{};
-        check(wurst_agent_fault(handle_.get(), &both.first, &both.second));
-        return both;
-    }
-
-    detail::Handle<wurst_agent, wurst_agent_dispose> handle_;
-};
-
 } // namespace wurst
+
+#include "wurstlinen_agent.hpp"
 
 #endif
