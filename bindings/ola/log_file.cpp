@@ -7,16 +7,16 @@
 #include <cstring>
 #include <fcntl.h>
 #include <unistd.h>
+#include <utility>
 
 namespace stand_in {
 
 // The records have the values of all parameters, so other users can't read them.
 constexpr mode_t MODE = 0640;
 constexpr int HOW = O_WRONLY | O_APPEND | O_CREAT | O_NONBLOCK | O_CLOEXEC | O_NOCTTY;
-// A disk that is full now and then is reported this often at most.
-constexpr std::chrono::minutes BETWEEN_MESSAGES{1};
 
-LogFile::LogFile(std::string name, std::uint64_t most_bytes) : name_(std::move(name)), most_bytes_(most_bytes) {}
+LogFile::LogFile(std::string name, std::uint64_t most_bytes, Clock::duration between_messages)
+    : name_(std::move(name)), most_bytes_(most_bytes), between_messages_(between_messages) {}
 
 LogFile::~LogFile() { close(); }
 
@@ -123,7 +123,7 @@ void LogFile::take_back(std::size_t bytes) {
 
 bool LogFile::fail(const std::string &why) {
     const auto now = Clock::now();
-    if (!is_failing_ && (!last_told_ || now - *last_told_ >= BETWEEN_MESSAGES)) {
+    if (!is_failing_ && (!last_told_ || now - *last_told_ >= between_messages_)) {
         tell("WURSTLINEN_LOG=" + name_, Level::Warn, why + "; records are lost until it can be written");
         last_told_ = now;
         is_told_ = true;

@@ -11,8 +11,11 @@ namespace stand_in {
 // Used by one thread. The file is opened when the first lines are added, and again if it was renamed or removed.
 class LogFile {
 public:
-    // If lines would make the file longer than `most_bytes`, it is first renamed to NAME.1. 0: no limit.
-    LogFile(std::string name, std::uint64_t most_bytes);
+    using Clock = std::chrono::steady_clock;
+
+    // If lines would make the file longer than `most_bytes`, it is first renamed to NAME.1. 0: no limit. A disk that is
+    // full now and then is reported once in this time.
+    LogFile(std::string name, std::uint64_t most_bytes, Clock::duration between_messages = std::chrono::minutes(1));
     ~LogFile();
     LogFile(const LogFile &) = delete;
     LogFile &operator=(const LogFile &) = delete;
@@ -22,8 +25,6 @@ public:
     bool add(const std::string &lines);
 
 private:
-    using Clock = std::chrono::steady_clock;
-
     bool prepare(std::size_t bytes);
     bool open();
     void close();
@@ -36,6 +37,7 @@ private:
 
     const std::string name_;
     const std::uint64_t most_bytes_;
+    const Clock::duration between_messages_;
     int file_ = -1;
     // The file may end within a line, so the next one begins with a newline.
     bool is_torn_ = false;

@@ -1,4 +1,4 @@
-"""An unchanged olad with the library: its log on bad disks, its messages, and what `wurstlinen --check-ola` says.
+"""An unchanged olad with the library: its log on bad disks, its messages, and what the script wurstlinen says of it.
 
 usage: test_log.py LIBRARY REDIRECT PRELOAD
   LIBRARY   libwurstlinen-ola.so
@@ -185,13 +185,47 @@ def check_running(checks: Checks, files: Files, scene: Scene, copy: Path) -> int
         return daemon.pid
 
 
+def service_lines(path: str) -> Tuple[str, str]:
+    """The lines for a service that the script prints if it has installed this file, and what it says."""
+    text = 'say() { echo "$1" >&2; }; . tools/library.bash; . tools/ola.bash; show_ola_use "$1"'
+    done = subprocess.run(["bash", "-c", text, "bash", path], cwd=ROOT, stdout=subprocess.PIPE,
+                          stderr=subprocess.PIPE, check=False)
+    return done.stdout.decode(), done.stderr.decode()
+
+
+def check_service(checks: Checks, files: Files) -> None:
+    """A service starts olad alone with the library, as another user than root, out of a folder of root's."""
+    path = f"/usr/lib/{files.library.name}"
+    lines, _ = service_lines(path)
+    starts = [line for line in lines.splitlines() if line.startswith("ExecStart=/")]
+    checks.check(starts == [f"ExecStart=/usr/bin/env LD_PRELOAD={path} /usr/bin/olad $DAEMON_ARGS"], f"it is {starts}")
+    preloads = [line for line in lines.splitlines() if "LD_PRELOAD" in line]
+    checks.check(preloads == starts and "User=olad" in lines.splitlines(), f"root preloads: {lines}")
+    with tempfile.TemporaryDirectory() as folder:
+        lines, text = service_lines(f"{folder}/{files.library.name}")
+        checks.check(lines == "" and "others than root can write to " in text, f"a folder of others: {lines} {text}")
+        if shutil.which("systemd-analyze") is not None:
+            check_unit(checks, Path(folder), service_lines(path)[0])
+
+
+def check_unit(checks: Checks, folder: Path, lines: str) -> None:
+    """systemd understands the lines, beside the unit that it generates from Debian's script."""
+    unit = folder / "olad.service"
+    unit.write_text("[Service]\nType=forking\nRemainAfterExit=yes\nExecStart=/bin/true\nExecReload=/bin/true\n")
+    (folder / "olad.service.d").mkdir()
+    (folder / "olad.service.d/wurstlinen.conf").write_text(lines)
+    done = subprocess.run(["systemd-analyze", "verify", str(unit)], stdout=subprocess.PIPE, stderr=subprocess.STDOUT,
+                          check=False)
+    checks.check(done.returncode == 0 and b"wurstlinen.conf" not in done.stdout, f"systemd: {done.stdout!r}")
+
+
 def main(arguments: Sequence[str]) -> int:
     """Runs all."""
     signal.signal(signal.SIGTERM, ended)
     files = Files(*(Path(argument).resolve() for argument in arguments))
     checks = Checks()
     for check in (check_stuck_disk, check_kinds_of_files, check_rotation, check_end, check_background,
-                  check_version, check_script):
+                  check_version, check_script, check_service):
         check(checks, files)
     print(f"{checks.passed} passed, {checks.failed} failed")
     return 1 if checks.failed else 0

@@ -47,6 +47,21 @@ void test_full_now_and_then() {
     CHECK(messages_with("WARN ") == 1 && messages_with("INFO ") == 1);
 }
 
+// Each time it is full is reported once, however often it can't be written then.
+void test_full_twice() {
+    const Folder folder;
+    LogFile file(folder.path(), 0, LogFile::Clock::duration::zero());
+    forget_messages();
+    for (unsigned int outage = 1; outage <= 2; outage++) {
+        disk.space = 0;
+        for (int i = 0; i < 5; i++) {
+            CHECK(!file.add(LINE) && messages_with("WARN ") == outage);
+        }
+        disk.space = -1;
+        CHECK(file.add(LINE) && file.add(LINE) && messages_with("INFO ") == outage);
+    }
+}
+
 // If another process has added to the file meanwhile, nothing is taken back. The next line is whole.
 void test_torn_line() {
     const Folder folder;
@@ -168,6 +183,7 @@ void test_mode() {
 void test_files() {
     test_whole_lines_on_a_full_disk();
     test_full_now_and_then();
+    test_full_twice();
     test_torn_line();
     test_torn_before();
     test_limit_of_the_system();

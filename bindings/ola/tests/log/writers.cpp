@@ -104,6 +104,24 @@ void test_stuck_disk() {
     CHECK(lines[fitted] + '\n' == line(1000 + static_cast<unsigned int>(fitted)) && lines.back() + '\n' == line(2000));
 }
 
+// Behind a lost line, one that would fit is lost too, so that lines are missing in one place.
+void test_short_line_behind_a_lost_one() {
+    const Folder folder;
+    const std::string half = "{\"x\":\"" + std::string(QUEUE_BYTES / 2, 'x') + "\"}\n";
+    LogWriter writer({folder.path(), 0, QUEUE_BYTES});
+    disk.writes = 0;
+    disk.is_stuck = true;
+    writer.add(line(1));
+    CHECK(becomes([] { return disk.writes > 0; }));
+    for (const auto &each : {half, half, line(2)}) {
+        writer.add(each);
+    }
+    disk.is_stuck = false;
+    writer.flush(10 * SECOND);
+    const auto lines = lines_of(folder.path());
+    CHECK(lines.size() == 3 && lines[1] + '\n' == half && lost_in(lines[2]) == 2);
+}
+
 void test_full_disk() {
     const Folder folder;
     LogWriter writer({folder.path()});
@@ -227,6 +245,7 @@ void test_writers() {
     test_order();
     test_many_threads();
     test_stuck_disk();
+    test_short_line_behind_a_lost_one();
     test_full_disk();
     test_disk_that_is_full_at_each_byte();
     test_rotation();
