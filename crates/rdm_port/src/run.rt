@@ -24,7 +24,8 @@ use rdm_files::{
     FileKind, SceneFault, SessionFile, discovery_command, read_session, unknown_in_session,
 };
 use rdm_serving::{
-    LogOutput, OpensLog, Progress, ServeFault, Served, serve, session_text, write_entries,
+    LogOutput, OpensLog, Progress, ServeFault, Served, all_entries, serve, session_text,
+    write_entries,
 };
 use rdm_words::PortKind;
 use serde_json::Value;
@@ -107,7 +108,7 @@ pub(crate) fn answer_served<'a, G: Write>(
     served: Served,
     log: &mut LogOutput<G>,
 ) -> Result<Answered<'a>, Refused<'a>>
-    requires whole { served.session.gone ≡ 0 }
+    requires { served.session.gone ≡ 0 }
     ensures text { IfOk result (λ a. answer_bytes a.text ≡ session_text served.outcomes.items) }
     ensures status { IfOk result (λ a. a.status ≡ 0) }
     ensures logged { OnOk result (Logs log.old log.new (log_text served.session.entries)) }
@@ -123,7 +124,7 @@ pub(crate) fn answer_served<'a, G: Write>(
     let Ok(text) = session_text(alloc, &outcomes) else {
         return Err((Fault::Memory, None));
     };
-    write_entries(alloc, log, session.log().entries());
+    write_entries(alloc, log, all_entries(session.log()));
     Ok(Answered {
         text: Answer::Lines(text),
         status: 0,

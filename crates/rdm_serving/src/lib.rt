@@ -13,4 +13,6 @@ pub use rdm_reports::{
     discover_in, laws, report, session_text, write_all, write_entries,
 };
 pub use rdm_words::PortKind;
-pub use serving::{Player, ServeFault, Served, are_logged, play, serve, serve_on_line};
+pub use serving::{
+    Player, ServeFault, Served, all_entries, are_logged, play, serve, serve_on_line,
+};

@@ -23,7 +23,7 @@ mod ticket;
 
 use crate::serving::called::has_calls;
 use crate::serving::locked::serve_locked;
-pub use crate::serving::logged::are_logged;
+pub use crate::serving::logged::{all_entries, are_logged};
 pub use crate::serving::playing::{Player, play};
 use crate::serving::progress_line::ProgressLine;
 use crate::serving::rings::serve_rings;
@@ -197,7 +197,7 @@ fn settled(
     let Ok(is_logged) = are_logged(alloc, served.session.log(), &served.outcomes) else {
         return Err(ServeFault::Memory);
     };
-    let is_called = has_calls(served.session.log().entries(), clients);
+    let is_called = has_calls(all_entries(served.session.log()), clients);
     let are_in_turns = all_in_turns(turns, &served.outcomes);
     if is_logged && is_called && are_in_turns && all_settled(clients, &served.outcomes) {
         Ok(served)

@@ -31,6 +31,14 @@ pub fn are_logged(alloc: Global, log: &Log, told: &[Outcomes]) -> Result<bool, A
     Ok(true)
 }
 
+/// All entries of a log that stores them all.
+pub fn all_entries(log: &Log) -> &[Entry]
+    requires { log.now.gone ≡ 0 }
+    ensures { result.now ≡ log.now.entries }
+{
+    log.entries()
+}
+
 // The clients of a log's requests, and of its discoveries, by number.
 #[derive(Drop)]
 struct Askers {
@@ -45,8 +53,8 @@ impl Askers {
         ensures discoveries { IfOk result (λ a. a.discoveries.items ≡ map (λ s. s.client) (asks log.now.entries)) }
     {
         Ok(Askers {
-            requests: submitters(alloc, log.entries())?,
-            discoveries: discoverers(alloc, log.entries())?,
+            requests: submitters(alloc, all_entries(log))?,
+            discoveries: discoverers(alloc, all_entries(log))?,
         })
     }
 }
@@ -83,7 +91,7 @@ fn is_logged(log: &Log, askers: &Askers, client: usize, told: &Outcomes) -> bool
     requires discoveries { askers.now.discoveries.items ≡ map (λ s. s.client) (asks log.now.entries) }
     ensures { OnTrue result (AreLogged log.now.opening log.now.entries client told.now) }
 {
-    let (opening, entries) = (log.opening(), log.entries());
+    let (opening, entries) = (log.opening(), all_entries(log));
     are_requests_logged(opening, entries, &askers.requests, client, &told.requests)
         && are_discoveries_logged(
             opening,

@@ -6,6 +6,9 @@ use Rattle.rdm_port.proofs.LoggedLemmas.{opened_same}
 use Rattle.rdm_port.proofs.RunLemmas.{served_then, served_as}
 use Rattle.rdm_port.proofs.line_run.answer_run_on_line.Goals as goal
 
+pub answer_served-requires : goal.answer_served-requires
+answer_served-requires g c = let (file, reads, by) = c.in-Ok.ensures.served in by.whole
+
 pub returns-in-Ok-clause-ok : goal.returns-in-Ok-clause-ok
 returns-in-Ok-clause-ok g c =
     let (line, begins) = c.in-Ok.ensures.begins in

@@ -5,6 +5,9 @@ use Rattle.rdm_port.proofs.LoggedLemmas.{opened_same}
 use Rattle.rdm_port.proofs.RunLemmas.{served_then, served_as}
 use Rattle.rdm_port.proofs.run.answer_run.Goals as goal
 
+pub answer_served-requires : goal.answer_served-requires
+answer_served-requires g c = let (file, reads, by) = c.in-Ok.ensures.served in by.whole
+
 pub returns-in-Ok-clause-ok : goal.returns-in-Ok-clause-ok
 returns-in-Ok-clause-ok g c =
     let (file, reads, by) = c.in-Ok.ensures.served in
