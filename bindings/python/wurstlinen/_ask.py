@@ -201,7 +201,7 @@ class Asking:
         """Whether a message answers the request, as far as it shows."""
         request, head = self._request, head_of(message)
         sub_devices = (ALL_SUB_DEVICES, ROOT_DEVICE) if request.sub_device == ALL_SUB_DEVICES else (request.sub_device,)
-        return (head.pid == request.pid and head.pid != STATUS_MESSAGES and head.sub_device in sub_devices
+        return (head.pid == request.pid and head.sub_device in sub_devices
                 and head.response_class == request.request_class + 1
                 and (head.ack == AckType.NACK or not is_echoed(request) or message.data.startswith(request.data)))
 

@@ -6,12 +6,13 @@ import json
 import os
 import unittest
 from pathlib import Path
-from typing import Dict, List, Tuple
+from typing import Any, Dict, List, Tuple
 from unittest import mock
 
 from common import folder, needs_library
 from fronts import LEFT, SLOW, OneRig
-from wurstlinen.front import csv_files, requests
+from wurstlinen.front import csv_files, requests, work
+from wurstlinen.front.output import Failure
 
 FIVE_TABLE = """\
 UID            ADDRESS  SLOTS  LABEL         MAKER       MODEL                PERSONALITY  NOTE
@@ -168,6 +169,18 @@ uid,label,address,personality
         status, out, errors = self.run_command("apply", "-", text=f"uid,address\n{LEFT},15\n")
         self.assertEqual((status, out), (1, f"{LEFT}  address  1 -> 15\n1 change\n"))
         self.assertEqual(errors, f"wurstlinen: address: {LEFT} accepted 15, but has 1\n")
+
+    def test_a_set_whose_answer_is_late(self) -> None:
+        ask = work.Work.ask
+
+        def late(self: work.Work, *arguments: Any, **keys: Any) -> Any:
+            completion = ask(self, *arguments, **keys)
+            if keys.get("is_set"):
+                raise Failure(1, "late", reason="late")
+            return completion
+        with mock.patch.object(work.Work, "ask", late):
+            self.assertEqual(self.run_command("apply", "-", text=f"uid,address\n{LEFT},15\n"),
+                             (0, f"{LEFT}  address  1 -> 15\n1 change\n", ""))
 
     def test_a_device_that_refuses(self) -> None:
         status, out, errors = self.run_command("apply", "-", text=f"uid,personality,label\n{LEFT},9,Side\n")
