@@ -9,7 +9,8 @@ import time
 from dataclasses import dataclass
 from typing import TYPE_CHECKING, Callable, Dict, List, Optional, Tuple, Union
 
-from ._types import AckType, Completion, Discovery, ReplyHead, Request, RequestClass, Status, Uid
+from ._types import (
+    AckType, Completion, Discovery, ReplyHead, Request, RequestClass, Status, Uid, data_of, uid_of)
 from .line import Line
 
 if TYPE_CHECKING:
@@ -87,11 +88,11 @@ class Asker:
 
     def get(self, target: Union[Uid, str], pid: int, data: Union[bytes, str] = b"", sub_device: int = 0) -> Answer:
         """The answer to a GET."""
-        return self.ask(Request(target, pid, data, sub_device, RequestClass.GET))
+        return self.ask(Request(uid_of(target), pid, data_of(data), sub_device, RequestClass.GET))
 
     def set(self, target: Union[Uid, str], pid: int, data: Union[bytes, str] = b"", sub_device: int = 0) -> Answer:
         """The answer to a SET."""
-        return self.ask(Request(target, pid, data, sub_device, RequestClass.SET))
+        return self.ask(Request(uid_of(target), pid, data_of(data), sub_device, RequestClass.SET))
 
 
 class Asking:

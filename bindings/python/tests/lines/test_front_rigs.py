@@ -9,7 +9,7 @@ from pathlib import Path
 from typing import Any, Dict, List, Tuple
 from unittest import mock
 
-from common import folder, needs_library
+from common import PACKAGE, folder, needs_library
 from fronts import LEFT, SLOW, OneRig
 from wurstlinen.front import csv_files, requests, work
 from wurstlinen.front.output import Failure
@@ -24,6 +24,7 @@ UID            ADDRESS  SLOTS  LABEL         MAKER       MODEL                PE
 5 fixtures, {frames} frames; discovery without a fault
 """
 DATA_OUT_OF_RANGE = "0006"
+PAGE = PACKAGE / "COMMANDS.md"
 
 
 @needs_library
@@ -40,6 +41,7 @@ class Fixtures(OneRig):
                                    part="part of 9abc:00000002; overlaps 1234:00000001", frames=149)
         self.assertEqual(self.run_command("fixtures"), (0, wanted, f"wurstlinen: {SLOW} asks for 0.3 s\n"))
         self.assertEqual(len(self.frames), 149)
+        self.assertIn(f"$ wurstlinen fixtures\n{wanted}", PAGE.read_text(encoding="utf-8"))
 
     def test_what_is_wrong_is_noted(self) -> None:
         info = "0100000101010000000100070102001100000000"
