@@ -14,10 +14,10 @@ MOST_LINES_OF_A_FUNCTION = 40
 MOST_COLUMNS = 120
 # Python 3.9 has no list of them.
 STANDARD_MODULES = {
-    "__future__", "abc", "argparse", "collections", "contextlib", "csv", "dataclasses", "decimal", "difflib", "enum",
-    "errno", "fcntl", "functools", "importlib", "io", "ipaddress", "json", "os", "pathlib", "queue", "random", "re",
-    "select", "shlex", "signal", "stat", "subprocess", "sys", "tempfile", "termios", "threading", "time", "tty",
-    "types", "typing",
+    "contextlib", "csv", "decimal", "difflib", "functools", "importlib", "io", "ipaddress", "tempfile",
+    "__future__", "abc", "argparse", "collections", "dataclasses", "enum", "errno", "fcntl", "json", "os", "pathlib",
+    "queue", "random", "re", "select", "shlex", "signal", "stat", "subprocess", "sys", "termios", "threading", "time",
+    "tty", "types", "typing",
 }
 LINES = PACKAGE / "wurstlinen"
 Function = Union[ast.FunctionDef, ast.AsyncFunctionDef]
