@@ -95,10 +95,7 @@ inline bool is_answer(const Completion &message, const wurst_request &request, B
     const wurst_completion &head = message.head;
     const bool is_from_root = request.sub_device == all_sub_devices && head.sub_device == 0;
     const bool is_class = head.response_class == request.command_class + 1;
-    if (head.pid != request.pid || head.pid == status_messages || !is_class) {
-        return false;
-    }
-    if (head.sub_device != request.sub_device && !is_from_root) {
+    if (head.pid != request.pid || !is_class || (head.sub_device != request.sub_device && !is_from_root)) {
         return false;
     }
     return head.ack == WURST_NACK || !is_echoed(request)

@@ -9,7 +9,8 @@ import time
 from dataclasses import dataclass
 from typing import TYPE_CHECKING, Callable, Dict, List, Optional, Tuple, Union
 
-from ._types import AckType, Completion, Discovery, ReplyHead, Request, RequestClass, Status, Uid
+from ._types import (
+    AckType, Completion, Discovery, ReplyHead, Request, RequestClass, Status, Uid, data_of, uid_of)
 from .line import Line
 
 if TYPE_CHECKING:
@@ -87,11 +88,11 @@ class Asker:
 
     def get(self, target: Union[Uid, str], pid: int, data: Union[bytes, str] = b"", sub_device: int = 0) -> Answer:
         """The answer to a GET."""
-        return self.ask(Request(target, pid, data, sub_device, RequestClass.GET))
+        return self.ask(Request(uid_of(target), pid, data_of(data), sub_device, RequestClass.GET))
 
     def set(self, target: Union[Uid, str], pid: int, data: Union[bytes, str] = b"", sub_device: int = 0) -> Answer:
         """The answer to a SET."""
-        return self.ask(Request(target, pid, data, sub_device, RequestClass.SET))
+        return self.ask(Request(uid_of(target), pid, data_of(data), sub_device, RequestClass.SET))
 
 
 class Asking:
@@ -201,7 +202,7 @@ class Asking:
         """Whether a message answers the request, as far as it shows."""
         request, head = self._request, head_of(message)
         sub_devices = (ALL_SUB_DEVICES, ROOT_DEVICE) if request.sub_device == ALL_SUB_DEVICES else (request.sub_device,)
-        return (head.pid == request.pid and head.pid != STATUS_MESSAGES and head.sub_device in sub_devices
+        return (head.pid == request.pid and head.sub_device in sub_devices
                 and head.response_class == request.request_class + 1
                 and (head.ack == AckType.NACK or not is_echoed(request) or message.data.startswith(request.data)))
 

@@ -9,8 +9,8 @@ from ._held import Held
 from ._library import Calls, CompletionForm, DeviceForm, EndForm, Setup, buffer_of, room_for
 from ._types import (
     DEFAULT_BUDGET, MOST_DEVICES, MOST_FRAME_BYTES, MOST_PARAMETER_BYTES, MOST_PLACES, AckType, Completion, Device,
-    Discovery, Kind, OutcomeKind, ReplyHead, Request, RequestClass, ResponseClass, Search, Status, Uid, devices_of,
-    run_fault, uid_of, whole)
+    Discovery, Kind, OutcomeKind, ReplyHead, Request, RequestClass, ResponseClass, Search, Status, Uid, data_of,
+    devices_of, run_fault, uid_of, whole)
 from ._wire import form_of_request
 from .line import Line, LineFailed
 
@@ -162,11 +162,11 @@ class Client:
 
     def get(self, target: Union[Uid, str], pid: int, data: Union[bytes, str] = b"", sub_device: int = 0) -> int:
         """Submits a GET."""
-        return self.submit(Request(target, pid, data, sub_device, RequestClass.GET))
+        return self.submit(Request(uid_of(target), pid, data_of(data), sub_device, RequestClass.GET))
 
     def set(self, target: Union[Uid, str], pid: int, data: Union[bytes, str] = b"", sub_device: int = 0) -> int:
         """Submits a SET."""
-        return self.submit(Request(target, pid, data, sub_device, RequestClass.SET))
+        return self.submit(Request(uid_of(target), pid, data_of(data), sub_device, RequestClass.SET))
 
     def ask(self, target: Union[Uid, str], pid: int, data: Union[bytes, str] = b"", sub_device: int = 0,
             request_class: RequestClass = RequestClass.GET, *, line: Line, wait: float = DEFAULT_WAIT) -> Answer:
@@ -174,7 +174,7 @@ class Client:
 
         Outcomes of the client's earlier requests are collected too, and returned with it. Raises Unserved.
         """
-        return Asker(self, line, wait).ask(Request(target, pid, data, sub_device, request_class))
+        return Asker(self, line, wait).ask(Request(uid_of(target), pid, data_of(data), sub_device, request_class))
 
     def discover(self, kind: Kind = Kind.FULL) -> int:
         """Asks for a discovery, and returns its number."""

@@ -195,20 +195,20 @@ def uid_of(uid: Union[Uid, str]) -> Uid:
     return Uid.parse(uid) if isinstance(uid, str) else uid
 
 
+def data_of(data: Union[bytes, str]) -> bytes:
+    """Bytes, or those of a text of ASCII characters. Raises ValueError for any other text."""
+    return data.encode("ascii") if isinstance(data, str) else data
+
+
 @dataclass(frozen=True)
 class Request:
-    """A request to a device, or to many. The target may be a UID's text, and the data a text of ASCII characters."""
+    """A request to a device, or to many."""
 
     target: Uid
     pid: int
     data: bytes = b""
     sub_device: int = 0
     request_class: RequestClass = RequestClass.GET
-
-    def __post_init__(self) -> None:
-        object.__setattr__(self, "target", uid_of(self.target))
-        if isinstance(self.data, str):
-            object.__setattr__(self, "data", self.data.encode("ascii"))
 
 
 @dataclass(frozen=True)

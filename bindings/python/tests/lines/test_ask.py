@@ -16,7 +16,7 @@ from wurstlinen import (
 from wurstlinen._ask import MOST_EXCHANGES, is_echoed
 from wurstlinen.line import LineFailed
 from wurstlinen.lines import Rig
-from wurstlinen.lines.numbers import CommandClass, Pid
+from wurstlinen.lines.numbers import CommandClass, Pid, ResponseType
 from wurstlinen.lines.packets import Packet, decode_packet
 from wurstlinen.parameters import STANDARD
 
@@ -146,8 +146,10 @@ class Waits(Asks):
         self.assertLess(self.clock.now, 108.0)
 
     def test_a_time_of_another_size(self) -> None:
-        answers = [(1, LABEL, b"", CommandClass.GET), LAMP, EMPTY]
-        self.check(self.ask(Device(lambda command: answers.pop(0))), b"Lamp")  # type: ignore[arg-type,return-value]
+        for data in (b"", b"\x01", b"\x01\x00\x00"):
+            answers = [(ResponseType.ACK_TIMER, LABEL, data, CommandClass.GET), LAMP, EMPTY]
+            self.check(self.ask(Device(lambda command, answers=answers: answers.pop(0))), b"Lamp")
+        self.assertEqual(self.clock.naps, [0.0, 0.0, 0.0])
 
     def test_a_refusal_that_was_queued(self) -> None:
         answer = self.ask(Device(Queueing(1, nack(LABEL, b"\x00\x06", CommandClass.SET))), data=b"x", is_set=True)
@@ -163,12 +165,14 @@ class Waits(Asks):
 
     def test_a_set_is_sent_once(self) -> None:
         for queued in (nack(QUEUED), EMPTY):
-            device = Device(lambda command: queued if command.pid == QUEUED
-                            else timer(LABEL, 1, CommandClass.SET))
-            self.assertTrue(self.ask(device, data=b"x", is_set=True).is_late)
-            self.assertEqual([pid for pid, _ in device.asked].count(LABEL), 1)
-            self.assertAlmostEqual(sum(self.clock.naps), 10.0)
-            self.clock.naps.clear()
+            for tenths in (0, 1):
+                device = Device(lambda command, tenths=tenths, queued=queued: queued if command.pid == QUEUED
+                                else timer(LABEL, tenths, CommandClass.SET))
+                self.assertTrue(self.ask(device, data=b"x", is_set=True).is_late)
+                self.assertEqual([pid for pid, _ in device.asked].count(LABEL), 1)
+                self.assertLess(len(device.asked), 20)
+                self.assertAlmostEqual(sum(self.clock.naps), 10.0)
+                self.clock.naps.clear()
 
     def test_a_device_that_leaves(self) -> None:
         answers = [timer(LABEL, 2)]
@@ -176,6 +180,8 @@ class Waits(Asks):
         answer = self.ask(device)
         self.assertEqual(answer.completion.status, Status.TIMEOUT)
         self.assertLessEqual(sum(self.clock.naps), 10.0)
+        # Two tries for queued messages, of five exchanges each.
+        self.assertLessEqual(len(device.commands), 12)
 
     def test_a_line_that_fails_during_the_wait(self) -> None:
         class Unplugged(Device):
@@ -183,7 +189,11 @@ class Waits(Asks):
                 if len(self.commands) == 1:
                     raise LineFailed("unplugged")
                 return super().exchange(frame)
-        self.assertEqual(self.ask(Unplugged(Queueing(1, LAMP))).completion.status, Status.FAILED_TO_SEND)
+        for is_set in (False, True):
+            line = Unplugged(Queueing(1, LAMP))
+            self.assertEqual(self.ask(line, is_set=is_set).completion.status, Status.FAILED_TO_SEND)
+            self.assertEqual(self.clock.naps, [0.1])
+            self.clock.naps.clear()
 
     def test_another_exception_passes_through(self) -> None:
         class Interrupted(Device):
@@ -200,11 +210,15 @@ class Others(Asks):
 
     def test_other_messages_are_returned(self) -> None:
         status = ack(Pid.STATUS_MESSAGES, bytes.fromhex("000004002100050000"))
-        messages = [ack(HOURS, bytes(4)), ack(LABEL, b"", CommandClass.SET), LAMP, nack(HOURS), status]
+        messages = [ack(HOURS, bytes(4)), LAMP, ack(LABEL, b"", CommandClass.SET), nack(HOURS), status]
         answer = self.ask(Device(Queueing(1, *messages)))
         self.check(answer, b"Lamp", 4)
         self.assertEqual([(each.head.pid, each.data) for each in answer.queued if each.head is not None],
                          [(HOURS, bytes(4)), (LABEL, b""), (HOURS, b"\x00\x00"), (Pid.STATUS_MESSAGES, status[2])])
+
+    def test_a_refusal_of_a_get_by_number(self) -> None:
+        answer = self.ask(Device(Queueing(1, nack(Pid.SENSOR_VALUE, b"\x00\x06"))), Pid.SENSOR_VALUE, b"\x02")
+        self.check(answer, b"\x00\x06")
 
     def test_the_newest_answer_counts(self) -> None:
         answer = self.ask(Device(Queueing(1, ack(LABEL, b"old"), LAMP)))

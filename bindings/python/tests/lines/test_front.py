@@ -225,6 +225,20 @@ class Requests(OneRig):
         self.assertEqual(self.run_command("set", LEFT, "0x8001", "2"),
                          (2, "", "wurstlinen: value: 2 is not from 0.001 to 1.000 second\n"))
 
+    def test_descriptions_that_are_of_no_use(self) -> None:
+        for description in ("800202050300150300000001000003e800000000", "8001"):
+            self.scene({"uid": LEFT, "params": [{"pid": "0051", "parts": [description]},
+                                                {"pid": "8001", "parts": ["00fa"]}]})
+            self.assertEqual(self.run_command("get", LEFT, "0x8001"), (0, "0x00fa\n", ""))
+        self.scene()
+        self.assertEqual(self.run_command("get", LEFT, "0x8001"), (1, "", f"wurstlinen: {LEFT}: no answer\n"))
+        self.assertEqual(len(self.frames), 1)
+
+    def test_files_of_ola_that_cannot_be_read(self) -> None:
+        for fault in (ola.FileFault("x"), FileNotFoundError("x"), PermissionError("x")):
+            with mock.patch.object(ola, "manufacturers", side_effect=fault):
+                self.assertEqual(naming.manufacturers.__wrapped__(), {})
+
     def test_a_parameter_of_which_nothing_is_known(self) -> None:
         self.scene({"uid": LEFT, "params": [{"pid": "8001", "parts": ["00fa"]}, {"pid": "7001", "parts": ["01"]}]})
         self.assertEqual(self.run_command("get", LEFT, "0x8001"), (0, "0x00fa\n", ""))

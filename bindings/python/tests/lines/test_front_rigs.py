@@ -6,12 +6,13 @@ import json
 import os
 import unittest
 from pathlib import Path
-from typing import Dict, List, Tuple
+from typing import Any, Dict, List, Tuple
 from unittest import mock
 
-from common import folder, needs_library
+from common import PACKAGE, folder, needs_library
 from fronts import LEFT, SLOW, OneRig
-from wurstlinen.front import csv_files, requests
+from wurstlinen.front import csv_files, requests, work
+from wurstlinen.front.output import Failure
 
 FIVE_TABLE = """\
 UID            ADDRESS  SLOTS  LABEL         MAKER       MODEL                PERSONALITY  NOTE
@@ -23,6 +24,7 @@ UID            ADDRESS  SLOTS  LABEL         MAKER       MODEL                PE
 5 fixtures, {frames} frames; discovery without a fault
 """
 DATA_OUT_OF_RANGE = "0006"
+PAGE = PACKAGE / "COMMANDS.md"
 
 
 @needs_library
@@ -39,6 +41,7 @@ class Fixtures(OneRig):
                                    part="part of 9abc:00000002; overlaps 1234:00000001", frames=149)
         self.assertEqual(self.run_command("fixtures"), (0, wanted, f"wurstlinen: {SLOW} asks for 0.3 s\n"))
         self.assertEqual(len(self.frames), 149)
+        self.assertIn(f"$ wurstlinen fixtures\n{wanted}", PAGE.read_text(encoding="utf-8"))
 
     def test_what_is_wrong_is_noted(self) -> None:
         info = "0100000101010000000100070102001100000000"
@@ -168,6 +171,18 @@ uid,label,address,personality
         status, out, errors = self.run_command("apply", "-", text=f"uid,address\n{LEFT},15\n")
         self.assertEqual((status, out), (1, f"{LEFT}  address  1 -> 15\n1 change\n"))
         self.assertEqual(errors, f"wurstlinen: address: {LEFT} accepted 15, but has 1\n")
+
+    def test_a_set_whose_answer_is_late(self) -> None:
+        ask = work.Work.ask
+
+        def late(self: work.Work, *arguments: Any, **keys: Any) -> Any:
+            completion = ask(self, *arguments, **keys)
+            if keys.get("is_set"):
+                raise Failure(1, "late", reason="late")
+            return completion
+        with mock.patch.object(work.Work, "ask", late):
+            self.assertEqual(self.run_command("apply", "-", text=f"uid,address\n{LEFT},15\n"),
+                             (0, f"{LEFT}  address  1 -> 15\n1 change\n", ""))
 
     def test_a_device_that_refuses(self) -> None:
         status, out, errors = self.run_command("apply", "-", text=f"uid,personality,label\n{LEFT},9,Side\n")

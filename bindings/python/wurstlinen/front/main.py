@@ -54,21 +54,12 @@ def run(chosen: argparse.Namespace, output: Output) -> int:
         return FAILED
     except BrokenPipeError:
         # Who reads the output is gone.
-        return quiet(FAILED)
+        return FAILED
     except OSError as fault:
         print(f"{PROGRAM}: {fault.strerror}", file=sys.stderr)
-        return quiet(FAILED)
+        return FAILED
     except KeyboardInterrupt:
         return INTERRUPTED
-
-
-def quiet(status: int) -> int:
-    """The status of a command whose output may not be written to its end. Python would complain when it ends."""
-    try:
-        sys.stdout.flush()
-    except OSError:
-        os.dup2(os.open(os.devnull, os.O_WRONLY), sys.stdout.fileno())
-    return status
 
 
 def run_raw(words: List[str]) -> int:
