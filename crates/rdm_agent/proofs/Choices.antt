@@ -10,7 +10,7 @@ use Rattle.rdm_agent.specs.declared.belief.Belief.{Belief}
 use Rattle.rdm_agent.specs.declared.belief.Question.{Question}
 use Rattle.rdm_agent.specs.declared.sweep.Sweep.{Sweep}
 use Rattle.rdm_agent.specs.Machine.{spanning, last_uid, is_same, is_whole, is_one, part_of, with_lower, question}
-use Rattle.rdm_agent.specs.Machine.{behind, ready, asking, choose}
+use Rattle.rdm_agent.specs.Machine.{above, ready, asking, choose}
 
 -- a range of UIDs
 abbrev pub IsRange : Span → Type 0
@@ -60,17 +60,17 @@ pub record IsChosen (made silences : ℕ) (last : Span) (s : Sweep) : Type 0 whe
   pub again : (s.silences ≡ 0) ⊎ ((s.silences ≡ silences) × (s.question.range ≡ last))
   pub counted : s.question.range ≡ last → s.silences ≡ silences
 
--- behind a range that isn't the whole one another range is asked
-other_behind : (r : Span) (b : Belief) → is_whole r ≡ false → (question (behind r b)).range ≡ r → ⊥
+-- above a range that isn't the whole one another range is asked
+other_behind : (r : Span) (b : Belief) → is_whole r ≡ false → (question (above r b)).range ≡ r → ⊥
 other_behind r b other = cond_both (nat_lt last_uid (r.hi + 1)) _ _ (λ (q : Question). q.range ≡ r → ⊥)
     (λ above is. true≢false (sym (subst (λ (s : Span). is_whole s ≡ true) is refl) ∙ other))
     (λ within is. past (ltb-false last_uid (r.hi + 1) within) (ap (λ (s : Span). s.hi) is))
   where
     fresh : Question
-    fresh = part_of (behind r b)
+    fresh = part_of (above r b)
 
     asked : Question
-    asked = with_lower (behind r b) fresh
+    asked = with_lower (above r b) fresh
 
     higher : r.hi + 1 ≤ last_uid → r.hi + 1 ≤ fresh.range.hi
     higher within = le-min (omega arith) within
@@ -90,7 +90,7 @@ asking-is made silences again last q b range few before counted =
     (λ fifth. let both = and_parts ((again + 1) == TRIES) (not (is_whole q.range)) fifth in record {
       made_is = refl;
       asks = record {
-        range = question-is (behind q.range b);
+        range = question-is (above q.range b);
         few = omega arith;
         last = λ five. absurd (none_last five);
       };

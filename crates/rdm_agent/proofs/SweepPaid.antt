@@ -11,7 +11,7 @@ use Rattle.rdm_wire.specs.Honest.{Heard, LineState, HonestStep, MayReply, due_in
 use Rattle.rdm_wire.specs.Honest.Asked.{Branch, Mute}
 use Rattle.rdm_wire.specs.Honest.Heard.{Failed, Silent, One, Acked, Noise}
 use Rattle.rdm_agent.specs.Machine.{Phase, AgentState, found_uids, is_new, is_one, is_whole, is_wanted, is_last}
-use Rattle.rdm_agent.specs.Machine.{counted, doubting, choose, to_phase, sweep_on, sweep_silent, sweep_apart}
+use Rattle.rdm_agent.specs.Machine.{counted, sweep_suspecting, choose, to_phase, sweep_on, sweep_silent, sweep_apart}
 use Rattle.rdm_agent.specs.Machine.{sweep_heard, swept_heard, believed_silent, believed_found, believed_apart}
 use Rattle.rdm_agent.specs.Machine.Phase.{Searching, Sweeping, MutingSwept}
 use Rattle.rdm_agent.specs.declared.search.Search.{Search}
@@ -95,9 +95,9 @@ module _ (search : Search) (present : List ℕ) (line : LineState) (found : List
   apart-costs sweep n several many pays =
       cond_both (is_one sweep.question.range) _ _ (Cheaper search present line found cost)
       (λ alone. absurd (several (eqb-true sweep.question.range.lo sweep.question.range.hi alone)))
-      (λ both. cond_both (is_last sweep.question.part && sweep.belief.vain) _ _
+      (λ both. cond_both (is_last sweep.question.part && sweep.belief.found_nothing) _ _
       (Cheaper search present line found cost)
-      (λ vain. begins-costs sweep.made 0 (omega arith) pays)
+      (λ found_nothing. begins-costs sweep.made 0 (omega arith) pays)
       (λ goes. on-costs sweep 0 n (believed_apart sweep.question.part sweep.question.range sweep.belief) (omega arith)
       many pays))
 
@@ -214,12 +214,12 @@ module _ (present : List ℕ) (set : IsDeviceSet present) (few : length present 
       → Finds present s (found_uids a) → HonestStep present s (Mute u) h new
       → CostsSwept present s (found_uids a) u tries sweep cost
       → Affords present total new (to_phase a (cond ((tries + 1) == TRIES)
-      (sweep_apart (doubting u (counted sweep)) (length a.found)) (MutingSwept u (tries + 1) (counted sweep))))
+      (sweep_apart (sweep_suspecting u (counted sweep)) (length a.found)) (MutingSwept u (tries + 1) (counted sweep))))
   lost-affords u tries sweep h lost f step costs =
       let few = costs.few in let under = costs.below in let enough = costs.enough in
       goes_on _ (Finds-keeps present (found_uids a) s new (mute-keeps present s new u h step) f)
       (cond_both ((tries + 1) == TRIES) _ _ (Cheaper a.search present new (found_uids a) cost)
-      (λ five. apart-costs a.search present new (found_uids a) cost (doubting u (counted sweep)) (length a.found)
+      (λ five. apart-costs a.search present new (found_uids a) cost (sweep_suspecting u (counted sweep)) (length a.found)
       (several (eqb-true (tries + 1) TRIES five) costs.spelt) many
       (record { below = omega arith; enough = omega arith }))
       (λ fewer. let other : tries + 1 ≡ TRIES → ⊥ = eqb-false (tries + 1) TRIES fewer in

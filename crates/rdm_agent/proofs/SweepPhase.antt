@@ -126,8 +126,8 @@ module _ (kind : Kind) (known : List ℕ) (budget : ℕ) where
         );
       })
       (λ several. let not = not_corrupt (eqb-false sweep.question.range.lo sweep.question.range.hi several) in
-      cond_both (is_last sweep.question.part && sweep.belief.vain) _ _ P
-      (λ vain. begins-steady (x ++ e ∷ []) found s not 0 (omega arith) (EndsWith-none _ (x ++ e ∷ [])))
+      cond_both (is_last sweep.question.part && sweep.belief.found_nothing) _ _ P
+      (λ found_nothing. begins-steady (x ++ e ∷ []) found s not 0 (omega arith) (EndsWith-none _ (x ++ e ∷ [])))
       (λ goes. on-phase (x ++ e ∷ []) found s not sweep 0 n
       (believed_apart sweep.question.part sweep.question.range sweep.belief) (omega arith)
       (EndsWith-none _ (x ++ e ∷ []))))

@@ -9,7 +9,7 @@ use Rattle.rdm_wire.specs.Honest.{Heard, Seen, is_acked}
 use Rattle.rdm_wire.specs.Honest.Asked.{Branch, Mute}
 use Rattle.rdm_wire.specs.Honest.Heard.{Acked, Failed, Silent, One, Noise}
 use Rattle.rdm_agent.specs.Certificate.{known_of}
-use Rattle.rdm_agent.specs.Machine.{Phase, AgentState, to_phase, found_uids, is_new, is_wanted, counted, doubting}
+use Rattle.rdm_agent.specs.Machine.{Phase, AgentState, to_phase, found_uids, is_new, is_wanted, counted, sweep_suspecting}
 use Rattle.rdm_agent.specs.Machine.{sweep_on, sweep_silent, sweep_apart, believed_found, sweep_heard, swept_heard}
 use Rattle.rdm_agent.specs.Machine.Phase.{MutingSwept}
 use Rattle.rdm_agent.specs.declared.kind.Kind.{Kind}
@@ -125,7 +125,7 @@ module _ (kind : Kind) (known : List ℕ) (budget : ℕ) (x : List Seen) (a : Ag
   lost-stands : (u tries : ℕ) (sweep : Sweep) (h : Heard) → h ≢ Failed → is_acked h ≡ false
       → IsMutingSwept (known_of kind known) u tries sweep x (found_uids a)
       → RunInvariant kind known budget (x ++ exchange (Mute u) h ∷ [])
-      (to_phase a (cond ((tries + 1) == TRIES) (sweep_apart (doubting u (counted sweep)) (length a.found))
+      (to_phase a (cond ((tries + 1) == TRIES) (sweep_apart (sweep_suspecting u (counted sweep)) (length a.found))
       (MutingSwept u (tries + 1) (counted sweep))))
   lost-stands u tries sweep h sound lost p =
       cond_both ((tries + 1) == TRIES) _ _ (λ q. RunInvariant kind known budget (x ++ e ∷ []) (to_phase a q))
@@ -158,11 +158,11 @@ module _ (kind : Kind) (known : List ℕ) (budget : ℕ) (x : List Seen) (a : Ag
       spelt = WasSpelt-push u tries asked x h lost p.spelt
 
       given_up : tries + 1 ≡ TRIES
-          → InPhase kind known budget (sweep_apart (doubting u (counted sweep)) (length a.found)) (x ++ e ∷ [])
+          → InPhase kind known budget (sweep_apart (sweep_suspecting u (counted sweep)) (length a.found)) (x ++ e ∷ [])
           (found_uids a)
       given_up last =
           let five : WasSpelt u TRIES asked (x ++ e ∷ []) = subst (λ n. WasSpelt u n asked (x ++ e ∷ [])) last spelt in
-          apart-phase kind known budget (doubting u (counted sweep)) (length a.found) x e (found_uids a)
+          apart-phase kind known budget (sweep_suspecting u (counted sweep)) (length a.found) x e (found_uids a)
           (search-given_up (known_of kind known) whole [] (x ++ e ∷ []) (found_uids a) u
           (is_muting_swept-device (known_of kind known) u tries sweep x (found_uids a) p)
           (WasSpelt-succession u TRIES asked (x ++ e ∷ []) five) searches)

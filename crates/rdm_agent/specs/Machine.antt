@@ -101,9 +101,12 @@ spanning lo hi = record { lo = min lo (min hi last_uid); hi = min hi last_uid }
 -- - The range from lo to end answered, and has at least need devices that aren't found (0, 1 or 2). If need is 0, there
 --   is no such range.
 -- On an honest line an answer is certain, and a silence may be a loss. So a sweep remembers the range that answered,
--- and begins it again if silences contradict it. The definitions below say how it chooses what it asks, and what it
+-- and searches it again if silences contradict it. The definitions below say how it chooses what it asks, and what it
 -- believes after a silence, after one device and after a collision. The certificate and the bound need only this of
--- them: it asks ranges of UIDs, five silences in a row of the whole range end the run, and its exchanges are limited.
+-- them:
+-- - it asks ranges of UIDs, and mutes only what a range has just shown;
+-- - five silences in a row of the whole range end the run, and no other range is silent five times in a row;
+-- - its exchanges are limited.
 abbrev pub first_belief : Belief
 first_belief = record {
   base = 0;
@@ -117,7 +120,7 @@ first_belief = record {
   begun = 0;
   back = 1;
   suspect = None;
-  vain = false;
+  found_nothing = false;
 }
 
 -- a sweep at its start, which asks the whole range
@@ -208,30 +211,31 @@ give_up b = record b {
   suspect = Some b.end;
 }
 
--- if only one UID is left of a range that has two devices, the range is begun again, and given up the fourth time
-abbrev pub over : Belief → Belief
-over b =
+-- If at most one UID is left of a range that has two devices, the range is searched again, and given up the fourth time
+abbrev pub restarted : Belief → Belief
+restarted b =
     if not (b.need == 2) || (not (nat_lt b.lo b.at) || nat_lt b.at b.end) then b
     else (if nat_lt (b.begun + 1) 4 then begin_again b else give_up b)
 
--- UID 0 alone isn't asked, since no UID is below it. The whole range asks it at the end
+-- UID 0 alone isn't asked, since no UID is below it. The whole range asks it at the end. It may be one of the two
 abbrev pub past_zero : Belief → Belief
 past_zero b =
     if (question b).range.hi == 0 then record b { base = 1; lo = 1; at = 1; need = b.need / 2 } else b
 
 -- what a sweep believes when it asks
 abbrev pub ready : Belief → Belief
-ready b = past_zero (over b)
+ready b = past_zero (restarted b)
 
--- the sweep goes on behind this range
-abbrev pub behind : Span → Belief → Belief
-behind r b = record b { lo = r.hi + 1; at = r.hi + 1; need = 0; quiet = 0; begun = 0 }
+-- the sweep continues above this range
+abbrev pub above : Span → Belief → Belief
+above r b = record b { lo = r.hi + 1; at = r.hi + 1; need = 0; quiet = 0; begun = 0 }
 
--- No range but the whole one is asked for a fifth silence in a row: the sweep goes on behind it
+-- No range but the whole one is asked for a fifth silence in a row: the sweep continues above it. With five silences of
+-- every open range a run would have its certificate, and would have to end
 abbrev pub asking : ℕ → ℕ → Question → Belief → Sweep
 asking made again q b =
     if ((again + 1) == TRIES) && not (is_whole q.range)
-    then record { made = made; silences = 0; question = question (behind q.range b); belief = behind q.range b }
+    then record { made = made; silences = 0; question = question (above q.range b); belief = above q.range b }
     else record { made = made; silences = again; question = q; belief = b }
 
 -- the sweep with this belief and what it asks next, after so many silences in a row of the range that it asked last
@@ -265,9 +269,9 @@ believed_silent Rest r b = rest_silent b
 believed_silent All r b = b
 believed_silent Whole r b = b
 
--- ONE. A device was found and muted, and nothing else answered. What was counted in vain begins at 0 again
+-- ONE. A device was found and muted, and nothing else answered. What was counted since the last find begins at 0 again
 abbrev pub renewed : Belief → Belief
-renewed b = record b { growth = 2; quiet = 0; begun = 0; back = 1; vain = false }
+renewed b = record b { growth = 2; quiet = 0; begun = 0; back = 1; found_nothing = false }
 
 -- in a fresh range: the next one begins above it
 abbrev pub fresh_found : Span → Belief → Belief
@@ -330,7 +334,7 @@ all_apart r b = split_at (if nat_lt r.hi b.at then r.lo else b.at) b.begun b.bac
 -- the whole range after a pass: something was missed, and another pass begins
 abbrev pub whole_apart : Span → Belief → Belief
 whole_apart r b =
-    record (split_at 0 0 b.back r b) { base = 0; width = all_uids; suspect = None; vain = true }
+    record (split_at 0 0 b.back r b) { base = 0; width = all_uids; suspect = None; found_nothing = true }
 
 -- after a collision in this part and range
 abbrev pub believed_apart : Part → Span → Belief → Belief
@@ -349,8 +353,8 @@ abbrev pub counted : Sweep → Sweep
 counted sweep = record sweep { made = sweep.made + 1 }
 
 -- a sweep that gives up this UID
-abbrev pub doubting : ℕ → Sweep → Sweep
-doubting u sweep = record sweep { belief = suspecting u sweep.belief }
+abbrev pub sweep_suspecting : ℕ → Sweep → Sweep
+sweep_suspecting u sweep = record sweep { belief = suspecting u sweep.belief }
 
 -- a sweep that has found this many devices goes on while it has made fewer exchanges than 100 for each of them and 200
 -- more. Then the steady search begins, in which the last silences of the whole range count
@@ -375,7 +379,7 @@ is_last _ = false
 abbrev pub sweep_apart : Sweep → ℕ → Phase
 sweep_apart sweep found =
     if is_one sweep.question.range then Ended (Some (Corrupt sweep.question.range.lo))
-    else (if is_last sweep.question.part && sweep.belief.vain then Searching 0 whole []
+    else (if is_last sweep.question.part && sweep.belief.found_nothing then Searching 0 whole []
     else sweep_on sweep 0 found (believed_apart sweep.question.part sweep.question.range sweep.belief))
 
 -- the agent after one more exchange, in this phase
@@ -443,7 +447,7 @@ swept_heard a u tries sweep (Acked ack) =
     (sweep_on (counted sweep) 0 (length a.found + 1)
     (believed_found sweep.question.part sweep.question.range sweep.belief))
 swept_heard a u tries sweep _ =
-    to_phase a (if (tries + 1) == TRIES then sweep_apart (doubting u (counted sweep)) (length a.found)
+    to_phase a (if (tries + 1) == TRIES then sweep_apart (sweep_suspecting u (counted sweep)) (length a.found)
     else MutingSwept u (tries + 1) (counted sweep))
 
 -- the agent after this was heard in this phase, if the line didn't fail

@@ -1,11 +1,11 @@
 //! What a sweep believes about the UIDs.
 ghost use Rattle.std.specs.Prelude.{◌≡◌, ◌≤◌, ◌<◌, ◌^◌};
 ghost use Rattle.rdm_wire.specs.Span.{Span};
-ghost use Rattle.rdm_agent.specs.Machine.{first_belief, suspecting, begin_again, give_up, over, past_zero, ready};
+ghost use Rattle.rdm_agent.specs.Machine.{first_belief, suspecting, begin_again, give_up, restarted, past_zero, ready};
 ghost use Rattle.rdm_agent.specs.Machine.{spanning, fresh_range, question, with_lower, part_of};
 ghost use Rattle.rdm_agent.specs.Machine.{fresh_silent, lower_silent, rest_silent, renewed, fresh_found, lower_found};
 ghost use Rattle.rdm_agent.specs.Machine.{rest_found, all_found, split_at, lower_apart, all_apart, whole_apart};
-ghost use Rattle.rdm_agent.specs.Machine.{believed_silent, believed_found, believed_apart, behind};
+ghost use Rattle.rdm_agent.specs.Machine.{believed_silent, believed_found, believed_apart, above};
 ghost use Rattle.rdm_agent.specs.body.Sound.{IsSmall};
 
 use rdm_wire::{Uid, UidRange};
@@ -78,8 +78,8 @@ pub(crate) struct Belief {
     pub(crate) back: u64,
     /// The UID that it gave up last: its mutes weren't acknowledged, or its range couldn't be searched.
     pub(crate) suspect: Option<Uid>,
-    /// Whether nothing was found in this pass, which isn't the first.
-    pub(crate) vain: bool,
+    /// Whether nothing was found in this pass so far, and it isn't the first.
+    pub(crate) found_nothing: bool,
 }
 
 impl Belief {
@@ -100,7 +100,7 @@ impl Belief {
             begun: 0,
             back: 1,
             suspect: None,
-            vain: false,
+            found_nothing: false,
         }
     }
 
@@ -136,13 +136,13 @@ impl Belief {
         ensures value { result ≡ ready self }
         ensures small { IsSmall result }
     {
-        self.over().past_zero()
+        self.restarted().past_zero()
     }
 
-    /// The sweep goes on behind this range.
-    pub(crate) fn behind(self, range: UidRange) -> Belief
+    /// The sweep continues above this range.
+    pub(crate) fn above(self, range: UidRange) -> Belief
         requires small { IsSmall self }
-        ensures value { result ≡ behind range self }
+        ensures value { result ≡ above range self }
         ensures small { IsSmall result }
     {
         let next = range.hi.number() + 1;
@@ -235,9 +235,9 @@ impl Belief {
     }
 
     // If only one UID is left of a range that has two devices, the range is begun again, and given up the fourth time.
-    fn over(self) -> Belief
+    fn restarted(self) -> Belief
         requires small { IsSmall self }
-        ensures value { result ≡ over self }
+        ensures value { result ≡ restarted self }
         ensures small { IsSmall result }
     {
         if self.need != 2 || self.at <= self.lo || self.at < self.end {
@@ -365,7 +365,7 @@ impl Belief {
         }
     }
 
-    // What was counted in vain begins at 0 again.
+    // What was counted since the last find begins at 0 again.
     fn renewed(&self) -> Belief
         requires small { IsSmall self.now }
         ensures value { result ≡ renewed self.now }
@@ -376,7 +376,7 @@ impl Belief {
             quiet: 0,
             begun: 0,
             back: 1,
-            vain: false,
+            found_nothing: false,
             ..*self
         }
     }
@@ -483,7 +483,7 @@ impl Belief {
             base: 0,
             width: ALL_UIDS,
             suspect: None,
-            vain: true,
+            found_nothing: true,
             ..self.split_at(0, 0, self.back, range)
         }
     }

@@ -370,7 +370,7 @@ fn sweep_apart(sweep: Sweep, found: usize) -> Phase
     if asked.range.lo == asked.range.hi {
         return Phase::Ended(Some(AgentFault::Corrupt(asked.range.lo)));
     }
-    if asked.part == Part::Whole && sweep.belief.vain {
+    if asked.part == Part::Whole && sweep.belief.found_nothing {
         return searching_all(0);
     }
     sweep_on(sweep, 0, found, sweep.belief.apart(asked))

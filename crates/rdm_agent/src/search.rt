@@ -6,9 +6,10 @@
 pub enum Search {
     /// Each range is branched until it was silent five times in a row. It sends at most `8 + 370 n + 5 k` frames.
     Steady,
-    /// A sweep searches from the lowest UID to the greatest. It believes one silence of a range, but asks a range that
-    /// answered until it has found who did. Five silences of the whole range in a row end the run. If the sweep fails,
-    /// the steady search of the whole range follows. It sends at most `213 + 370 n + 5 k` frames. On nearly all lines
-    /// it sends far fewer than a steady search, also if replies are lost.
+    /// A sweep searches from the lowest UID to the greatest. It accepts one silence of a range, but remembers which
+    /// range answered, and searches that one again if silences contradict it. Five silences of the whole range in a
+    /// row end the run. If the sweep fails, the steady search of the whole range follows. It sends at most
+    /// `213 + 370 n + 5 k` frames. On nearly all lines it sends far fewer than a steady search, also if replies are
+    /// lost.
     Quick,
 }

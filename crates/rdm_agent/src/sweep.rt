@@ -1,7 +1,7 @@
 //! A sweep: the part of a quick run that finds nearly all devices.
 ghost use Rattle.std.specs.Prelude.{◌≡◌, ◌<◌, ◌≤◌, ◌^◌, ◌+◌};
 ghost use Rattle.rdm_wire.specs.Span.{Span};
-ghost use Rattle.rdm_agent.specs.Machine.{first_sweep, counted, doubting, choose, asking, is_whole, is_same};
+ghost use Rattle.rdm_agent.specs.Machine.{first_sweep, counted, sweep_suspecting, choose, asking, is_whole, is_same};
 ghost use Rattle.rdm_agent.specs.body.Sound.{IsSmall};
 
 use crate::belief::{Belief, Part, Question};
@@ -52,7 +52,7 @@ impl Sweep {
     /// The sweep after it gives up this UID.
     pub(crate) fn suspecting(self, uid: Uid) -> Sweep
         requires small { IsSmall self.belief }
-        ensures value { result ≡ doubting uid self }
+        ensures value { result ≡ sweep_suspecting uid self }
         ensures small { IsSmall result.belief }
     {
         Sweep {
@@ -82,7 +82,7 @@ impl Sweep {
     }
 
     // A sweep that asks this, after this many silences in a row. No range but that of all UIDs is asked for a fifth
-    // one: the sweep goes on behind it.
+    // one: the sweep continues above it.
     fn asking(made: usize, again: u8, question: Question, belief: Belief) -> Sweep
         requires small { IsSmall belief }
         requires silences { again < TRIES }
@@ -93,12 +93,12 @@ impl Sweep {
     {
         let is_whole = is_whole(question.range);
         if again + 1 == TRIES && !is_whole {
-            let behind = belief.behind(question.range);
+            let above = belief.above(question.range);
             return Sweep {
                 made,
                 silences: 0,
-                question: behind.question(),
-                belief: behind,
+                question: above.question(),
+                belief: above,
             };
         }
         Sweep {

@@ -18,7 +18,7 @@ pub const MOST_ENTRIES: u64 = 0x4000_0000_0000_0000;
 pub const LEAST_FREE: usize = 3;
 
 /// The entries of a session, oldest first, and the opening before them. Its memory is reserved when it is made. The
-/// oldest entries can be handed out at any time. Contracts see all entries nonetheless.
+/// oldest entries can be handed out at any time. Contracts still cover all entries.
 #[derive(Debug, Drop)]
 pub struct Log {
     // Boxed, because it contains a device set, and a log is moved often.
@@ -128,7 +128,7 @@ impl Log {
         self.room
     }
 
-    /// Hands out all entries that are stored, oldest first, and goes on in other memory, which must be empty. It copies
+    /// Hands out all entries that are stored, oldest first, and continues in other memory, which must be empty. It copies
     /// no entry and allocates nothing. The number of the first entry that it hands out is what [`gone`](Log::gone)
     /// returned before.
     pub fn drain(&mut self, next: Vec<Entry>) -> Vec<Entry>
@@ -145,7 +145,7 @@ impl Log {
         entries
     }
 
-    /// Hands out all entries that are stored to another log, in place of that log's own, and goes on in its memory. It
+    /// Hands out all entries that are stored to another log, in place of that log's own, and continues in its memory. It
     /// copies no entry and allocates nothing. The number of the first entry that it hands out is what
     /// [`gone`](Log::gone) returns of the other log then. That log's opening is unchanged.
     pub fn drain_into(&mut self, page: &mut Log)

@@ -2,7 +2,7 @@
 use Rattle.std.specs.Prelude.{◌≡◌, ℕ, ◌+◌, ◌^◌, ◌≤◌, List, length}
 use Rattle.rdm_log.specs.declared.entry.Entry.{Entry}
 
--- This many entries stand in a room for at least one, for all of which there is memory. These were handed out, so many.
+-- This many entries are stored, with capacity for at least one, and these were handed out, `gone` of them.
 pub record LogInvariant (room len capacity : ℕ) (past : List Entry) (gone : ℕ) : Type 0 where
   pub some : 1 ≤ room
   pub within : len ≤ room

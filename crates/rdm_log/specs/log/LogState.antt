@@ -27,7 +27,7 @@ stored k = drop k.gone k.entries
 abbrev pub drained : LogState → ℕ → LogState
 drained k room = record k { room = length k.entries + room; gone = length k.entries }
 
--- whether the log, once all its entries are handed out, can go on in memory for this many: it has capacity for those
+-- whether the log, once all its entries are handed out, can continue in memory for this many: it has capacity for those
 -- that are reserved, and there are at most 2^62 in all
 abbrev pub MayGoOn : LogState → ℕ → Type 0
 MayGoOn k room = (1 ≤ room) × ((reserved k.opening k.entries ≤ room) × (length k.entries + room ≤ 2 ^ 62))
