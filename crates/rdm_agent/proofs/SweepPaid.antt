@@ -219,8 +219,8 @@ module _ (present : List ℕ) (set : IsDeviceSet present) (few : length present 
       let few = costs.few in let under = costs.below in let enough = costs.enough in
       goes_on _ (Finds-keeps present (found_uids a) s new (mute-keeps present s new u h step) f)
       (cond_both ((tries + 1) == TRIES) _ _ (Cheaper a.search present new (found_uids a) cost)
-      (λ five. apart-costs a.search present new (found_uids a) cost (sweep_suspecting u (counted sweep)) (length a.found)
-      (several (eqb-true (tries + 1) TRIES five) costs.spelt) many
+      (λ five. apart-costs a.search present new (found_uids a) cost (sweep_suspecting u (counted sweep))
+      (length a.found) (several (eqb-true (tries + 1) TRIES five) costs.spelt) many
       (record { below = omega arith; enough = omega arith }))
       (λ fewer. let other : tries + 1 ≡ TRIES → ⊥ = eqb-false (tries + 1) TRIES fewer in
       let less : tries + 1 ≤ 4 = grind arith in

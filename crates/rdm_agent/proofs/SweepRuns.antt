@@ -9,8 +9,9 @@ use Rattle.rdm_wire.specs.Honest.{Heard, Seen, is_acked}
 use Rattle.rdm_wire.specs.Honest.Asked.{Branch, Mute}
 use Rattle.rdm_wire.specs.Honest.Heard.{Acked, Failed, Silent, One, Noise}
 use Rattle.rdm_agent.specs.Certificate.{known_of}
-use Rattle.rdm_agent.specs.Machine.{Phase, AgentState, to_phase, found_uids, is_new, is_wanted, counted, sweep_suspecting}
-use Rattle.rdm_agent.specs.Machine.{sweep_on, sweep_silent, sweep_apart, believed_found, sweep_heard, swept_heard}
+use Rattle.rdm_agent.specs.Machine.{Phase, AgentState, to_phase, found_uids, is_new, is_wanted, counted}
+use Rattle.rdm_agent.specs.Machine.{sweep_suspecting, sweep_on, sweep_silent, sweep_apart}
+use Rattle.rdm_agent.specs.Machine.{believed_found, sweep_heard, swept_heard}
 use Rattle.rdm_agent.specs.Machine.Phase.{MutingSwept}
 use Rattle.rdm_agent.specs.declared.kind.Kind.{Kind}
 use Rattle.rdm_agent.specs.declared.limits.TheConstants.{TRIES}

@@ -128,9 +128,9 @@ impl Log {
         self.room
     }
 
-    /// Hands out all entries that are stored, oldest first, and continues in other memory, which must be empty. It copies
-    /// no entry and allocates nothing. The number of the first entry that it hands out is what [`gone`](Log::gone)
-    /// returned before.
+    /// Hands out all entries that are stored, oldest first, and continues in other memory, which must be empty. It
+    /// copies no entry and allocates nothing. The number of the first entry that it hands out is what
+    /// [`gone`](Log::gone) returned before.
     pub fn drain(&mut self, next: Vec<Entry>) -> Vec<Entry>
         requires empty { next.items ≡ [] }
         requires some { 1 ≤ vec_capacity next }
@@ -145,8 +145,8 @@ impl Log {
         entries
     }
 
-    /// Hands out all entries that are stored to another log, in place of that log's own, and continues in its memory. It
-    /// copies no entry and allocates nothing. The number of the first entry that it hands out is what
+    /// Hands out all entries that are stored to another log, in place of that log's own, and continues in its memory.
+    /// It copies no entry and allocates nothing. The number of the first entry that it hands out is what
     /// [`gone`](Log::gone) returns of the other log then. That log's opening is unchanged.
     pub fn drain_into(&mut self, page: &mut Log)
         requires in_all { length self.old.entries + (page.old.room - page.old.gone) ≤ 2 ^ 62 }
