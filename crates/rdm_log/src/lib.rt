@@ -29,5 +29,5 @@ pub use event::{Answer, Event};
 pub use fault::{AskFault, JoinFault, LogFull, NotAsked, NotIdle, SubmitFault};
 pub use log::{LEAST_FREE, Log, MOST_ENTRIES, MOST_FREE_ENTRIES};
 pub use outcome::{AskCompletion, BoxedOutcome, Completion, DiscoveryEnd, Outcome, OutcomeKind};
-pub use page::{Page, PageSink};
+pub use page::Page;
 pub use rdm_wire::NoMemory;

@@ -39,6 +39,6 @@ pub use rdm_log::{
     DiscoveryEnd, Entry, Event, JoinFault, LEAST_FREE, Log, LogFull, MOST_CLIENTS,
     MOST_DISCOVERIES, MOST_ENTRIES, MOST_FREE_ENTRIES, MOST_PLACES, NEVER_GIVEN,
     NEVER_GIVEN_TO_A_DISCOVERY, NoMemory, NotAsked, NotIdle, Opening, Outcome, OutcomeKind, Owner,
-    Page, PageSink, Setup, SubmitFault, laws,
+    Page, Setup, SubmitFault, laws,
 };
 pub use session::Session;
