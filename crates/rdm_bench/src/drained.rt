@@ -1,6 +1,6 @@
 //! One session that never ends: sixteen clients, a log of 1,000 entries that is drained all the time, and a line that
-//! loses and fails. Each request and each discovery has to be told once, to its client, in order. Each page has to
-//! follow the one before it. Clients take turns drawn at random, the same in each run.
+//! loses and fails. Each request and each discovery has to be reported once, to its client, in order. Each page
+//! has to follow the one before it. Clients take turns drawn at random, the same in each run.
 ghost use Rattle.std.specs.Prelude.{⊤};
 
 use crate::bench::{Bench, holds};
@@ -264,7 +264,7 @@ fn queues(alloc: Global) -> Option<Vec<VecDeque<u64>>> {
     Some(queues)
 }
 
-// What clients were told.
+// What was reported to clients.
 #[derive(Clone, Copy, Default, Drop)]
 struct Tally {
     completed: u64,
@@ -344,7 +344,7 @@ impl<R: Files + AllocGlobal + Print + Eprint> Job for Soak<'_, R> {
 }
 
 impl<R: Files + AllocGlobal + Print + Eprint> Soak<'_, R> {
-    // Rounds until so many requests were submitted, and all were told. There are many more rounds than it takes.
+    // Rounds until so many requests were submitted, and all were reported. There are many more rounds than it takes.
     fn submit_until<S: Served>(&mut self, served: &mut S, submitted: u64) -> Option<()> {
         for round in 0..self.requests.wrapping_mul(8).wrapping_add(10_000) {
             if self.calls.submitted < submitted {

@@ -177,7 +177,7 @@ impl<L: Ledger, R: Wait, X: Line> Served for Locked<'_, L, R, X> {
         Some(ending_of(collected))
     }
 
-    // The record can't be compared with a log that was drained, so it begins anew.
+    // The record can't be compared with a log that was drained, so it starts again.
     fn drain(&mut self, next: Vec<Entry>) -> Option<Page> {
         let page = self.port.drain(self.bench.rt, next).ok()?;
         self.record.clear();

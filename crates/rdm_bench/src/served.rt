@@ -33,7 +33,7 @@ pub enum Ending {
 
 /// Clients of a session, with their worker and its line. None: a call didn't return what it should.
 pub trait Served {
-    /// A client submits the request with this tag. Returns whether its queue had a place for it.
+    /// A client submits the request with this tag. Returns whether its queue accepted it.
     fn submit(&mut self, client: usize, tag: u64) -> Option<bool>;
 
     /// The worker makes this many turns.
@@ -53,7 +53,7 @@ pub trait Served {
         Some(())
     }
 
-    /// A client asks for a full discovery with this tag. Returns whether its queue had a place for it.
+    /// A client asks for a full discovery with this tag. Returns whether its queue accepted it.
     fn ask(&mut self, client: usize, tag: u64) -> Option<bool>;
 
     /// What a client is told next. None: it is told nothing.

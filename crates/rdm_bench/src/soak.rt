@@ -96,7 +96,7 @@ pub fn tag_of(number: u64) -> u64 {
     }
 }
 
-// What clients were told. Requests have numbers in the order of their submits.
+// What was reported to clients. Requests have numbers in the order of their submits.
 #[derive(Drop)]
 struct Tally {
     requests: u64,

@@ -136,9 +136,9 @@ pub extern "C" fn wurst_session_rotate(
     }
 }
 
-/// Hands out all entries that the log stores, and goes on in other memory: that of the log in an open handle, whose own
-/// entries are removed, or new memory for this many entries, for a closed one. Then the handle has what was handed out.
-/// Writes the number of its first entry.
+/// Hands out all entries that the log stores, and continues in other memory. For an open handle that is the memory of
+/// its log, whose own entries are removed. For a closed one it is new memory for this many entries. Then the handle has
+/// what was handed out. Writes the number of its first entry.
 #[unsafe(no_mangle)]
 pub extern "C" fn wurst_session_drain(
     alloc: Global,

@@ -19,10 +19,10 @@ pub enum FinishFault {
     /// 1: the share of a client that joined is missing.
     #[error("a client's share is missing")]
     SharesMissing,
-    /// 2: entries of the log were handed out, so that its exchanges can't be compared.
+    /// 3, which is tested before 2: entries of the log were handed out, so that its exchanges can't be compared.
     #[error("entries of the log were handed out")]
     HandedOut,
-    /// 3: the log's exchanges aren't those of the record.
+    /// 2: the log's exchanges aren't those of the record.
     #[error("the log's exchanges aren't those of the record")]
     ExchangesDiffer,
 }

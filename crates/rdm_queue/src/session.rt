@@ -336,10 +336,10 @@ impl Session {
         close + reply + 2 * unended + uncollected
     }
 
-    /// Hands out all entries that the log stores, oldest first, and goes on in other memory. That is possible at any
-    /// time. It copies no entry and allocates nothing. Contracts speak of all entries nonetheless, so that nothing that
-    /// clients are promised depends on when this is called. The memory must be empty. Memory that was handed out, once
-    /// it is cleared, can be the next. The number of the first entry that it hands out is what [`Log::gone`] returned
+    /// Hands out all entries that the log stores, oldest first, and continues in other memory. That is possible at any
+    /// time. It copies no entry and allocates nothing. Contracts still cover all entries, so that nothing that clients
+    /// are promised depends on when this is called. The memory must be empty. Memory that was handed out, once it is
+    /// cleared, can be the next. The number of the first entry that it hands out is what [`Log::gone`] returned
     /// before.
     /// Err: the memory has no capacity for all entries that are [`reserved`](Session::reserved), or there would be more
     /// than 2^62 entries in all; nothing has changed, and the memory is returned.
@@ -451,9 +451,8 @@ impl Session {
         self.controller.awaits()
     }
 
-    /// Continues with a new log, and returns the old one with its entries. A log has capacity for a fixed number of
-    /// entries, so a session that is to continue needs a new one from time to time. The returned log may be the next
-    /// one, once it is [`cleared`](Log::cleared).
+    /// Continues with a new log, and returns the old one with its entries. The returned log may be the next one, once
+    /// it is [`cleared`](Log::cleared). To hand out entries of a busy session, use [`drain`](Session::drain).
     ///
     /// An entry takes 296 bytes. A request takes 5 entries if one frame is enough for it, and 2 for each further frame.
     /// A discovery takes 3, and its run 2 for each frame. On an honest line a run with `n` devices and `k` known ones

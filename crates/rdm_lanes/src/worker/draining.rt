@@ -33,8 +33,8 @@ impl Worker {
 
 impl<J: ViewHistory, R: Wait + Drop> ViewWorker<J, Shown<J>, R> {
     /// Hands out all entries that the log stores, as [`Session::drain`](rdm_queue::Session::drain) does, with the
-    /// number of the first. That is possible between two calls of [`work`](ViewWorker::work). What contracts say of the
-    /// log they say of all its entries nonetheless.
+    /// number of the first. That is possible between two calls of [`work`](ViewWorker::work). Contracts still
+    /// cover all its entries.
     /// Err: as `Session::drain` returns; nothing has changed, and the memory is returned.
     pub fn drain(&mut self, next: Vec<Entry>) -> Result<Page, (LogFull, Vec<Entry>)>
         requires { next.items ≡ [] }
