@@ -4,7 +4,8 @@ use Rattle.std.proofs.Common.{ap, ◌∙◌, subst, inl, inr, true≢false, arit
 use Rattle.std.proofs.Common.{get_or, length-append}
 use Rattle.std.specs.Prelude.{◌⊎◌, ◌≢◌, MatchOption, fold, if◌then◌else◌}
 use Rattle.std.specs.List.{AllByRecursion}
-use Rattle.std.proofs.lemmas.List.{map-append, take_more, take_at, get_or_at, drop_more, take-append-drop, length-take-le}
+use Rattle.std.proofs.lemmas.List.{map-append, take_more, take_at}
+use Rattle.std.proofs.lemmas.List.{get_or_at, drop_more, take-append-drop, length-take-le}
 use Rattle.std.proofs.lemmas.Bool.{cases_Bool, or_cases, and_parts, and_from, cases_lt}
 use Rattle.rdm_wire.specs.Uid.{is_within}
 use Rattle.rdm_wire.specs.Honest.{Asked, Heard, Seen, LineState, before_run, is_silent}
@@ -42,7 +43,7 @@ lead_back : (u : ℕ) (p : Standing) (x : List Seen) (end : LineState) → p.sto
 lead_back u p [] end on ok is = (end, is, refl)
 lead_back u p (e ∷ x) end on ok is =
     let later = lead_back u (after_asked u p e.asked e.heard) x end (goes_on u p e.asked e.heard ∙ on) ok.1
-        (subst (λ q. Allows (fold (after u) q x) u end) (after_other u p e on ok.0) is) in
+    (subst (λ q. Allows (fold (after u) q x) u end) (after_other u p e on ok.0) is) in
     let before = back u p later.0 e.asked e.heard later.1 in
     (before.0, before.1, (later.0, before.2, later.2))
 
@@ -214,7 +215,8 @@ failed_in : (xs : List Exchange) (j at : ℕ) (e : Exchange) → at < j → at <
 failed_in [] j at e less within failed ok = absurd (omega arith)
 failed_in (x ∷ xs) zero at e less within failed ok = absurd (omega arith)
 failed_in (x ∷ xs) (suc j) zero e less within failed ok = ok.0 failed
-failed_in (x ∷ xs) (suc j) (suc at) e less within failed ok = failed_in xs j at e (omega arith) (omega arith) failed ok.1
+failed_in (x ∷ xs) (suc j) (suc at) e less within failed ok =
+    failed_in xs j at e (omega arith) (omega arith) failed ok.1
 
 -- none comes with a failure or after it
 pub none_after : (us : List ℕ) (xs : List Exchange) (at : ℕ) (e : Exchange) → at < length xs → e ≡ get_or xs at e

@@ -4,7 +4,8 @@ use Rattle.std.proofs.Common.{append-nil, append_assoc, true≢false, arith, len
 use Rattle.std.proofs.Common.{Option, Some, None, get_or}
 use Rattle.std.specs.Prelude.{MatchOption, fold, if◌then◌else◌}
 use Rattle.std.specs.List.{AllByRecursion}
-use Rattle.std.proofs.lemmas.List.{map-append, take-append-le, take_all, length_push, take_at, take_more, length-take-le}
+use Rattle.std.proofs.lemmas.List.{map-append, take-append-le, take_all, length_push}
+use Rattle.std.proofs.lemmas.List.{take_at, take_more, length-take-le}
 use Rattle.std.proofs.lemmas.List.Sums.{fold-append}
 use Rattle.rdm_wire.specs.Honest.{Seen, HonestTo}
 use Rattle.rdm_explain.specs.declared.exchange.Exchange.{Exchange}

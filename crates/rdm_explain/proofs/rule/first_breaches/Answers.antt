@@ -1,14 +1,12 @@
-use Rattle.std.proofs.Common.{◌≡◌, ◌∙◌, ◌++◌, ◌+◌, ◌<◌, ℕ, [], ◌∷◌, List, sym, ap, subst, arith, rules, take, drop}
-use Rattle.std.proofs.Common.{length, map, get_or}
+use Rattle.std.proofs.Common.{◌≡◌, ◌∙◌, ◌+◌, [], sym, ap, subst, arith, rules, take}
+use Rattle.std.proofs.Common.{length, map}
 use Rattle.std.specs.List.{AllByRecursion}
-use Rattle.std.proofs.lemmas.List.{length-map, take_all, take_more, length-take-le}
-use Rattle.rdm_explain.specs.declared.exchange.Exchange.{Exchange}
-use Rattle.rdm_explain.specs.declared.rule.Watched.{Watched}
+use Rattle.std.proofs.lemmas.List.{length-map, take_all, length-take-le}
 use Rattle.rdm_explain.specs.Exchanges.{seen_of}
 use Rattle.rdm_explain.specs.Rules.{AreFirstBreaches, uids_of_findings}
 use Rattle.rdm_explain.specs.body.Watching.{watched_by, finding_of, CountsAtMost, watch_of, Watches}
-use Rattle.rdm_explain.proofs.MapLemmas.{written_back, if_ok}
-use Rattle.rdm_explain.proofs.WatchLemmas.{all_watch_start, all_watch_more, all_counts, uids_watched, same_uids}
+use Rattle.rdm_explain.proofs.MapLemmas.{if_ok}
+use Rattle.rdm_explain.proofs.WatchLemmas.{all_watch_start, all_counts, uids_watched}
 use Rattle.rdm_explain.proofs.WatchLemmas.{start_uids}
 use Rattle.rdm_explain.proofs.WatchLemmas.{finding_uids, all_found, heard, written}
 use Rattle.rdm_explain.proofs.rule.first_breaches.Goals as goal
