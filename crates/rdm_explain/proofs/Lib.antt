@@ -8,3 +8,4 @@ pub mod CountLemmas
 pub mod EndLemmas
 pub mod RuleLemmas
 pub mod WatchLemmas
+pub mod StrayLemmas

@@ -30,13 +30,13 @@ pub record Allows (p : Standing) (u : ℕ) (s : LineState) : Type 0 where
   pub unmutes : s.unmutes ≡ p.unmutes
 
 -- such a state, with the device muted or not
-abbrev state_of : Standing → Bool → ℕ → LineState
+abbrev pub state_of : Standing → Bool → ℕ → LineState
 state_of p m b = record { muted = λ v. m; lost_branches = b; lost_mutes = p.lost_mutes; unmutes = p.unmutes }
 
 muted_state : (p : Standing) (u : ℕ) → p.muted ≡ true → Allows p u (state_of p true 0)
 muted_state p u m = record { may = inl (refl, m, refl); mutes = refl; unmutes = refl }
 
-unmuted_state : (p : Standing) (u : ℕ) → p.unmuted ≡ true → Allows p u (state_of p false p.lost_branches)
+pub unmuted_state : (p : Standing) (u : ℕ) → p.unmuted ≡ true → Allows p u (state_of p false p.lost_branches)
 unmuted_state p u m = record { may = inr (refl, m, refl); mutes = refl; unmutes = refl }
 
 some_state : (p : Standing) (u : ℕ) → is_alive p ≡ true → (s : LineState) × Allows p u s
@@ -95,7 +95,7 @@ branch_keeps u lo hi p s new h a keeps counts = record {
           counts.branches ∙ lost,
         )
 
-abbrev Before : ℕ → Standing → Asked → Heard → LineState → Type 0
+abbrev pub Before : ℕ → Standing → Asked → Heard → LineState → Type 0
 Before u p asked h new = (s : LineState) × Allows p u s × HonestToStep u s asked h new
 
 branch_back : (u lo hi : ℕ) (p : Standing) (new : LineState) (h : Heard)
@@ -362,7 +362,7 @@ unmute_back u p new h a = by_third (cases_Bool (nat_le 3 (p.unmutes + 1)))
         before_third (λ late. omega arith) (rw early at a)
 
 -- after each exchange
-keeps : (u : ℕ) (p : Standing) (s new : LineState) (a : Asked) (h : Heard) → Allows p u s → HonestToStep u s a h new
+pub keeps : (u : ℕ) (p : Standing) (s new : LineState) (a : Asked) (h : Heard) → Allows p u s → HonestToStep u s a h new
     → Allows (after_asked u p a h) u new
 keeps u p s new Unmute h is step = unmute_keeps u p s new is step.0 step.1
 keeps u p s new (Branch lo hi) h is step = branch_keeps u lo hi p s new h is step.0 step.1
@@ -374,7 +374,7 @@ keeps u p s new (Mute v) h is step = by_test (u == v) step
     by_test true moves = mute_keeps u p s new h is moves
     by_test false moves = quiet_keeps u p s new is moves.0 moves.1
 
-back : (u : ℕ) (p : Standing) (new : LineState) (a : Asked) (h : Heard) → Allows (after_asked u p a h) u new
+pub back : (u : ℕ) (p : Standing) (new : LineState) (a : Asked) (h : Heard) → Allows (after_asked u p a h) u new
     → Before u p a h new
 back u p new Unmute h is = unmute_back u p new h is
 back u p new (Branch lo hi) h is = branch_back u lo hi p new h is
@@ -489,7 +489,7 @@ sound u p (e ∷ x) on alive =
         (before.0, before.1, inr (later.0, before.2, later.2))
 
 -- the states before a run
-at_start_is : (u : ℕ) (s : LineState) → Allows at_start u s → s ≡ before_run s.muted
+pub at_start_is : (u : ℕ) (s : LineState) → Allows at_start u s → s ≡ before_run s.muted
 at_start_is u s a = by_counts s.lost_branches s.lost_mutes s.unmutes (of_may a.may) a.mutes a.unmutes
   where
     of_may : May at_start u s → s.lost_branches ≡ 0
@@ -500,7 +500,7 @@ at_start_is u s a = by_counts s.lost_branches s.lost_mutes s.unmutes (of_may a.m
         → record { muted = s.muted; lost_branches = b; lost_mutes = m; unmutes = n } ≡ before_run s.muted
     by_counts b m n p q r = rw (p, q, r) refl
 
-start_allows : (u : ℕ) (muted : ℕ → Bool) → Allows at_start u (before_run muted)
+pub start_allows : (u : ℕ) (muted : ℕ → Bool) → Allows at_start u (before_run muted)
 start_allows u muted = record { may = by_muted (cases_Bool (muted u)); mutes = refl; unmutes = refl }
   where
     by_muted : (muted u ≡ true) ⊎ (muted u ≡ false) → May at_start u (before_run muted)

@@ -1,9 +1,11 @@
 -- What is known of the devices of a list stays right with each exchange.
-use Rattle.std.proofs.Common.{◌≡◌, ℕ, ◌+◌, Bool, true, false, List, [], ◌∷◌, ◌++◌, refl, sym, ap, ◌∙◌, subst}
-use Rattle.std.proofs.Common.{append-nil, append_assoc, true≢false, arith, length, take, map, Option, Some, None}
+use Rattle.std.proofs.Common.{◌≡◌, ℕ, ◌+◌, ◌<◌, Bool, true, false, List, [], ◌∷◌, ◌++◌, refl, sym, ap, ◌∙◌, subst}
+use Rattle.std.proofs.Common.{append-nil, append_assoc, true≢false, arith, length, take, drop, map}
+use Rattle.std.proofs.Common.{Option, Some, None, get_or}
 use Rattle.std.specs.Prelude.{MatchOption, fold, if◌then◌else◌}
 use Rattle.std.specs.List.{AllByRecursion}
-use Rattle.std.proofs.lemmas.List.{map-append, take-append-le, take_all, length_push, take_at}
+use Rattle.std.proofs.lemmas.List.{map-append, take-append-le, take_all, length_push}
+use Rattle.std.proofs.lemmas.List.{take_at, take_more, length-take-le}
 use Rattle.std.proofs.lemmas.List.Sums.{fold-append}
 use Rattle.rdm_wire.specs.Honest.{Seen, HonestTo}
 use Rattle.rdm_explain.specs.declared.exchange.Exchange.{Exchange}
@@ -16,6 +18,7 @@ use Rattle.rdm_explain.specs.body.Standings.{is_alive, after, at_start, standing
 use Rattle.rdm_explain.specs.body.Watching.{watched_by, watched_with, watch_of, finding_of, rule_by}
 use Rattle.rdm_explain.specs.body.Watching.{CountsAtMost, Watches}
 use Rattle.rdm_explain.proofs.StandingLemmas.{honest_alive, alive_honest, alive_through}
+use Rattle.rdm_explain.proofs.MapLemmas.{written_back}
 use Rattle.rdm_explain.proofs.CountLemmas.{counts_grow}
 use Rattle.rdm_explain.proofs.EndLemmas.{ends_none}
 use Rattle.rdm_explain.proofs.RuleLemmas.{EndsUnlessStopped, ends_after, breaks_rule}
@@ -97,15 +100,17 @@ watches_more xs e w is = by_breach w.breach refl is.known
         → MatchOption (if b then None else Some (record { at = length xs; rule = rule_by (seen_of e) }))
         ((after w.uid w.standing (seen_of e) ≡ standing w.uid (seen_all (xs ++ e ∷ [])))
         × (is_alive (after w.uid w.standing (seen_of e)) ≡ true))
-        (λ b. IsFirstBreach w.uid (xs ++ e ∷ []) b)
+        (λ b. IsFirstBreach w.uid (xs ++ e ∷ []) b × (is_alive (after w.uid w.standing (seen_of e)) ≡ false))
     known_after true same alive now = (after_is same, now)
-    known_after false same alive now =
-        new_breach w.uid xs e (ap is_alive (sym same) ∙ alive)
-        (ap (λ p. is_alive (after w.uid p (seen_of e))) (sym same) ∙ now)
+    known_after false same alive now = (
+      new_breach w.uid xs e (ap is_alive (sym same) ∙ alive)
+          (ap (λ p. is_alive (after w.uid p (seen_of e))) (sym same) ∙ now),
+      now,
+    )
 
     by_breach : (o : Option Breach) → w.breach ≡ o
         → MatchOption o ((w.standing ≡ standing w.uid (seen_all xs)) × (is_alive w.standing ≡ true))
-        (λ b. IsFirstBreach w.uid xs b)
+        (λ b. IsFirstBreach w.uid xs b × (is_alive w.standing ≡ false))
         → Watches (xs ++ e ∷ []) (watched_with (length xs) (seen_of e) w o)
     by_breach (Some b) has known = record {
       counts = record {
@@ -113,7 +118,7 @@ watches_more xs e w is = by_breach w.breach refl is.known
         mutes = omega (arith, more, is.counts.mutes);
         unmutes = omega (arith, more, is.counts.unmutes);
       };
-      known = rw has (breach_stays w.uid xs e b known);
+      known = rw has (breach_stays w.uid xs e b known.0, known.1);
     }
     by_breach None has known =
         let grown = counts_grow w.uid w.standing (seen_of e) in record {
@@ -169,11 +174,35 @@ finding_uids (w ∷ ws) = ap (λ l. w.uid ∷ l) (finding_uids ws)
 -- what is found is what is known
 found : (xs : List Exchange) (w : Watched) (o : Option Breach)
     → MatchOption o ((w.standing ≡ standing w.uid (seen_all xs)) × (is_alive w.standing ≡ true))
-    (λ b. IsFirstBreach w.uid xs b) → FirstBreach w.uid xs o
+    (λ b. IsFirstBreach w.uid xs b × (is_alive w.standing ≡ false)) → FirstBreach w.uid xs o
 found xs w None known = alive_honest w.uid (seen_all xs) (ap is_alive (sym known.0) ∙ known.1)
-found xs w (Some b) known = known
+found xs w (Some b) known = known.0
 
 pub all_found : (xs : List Exchange) (ws : List Watched) → AllByRecursion (Watches xs) ws
     → AreFirstBreaches xs (map finding_of ws)
 all_found xs [] all = tt
 all_found xs (w ∷ ws) all = (found xs w w.breach all.0.known, all_found xs ws all.1)
+
+-- what is known of the devices of a list is right
+abbrev pub WatchesAll : List Exchange → List ℕ → List Watched → Type 0
+WatchesAll xs us ws = AllByRecursion (Watches xs) ws × (uids_watched ws ≡ us)
+
+-- after one more exchange
+pub heard : (xs : List Exchange) (us : List ℕ) (at : ℕ) (e : Exchange) (old new : List Watched) → at < length xs
+    → e ≡ get_or xs at e → WatchesAll (take at xs) us old → new ≡ map (watched_by at (seen_of e)) old
+    → WatchesAll (take (at + 1) xs) us new
+heard xs us at e old new within read all is =
+    let long : length (take at xs) ≡ at = length-take-le at xs (omega arith) in
+    let whole : take (at + 1) xs ≡ take at xs ++ e ∷ []
+    = take_more xs at e within ∙ ap (λ x. take at xs ++ x ∷ []) (sym read) in
+    subst (WatchesAll (take (at + 1) xs) us) (sym is) (
+      subst (λ l. AllByRecursion (Watches l) (map (watched_by at (seen_of e)) old)) (sym whole)
+          (subst (λ n. AllByRecursion (Watches (take at xs ++ e ∷ [])) (map (watched_by n (seen_of e)) old)) long
+          (all_watch_more (take at xs) e old all.0)),
+      same_uids at (seen_of e) old ∙ all.1,
+    )
+
+-- as a slice writes them back
+pub written : (xs : List Exchange) (us : List ℕ) (n : ℕ) (old new : List Watched) → n ≡ length old
+    → length new ≡ length old → WatchesAll xs us new → WatchesAll xs us (take n (new ++ drop (length new) old))
+written xs us n old new long same all = subst (WatchesAll xs us) (sym (written_back old new n long same)) all

@@ -1,4 +1,5 @@
 pub mod Exchanges
 pub mod Rules
 pub mod Covers
+pub mod Strays
 pub mod body

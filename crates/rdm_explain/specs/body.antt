@@ -3,3 +3,4 @@ pub mod Standings
 pub mod Watching
 pub mod FrameTests
 pub mod Covering
+pub mod Straying

@@ -8,7 +8,9 @@ mod frame;
 pub mod laws;
 mod rule;
 mod standing;
+mod stray;
 
 pub use cover::first_uncovered;
 pub use exchange::{Asked, Exchange, Heard, read_exchange};
 pub use rule::{Breach, DeviceFinding, Rule, first_breaches};
+pub use stray::first_stray;

@@ -39,11 +39,13 @@ pub struct DeviceFinding {
     pub breach: Option<Breach>,
 }
 
-// A device, with what is known of it so far.
+/// A device, with what is known of it so far.
 #[derive(Clone, Copy)]
-struct Watched {
-    uid: Uid,
-    standing: Standing,
+pub(crate) struct Watched {
+    /// The device.
+    pub(crate) uid: Uid,
+    /// What is known of its state. It may be in none after its first breach.
+    pub(crate) standing: Standing,
     breach: Option<Breach>,
 }
 
@@ -104,8 +106,8 @@ fn rule_by(exchange: &Exchange) -> Rule
     }
 }
 
-// All devices hear an exchange.
-fn hear_all(watched: &mut [Watched], at: usize, exchange: &Exchange)
+/// All devices hear an exchange.
+pub(crate) fn hear_all(watched: &mut [Watched], at: usize, exchange: &Exchange)
     requires counts { AllByRecursion (CountsAtMost at) watched.old }
     requires few { at < 2 ^ 63 }
     ensures next { watched.new ≡ map (watched_by at (seen_of exchange.now)) watched.old }
@@ -115,7 +117,8 @@ fn hear_all(watched: &mut [Watched], at: usize, exchange: &Exchange)
     }
 }
 
-fn watch(alloc: Global, uids: &[Uid]) -> Result<Vec<Watched>, NoMemory>
+/// The devices before the first exchange.
+pub(crate) fn watch(alloc: Global, uids: &[Uid]) -> Result<Vec<Watched>, NoMemory>
     ensures { IfOk result (λ v. v.items ≡ map watch_of uids.now) }
 {
     let mut watched = Vec::new(alloc);

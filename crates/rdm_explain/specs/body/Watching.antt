@@ -1,5 +1,5 @@
 -- What is known of the devices of a list, exchange by exchange.
-use Rattle.std.specs.Prelude.{◌≡◌, ℕ, ◌≤◌, true, List, length, Option, Some, None, MatchOption, if◌then◌else◌}
+use Rattle.std.specs.Prelude.{◌≡◌, ℕ, ◌≤◌, true, false, List, length, Option, Some, None, MatchOption, if◌then◌else◌}
 use Rattle.rdm_wire.specs.Honest.{Asked, Heard, Seen}
 use Rattle.rdm_wire.specs.Honest.Asked.{Unmute, Branch, Mute, Other}
 use Rattle.rdm_wire.specs.Honest.Heard.{Silent}
@@ -58,4 +58,4 @@ pub record Watches (xs : List Exchange) (w : Watched) : Type 0 where
   pub counts : CountsAtMost (length xs) w
   pub known : MatchOption w.breach
       ((w.standing ≡ standing w.uid (seen_all xs)) × (is_alive w.standing ≡ true))
-      (λ b. IsFirstBreach w.uid xs b)
+      (λ b. IsFirstBreach w.uid xs b × (is_alive w.standing ≡ false))

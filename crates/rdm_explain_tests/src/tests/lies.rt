@@ -1,118 +1,76 @@
 //! A run for each lie, alone on the line.
-use super::rig::{acked, breach, check, covers, leaves, liar, lower, mute, unmute, upper, whole};
-use rdm_explain::{Breach, Exchange, Heard, Rule};
-
-// Whether these exchanges show this breach, or none.
-fn shows(rt: &HostRuntime, exchanges: &[Exchange], expected: Option<Breach>) -> bool {
-    match breach(rt.alloc(), exchanges) {
-        Ok(found) => found == expected,
-        Err(_) => false,
-    }
-}
-
-fn at(at: usize, rule: Rule) -> Option<Breach> {
-    Some(Breach { at, rule })
-}
+use super::rig::{
+    acked, add, breaks, check, covers, follows, has_no_stray, leaves, liar, lower, mute, opening,
+    strays, upper, whole,
+};
+use rdm_explain::{Heard, Rule};
+use rdm_wire::Uid;
 
 #[test]
 fn a_device_that_hides_breaks_the_rule_of_branches(rt: HostRuntime) {
-    let silence = whole(Heard::Silent);
-    let run = [
-        unmute(),
-        unmute(),
-        unmute(),
-        silence,
-        silence,
-        silence,
-        silence,
-        silence,
-    ];
-    check(&rt, shows(&rt, &run, at(7, Rule::SilentBranches)));
-    check(&rt, shows(&rt, &run[..7], None));
+    let mut run = opening(&rt, rt.alloc());
+    add(&rt, &mut run, &whole(Heard::Silent), 4);
+    check(&rt, follows(rt.alloc(), &run));
+    check(&rt, leaves(rt.alloc(), &run, Uid::new(0, 0)));
+    add(&rt, &mut run, &whole(Heard::Silent), 1);
+    check(&rt, breaks(rt.alloc(), &run, 7, Rule::SilentBranches));
     check(&rt, covers(rt.alloc(), &run));
-    check(&rt, leaves(rt.alloc(), &run[..7], rdm_wire::Uid::new(0, 0)));
 }
 
 #[test]
 fn a_device_that_ignores_mutes_breaks_their_rule(rt: HostRuntime) {
-    let lost = mute(Heard::Silent);
-    let run = [
-        unmute(),
-        unmute(),
-        unmute(),
-        whole(Heard::One(liar())),
-        lost,
-        lost,
-        lost,
-        lost,
-        lost,
-    ];
-    check(&rt, shows(&rt, &run, at(8, Rule::SilentMutes)));
-    check(&rt, shows(&rt, &run[..8], None));
+    let mut run = opening(&rt, rt.alloc());
+    add(&rt, &mut run, &whole(Heard::One(liar())), 1);
+    add(&rt, &mut run, &mute(Heard::Silent), 4);
+    check(&rt, follows(rt.alloc(), &run));
+    add(&rt, &mut run, &mute(Heard::Silent), 1);
+    check(&rt, breaks(rt.alloc(), &run, 8, Rule::SilentMutes));
 }
 
 #[test]
 fn a_mute_that_is_answered_by_other_bytes_breaks_a_rule(rt: HostRuntime) {
-    let run = [
-        unmute(),
-        unmute(),
-        unmute(),
-        whole(Heard::One(liar())),
-        mute(Heard::Noise),
-    ];
-    check(&rt, shows(&rt, &run, at(4, Rule::GarbledMute)));
+    let mut run = opening(&rt, rt.alloc());
+    add(&rt, &mut run, &mute(Heard::Noise), 1);
+    check(&rt, breaks(rt.alloc(), &run, 3, Rule::GarbledMute));
 }
 
 #[test]
-fn other_lies_break_no_rule_towards_the_liar(rt: HostRuntime) {
-    let silence = whole(Heard::Silent);
-    // It answers every second branch.
-    let every_other = [
-        unmute(),
-        unmute(),
-        unmute(),
-        silence,
-        whole(Heard::One(liar())),
-        mute(acked()),
-        silence,
-        silence,
-        silence,
-        silence,
-        silence,
-    ];
-    check(&rt, shows(&rt, &every_other, None));
-    check(&rt, covers(rt.alloc(), &every_other));
-    // It acknowledges mutes, and answers again.
-    let stays_unmuted = [
-        unmute(),
-        unmute(),
-        unmute(),
-        whole(Heard::One(liar())),
-        mute(acked()),
-        whole(Heard::One(liar())),
-    ];
-    check(&rt, shows(&rt, &stays_unmuted, None));
-    // Its replies are too short, or have a wrong checksum.
-    let cuts_short = [
-        unmute(),
-        unmute(),
-        unmute(),
-        whole(Heard::Noise),
-        lower(Heard::Noise),
-        upper(Heard::Silent),
-    ];
-    check(&rt, shows(&rt, &cuts_short, None));
+fn a_device_that_answers_every_second_branch_follows_the_rules(rt: HostRuntime) {
+    let mut run = opening(&rt, rt.alloc());
+    add(&rt, &mut run, &whole(Heard::Silent), 1);
+    add(&rt, &mut run, &whole(Heard::One(liar())), 1);
+    add(&rt, &mut run, &mute(acked()), 1);
+    add(&rt, &mut run, &whole(Heard::Silent), 5);
+    check(&rt, follows(rt.alloc(), &run));
+    check(&rt, has_no_stray(rt.alloc(), &run));
+    check(&rt, covers(rt.alloc(), &run));
+}
+
+#[test]
+fn a_device_that_stays_unmuted_answers_although_it_is_not_due(rt: HostRuntime) {
+    let mut run = opening(&rt, rt.alloc());
+    add(&rt, &mut run, &whole(Heard::One(liar())), 1);
+    add(&rt, &mut run, &mute(acked()), 1);
+    check(&rt, has_no_stray(rt.alloc(), &run));
+    add(&rt, &mut run, &whole(Heard::One(liar())), 1);
+    check(&rt, follows(rt.alloc(), &run));
+    check(&rt, strays(rt.alloc(), &run, 5));
+}
+
+#[test]
+fn bytes_come_from_a_range_without_a_listed_device(rt: HostRuntime) {
+    let mut run = opening(&rt, rt.alloc());
+    add(&rt, &mut run, &lower(Heard::Noise), 1);
+    check(&rt, has_no_stray(rt.alloc(), &run));
+    add(&rt, &mut run, &upper(Heard::Noise), 1);
+    check(&rt, strays(rt.alloc(), &run, 4));
 }
 
 #[test]
 fn the_first_uncovered_uid_is_found_in_any_order(rt: HostRuntime) {
-    let high = upper(Heard::Silent);
-    let low = lower(Heard::Silent);
-    let run = [high, high, high, high, high, low, low, low, low, low];
+    let mut run = opening(&rt, rt.alloc());
+    add(&rt, &mut run, &upper(Heard::Silent), 5);
+    check(&rt, leaves(rt.alloc(), &run, Uid::new(0, 0)));
+    add(&rt, &mut run, &lower(Heard::Silent), 5);
     check(&rt, covers(rt.alloc(), &run));
-    check(&rt, leaves(rt.alloc(), &run[..9], rdm_wire::Uid::new(0, 0)));
-    check(
-        &rt,
-        leaves(rt.alloc(), &run[5..], rdm_wire::Uid::new(0x8000, 0)),
-    );
 }

@@ -1,7 +1,9 @@
 //! Exchanges of a run, and checks of what they show.
 ghost use Rattle.std.specs.Prelude.{IsTrue};
 
-use rdm_explain::{Asked, Breach, Exchange, Heard, first_breaches, first_uncovered};
+use rdm_explain::{
+    Asked, Breach, Exchange, Heard, Rule, first_breaches, first_stray, first_uncovered,
+};
 use rdm_wire::{MuteAck, NoMemory, Uid};
 use std::alloc::Global;
 use std::process::Abort;
@@ -18,11 +20,21 @@ pub fn liar() -> Uid {
     Uid::new(0x1234, 9)
 }
 
-/// An unmute.
-pub fn unmute() -> Exchange {
-    Exchange {
+/// Three unmutes, with which a run begins.
+pub fn opening(rt: &impl Abort, alloc: Global) -> Vec<Exchange> {
+    let mut run = Vec::new(alloc);
+    let unmute = Exchange {
         asked: Asked::Unmute,
         heard: Heard::Silent,
+    };
+    add(rt, &mut run, &unmute, 3);
+    run
+}
+
+/// Adds an exchange this many times.
+pub fn add(rt: &impl Abort, run: &mut Vec<Exchange>, exchange: &Exchange, times: usize) {
+    for _ in 0..times {
+        check(rt, run.push(*exchange).is_ok());
     }
 }
 
@@ -64,16 +76,41 @@ pub fn acked() -> Heard {
     })
 }
 
-/// The liar's first breach.
-pub fn breach(alloc: Global, exchanges: &[Exchange]) -> Result<Option<Breach>, NoMemory> {
-    let found = first_breaches(alloc, &[liar()], exchanges)?;
-    match found.first() {
-        Some(finding) => Ok(finding.breach),
-        None => Ok(None),
+/// Whether the liar's first breach is at this exchange, of this rule.
+pub fn breaks(alloc: Global, exchanges: &[Exchange], at: usize, rule: Rule) -> bool {
+    match breach(alloc, exchanges) {
+        Ok(Some(found)) => found == Breach { at, rule },
+        _ => false,
     }
 }
 
-/// The first UID that these exchanges don't cover is this one.
+/// Whether the liar followed the rules.
+pub fn follows(alloc: Global, exchanges: &[Exchange]) -> bool {
+    matches!(breach(alloc, exchanges), Ok(None))
+}
+
+fn breach(alloc: Global, exchanges: &[Exchange]) -> Result<Option<Breach>, NoMemory> {
+    let found = first_breaches(alloc, &[liar()], exchanges)?;
+    match found.first() {
+        Some(finding) => Ok(finding.breach),
+        None => Err(NoMemory),
+    }
+}
+
+/// Whether the first stray exchange is this one, if only the liar is listed.
+pub fn strays(alloc: Global, exchanges: &[Exchange], at: usize) -> bool {
+    match first_stray(alloc, &[liar()], exchanges) {
+        Ok(Some(found)) => found == at,
+        _ => false,
+    }
+}
+
+/// Whether no exchange is stray.
+pub fn has_no_stray(alloc: Global, exchanges: &[Exchange]) -> bool {
+    matches!(first_stray(alloc, &[liar()], exchanges), Ok(None))
+}
+
+/// Whether the first UID that these exchanges don't cover is this one.
 pub fn leaves(alloc: Global, exchanges: &[Exchange], uid: Uid) -> bool {
     match first_uncovered(alloc, exchanges) {
         Ok(Some(found)) => found == uid,
@@ -81,7 +118,7 @@ pub fn leaves(alloc: Global, exchanges: &[Exchange], uid: Uid) -> bool {
     }
 }
 
-/// They cover all UIDs.
+/// Whether they cover all UIDs.
 pub fn covers(alloc: Global, exchanges: &[Exchange]) -> bool {
     matches!(first_uncovered(alloc, exchanges), Ok(None))
 }

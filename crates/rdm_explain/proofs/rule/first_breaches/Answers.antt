@@ -1,16 +1,14 @@
-use Rattle.std.proofs.Common.{◌≡◌, ◌∙◌, ◌++◌, ◌+◌, ◌<◌, ℕ, [], ◌∷◌, List, sym, ap, subst, arith, rules, take, drop}
-use Rattle.std.proofs.Common.{length, map, get_or}
+use Rattle.std.proofs.Common.{◌≡◌, ◌∙◌, ◌+◌, [], sym, ap, subst, arith, rules, take}
+use Rattle.std.proofs.Common.{length, map}
 use Rattle.std.specs.List.{AllByRecursion}
-use Rattle.std.proofs.lemmas.List.{length-map, take_all, take_more, length-take-le}
-use Rattle.rdm_explain.specs.declared.exchange.Exchange.{Exchange}
-use Rattle.rdm_explain.specs.declared.rule.Watched.{Watched}
+use Rattle.std.proofs.lemmas.List.{length-map, take_all, length-take-le}
 use Rattle.rdm_explain.specs.Exchanges.{seen_of}
 use Rattle.rdm_explain.specs.Rules.{AreFirstBreaches, uids_of_findings}
 use Rattle.rdm_explain.specs.body.Watching.{watched_by, finding_of, CountsAtMost, watch_of, Watches}
-use Rattle.rdm_explain.proofs.MapLemmas.{written_back, if_ok}
-use Rattle.rdm_explain.proofs.WatchLemmas.{all_watch_start, all_watch_more, all_counts, uids_watched, same_uids}
+use Rattle.rdm_explain.proofs.MapLemmas.{if_ok}
+use Rattle.rdm_explain.proofs.WatchLemmas.{all_watch_start, all_counts, uids_watched}
 use Rattle.rdm_explain.proofs.WatchLemmas.{start_uids}
-use Rattle.rdm_explain.proofs.WatchLemmas.{finding_uids, all_found}
+use Rattle.rdm_explain.proofs.WatchLemmas.{finding_uids, all_found, heard, written}
 use Rattle.rdm_explain.proofs.rule.first_breaches.Goals as goal
 
 pub loop-at-init : goal.loop-at-init
@@ -26,28 +24,6 @@ hear_all-requires-clause-counts c =
     (subst (λ n. AllByRecursion (CountsAtMost n) c.loop-at.watched.items)
     (length-take-le c.loop-at.at c.args.exchanges.now (omega arith))
     (all_counts (take c.loop-at.at c.args.exchanges.now) c.loop-at.watched.items c.loop-at.invariant.0))
-
--- the devices after an exchange
-abbrev WatchesAll : List Exchange → List ℕ → List Watched → Type 0
-WatchesAll xs us ws = AllByRecursion (Watches xs) ws × (uids_watched ws ≡ us)
-
-heard : (xs : List Exchange) (us : List ℕ) (at : ℕ) (e : Exchange) (old new : List Watched) → at < length xs
-    → e ≡ get_or xs at e → WatchesAll (take at xs) us old → new ≡ map (watched_by at (seen_of e)) old
-    → WatchesAll (take (at + 1) xs) us new
-heard xs us at e old new within read all is =
-    let long : length (take at xs) ≡ at = length-take-le at xs (omega arith) in
-    let whole : take (at + 1) xs ≡ take at xs ++ e ∷ []
-    = take_more xs at e within ∙ ap (λ x. take at xs ++ x ∷ []) (sym read) in
-    subst (WatchesAll (take (at + 1) xs) us) (sym is) (
-      subst (λ l. AllByRecursion (Watches l) (map (watched_by at (seen_of e)) old)) (sym whole)
-          (subst (λ n. AllByRecursion (Watches (take at xs ++ e ∷ [])) (map (watched_by n (seen_of e)) old)) long
-          (all_watch_more (take at xs) e old all.0)),
-      same_uids at (seen_of e) old ∙ all.1,
-    )
-
-written : (xs : List Exchange) (us : List ℕ) (n : ℕ) (old new : List Watched) → n ≡ length old
-    → length new ≡ length old → WatchesAll xs us new → WatchesAll xs us (take n (new ++ drop (length new) old))
-written xs us n old new long same all = subst (WatchesAll xs us) (sym (written_back old new n long same)) all
 
 pub loop-at-preserved : goal.loop-at-preserved
 loop-at-preserved c =

@@ -1,0 +1,255 @@
+-- What is known of devices decides whether an exchange is stray.
+use Rattle.std.proofs.Common.{◌≡◌, ℕ, zero, suc, ◌+◌, ◌<◌, ◌≤◌, Bool, true, false, not, List, [], ◌∷◌, ◌++◌, refl, sym}
+use Rattle.std.proofs.Common.{ap, ◌∙◌, subst, inl, inr, true≢false, arith, length, take, drop, Option, Some, None}
+use Rattle.std.proofs.Common.{get_or, length-append}
+use Rattle.std.specs.Prelude.{◌⊎◌, ◌≢◌, MatchOption, fold, if◌then◌else◌}
+use Rattle.std.specs.List.{AllByRecursion}
+use Rattle.std.proofs.lemmas.List.{map-append, take_more, take_at}
+use Rattle.std.proofs.lemmas.List.{get_or_at, drop_more, take-append-drop, length-take-le}
+use Rattle.std.proofs.lemmas.Bool.{cases_Bool, or_cases, and_parts, and_from, cases_lt}
+use Rattle.rdm_wire.specs.Uid.{is_within}
+use Rattle.rdm_wire.specs.Honest.{Asked, Heard, Seen, LineState, before_run, is_silent}
+use Rattle.rdm_wire.specs.Honest.Asked.{Unmute, Branch, Mute, Other}
+use Rattle.rdm_wire.specs.Honest.Heard.{Failed, Silent, One, Acked, Noise}
+use Rattle.rdm_explain.specs.declared.exchange.Exchange.{Exchange}
+use Rattle.rdm_explain.specs.declared.rule.Breach.{Breach}
+use Rattle.rdm_explain.specs.declared.rule.Watched.{Watched}
+use Rattle.rdm_explain.specs.declared.standing.Standing.{Standing}
+use Rattle.rdm_explain.specs.Exchanges.{seen_of, seen_all}
+use Rattle.rdm_explain.specs.Rules.{IsFirstBreach}
+use Rattle.rdm_explain.specs.Strays.{Leads, MayBeUnmuted, IsMuted, IsStray}
+use Rattle.rdm_explain.specs.body.Standings.{is_alive, after, after_asked, at_start, standing}
+use Rattle.rdm_explain.specs.body.Watching.{Watches}
+use Rattle.rdm_explain.specs.body.Straying.{is_muted, is_quiet_one, is_quiet, is_stray_by, is_stray}
+use Rattle.rdm_explain.proofs.StandingLemmas.{Allows, keeps, back, after_other, goes_on, start_allows, at_start_is}
+use Rattle.rdm_explain.proofs.StandingLemmas.{state_of, unmuted_state, alive_honest, or_left}
+use Rattle.rdm_explain.proofs.EndLemmas.{all_append}
+use Rattle.rdm_explain.proofs.WatchLemmas.{uids_watched, WatchesAll}
+
+abbrev pub NoFailure : List Seen → Type 0
+NoFailure x = AllByRecursion (λ (e : Seen). e.heard ≢ Failed) x
+
+-- the states that exchanges lead to
+lead_keeps : (u : ℕ) (p : Standing) (s : LineState) (x : List Seen) (end : LineState) → p.stopped ≡ false → NoFailure x
+    → Allows p u s → Leads u s x end → Allows (fold (after u) p x) u end
+lead_keeps u p s [] end on ok is same = subst (Allows p u) same is
+lead_keeps u p s (e ∷ x) end on ok is leads =
+    subst (λ q. Allows (fold (after u) q x) u end) (sym (after_other u p e on ok.0))
+    (lead_keeps u (after_asked u p e.asked e.heard) leads.0 x end (goes_on u p e.asked e.heard ∙ on) ok.1
+    (keeps u p s leads.0 e.asked e.heard is leads.1) leads.2)
+
+lead_back : (u : ℕ) (p : Standing) (x : List Seen) (end : LineState) → p.stopped ≡ false → NoFailure x
+    → Allows (fold (after u) p x) u end → (s : LineState) × Allows p u s × Leads u s x end
+lead_back u p [] end on ok is = (end, is, refl)
+lead_back u p (e ∷ x) end on ok is =
+    let later = lead_back u (after_asked u p e.asked e.heard) x end (goes_on u p e.asked e.heard ∙ on) ok.1
+    (subst (λ q. Allows (fold (after u) q x) u end) (after_other u p e on ok.0) is) in
+    let before = back u p later.0 e.asked e.heard later.1 in
+    (before.0, before.1, (later.0, before.2, later.2))
+
+unmuted_of : (u : ℕ) (x : List Seen) → NoFailure x → MayBeUnmuted u x → (standing u x).unmuted ≡ true
+unmuted_of u x ok m =
+    elim (lead_keeps u at_start (before_run m.muted) x m.end refl ok (start_allows u m.muted) m.leads).may
+    [ inl k ↦ absurd (true≢false (sym k.0 ∙ m.unmuted)) | inr k ↦ k.1 ]
+
+of_unmuted : (u : ℕ) (x : List Seen) → NoFailure x → (standing u x).unmuted ≡ true → MayBeUnmuted u x
+of_unmuted u x ok holds =
+    let p = standing u x in
+    let end = state_of p false p.lost_branches in
+    let start = lead_back u at_start x end refl ok (unmuted_state p u holds) in record {
+      muted = start.0.muted;
+      end = end;
+      leads = subst (λ s. Leads u s x end) (at_start_is u start.0 start.1) start.2;
+      unmuted = refl;
+    }
+
+not_true : (b : Bool) → not b ≡ true → b ≡ true → ⊥
+not_true true n b = true≢false (sym n)
+not_true false n b = true≢false (sym b)
+
+not_of : (b : Bool) → b ≡ false → not b ≡ true
+not_of b e = rw e refl
+
+-- whether a device is known to be muted
+known_muted : (xs : List Exchange) (w : Watched) → NoFailure (seen_all xs) → Watches xs w → is_muted w ≡ true
+    → IsMuted w.uid (seen_all xs)
+known_muted xs w ok is holds = by_breach w.breach is.known
+  where
+    both : (w.standing.muted ≡ true) × (not w.standing.unmuted ≡ true)
+    both = and_parts w.standing.muted (not w.standing.unmuted) holds
+
+    by_breach : (o : Option Breach)
+        → MatchOption o ((w.standing ≡ standing w.uid (seen_all xs)) × (is_alive w.standing ≡ true))
+        (λ b. IsFirstBreach w.uid xs b × (is_alive w.standing ≡ false)) → IsMuted w.uid (seen_all xs)
+    by_breach None known = record {
+      honest = alive_honest w.uid (seen_all xs) (ap is_alive (sym known.0) ∙ known.1);
+      muted = λ m. not_true w.standing.unmuted both.1
+          (ap (λ p. p.unmuted) known.0 ∙ unmuted_of w.uid (seen_all xs) ok m);
+    }
+    by_breach (Some b) known =
+        absurd (true≢false (sym (or_left w.standing.muted w.standing.unmuted both.0) ∙ known.1))
+
+muted_known : (xs : List Exchange) (w : Watched) → NoFailure (seen_all xs) → Watches xs w
+    → IsMuted w.uid (seen_all xs) → is_muted w ≡ true
+muted_known xs w ok is m = by_breach w.breach is.known
+  where
+    by_unmuted : w.standing ≡ standing w.uid (seen_all xs) → is_alive w.standing ≡ true
+        → (w.standing.unmuted ≡ true) ⊎ (w.standing.unmuted ≡ false) → is_muted w ≡ true
+    by_unmuted same alive (inl holds) =
+        absurd (m.muted (of_unmuted w.uid (seen_all xs) ok (ap (λ p. p.unmuted) (sym same) ∙ holds)))
+    by_unmuted same alive (inr no_more) =
+        and_from w.standing.muted (not w.standing.unmuted)
+        (elim (or_cases w.standing.muted w.standing.unmuted alive)
+        [ inl holds ↦ holds | inr holds ↦ absurd (true≢false (sym holds ∙ no_more)) ])
+        (not_of w.standing.unmuted no_more)
+
+    by_breach : (o : Option Breach)
+        → MatchOption o ((w.standing ≡ standing w.uid (seen_all xs)) × (is_alive w.standing ≡ true))
+        (λ b. IsFirstBreach w.uid xs b × (is_alive w.standing ≡ false)) → is_muted w ≡ true
+    by_breach None known = by_unmuted known.0 known.1 (cases_Bool w.standing.unmuted)
+    by_breach (Some b) known = absurd (known.0.never m.honest)
+
+-- whether nobody of a list is due
+abbrev Nobody : List Exchange → ℕ → ℕ → List ℕ → Type 0
+Nobody xs lo hi us = AllByRecursion (λ (u : ℕ). is_within lo hi u ≡ true → IsMuted u (seen_all xs)) us
+
+quiet_nobody : (xs : List Exchange) (lo hi : ℕ) (ws : List Watched) → NoFailure (seen_all xs)
+    → AllByRecursion (Watches xs) ws → is_quiet lo hi ws ≡ true → Nobody xs lo hi (uids_watched ws)
+quiet_nobody xs lo hi [] ok all holds = tt
+quiet_nobody xs lo hi (w ∷ ws) ok all holds =
+    let both = and_parts (is_quiet_one lo hi w) (is_quiet lo hi ws) holds in (
+      λ within. known_muted xs w ok all.0 (sym (ap (λ b. if b then is_muted w else true) within) ∙ both.0),
+      quiet_nobody xs lo hi ws ok all.1 both.1,
+    )
+
+nobody_quiet : (xs : List Exchange) (lo hi : ℕ) (ws : List Watched) → NoFailure (seen_all xs)
+    → AllByRecursion (Watches xs) ws → Nobody xs lo hi (uids_watched ws) → is_quiet lo hi ws ≡ true
+nobody_quiet xs lo hi [] ok all none = refl
+nobody_quiet xs lo hi (w ∷ ws) ok all none =
+    and_from (is_quiet_one lo hi w) (is_quiet lo hi ws) (by_within (is_within lo hi w.uid) none.0)
+    (nobody_quiet xs lo hi ws ok all.1 none.1)
+  where
+    by_within : (b : Bool) → (b ≡ true → IsMuted w.uid (seen_all xs)) → (if b then is_muted w else true) ≡ true
+    by_within true muted = muted_known xs w ok all.0 (muted refl)
+    by_within false muted = refl
+
+-- an exchange that is stray by what is known
+record StrayBy (ws : List Watched) (a : Asked) (h : Heard) : Type 0 where
+  lo : ℕ
+  hi : ℕ
+  asked : a ≡ Branch lo hi
+  not_silent : h ≢ Silent
+  quiet : is_quiet lo hi ws ≡ true
+
+loud : (h : Heard) → not (is_silent h) ≡ true → h ≢ Silent
+loud h holds silent = not_true (is_silent h) holds (ap is_silent silent)
+
+stray_by : (ws : List Watched) (a : Asked) (h : Heard) → is_stray_by ws a h ≡ true → StrayBy ws a h
+stray_by ws Unmute h holds = absurd (true≢false (sym holds))
+stray_by ws (Mute u) h holds = absurd (true≢false (sym holds))
+stray_by ws Other h holds = absurd (true≢false (sym holds))
+stray_by ws (Branch lo hi) h holds =
+    let both = and_parts (not (is_silent h)) (is_quiet lo hi ws) holds in
+    record { lo = lo; hi = hi; asked = refl; not_silent = loud h both.0; quiet = both.1 }
+
+silence_of : (h : Heard) → h ≢ Silent → is_silent h ≡ false
+silence_of Failed other = refl
+silence_of Silent other = absurd (other refl)
+silence_of (One u) other = refl
+silence_of (Acked ack) other = refl
+silence_of Noise other = refl
+
+by_stray : (ws : List Watched) (lo hi : ℕ) (a : Asked) (h : Heard) → a ≡ Branch lo hi → h ≢ Silent
+    → is_quiet lo hi ws ≡ true → is_stray_by ws a h ≡ true
+by_stray ws lo hi a h asked other quiet =
+    ap (λ b. is_stray_by ws b h) asked
+    ∙ and_from (not (is_silent h)) (is_quiet lo hi ws) (not_of (is_silent h) (silence_of h other)) quiet
+
+-- at an index
+pub stray_at : (us : List ℕ) (xs : List Exchange) (at : ℕ) (e : Exchange) (ws : List Watched) → at < length xs
+    → e ≡ get_or xs at e → NoFailure (seen_all (take at xs)) → WatchesAll (take at xs) us ws
+    → (seen_of e).heard ≢ Failed → is_stray ws (seen_of e) ≡ true → IsStray us xs at
+stray_at us xs at e ws within read ok all fine holds =
+    let s = stray_by ws (seen_of e).asked (seen_of e).heard holds in record {
+      front = take at xs;
+      exchange = e;
+      back = drop (at + 1) xs;
+      whole = sym (take-append-drop at xs)
+          ∙ ap (λ l. take at xs ++ l) (drop_more xs at e within ∙ ap (λ x. x ∷ drop (at + 1) xs) (sym read));
+      index = length-take-le at xs (omega arith);
+      no_failure = ok;
+      lo = s.lo;
+      hi = s.hi;
+      asked = s.asked;
+      not_failed = fine;
+      not_silent = s.not_silent;
+      nobody = subst (Nobody (take at xs) s.lo s.hi) all.1 (quiet_nobody (take at xs) s.lo s.hi ws ok all.0 s.quiet);
+    }
+
+pub at_stray : (us : List ℕ) (xs : List Exchange) (at : ℕ) (e : Exchange) (ws : List Watched) → e ≡ get_or xs at e
+    → NoFailure (seen_all (take at xs)) → WatchesAll (take at xs) us ws → IsStray us xs at
+    → is_stray ws (seen_of e) ≡ true
+at_stray us xs at e ws read ok all s =
+    subst (λ x. is_stray ws (seen_of x) ≡ true) same
+    (by_stray ws s.lo s.hi (seen_of s.exchange).asked (seen_of s.exchange).heard s.asked s.not_silent
+    (nobody_quiet (take at xs) s.lo s.hi ws ok all.0 (subst (Nobody (take at xs) s.lo s.hi) (sym all.1) nobody)))
+  where
+    same : s.exchange ≡ e
+    same = sym (read ∙ ap (λ l. get_or l at e) s.whole ∙ get_or_at s.front s.exchange s.back e at s.index)
+
+    front : s.front ≡ take at xs
+    front = sym (ap (take at) s.whole ∙ take_at s.front (s.exchange ∷ s.back) at s.index)
+
+    nobody : Nobody (take at xs) s.lo s.hi us
+    nobody = subst (λ l. Nobody l s.lo s.hi us) front s.nobody
+
+-- a stray exchange is within the list
+pub stray_within : (us : List ℕ) (xs : List Exchange) (at : ℕ) → IsStray us xs at → at < length xs
+stray_within us xs at s =
+    let long : length xs ≡ length s.front + length (s.exchange ∷ s.back)
+    = ap length s.whole ∙ length-append s.front (s.exchange ∷ s.back) in
+    omega (arith, long, s.index)
+
+failed_in : (xs : List Exchange) (j at : ℕ) (e : Exchange) → at < j → at < length xs
+    → (seen_of (get_or xs at e)).heard ≡ Failed → NoFailure (seen_all (take j xs)) → ⊥
+failed_in [] j at e less within failed ok = absurd (omega arith)
+failed_in (x ∷ xs) zero at e less within failed ok = absurd (omega arith)
+failed_in (x ∷ xs) (suc j) zero e less within failed ok = ok.0 failed
+failed_in (x ∷ xs) (suc j) (suc at) e less within failed ok =
+    failed_in xs j at e (omega arith) (omega arith) failed ok.1
+
+-- none comes with a failure or after it
+pub none_after : (us : List ℕ) (xs : List Exchange) (at : ℕ) (e : Exchange) → at < length xs → e ≡ get_or xs at e
+    → (seen_of e).heard ≡ Failed → ((j : ℕ) → j < at → IsStray us xs j → ⊥) → (j : ℕ) → IsStray us xs j → ⊥
+none_after us xs at e within read failed before j s = by_order (cases_lt j at) (cases_lt at j)
+  where
+    front : s.front ≡ take j xs
+    front = sym (ap (take j) s.whole ∙ take_at s.front (s.exchange ∷ s.back) j s.index)
+
+    by_order : (j < at) ⊎ (at ≤ j) → (at < j) ⊎ (j ≤ at) → ⊥
+    by_order (inl less) h = before j less s
+    by_order (inr more) (inl later) =
+        failed_in xs j at e later within (ap (λ x. (seen_of x).heard) (sym read) ∙ failed)
+        (subst (λ l. NoFailure (seen_all l)) front s.no_failure)
+    by_order (inr more) (inr less) =
+        let same_index : j ≡ at = omega arith in
+        let same : s.exchange ≡ e
+        = sym (read ∙ ap (λ l. get_or l at e) s.whole
+        ∙ get_or_at s.front s.exchange s.back e at (s.index ∙ same_index)) in
+        s.not_failed (ap (λ x. (seen_of x).heard) same ∙ failed)
+
+-- after an exchange that neither failed nor is stray
+pub no_failure_more : (xs : List Exchange) (at : ℕ) (e : Exchange) → at < length xs → e ≡ get_or xs at e
+    → (seen_of e).heard ≢ Failed → NoFailure (seen_all (take at xs)) → NoFailure (seen_all (take (at + 1) xs))
+no_failure_more xs at e within read fine ok =
+    subst (λ l. NoFailure (seen_all l)) (sym (take_more xs at e within ∙ ap (λ x. take at xs ++ x ∷ []) (sym read)))
+    (subst NoFailure (sym (map-append seen_of (take at xs) (e ∷ [])))
+    (all_append (λ (s : Seen). s.heard ≢ Failed) (seen_all (take at xs)) (seen_of e ∷ []) ok (fine, tt)))
+
+pub none_more : (us : List ℕ) (xs : List Exchange) (at : ℕ) → ((j : ℕ) → j < at → IsStray us xs j → ⊥)
+    → (IsStray us xs at → ⊥) → (j : ℕ) → j < at + 1 → IsStray us xs j → ⊥
+none_more us xs at before never j less s = by_order (cases_lt j at)
+  where
+    by_order : (j < at) ⊎ (at ≤ j) → ⊥
+    by_order (inl earlier) = before j earlier s
+    by_order (inr later) = let same : j ≡ at = omega arith in never (subst (IsStray us xs) same s)

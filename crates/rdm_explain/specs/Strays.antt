@@ -1,0 +1,47 @@
+-- Bytes that came although no device of a list was due to send any.
+use Rattle.std.specs.Prelude.{◌≡◌, ◌≢◌, ℕ, ◌<◌, Bool, true, false, List, [], ◌∷◌, ◌++◌, length, Option, Some, None}
+use Rattle.std.specs.List.{AllByRecursion}
+use Rattle.rdm_wire.specs.Uid.{is_within}
+use Rattle.rdm_wire.specs.Honest.{LineState, Seen, HonestTo, HonestToStep, before_run}
+use Rattle.rdm_wire.specs.Honest.Asked.{Branch}
+use Rattle.rdm_wire.specs.Honest.Heard.{Failed, Silent}
+use Rattle.rdm_explain.specs.declared.exchange.Exchange.{Exchange}
+use Rattle.rdm_explain.specs.Exchanges.{seen_of, seen_all}
+
+-- a line that is honest to u leads by these exchanges from the one state to the other
+abbrev pub Leads : ℕ → LineState → List Seen → LineState → Type 0
+Leads u old [] end = old ≡ end
+Leads u old (e ∷ x) end = (new : LineState) × HonestToStep u old e.asked e.heard new × Leads u new x end
+
+-- on a line that is honest to u, it may be unmuted after these exchanges
+pub record MayBeUnmuted (u : ℕ) (x : List Seen) : Type 0 where
+  pub muted : ℕ → Bool
+  pub end : LineState
+  pub leads : Leads u (before_run muted) x end
+  pub unmuted : end.muted u ≡ false
+
+-- on a line that is honest to u, it is muted after these exchanges
+pub record IsMuted (u : ℕ) (x : List Seen) : Type 0 where
+  pub honest : HonestTo u x
+  pub muted : MayBeUnmuted u x → ⊥
+
+-- this exchange is a branch that was answered although each device of the list was outside of its range, or muted. The
+-- line hasn't failed before
+pub record IsStray (us : List ℕ) (xs : List Exchange) (at : ℕ) : Type 0 where
+  pub front : List Exchange
+  pub exchange : Exchange
+  pub back : List Exchange
+  pub whole : xs ≡ front ++ exchange ∷ back
+  pub index : length front ≡ at
+  pub no_failure : AllByRecursion (λ e. e.heard ≢ Failed) (seen_all front)
+  pub lo : ℕ
+  pub hi : ℕ
+  pub asked : (seen_of exchange).asked ≡ Branch lo hi
+  pub not_failed : (seen_of exchange).heard ≢ Failed
+  pub not_silent : (seen_of exchange).heard ≢ Silent
+  pub nobody : AllByRecursion (λ u. is_within lo hi u ≡ true → IsMuted u (seen_all front)) us
+
+-- no exchange is stray, or this is the first that is
+abbrev pub FirstStray : List ℕ → List Exchange → Option ℕ → Type 0
+FirstStray us xs None = (at : ℕ) → IsStray us xs at → ⊥
+FirstStray us xs (Some at) = IsStray us xs at × ((j : ℕ) → j < at → IsStray us xs j → ⊥)

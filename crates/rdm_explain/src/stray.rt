@@ -1,0 +1,66 @@
+//! Bytes that came although no device of a list was due to send any.
+ghost use Rattle.std.specs.Prelude.{◌≡◌, IfOk};
+ghost use Rattle.rdm_explain.specs.Exchanges.{seen_of};
+ghost use Rattle.rdm_explain.specs.Strays.{FirstStray};
+ghost use Rattle.rdm_explain.specs.body.Straying.{is_stray, is_quiet, is_quiet_one};
+
+use crate::exchange::{Asked, Exchange};
+use crate::rule::{Watched, hear_all, watch};
+use rdm_wire::{NoMemory, Uid};
+use std::alloc::Global;
+
+/// The index of the first branch that was answered although each device of a list was outside of its range, or muted. A
+/// device is muted if it followed the rules so far, and can't be unmuted by these rules. `None`: there is no such
+/// branch before the line fails. The only error: out of memory.
+pub fn first_stray(
+    alloc: Global,
+    uids: &[Uid],
+    exchanges: &[Exchange],
+) -> Result<Option<usize>, NoMemory>
+    ensures { IfOk result (λ found. FirstStray uids.now exchanges.now found) }
+{
+    let mut watched = watch(alloc, uids)?;
+    for (at, exchange) in exchanges.iter().enumerate() {
+        if exchange.heard.is_failed() {
+            return Ok(None);
+        }
+        if is_stray(&watched, exchange) {
+            return Ok(Some(at));
+        }
+        hear_all(&mut watched, at, exchange);
+    }
+    Ok(None)
+}
+
+// Whether an exchange is a branch that was answered although nobody was due.
+fn is_stray(watched: &[Watched], exchange: &Exchange) -> bool
+    ensures { result ≡ is_stray watched.now (seen_of exchange.now) }
+{
+    match exchange.asked {
+        Asked::Branch { lo, hi } if !exchange.heard.is_silent() => is_quiet(watched, lo, hi),
+        _ => false,
+    }
+}
+
+// Whether each device is outside of a range, or muted.
+fn is_quiet(watched: &[Watched], lo: Uid, hi: Uid) -> bool
+    ensures { result ≡ is_quiet lo hi watched.now }
+{
+    for device in watched {
+        if !is_quiet_one(device, lo, hi) {
+            return false;
+        }
+    }
+    true
+}
+
+// Whether a device is outside of a range, or muted.
+fn is_quiet_one(device: &Watched, lo: Uid, hi: Uid) -> bool
+    ensures { result ≡ is_quiet_one lo hi device.now }
+{
+    if lo <= device.uid && device.uid <= hi {
+        device.standing.muted && !device.standing.unmuted
+    } else {
+        true
+    }
+}
