@@ -23,7 +23,7 @@ class Queue(Held):
     Calls may be made from any thread: each holds a lock of this object. It is a context manager, which disposes of it.
     """
 
-    # Whether an exception has left `run` while a reply was awaited.
+    # Whether an exception has left `run` after it took a frame, so that its reply may be awaited.
     _is_left = False
 
     def join(self, places: int) -> "Client":
@@ -50,7 +50,10 @@ class Queue(Held):
 
     def take(self) -> Optional[bytes]:
         """The next frame for the line; None while a reply is awaited, or if there is nothing to send."""
-        frame, length = room_for(MOST_FRAME_BYTES), ctypes.c_size_t()
+        return self._take(ctypes.c_size_t())
+
+    def _take(self, length: ctypes.c_size_t) -> Optional[bytes]:
+        frame = room_for(MOST_FRAME_BYTES)
         with self._lock:
             status = self._calls.take(self._handle, frame, MOST_FRAME_BYTES, length)
         return bytes(frame[:length.value]) if given(status) else None
@@ -65,32 +68,46 @@ class Queue(Held):
     def fail(self) -> None:
         """Reports that the line failed at the last frame."""
         with self._lock:
-            self._is_left = False
             check(self._calls.fail(self._handle))
+            self._is_left = False
 
     def run(self, line: Line) -> int:
         """Sends frames on the line until there is none, and returns how many.
 
-        An exception of the line other than LineFailed passes through; its reply is then still awaited. If neither
-        `deliver` nor `fail` is called until the next call, that reports the exchange as failed, and goes on.
+        An exception of the line other than LineFailed passes through, as an interrupt does; its reply may then still be
+        awaited. If neither `deliver` nor `fail` is called until the next call, that reports the exchange as failed, and
+        goes on.
         """
-        exchanges = 0
-        if self._is_left:
+        if self._is_left and self.awaits():
             self.fail()
-        while True:
-            frame = self.take()
-            if frame is None:
-                return exchanges
-            try:
-                reply = line.exchange(frame)
-            except LineFailed:
-                self.fail()
-            except BaseException:
-                self._is_left = True
-                raise
-            else:
-                self.deliver(reply)
+        self._is_left = False
+        exchanges = 0
+        while self._exchange(line):
             exchanges += 1
+        return exchanges
+
+    def _exchange(self, line: Line) -> bool:
+        """Sends one frame, and reports what came. False: there is none."""
+        # An interrupt may come before the frame is returned, but its length is then known.
+        length = ctypes.c_size_t()
+        try:
+            frame = self._take(length)
+            if frame is None:
+                return False
+            self._report(line, frame)
+        except BaseException:
+            self._is_left = length.value > 0
+            raise
+        return True
+
+    def _report(self, line: Line, frame: bytes) -> None:
+        """Sends a frame, and delivers the reply or reports the failure."""
+        try:
+            reply = line.exchange(frame)
+        except LineFailed:
+            self.fail()
+        else:
+            self.deliver(reply)
 
     def devices(self) -> Tuple[Device, ...]:
         """The devices that the last run without fault found, ascending by UID."""

@@ -77,8 +77,21 @@ class Meeting(TestCase):
 
     def test_a_device_that_does_not_answer(self) -> None:
         with folder() as locks, Emulator(ListLine(), Widget(hangs_after=0)) as emulator:
+            began = time.monotonic()
             with self.assertRaisesRegex(LineFailed, "doesn't answer"):
                 EnttecPro(emulator.path, locks)
+            self.assertLess(time.monotonic() - began, SLOW)
+
+    def test_a_serial_number_that_is_late_or_lost(self) -> None:
+        script = Script()
+        script.deaf = 1
+        threading.Timer(0.5, script.say, [Message(Label.SERIAL_NUMBER, b"\x04\x03\x02\x01").encode()]).start()
+        with folder() as locks, EnttecPro(script.path, locks) as driver:
+            self.assertEqual((driver.serial, driver.firmware), (0x01020304, (2, 4)))
+        script = Script()
+        script.deaf = 1
+        with folder() as locks, EnttecPro(script.path, locks) as driver:
+            self.assertEqual((driver.serial, driver.firmware), (0x01020304, (2, 4)))
 
     def test_short_answers_are_no_answers(self) -> None:
         for keys in ({"serial": b"\x01\x02\x03"}, {"serial": b""}):

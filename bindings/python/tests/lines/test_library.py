@@ -9,7 +9,8 @@ import subprocess
 import sys
 import unittest
 from pathlib import Path
-from typing import Any, List, Tuple
+from typing import Any, Iterator, List, Optional, Tuple
+from unittest import mock
 
 from common import (
     FIRMWARES, LOSSES, PACKAGE, ROOT, SEEDS, SEEDS_OF_LARGE_RIGS, TestCase, adapter, needs_library, one, random_scene,
@@ -18,6 +19,7 @@ from common import (
 from search import Controller as OwnController
 from test_discovery import GETS, WASH
 from wurstlinen import commands
+from wurstlinen.line import LineFailed
 from wurstlinen.lines import Rig
 from wurstlinen.lines.emulator import Widget
 from wurstlinen.lines.packets import parse_uid
@@ -100,6 +102,20 @@ class Discoveries(TestCase):
         self.check(40, 0.5, SEEDS_OF_LARGE_RIGS)
 
 
+@contextlib.contextmanager
+def interrupted(queue: Any, name: str, is_done: bool) -> Iterator[None]:
+    """An interrupt at the first call of the library with this name, before or after it has done its work."""
+    real = getattr(queue._calls, name)
+
+    def call(*arguments: Any) -> None:
+        if is_done:
+            real(*arguments)
+        raise KeyboardInterrupt
+
+    with mock.patch.object(queue._calls, name, call, create=True):
+        yield
+
+
 @needs_library
 class Exceptions(TestCase):
     """A line that raises something else than LineFailed."""
@@ -107,8 +123,8 @@ class Exceptions(TestCase):
     class Broken:
         """It raises this at its first exchange, and is a rig afterwards."""
 
-        def __init__(self, error: BaseException) -> None:
-            self._errors = [error]
+        def __init__(self, error: Optional[BaseException]) -> None:
+            self._errors = [] if error is None else [error]
             self._rig = Rig(one(label="Lamp"))
 
         def exchange(self, frame: bytes) -> bytes:
@@ -131,6 +147,40 @@ class Exceptions(TestCase):
                 first, second = client.next_completion(), client.next_completion()
                 self.assertEqual((first.status, second.status), (Status.FAILED_TO_SEND, Status.COMPLETED))
                 self.assertEqual((second.data, controller.run(line)), (b"Lamp", 0))
+
+    def test_an_interrupt_in_each_step_of_a_run(self) -> None:
+        """Before and after each call of the library, and in the exchange: the next run goes on."""
+        from wurstlinen import Controller, Status, Uid
+        for name in ("take", "deliver", "fail"):
+            for is_done in (False, True):
+                with Controller(Uid.parse(SOURCE)) as controller:
+                    client = controller.join(2)
+                    for _ in range(2):
+                        client.get(Uid.parse("1234:00000001"), 0x0082)
+                    line = self.Broken(LineFailed() if name == "fail" else None)
+                    with interrupted(controller, name, is_done), self.assertRaises(KeyboardInterrupt):
+                        controller.run(line)
+                    controller.run(line)
+                    self.assertFalse(controller.awaits())
+                    statuses = [client.next_completion().status for _ in range(2)]
+                    self.assertEqual(statuses[1], Status.COMPLETED, (name, is_done))
+                    client.get(Uid.parse("1234:00000001"), 0x0082)
+                    self.assertEqual(controller.run(line), 1)
+
+    def test_a_run_of_another_thread_is_left_alone(self) -> None:
+        """While one run's exchange is under way, another one sends nothing, and reports nothing."""
+        from wurstlinen import Controller, Status, Uid
+        with Controller(Uid.parse(SOURCE)) as controller:
+            client, rig, runs = controller.join(1), Rig(one(label="Lamp")), []
+
+            class Twice:
+                def exchange(self, frame: bytes) -> bytes:
+                    runs.append(controller.run(rig))
+                    return rig.exchange(frame)
+
+            client.get(Uid.parse("1234:00000001"), 0x0082)
+            self.assertEqual((controller.run(Twice()), runs), (1, [0]))
+            self.assertEqual(client.next_completion().status, Status.COMPLETED)
 
     def test_its_reply_may_still_be_delivered(self) -> None:
         from wurstlinen import Controller, Status, Uid

@@ -3,17 +3,20 @@ from __future__ import annotations
 
 import io
 import os
+import select
 import sys
 import threading
 import time
 import unittest
-from typing import BinaryIO, List, Optional, Tuple
+from typing import BinaryIO, List, Optional, Set, Tuple
 from unittest import mock
 
-from common import ListLine, TestCase, folder
+from common import ListLine, TestCase, folder, random_scene, uids_of
+from search import Controller
 from wurstlinen.line import LineFailed
-from wurstlinen.lines import TextLine, open_line, serve_text
+from wurstlinen.lines import Rig, TextLine, open_line, serve_text
 from wurstlinen.lines.packets import Packet
+from wurstlinen.lines.streams import LineReader
 
 LAMP = 0x123400000001
 FRAME = bytes(range(26))
@@ -117,6 +120,18 @@ def line_of(reply: bytes) -> bytes:
     return reply.hex().encode() + b"\n"
 
 
+def fill(pipe: int) -> int:
+    """Fills a pipe, and returns with how many bytes."""
+    os.set_blocking(pipe, False)
+    filled = 0
+    try:
+        while True:
+            filled += os.write(pipe, bytes(4096))
+    except BlockingIOError:
+        os.set_blocking(pipe, True)
+    return filled
+
+
 class Limits(TestCase):
     """Far ends that are too slow, write too much, or write a line too many."""
 
@@ -140,12 +155,119 @@ class Limits(TestCase):
                 pipes.answers(b"02\n")
                 self.assertEqual(pipes.line.exchange(FRAME), b"\x02")
 
-    def test_an_answer_that_never_comes_is_given_up(self) -> None:
-        with Pipes(0.3) as pipes:
-            pipes.answers(b"", b"02\n")
-            with self.assertRaises(LineFailed):
+    def test_nothing_is_sent_while_an_answer_is_owed(self) -> None:
+        """Whenever it comes, it is the earlier frame's, so it is never given up."""
+        with Pipes(0.01) as pipes:
+            with self.assertRaisesRegex(LineFailed, "didn't answer within 0.01 seconds"):
                 pipes.line.exchange(FRAME)
+            for _ in range(40):
+                with self.assertRaisesRegex(LineFailed, "didn't answer an earlier frame within 0.01 seconds"):
+                    pipes.line.exchange(bytes(26))
+            self.assertEqual(pipes.frames.read(1000), line_of(FRAME))
+            pipes.line._seconds = 5.0
+            pipes.replies.write(b"01\n")
+            pipes.answers(b"02\n")
             self.assertEqual(pipes.line.exchange(FRAME), b"\x02")
+
+    def test_a_far_end_that_stands_still_once(self) -> None:
+        """Replies that are late by several exchanges shift none: each is the right one, or the exchange fails."""
+        with Pipes(0.02) as pipes:
+            threading.Thread(target=self.echo, args=(pipes, 0.3), daemon=True).start()
+            sent = right = 0
+            while right < 100:
+                frame = bytes(25) + bytes([sent % 256])
+                sent += 1
+                try:
+                    self.assertEqual(pipes.line.exchange(frame), frame)
+                    right += 1
+                except LineFailed:
+                    pass
+            self.assertGreater(sent, right)
+
+    def test_discoveries_behind_a_far_end_that_stands_still_once(self) -> None:
+        made = random_scene(5, 0, 0.0)
+        with Pipes(5.0) as pipes:
+            stands = threading.Event()
+            threading.Thread(target=self.serve_slowly, args=(pipes, Rig(made), stands), daemon=True).start()
+            self.assertEqual(self.discover(pipes.line), uids_of(made))
+            pipes.line._seconds = 0.05
+            stands.set()
+            ends: List[Optional[Set[int]]] = []
+            while ends[-3:] != [uids_of(made)] * 3:
+                ends.append(self.discover(pipes.line))
+                self.assertIn(ends[-1], (None, uids_of(made)))
+            self.assertIn(None, ends)
+
+    def discover(self, line: TextLine) -> Optional[Set[int]]:
+        """What a discovery finds; None if an exchange failed."""
+        try:
+            return Controller(line).discover()
+        except LineFailed:
+            return None
+
+    def serve_slowly(self, pipes: Pipes, rig: Rig, stands: threading.Event) -> None:
+        """The far end of a rig, which stands still once for a second when it is told to."""
+        with open(pipes.frames.fileno(), "rb", closefd=False) as frames:
+            for text in frames:
+                if stands.is_set():
+                    time.sleep(1.0)
+                    stands.clear()
+                time.sleep(0.003)
+                pipes.replies.write(line_of(rig.exchange(bytes.fromhex(text.decode()))))
+
+    def echo(self, pipes: Pipes, seconds: float) -> None:
+        """A far end that answers each frame by itself, a little later, and begins after so many seconds."""
+        time.sleep(seconds)
+        with open(pipes.frames.fileno(), "rb", closefd=False) as frames:
+            for text in frames:
+                time.sleep(0.003)
+                pipes.replies.write(text)
+
+    def test_a_far_end_that_is_started_again(self) -> None:
+        """A frame that the first one read is never answered, and one that it didn't read is answered by the next."""
+        for is_read in (True, False):
+            with folder() as directory:
+                names = [str(directory / name) for name in ("frames", "replies")]
+                for name in names:
+                    os.mkfifo(name)
+                ends = [os.open(name, os.O_RDWR) for name in names]
+                with TextLine.open(*names, seconds=5.0) as line:
+                    self.end_within_an_exchange(line, ends, is_read)
+                    thread = threading.Thread(target=self.serve_again, args=names)
+                    thread.start()
+                    self.assertEqual(self.first_reply(line, bytes(25) + b"\x07"), bytes(25) + b"\x07")
+                thread.join()
+
+    def end_within_an_exchange(self, line: TextLine, ends: List[int], is_read: bool) -> None:
+        """Closes these ends of a line while it waits for a reply, after or without reading the frame."""
+        def end() -> None:
+            wait = select.poll()
+            wait.register(ends[0], select.POLLIN)
+            wait.poll()
+            if is_read:
+                os.read(ends[0], 1000)
+            for each in ends[::-1]:
+                os.close(each)
+
+        thread = threading.Thread(target=end)
+        thread.start()
+        with self.assertRaisesRegex(LineFailed, "the far end ended"):
+            line.exchange(FRAME)
+        thread.join()
+
+    def first_reply(self, line: TextLine, frame: bytes) -> bytes:
+        """The reply to a frame as soon as somebody is there to answer it."""
+        while True:
+            try:
+                return line.exchange(frame)
+            except LineFailed:
+                time.sleep(0.01)
+
+    def serve_again(self, frames: str, replies: str) -> None:
+        """A far end that answers each frame by itself until there are no more."""
+        with open(frames, "rb") as reader, open(replies, "wb", buffering=0) as writer:
+            for text in reader:
+                writer.write(text)
 
     def test_the_answer_of_an_interrupted_exchange_is_dropped(self) -> None:
         with Pipes() as pipes:
@@ -155,11 +277,39 @@ class Limits(TestCase):
             pipes.answers(b"01\n", b"02\n")
             self.assertEqual(pipes.line.exchange(FRAME), b"\x02")
 
+    def test_a_frame_that_an_interrupt_kept_from_being_sent(self) -> None:
+        with Pipes(5.0) as pipes:
+            with mock.patch.object(pipes.line, "_frames", mock.Mock(wraps=pipes.line._frames)) as frames:
+                frames.flush.side_effect = KeyboardInterrupt
+                with self.assertRaises(KeyboardInterrupt):
+                    pipes.line.exchange(FRAME)
+            pipes.answers(b"01\n", b"02\n")
+            self.assertEqual(pipes.line.exchange(FRAME), b"\x02")
+
+    def test_an_interrupt_after_a_line_was_read(self) -> None:
+        with Pipes(0.3) as pipes:
+            real = LineReader.read
+
+            def read(reader: LineReader, end: Optional[float] = None) -> Optional[bytes]:
+                real(reader, end)
+                raise KeyboardInterrupt
+
+            pipes.answers(b"01\n", b"02\n")
+            with mock.patch.object(LineReader, "read", read), self.assertRaises(KeyboardInterrupt):
+                pipes.line.exchange(FRAME)
+            self.assertEqual(pipes.line.exchange(FRAME), b"\x02")
+
     def test_a_far_end_that_does_not_read(self) -> None:
         with Pipes(0.001) as pipes:
+            filled = fill(pipes.line._frames.fileno())
             for _ in range(300):
                 with self.assertRaises(LineFailed):
                     pipes.line.exchange(bytes(257))
+            # None of these frames was sent, so no line is owed.
+            self.assertEqual(len(pipes.frames.read(2 * filled)), filled)
+            pipes.line._seconds = 5.0
+            pipes.answers(b"01\n")
+            self.assertEqual(pipes.line.exchange(FRAME), b"\x01")
 
     def test_a_line_too_many(self) -> None:
         """It shifts no reply for longer than one exchange, whenever it comes."""

@@ -21,9 +21,10 @@ from .terminal import LOCK_FOLDER, Terminal
 # How long an exchange may take, and the answer to a question about the adapter itself.
 EXCHANGE_SECONDS = 2.0
 ANSWER_SECONDS = 0.2
-# After an exchange without an end the adapter is asked twice, and has this time for each answer.
-SETTLE_TRIES = 2
-SETTLE_SECONDS = 0.9
+# The adapter is asked for its serial number twice at most, and has this time for each answer: what isn't an adapter is
+# known after two seconds, and an answer may be late on a busy machine.
+SERIAL_NUMBER_TRIES = 2
+SERIAL_NUMBER_SECONDS = 0.9
 # How long the driver waits for the end of an answered exchange until it knows whether the adapter sends one.
 SHORT_SECONDS = 0.1
 # After this time without bytes, whole messages are searched for behind an incomplete one.
@@ -52,7 +53,8 @@ class EnttecPro(OpenLine):
     """The adapter on this serial device, port 1.
 
     An exchange opens the device again if it was closed, or if it was unplugged. Questions about the adapter itself have
-    `answer_seconds` for their answer. Calls may be made from any thread: each waits for the one before it.
+    `answer_seconds` for their answer; the first one, for its serial number, has 0.9 seconds at least, and is asked
+    twice if it has to be. Calls may be made from any thread: each waits for the one before it.
     """
 
     def __init__(self, path: str, lock_folder: Path = LOCK_FOLDER, answer_seconds: float = ANSWER_SECONDS) -> None:
@@ -138,7 +140,7 @@ class EnttecPro(OpenLine):
 
     def _meet(self) -> None:
         """Asks for the serial number, the firmware and the maker."""
-        serial = self._ask(Label.SERIAL_NUMBER, b"", SERIAL_NUMBER_BYTES, self._answer_seconds)
+        serial = self._ask_serial_number(max(self._answer_seconds, SERIAL_NUMBER_SECONDS))
         if serial is None:
             raise LineFailed(f"{self.path} doesn't answer as a USB Pro does")
         self.serial = int.from_bytes(serial[:SERIAL_NUMBER_BYTES], "little")
@@ -174,14 +176,20 @@ class EnttecPro(OpenLine):
                 return message.data
             self._note_late_end(message)
 
-    def _settle(self) -> None:
-        """Asks for the serial number: all that comes before the answer belongs to earlier exchanges."""
-        for _ in range(SETTLE_TRIES):
-            if self._ask(Label.SERIAL_NUMBER, b"", SERIAL_NUMBER_BYTES, SETTLE_SECONDS) is not None:
-                self._is_in_doubt = False
-                return
+    def _ask_serial_number(self, seconds: float) -> Optional[bytes]:
+        """The adapter's serial number: all that comes before it belongs to earlier exchanges."""
+        for _ in range(SERIAL_NUMBER_TRIES):
+            serial = self._ask(Label.SERIAL_NUMBER, b"", SERIAL_NUMBER_BYTES, seconds)
+            if serial is not None:
+                return serial
             self._clear()
-        raise LineFailed(f"{self.path} doesn't answer any more")
+        return None
+
+    def _settle(self) -> None:
+        """Makes sure that nothing of earlier exchanges is still to come."""
+        if self._ask_serial_number(SERIAL_NUMBER_SECONDS) is None:
+            raise LineFailed(f"{self.path} doesn't answer any more")
+        self._is_in_doubt = False
 
     def _reply(self, frame: bytes) -> bytes:
         """The reply to a frame that isn't a branch: a good response, or what came before the end."""

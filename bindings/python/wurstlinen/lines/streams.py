@@ -1,9 +1,11 @@
 """Lines of text from a stream whose other end may be slow, wrong or gone."""
 from __future__ import annotations
 
+import fcntl
 import os
 import select
 import stat
+import termios
 import time
 from typing import BinaryIO, Optional
 
@@ -14,6 +16,8 @@ MOST_LINE_BYTES = 2 * MOST_REPLY_BYTES + 2
 # Longer lines than the longest are cut off, but one that doesn't end isn't read for ever.
 MOST_BYTES_TO_SKIP = 1 << 22
 READ_BYTES = 4096
+# The size of the number that FIONREAD gives.
+INT_BYTES = 4
 
 
 class TooLate(OSError):
@@ -37,6 +41,8 @@ class LineReader:
         self._stream = stream
         # Whether the stream's lines come one after another.
         self.is_pipe = _is_pipe(stream)
+        # How many lines were read. An interrupt may keep a line that is counted from being returned.
+        self.lines_read = 0
         self._ready = _poll(stream, select.POLLIN)
         self._left = bytearray()
         # How many bytes of the line at the front were dropped.
@@ -86,6 +92,8 @@ class LineReader:
             self._skip()
             return None
         line, skipped, self._skipped = bytes(self._left[:index + 1]), self._skipped, 0
+        # Counted first: a line that is counted and not taken is dropped later, and one that was taken isn't awaited.
+        self.lines_read += 1
         del self._left[:index + 1]
         if skipped or len(line) > MOST_LINE_BYTES:
             return line[:MOST_LINE_BYTES]
@@ -103,6 +111,14 @@ def wait_to_write(stream: BinaryIO, end: Optional[float]) -> None:
     """Waits until a stream takes a line, at most until the time `end`."""
     if end is not None and not _is_ready(_poll(stream, select.POLLOUT), end):
         raise TooLate
+
+
+def has_unread(stream: BinaryIO) -> bool:
+    """Whether a stream is a pipe with bytes that its other end hasn't read."""
+    try:
+        return any(fcntl.ioctl(stream.fileno(), termios.FIONREAD, bytes(INT_BYTES)))
+    except (OSError, ValueError):
+        return False
 
 
 def _is_pipe(stream: BinaryIO) -> bool:

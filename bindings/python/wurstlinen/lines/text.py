@@ -16,7 +16,7 @@ from typing import BinaryIO, Optional, Sequence, Tuple, Union
 from ..line import MOST_REPLY_BYTES, Line, LineFailed
 from .base import OpenLine
 from .packets import decode_branch_reply, decode_packet, is_answer, is_branch_frame, is_broadcast_frame
-from .streams import LineReader, TooLate, wait_to_write
+from .streams import LineReader, TooLate, has_unread, wait_to_write
 
 LEAST_FRAME_BYTES = 26
 MOST_FRAME_BYTES = 257
@@ -32,6 +32,9 @@ class TextLine(OpenLine):
 
     Frames are written to one stream, and replies are read from the other; both are binary. If `seconds` is given, an
     exchange that takes longer fails. Calls of `exchange` may be made from any thread: each waits for the one before it.
+
+    A line of text doesn't say which frame it answers, so it is known by its order alone. As long as the far end owes
+    the line for an earlier frame, exchanges send nothing and fail.
     """
 
     def __init__(self, frames: BinaryIO, replies: BinaryIO, seconds: Optional[float] = None) -> None:
@@ -40,8 +43,8 @@ class TextLine(OpenLine):
         self._reader = LineReader(replies)
         self._seconds = seconds
         self._calls = threading.Lock()
-        # Whether the last frame's line is still to come.
-        self._is_owed = False
+        # How many lines had been read when the last frame was sent. Its own is owed until that number changes.
+        self._read_before: Optional[int] = None
         self._program: Optional[subprocess.Popen[bytes]] = None
 
     @classmethod
@@ -77,11 +80,13 @@ class TextLine(OpenLine):
     def exchange(self, frame: bytes) -> bytes:
         """Writes the frame's line, and reads the line that answers it."""
         with self._calls:
+            which = "an earlier frame "
             try:
                 self._catch_up()
+                which = ""
                 reply = self._ask(frame)
             except TooLate:
-                raise LineFailed(f"the far end didn't answer within {self._seconds:g} seconds") from None
+                raise LineFailed(f"the far end didn't answer {which}within {self._seconds:g} seconds") from None
             except (OSError, ValueError) as error:
                 raise LineFailed(f"the far end can't be reached: {error}") from error
         return reply
@@ -90,40 +95,46 @@ class TextLine(OpenLine):
         """When an exchange that begins now has to be done."""
         return None if self._seconds is None else time.monotonic() + self._seconds
 
+    def _is_owed(self) -> bool:
+        """Whether the line for an earlier frame is still to come."""
+        return self._reader.lines_read == self._read_before
+
     def _catch_up(self) -> None:
-        """Drops the lines that answer earlier frames, and those that answer none."""
-        if self._is_owed:
-            try:
-                self._reader.read(self._end())
-            except TooLate:
-                pass
-            self._is_owed = False
+        """Drops the line that answers an earlier frame, once it has come, and those that answer none."""
+        if self._is_owed():
+            # An interrupt may have left some of its frame in the stream's buffer.
+            end = self._end()
+            wait_to_write(self._frames, end)
+            self._frames.flush()
+            self._read(end)
         self._reader.drop()
 
     def _ask(self, frame: bytes) -> bytes:
         """The reply to a frame. A line that can't be its reply is dropped if another one follows soon."""
         end = self._end()
         wait_to_write(self._frames, end)
+        self._read_before = self._reader.lines_read
         self._frames.write(frame.hex().encode() + b"\n")
         self._frames.flush()
-        self._is_owed = True
-        reply = self._next(end)
+        reply = parse_hex(self._read(end))
         while reply is not None and _is_late(reply, frame) and self._reader.is_pipe:
             try:
-                reply = self._next(time.monotonic() + LATE_SECONDS)
+                reply = parse_hex(self._read(time.monotonic() + LATE_SECONDS))
             except TooLate:
                 break
         if reply is None:
             raise LineFailed("the far end's exchange failed")
         return reply
 
-    def _next(self, end: Optional[float]) -> Optional[bytes]:
-        """The bytes of the next line; None if it isn't hexadecimal."""
+    def _read(self, end: Optional[float]) -> bytes:
+        """The next line."""
         text = self._reader.read(end)
-        self._is_owed = False
         if text is None:
+            # A far end that has ended owes nothing. The next one may answer a frame that this one didn't read.
+            if not has_unread(self._frames):
+                self._read_before = None
             raise LineFailed("the far end ended")
-        return parse_hex(text)
+        return text
 
     def close(self) -> None:
         """Closes both streams, and ends the command if there is one."""
