@@ -11,6 +11,8 @@ namespace stand_in {
 // Why the line failed, where it is said in several places.
 constexpr const char *NOT_SENT = "the adapter couldn't send a frame";
 constexpr const char *OUT_OF_STEP = "the adapter's answers may be those of earlier frames";
+// Compared by its address.
+inline constexpr char LATE[] = "the adapter didn't answer for a second";
 
 // What the core gets after a frame: the bytes that came (none are silence), or that the line failed.
 struct Heard {

@@ -215,7 +215,7 @@ Heard Below::judged(Heard heard) {
     const bool is_unexplained = heard.failure == nullptr || heard.status == RDM_FAILED_TO_SEND;
     if (is_silent && is_unexplained && sent_.kind != WURST_REQUEST) {
         if (heard.is_late) {
-            heard.failure = "the adapter didn't answer for a second";
+            heard.failure = LATE;
         } else if (is_sending_ && class_ == ANSWERS_LATER) {
             heard.failure = NOT_SENT;
         }
@@ -260,7 +260,7 @@ void Below::replied(RDMReply *reply) {
     if (kind_ == Kind::Check) {
         answer = judged_check(std::move(answer));
         const bool is_absent = answer.failure != nullptr && answer.status == RDM_TIMEOUT && !answer.is_late;
-        is_absent && !unchecked_.empty() ? check_next() : checked(answer);
+        is_absent && !unchecked_.empty() ? check_more() : checked(answer);
     } else {
         heard(judged(std::move(answer)), sent_.kind == WURST_REQUEST ? reply : nullptr);
     }

@@ -32,7 +32,7 @@ protected:
     // Whether a discovery's frame, or a check of the line, is under way.
     bool is_discovering() const;
     // What the last frame of the core was.
-    std::uint32_t sent_kind() const { return sent_.kind; }
+    const wurst_command &sent() const { return sent_; }
     static bool is_request(const wurst::Frame &frame);
 
     // Sends the core's frame. If the frame is a request's, `request` is the client's request, of which a copy is sent.
@@ -44,6 +44,7 @@ protected:
     // Checks by mutes of these devices, and of the one that answered last, whether answers are those of their own
     // frames. False: that can't be told yet.
     bool check_answers(std::vector<ola::rdm::UID> devices);
+    void check_next();
     // Checks by a mute that no device answers whether the adapter still sends.
     void check_adapter();
     // Begins the adapter's own discovery.
@@ -56,6 +57,8 @@ protected:
     virtual void heard(const Heard &heard, const ola::rdm::RDMReply *reply) = 0;
     virtual void handed_back(ola::rdm::RDMReply *reply) = 0;
     virtual void checked(const Heard &heard) = 0;
+    // A device didn't answer its check, and `check_next` sends that of another one.
+    virtual void check_more() = 0;
     virtual void found(const ola::rdm::UIDSet &devices) = 0;
     // Keeps this object until the call of the layer below has returned.
     virtual std::shared_ptr<void> kept() = 0;
@@ -68,7 +71,6 @@ private:
     Bridge choose() const;
     Exchange *begin(Kind kind);
     template <typename Answer> void end(Exchange *exchange, Answer answer);
-    void check_next();
     void mute_down(const ola::rdm::UID &uid);
     Heard judged(Heard heard);
     Heard judged_check(Heard heard);

@@ -4,8 +4,11 @@
 #include "journal.hpp"
 #include <cerrno>
 #include <cstdio>
+#include <cstdlib>
 #include <cstring>
 #include <fcntl.h>
+#include <memory>
+#include <new>
 #include <unistd.h>
 #include <utility>
 
@@ -24,7 +27,7 @@ bool LogFile::add(const std::string &lines) {
     if (!prepare(lines.size() + 1)) {
         return false;
     }
-    const int fault = write_whole(is_torn_ ? '\n' + lines : lines);
+    const int fault = is_torn_ ? write_whole('\n' + lines) : write_whole(lines);
     if (fault != 0) {
         return fail(std::strerror(fault));
     }
@@ -81,12 +84,19 @@ void LogFile::close() {
     }
 }
 
+// The file's own name, if this is a symbolic link to it.
+static std::string real_name(const std::string &name) {
+    const std::unique_ptr<char, decltype(&std::free)> real(realpath(name.c_str(), nullptr), std::free);
+    return real ? real.get() : name;
+}
+
 bool LogFile::make_room(std::size_t bytes) {
     struct stat now {};
     if (most_bytes_ == 0 || (fstat(file_, &now) == 0 && (now.st_size == 0 || now.st_size + bytes <= most_bytes_))) {
         return true;
     }
-    if (std::rename(name_.c_str(), (name_ + ".1").c_str()) != 0) {
+    const std::string real = real_name(name_);
+    if (std::rename(real.c_str(), (real + ".1").c_str()) != 0) {
         return fail("it has reached its limit, and can't be renamed: " + std::string(std::strerror(errno)));
     }
     return open();
@@ -123,20 +133,23 @@ void LogFile::take_back(std::size_t bytes) {
 
 bool LogFile::fail(const std::string &why) {
     const auto now = Clock::now();
-    if (!is_failing_ && (!last_told_ || now - *last_told_ >= between_messages_)) {
+    if (!is_told_ && (!last_told_ || now - *last_told_ >= between_messages_)) {
         tell("WURSTLINEN_LOG=" + name_, Level::Warn, why + "; records are lost until it can be written");
         last_told_ = now;
         is_told_ = true;
     }
-    is_failing_ = true;
     return false;
 }
 
 void LogFile::succeed() {
-    if (is_told_) {
-        tell("WURSTLINEN_LOG=" + name_, Level::Inform, "it is written again");
+    if (!is_told_) {
+        return;
     }
-    is_failing_ = false;
-    is_told_ = false;
+    try {
+        tell("WURSTLINEN_LOG=" + name_, Level::Inform, "it is written again");
+        is_told_ = false;
+    } catch (const std::bad_alloc &) {
+        // The lines are written. The next ones try again to report it.
+    }
 }
 } // namespace stand_in

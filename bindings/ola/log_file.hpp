@@ -13,15 +13,16 @@ class LogFile {
 public:
     using Clock = std::chrono::steady_clock;
 
-    // If lines would make the file longer than `most_bytes`, it is first renamed to NAME.1. 0: no limit. A disk that is
+    // If lines would make the file longer than `most_bytes`, it is first renamed to NAME.1. 0: no limit. If the name is
+    // a symbolic link, that happens to the file that it names. A disk that is
     // full now and then is reported once in this time.
     LogFile(std::string name, std::uint64_t most_bytes, Clock::duration between_messages = std::chrono::minutes(1));
     ~LogFile();
     LogFile(const LogFile &) = delete;
     LogFile &operator=(const LogFile &) = delete;
 
-    // Adds lines: all of them, or none. False: the file can't be written now. The first of several failures in a row is
-    // reported.
+    // Adds lines: all of them, or none. False: the file can't be written now. One of several failures in a row is
+    // reported: the first, unless another one was reported shortly before.
     bool add(const std::string &lines);
 
 private:
@@ -41,8 +42,7 @@ private:
     int file_ = -1;
     // The file may end within a line, so the next one begins with a newline.
     bool is_torn_ = false;
-    // Whether the last lines couldn't be written, and whether that was reported.
-    bool is_failing_ = false;
+    // Whether it was reported that it can't be written.
     bool is_told_ = false;
     std::optional<Clock::time_point> last_told_;
 };

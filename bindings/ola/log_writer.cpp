@@ -1,18 +1,22 @@
 #include "log_writer.hpp"
 #include "journal.hpp"
-#include "log_file.hpp"
 #include <csignal>
+#include <exception>
 #include <initializer_list>
-#include <system_error>
+#include <new>
+#include <string_view>
 #include <utility>
 
 namespace stand_in {
 
 constexpr std::chrono::milliseconds BETWEEN_LOOKS{1};
 
-LogWriter::LogWriter(Options options) : options_(std::move(options)), state_(new State) {
-    state_->queue.reserve(options_.queue_bytes);
+LogWriter::State::State(const Options &options) : file(options.name, options.most_bytes) {
+    queue.reserve(options.queue_bytes);
+    taken.lines.reserve(options.queue_bytes);
 }
+
+LogWriter::LogWriter(Options options) : options_(std::move(options)), state_(new State(options_)) {}
 
 LogWriter::~LogWriter() {
     {
@@ -48,10 +52,7 @@ void LogWriter::flush(std::chrono::milliseconds most) const {
 }
 
 // The old state stays allocated: it can't be destroyed, since its thread and perhaps its lock are the parent's.
-void LogWriter::forget() {
-    state_ = new State;
-    state_->queue.reserve(options_.queue_bytes);
-}
+void LogWriter::forget() { state_ = new State(options_); }
 
 // All signals that don't come from a fault of the thread itself go to OLA's threads.
 static sigset_t other_signals() {
@@ -72,8 +73,8 @@ bool LogWriter::is_started(State &state) const {
     sigset_t before;
     pthread_sigmask(SIG_SETMASK, &blocked, &before);
     try {
-        state.thread = std::thread([this, &state] { run(state); });
-    } catch (const std::system_error &fault) {
+        state.thread = std::thread([&state] { run(state); });
+    } catch (const std::exception &fault) {
         if (!state.has_told) {
             state.has_told = true;
             tell("WURSTLINEN_LOG=" + options_.name, Level::Warn, "no thread to write it: " + std::string(fault.what()));
@@ -85,36 +86,46 @@ bool LogWriter::is_started(State &state) const {
 
 static std::string lost_record(std::uint64_t lost) { return stamp() + ",\"lost\":" + json(lost) + "}\n"; }
 
+// Adds a line, or nothing, behind the count of those that were lost before it. `text` is used for that. False: the file
+// can't be written now, or there is no memory.
+static bool add_behind_lost(LogFile &file, std::uint64_t lost, std::string_view line, std::string &text) {
+    try {
+        text = lost > 0 ? lost_record(lost) : "";
+        text += line;
+        return file.add(text);
+    } catch (const std::bad_alloc &) {
+        return false;
+    }
+}
+
 // Adds lines one by one. `lost` counts those that couldn't be written since the last one that could.
-static void write_lines(LogFile &file, const std::string &lines, std::uint64_t &lost) {
+static void write_lines(LogFile &file, std::string_view lines, std::uint64_t &lost, std::string &text) {
     for (std::size_t at = 0; at < lines.size();) {
         const std::size_t end = lines.find('\n', at) + 1;
-        const std::string line = lines.substr(at, end - at);
-        lost = file.add(lost > 0 ? lost_record(lost) + line : line) ? 0 : lost + 1;
+        lost = add_behind_lost(file, lost, lines.substr(at, end - at), text) ? 0 : lost + 1;
         at = end;
     }
 }
 
-void LogWriter::run(State &state) const {
+void LogWriter::run(State &state) {
     // OLA's threads may have a real-time policy, which the disk doesn't need.
     const sched_param none{};
     pthread_setschedparam(pthread_self(), SCHED_OTHER, &none);
-    LogFile file(options_.name, options_.most_bytes);
-    Taken taken;
-    taken.lines.reserve(options_.queue_bytes);
+    std::string text;
     std::uint64_t lost = 0;
-    while (take(state, taken)) {
-        write_lines(file, taken.lines, lost);
-        lost += taken.lost;
-        if (lost > 0 && file.add(lost_record(lost))) {
+    while (take(state)) {
+        write_lines(state.file, state.taken.lines, lost, text);
+        lost += state.taken.lost;
+        if (lost > 0 && add_behind_lost(state.file, lost, "", text)) {
             lost = 0;
         }
-        state.done += taken.count;
+        state.done += state.taken.count;
     }
 }
 
 // Waits for lines. False: there are none, and there won't be more.
-bool LogWriter::take(State &state, Taken &taken) const {
+bool LogWriter::take(State &state) {
+    Taken &taken = state.taken;
     std::unique_lock<std::mutex> locked(state.guard);
     const auto has_lines = [&state] { return !state.queue.empty() || state.lost > 0; };
     state.wake.wait(locked, [&] { return has_lines() || state.is_ending; });

@@ -1,5 +1,6 @@
 // The log's writer: a bounded queue and one thread, so that no caller waits for a disk.
 #pragma once
+#include "log_file.hpp"
 #include <atomic>
 #include <chrono>
 #include <condition_variable>
@@ -25,7 +26,8 @@ public:
     LogWriter &operator=(const LogWriter &) = delete;
 
     // Queues a line that ends with a newline, on any thread. The first one starts the writer's thread. If the queue is
-    // full, the line is lost and counted. The count is written as a record where lines are missing.
+    // full, or if there is no memory, the line is lost and counted. The count is written as a record where lines are
+    // missing.
     void add(const std::string &line);
     // Waits until the lines that were added have been written or lost, but at most this long. It takes no lock, so it
     // can be called in each state of the process.
@@ -34,7 +36,15 @@ public:
     void forget();
 
 private:
+    // What the thread takes out of the queue at once.
+    struct Taken {
+        std::string lines;
+        std::uint64_t lost = 0;
+        std::uint64_t count = 0;
+    };
     struct State {
+        explicit State(const Options &options);
+
         std::mutex guard;
         std::condition_variable wake;
         std::string queue;
@@ -44,17 +54,14 @@ private:
         std::thread thread;
         std::atomic<std::uint64_t> added{0}; // lines
         std::atomic<std::uint64_t> done{0};  // lines that are written or lost
-    };
-    // What the thread takes out of the queue at once.
-    struct Taken {
-        std::string lines;
-        std::uint64_t lost = 0;
-        std::uint64_t count = 0;
+        // The thread's own, which it has from the start: an exception there would end the process.
+        LogFile file;
+        Taken taken;
     };
 
     bool is_started(State &state) const;
-    void run(State &state) const;
-    bool take(State &state, Taken &taken) const;
+    static void run(State &state);
+    static bool take(State &state);
 
     const Options options_;
     State *state_;

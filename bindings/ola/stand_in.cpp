@@ -9,7 +9,7 @@ using namespace ola::rdm;
 // or a client's own UID looks like a reply to a frame of the core.
 constexpr wurst::Uid SOURCE{0x7ff0, 0x00000001};
 constexpr unsigned int HEADER_BYTES = 24;
-// A run that hears nothing ends with the silence of this branch.
+// So many silences in a row show that a range is empty. A run that hears nothing ends with the last of them.
 constexpr unsigned int SILENT_BRANCHES = 5;
 constexpr const char *STOPPED = "the adapter was stopped";
 constexpr const char *DISCOVERY_BY_BRIDGE[] = {
@@ -79,7 +79,11 @@ void StandIn::resume() {
         run_.began += Clock::now() - paused_;
     }
     core_.resume();
-    pump();
+    within([this] {
+        if (const auto step = std::exchange(run_.held_step, nullptr)) {
+            is_aborted_ ? fail(STOPPED) : step();
+        }
+    });
 }
 
 void StandIn::send(RDMRequest *taken, RDMCallback *callback) {
@@ -118,7 +122,7 @@ void StandIn::discover(wurst_kind kind, RDMDiscoveryCallback *callback) {
     if (is_aborted_ || has_ended_) {
         return run({callback}, UIDSet());
     }
-    if (bridge() == Bridge::Own || !ask({kind, {callback}})) {
+    if (bridge() == Bridge::Own || !ask({kind, {callback}, false})) {
         waiting_.kind = kind == WURST_FULL_DISCOVERY ? kind : waiting_.kind;
         waiting_.callbacks.push_back(callback);
     }
@@ -214,18 +218,21 @@ void StandIn::continue_run(const wurst::Frame &frame, bool is_first) {
     } else {
         run_.held_frame = frame;
         if (!check_answers(some_of(core_.devices()))) {
-            fail(OUT_OF_STEP);
+            // The run itself has to show it.
+            send_held();
         }
     }
 }
 
 void StandIn::deliver(const Heard &heard) {
-    const bool is_run = sent_kind() != WURST_REQUEST;
+    const bool is_run = sent().kind != WURST_REQUEST;
     const char *const failure = is_run ? failure_of(heard) : heard.failure;
     if (failure != nullptr) {
         fail(failure);
+    } else if (is_run && is_emptied_in_doubt(heard)) {
+        fail(OUT_OF_STEP);
     } else if (is_run && is_last_silence(heard)) {
-        check_adapter();
+        proceed([this] { check_adapter(); });
     } else {
         core_.deliver(heard.bytes);
         collect();
@@ -250,24 +257,51 @@ const char *StandIn::failure_of(const Heard &heard) const {
 // A run that has heard nothing says that there is no device. But an adapter that doesn't send is silent too.
 bool StandIn::is_last_silence(const Heard &heard) {
     run_.is_silent &= heard.bytes.empty();
-    run_.silent_branches += sent_kind() == WURST_BRANCH ? 1 : 0;
+    run_.silent_branches += sent().kind == WURST_BRANCH ? 1 : 0;
     return run_.is_silent && run_.silent_branches == SILENT_BRANCHES;
+}
+
+// The core takes a range for empty after five silences in a row, and no run ends well without such a range. But while
+// answers may be those of earlier frames, silences show nothing.
+bool StandIn::is_emptied_in_doubt(const Heard &heard) {
+    if (sent().kind != WURST_BRANCH) {
+        return false;
+    }
+    const bool is_same_range = sent().lo == run_.lo && sent().hi == run_.hi;
+    run_.lo = sent().lo;
+    run_.hi = sent().hi;
+    run_.silences = heard.bytes.empty() ? (is_same_range ? run_.silences : 0) + 1 : 0;
+    return is_in_doubt() && run_.silences >= SILENT_BRANCHES;
 }
 
 // The line was checked: before a run, or before the end of a silent one.
 void StandIn::checked(const Heard &heard) {
     record(controller_, "heard", heard.failure == nullptr ? "check" : "failed check", "status_below", heard.status);
     within([&] {
-        const auto frame = std::exchange(run_.held_frame, std::nullopt);
         if (const char *const failure = failure_of(heard)) {
             fail(failure);
-        } else if (frame) {
-            send_down(*frame, nullptr);
+        } else if (run_.held_frame) {
+            proceed([this] { send_held(); });
         } else {
             core_.deliver({});
             collect();
         }
     });
+}
+
+void StandIn::check_more() {
+    proceed([this] { check_next(); });
+}
+
+void StandIn::send_held() { send_down(*std::exchange(run_.held_frame, std::nullopt), nullptr); }
+
+// Takes a step of a run, which sends something, now or when the queue is resumed.
+void StandIn::proceed(std::function<void()> step) {
+    if (is_paused_) {
+        run_.held_step = std::move(step);
+    } else {
+        step();
+    }
 }
 
 // Runs the callbacks of all requests and discoveries that have ended.
@@ -305,6 +339,9 @@ void StandIn::finish(const wurst::Completion &done) {
 // OLA's callback has no argument for a fault. So after a fault, OLA gets what the last run without fault found. If
 // there was none, it gets what this run has found.
 void StandIn::answer(const wurst::Discovery &done) {
+    if (repeat(done)) {
+        return;
+    }
     const bool is_good = done.fault() == WURST_NO_FAULT || core_.devices_run() == 0;
     const UIDSet devices = is_aborted_ ? UIDSet() : set_of(is_good ? done.devices : core_.devices());
     record(controller_, "result", "discovery", "run", done.end.run, "fault", done.end.fault, "found", done.devices,
@@ -317,6 +354,22 @@ void StandIn::answer(const wurst::Discovery &done) {
                                       + " devices until then, and OLA is given " + std::to_string(devices.Size()));
     }
     answer_oldest(devices);
+}
+
+// A daemon that stood still hears a good answer as late as that of an adapter that hangs, and nobody repeats its first
+// discovery. So if nothing else was wrong, the same discovery is asked for once more. False: it isn't.
+bool StandIn::repeat(const wurst::Discovery &done) {
+    const bool is_late = done.fault() == WURST_LINE_FAILED && failure_ == LATE && !is_aborted_ && !has_ended_;
+    const Discoveries &oldest = discoveries_.front();
+    if (!is_late || oldest.is_repeated || !ask({oldest.kind, oldest.callbacks, true})) {
+        return false;
+    }
+    discoveries_.pop_front();
+    record(controller_, "result", "repeated discovery", "run", done.end.run, "found", done.devices);
+    if (std::exchange(run_told_, done.end.run) != done.end.run) {
+        tell(name(), Level::Warn, "discovery is repeated: " + std::string(LATE));
+    }
+    return true;
 }
 
 void StandIn::answer_oldest(const UIDSet &devices) {
@@ -382,6 +435,7 @@ void StandIn::end() {
     record(controller_, "call", "close");
     has_ended_ = true;
     forget();
+    run_.held_step = nullptr;
     waiting_ = {};
     for (auto &each : discoveries_) {
         each.callbacks.clear();

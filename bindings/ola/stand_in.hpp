@@ -3,6 +3,7 @@
 #include "below.hpp"
 #include <atomic>
 #include <deque>
+#include <functional>
 #include <optional>
 #include <thread>
 
@@ -47,11 +48,14 @@ private:
     struct Discoveries {
         wurst_kind kind = WURST_INCREMENTAL;
         std::vector<ola::rdm::RDMDiscoveryCallback *> callbacks;
+        // Its first run failed by a late answer alone.
+        bool is_repeated = false;
     };
 
     void heard(const Heard &heard, const ola::rdm::RDMReply *reply) override;
     void handed_back(ola::rdm::RDMReply *reply) override;
     void checked(const Heard &heard) override;
+    void check_more() override;
     void found(const ola::rdm::UIDSet &devices) override;
     std::shared_ptr<void> kept() override { return shared_from_this(); }
 
@@ -63,10 +67,14 @@ private:
     void deliver(const Heard &heard);
     void fail(const char *why);
     bool is_last_silence(const Heard &heard);
+    bool is_emptied_in_doubt(const Heard &heard);
     const char *failure_of(const Heard &heard) const;
+    void proceed(std::function<void()> step);
+    void send_held();
     void collect();
     void finish(const wurst::Completion &done);
     void answer(const wurst::Discovery &done);
+    bool repeat(const wurst::Discovery &done);
     void answer_oldest(const ola::rdm::UIDSet &devices);
     void run(const std::vector<ola::rdm::RDMDiscoveryCallback *> &callbacks, const ola::rdm::UIDSet &devices);
     bool ask(const Discoveries &discoveries);
@@ -79,6 +87,12 @@ private:
         unsigned int silent_branches = 0;
         bool is_silent = true;
         std::optional<wurst::Frame> held_frame;
+        // What waits until the queue is resumed.
+        std::function<void()> held_step;
+        // The last branch's range, and how often it was silent in a row.
+        std::uint64_t lo = 0;
+        std::uint64_t hi = 0;
+        unsigned int silences = 0;
     };
 
     static inline std::atomic<unsigned int> controllers_{0};

@@ -117,6 +117,7 @@ void test_requests();
 void test_statuses();
 void test_discoveries();
 void test_ends();
+void test_stops();
 void test_adapters();
 void test_lines();
 void test_settings();

@@ -196,6 +196,62 @@ void test_pause() {
     CHECK(client.sets.size() == 1 && client.sets[0] == uids_of(lower.wire) && lower.wire.unmutes == 3);
 }
 
+// Nothing is sent while the queue is paused, also between the checks of the line before a run.
+void test_pause_within_checks() {
+    for (unsigned int absent = 0; absent < 3; absent++) {
+        TargetLower lower;
+        lower.wire.fixtures = fixtures(3);
+        Client client;
+        Queue queue(&lower, 20);
+        queue.RunFullDiscovery(client.discovery());
+        lower.answers = [](const RDMRequest &) { return std::make_unique<RDMReply>(RDM_SRC_UID_MISMATCH); };
+        queue.SendRDMRequest(get(), nullptr);
+        lower.answers = nullptr;
+        // Checks begin with the device that answered last, and go on to the one that was found last.
+        const UID left = lower.wire.fixtures[absent].uid;
+        lower.wire.fixtures = {{left}};
+        lower.when = When::Later;
+        queue.RunFullDiscovery(client.discovery());
+        while (client.sets.size() < 2 && lower.awaits()) {
+            queue.Pause();
+            lower.answer();
+            CHECK(!lower.awaits());
+            queue.Resume();
+        }
+        CHECK(client.sets.size() == 2 && client.sets[1] == set_of({left}));
+    }
+}
+
+// The same before the last mute of a silent run, and if the adapter is stopped, or the queue ends, meanwhile.
+void test_pause_before_the_last_check() {
+    struct AgentLower : TargetLower {
+        DiscoveryAgent agent{this};
+    };
+    for (const bool is_stopped : {false, true}) {
+        AgentLower lower;
+        lower.when = When::Later;
+        Client client;
+        auto queue = std::make_unique<Queue>(&lower, 20);
+        queue->RunFullDiscovery(client.discovery());
+        while (lower.wire.branches < 5) {
+            queue->Pause();
+            lower.answer();
+            CHECK(!lower.awaits());
+            if (lower.wire.branches < 5) {
+                queue->Resume();
+            }
+        }
+        CHECK(lower.wire.mutes == 0 && client.sets.empty());
+        if (is_stopped) {
+            lower.agent.Abort();
+            CHECK(client.sets.size() == 1);
+        }
+        queue->Resume();
+        lower.answer_all();
+        CHECK(client.sets.size() == 1 && lower.wire.mutes == (is_stopped ? 0U : 1U));
+    }
+}
+
 } // namespace
 
 void test_discoveries() {
@@ -216,6 +272,8 @@ void test_discoveries() {
     test_faults();
     test_branches_without_bytes();
     test_pause();
+    test_pause_within_checks();
+    test_pause_before_the_last_check();
 }
 
 } // namespace tests

@@ -1,5 +1,6 @@
 // Lines that fail, hang and answer late: a discovery is exact, or OLA gets what the last good one found.
 #include "adapters.hpp"
+#include "messages.hpp"
 
 #include <sys/wait.h>
 #include <unistd.h>
@@ -10,6 +11,8 @@ namespace tests {
 namespace {
 
 using namespace std::chrono_literals;
+
+constexpr auto LATE_ENOUGH = 950ms;
 
 // A queue whose first discovery has found three fixtures.
 template <typename L> struct Known {
@@ -39,19 +42,99 @@ struct KnownEnttec : Known<EnttecPortImpl> {
     }
 };
 
-// OLA's watchdog runs a discovery call's callback as if nothing had come.
+// OLA's watchdog runs a discovery call's callback as if nothing had come. If it comes again, the discovery has failed.
 void test_hung_adapter() {
     KnownEnttec known;
+    known.lower.wire.fixtures.pop_back();
+    forget_messages();
     known.queue->RunFullDiscovery(known.client.discovery());
-    for (int i = 0; i < 3; i++) {
-        known.lower.answer_one();
+    for (int time = 0; time < 2; time++) {
+        CHECK(known.client.sets.size() == 1 && messages_with("WARN ") == (time == 0 ? 0U : 1U));
+        for (int i = 0; i < 3; i++) {
+            known.lower.answer_one();
+        }
+        std::this_thread::sleep_for(LATE_ENOUGH);
+        known.lower.fire_watchdog();
     }
-    std::this_thread::sleep_for(950ms);
-    known.lower.fire_watchdog();
     CHECK(known.has_found(known.good, 2) && !known.lower.awaits());
+    const std::string late = "the adapter didn't answer for a second";
+    CHECK(messages().size() == 2 && messages_with("discovery is repeated: " + late) == 1);
+    CHECK(messages_with("discovery failed: " + late) == 1);
     known.queue->SendRDMRequest(get(), known.client.callback());
     known.lower.answer();
     CHECK(known.client.got.size() == 1 && known.client.last() == RDM_COMPLETED_OK);
+}
+
+// Gives one answer late, in this place, and the others at once.
+void answer_with_one_late(EnttecPortImpl &lower, unsigned int place) {
+    for (unsigned int i = 0; i < place; i++) {
+        lower.answer_one();
+    }
+    std::this_thread::sleep_for(LATE_ENOUGH);
+    lower.answer();
+}
+
+// A daemon that stood still reads the good answer late. Discoveries are exact all the same, the first one too.
+void test_still_daemon() {
+    for (unsigned int place : {0U, 2U, 4U, 8U, 12U}) {
+        EnttecPortImpl lower;
+        lower.wire.fixtures = fixtures(3);
+        Client client;
+        Queue queue(&lower, 20);
+        for (std::size_t runs = 1; runs <= 2; runs++) {
+            queue.RunFullDiscovery(client.discovery());
+            answer_with_one_late(lower, place);
+            CHECK(client.sets.size() == runs && client.sets.back() == uids_of(lower.wire));
+            lower.wire.fixtures.pop_back();
+        }
+    }
+}
+
+// Without any device, nothing can show that answers are those of their own frames.
+void test_still_daemon_without_devices() {
+    EnttecPortImpl lower;
+    Client client;
+    Queue queue(&lower, 20);
+    forget_messages();
+    queue.RunFullDiscovery(client.discovery());
+    answer_with_one_late(lower, 1);
+    CHECK(client.sets.size() == 1 && client.sets[0].Size() == 0 && lower.wire.unmutes == 5);
+    CHECK(messages_with("discovery failed: the adapter's answers may be those of earlier frames") == 1);
+}
+
+// Discoveries that wait meanwhile are served by the repeated run.
+void test_still_daemon_with_many() {
+    KnownEnttec known;
+    known.lower.wire.fixtures.pop_back();
+    const auto unmutes = known.lower.wire.unmutes;
+    std::vector<Client> clients(9);
+    for (auto &each : clients) {
+        known.queue->RunFullDiscovery(each.discovery());
+    }
+    answer_with_one_late(known.lower, 1);
+    for (const auto &each : clients) {
+        CHECK(each.sets.size() == 1 && each.sets[0] == uids_of(known.lower.wire));
+    }
+    CHECK(known.lower.wire.unmutes >= unmutes + 5 && known.lower.wire.unmutes <= unmutes + 8);
+}
+
+// The adapter is stopped in each place of the repeated run.
+void test_stop_of_a_repeated_run() {
+    for (unsigned int place = 0; place < 9; place += 2) {
+        KnownEnttec known;
+        known.queue->RunFullDiscovery(known.client.discovery());
+        known.queue->RunFullDiscovery(known.client.discovery());
+        std::this_thread::sleep_for(LATE_ENOUGH);
+        for (unsigned int i = 0; i <= place; i++) {
+            known.lower.answer_one();
+        }
+        CHECK(known.client.sets.size() == 1);
+        known.lower.Stop();
+        CHECK(known.has_found(UIDSet(), 3));
+        known.lower.answer();
+        known.queue.reset();
+        CHECK(known.client.sets.size() == 3);
+    }
 }
 
 // A frame that can't be sent ends a discovery call at once. It happens at each point of a run.
@@ -264,16 +347,18 @@ void test_shifted_answers() {
         for (unsigned int i = 0; i < place; i++) {
             lower.answer_oldest();
         }
-        std::this_thread::sleep_for(950ms);
-        // The given up frame's answer is still to come, when the next discoveries are asked for.
+        std::this_thread::sleep_for(LATE_ENOUGH);
+        // The given up frame's answer is still to come, when the discovery is repeated.
         lower.give_up();
-        CHECK(client.sets.size() == 2 && client.sets[1] == good && !lower.is_waiting());
+        CHECK(client.sets.size() == 1 && lower.is_waiting());
         lower.wire.fixtures.pop_back();
+        lower.answer_all();
+        CHECK(client.sets.size() == 2 && client.sets[1] == good);
         for (int i = 0; i < 3; i++) {
             queue.RunFullDiscovery(client.discovery());
             lower.answer_all();
         }
-        CHECK(client.sets.size() == 5 && client.sets[2] == good && client.sets[4] == uids_of(lower.wire));
+        CHECK(client.sets.size() == 5 && client.sets[4] == uids_of(lower.wire));
     }
 }
 
@@ -283,16 +368,39 @@ void test_shifted_silence() {
     Client client;
     Queue queue(&lower, 20);
     queue.RunFullDiscovery(client.discovery());
-    std::this_thread::sleep_for(950ms);
+    std::this_thread::sleep_for(LATE_ENOUGH);
+    forget_messages();
     lower.give_up();
     lower.wire.fixtures = fixtures(2);
-    queue.RunFullDiscovery(client.discovery());
-    CHECK(client.sets.size() == 2 && !lower.is_waiting());
+    // The repeated run hears silences of earlier frames.
     lower.answer_all();
+    CHECK(client.sets.size() == 1 && !lower.is_waiting() && messages_with("discovery failed: ") == 1);
     std::this_thread::sleep_for(2050ms);
     queue.RunFullDiscovery(client.discovery());
     lower.answer_all();
-    CHECK(client.sets.size() == 3 && client.sets[2] == uids_of(lower.wire));
+    CHECK(client.sets.size() == 2 && client.sets[1] == uids_of(lower.wire) && messages_with("discovery failed: ") == 1);
+}
+
+// The same in each place of the first run, before a device is known: no wrong set is taken for a good one.
+void test_shifted_first_run() {
+    for (unsigned int count = 1; count <= 3; count++) {
+        for (unsigned int place = 0; place < 3; place++) {
+            Shifted lower;
+            lower.wire.fixtures = fixtures(count);
+            Client client;
+            Queue queue(&lower, 20);
+            forget_messages();
+            queue.RunFullDiscovery(client.discovery());
+            for (unsigned int i = 0; i < place; i++) {
+                lower.answer_oldest();
+            }
+            std::this_thread::sleep_for(LATE_ENOUGH);
+            lower.give_up();
+            lower.answer_all();
+            CHECK(client.sets.size() == 1 && messages_with("discovery failed: ") == 1);
+            CHECK(messages_with("discovery is repeated: ") == 1);
+        }
+    }
 }
 
 // An answer that comes again, any number of exchanges later, is dropped.
@@ -366,10 +474,15 @@ void test_with(const char *name, const char *value, void (*test)()) {
 void test_settings() {
     test_with("WURSTLINEN_SECONDS", "1", &test_seconds);
     test_with("WURSTLINEN_SEARCH", "steady", &test_silent_run<TargetLower>);
+    test_with("WURSTLINEN_SEARCH", "steady", &test_shifted_first_run);
 }
 
 void test_lines() {
     test_hung_adapter();
+    test_still_daemon();
+    test_still_daemon_without_devices();
+    test_still_daemon_with_many();
+    test_stop_of_a_repeated_run();
     test_unsent_frames();
     test_silent_run<TargetLower>();
     test_silent_run<DmxterWidgetImpl>();
@@ -381,6 +494,7 @@ void test_lines() {
     test_failing_requests<EnttecPortImpl>();
     test_shifted_answers();
     test_shifted_silence();
+    test_shifted_first_run();
     test_repeated_answers();
 }
 

@@ -1,6 +1,7 @@
 // The unit tests of the stand-in, with a heap for the C library that counts blocks. The argument is the length of the
 // long test.
 #include "checks.hpp"
+#include "messages.hpp"
 
 #include <atomic>
 #include <cstdlib>
@@ -52,15 +53,18 @@ void rattle_dealloc(unsigned char *at) {
 }
 
 int main(int, char **arguments) {
+    tests::keep_messages();
     tests::test_settings();
     tests::test_requests();
     tests::test_statuses();
     tests::test_discoveries();
     tests::test_ends();
+    tests::test_stops();
     tests::test_adapters();
     tests::test_lines();
     tests::test_threads();
     tests::test_wild_layers();
+    tests::forget_messages();
     const std::size_t before = tests::heap_bytes();
     CHECK(tests::blocks == 0);
     tests::test_length(std::strtoul(arguments[1], nullptr, 10));

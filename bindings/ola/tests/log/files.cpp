@@ -8,6 +8,7 @@
 #include <poll.h>
 #include <sys/resource.h>
 #include <sys/stat.h>
+#include <thread>
 #include <unistd.h>
 
 namespace tests {
@@ -60,6 +61,24 @@ void test_full_twice() {
         disk.space = -1;
         CHECK(file.add(LINE) && file.add(LINE) && messages_with("INFO ") == outage);
     }
+}
+
+// A disk that is soon full again, and stays so, is reported again after a while.
+void test_full_for_good() {
+    const Folder folder;
+    const std::chrono::milliseconds between{300};
+    LogFile file(folder.path(), 0, between);
+    forget_messages();
+    disk.space = 0;
+    CHECK(!file.add(LINE));
+    disk.space = -1;
+    CHECK(file.add(LINE));
+    disk.space = 0;
+    CHECK(!file.add(LINE) && messages_with("WARN ") == 1);
+    std::this_thread::sleep_for(between);
+    CHECK(!file.add(LINE) && !file.add(LINE) && messages_with("WARN ") == 2);
+    disk.space = -1;
+    CHECK(file.add(LINE) && messages_with("INFO ") == 2);
 }
 
 // If another process has added to the file meanwhile, nothing is taken back. The next line is whole.
@@ -150,6 +169,20 @@ void test_rotation() {
     }
 }
 
+// The file is renamed, and not the link to it.
+void test_rotation_behind_a_link() {
+    const Folder folder;
+    CHECK(mkdir(folder.path("disk").c_str(), 0700) == 0);
+    CHECK(symlink("disk/real", folder.path().c_str()) == 0);
+    LogFile file(folder.path(), LINE.size() + 1);
+    for (int i = 0; i < 3; i++) {
+        struct stat named {};
+        CHECK(file.add(LINE) && lstat(folder.path().c_str(), &named) == 0 && S_ISLNK(named.st_mode));
+        CHECK(text_of(folder.path("disk/real")) == LINE);
+        CHECK(text_of(folder.path("disk/real.1")) == (i > 0 ? LINE : ""));
+    }
+}
+
 // A log that can't be renamed stays within its limit.
 void test_no_rotation() {
     const Folder folder;
@@ -184,12 +217,14 @@ void test_files() {
     test_whole_lines_on_a_full_disk();
     test_full_now_and_then();
     test_full_twice();
+    test_full_for_good();
     test_torn_line();
     test_torn_before();
     test_limit_of_the_system();
     test_other_kinds_of_files();
     test_folder_made_later();
     test_rotation();
+    test_rotation_behind_a_link();
     test_no_rotation();
     test_renamed();
     test_mode();

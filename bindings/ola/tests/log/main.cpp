@@ -1,15 +1,13 @@
 // The tests of the settings, the messages and the log's writer, on a disk that can be full or slow.
 #include "support.hpp"
 
-#include <ola/Logging.h>
-
 #include <algorithm>
 #include <cerrno>
 #include <chrono>
 #include <cstdio>
 #include <cstdlib>
 #include <fstream>
-#include <mutex>
+#include <new>
 #include <sstream>
 #include <sys/syscall.h>
 #include <thread>
@@ -18,41 +16,14 @@
 namespace tests {
 
 Disk disk;
+std::atomic<bool> has_thread_no_memory{false};
 
 namespace {
 
 constexpr double MOST_SECONDS = 10;
-
-std::mutex guard;
-std::vector<std::string> all_messages;
-
-class Kept : public ola::LogDestination {
-public:
-    void Write(ola::log_level level, const std::string &line) override {
-        const std::lock_guard<std::mutex> locked(guard);
-        all_messages.push_back((level == ola::OLA_LOG_WARN ? "WARN " : "INFO ") + line);
-    }
-};
+const std::thread::id main_thread = std::this_thread::get_id();
 
 } // namespace
-
-std::vector<std::string> messages() {
-    const std::lock_guard<std::mutex> locked(guard);
-    return all_messages;
-}
-
-void forget_messages() {
-    const std::lock_guard<std::mutex> locked(guard);
-    all_messages.clear();
-}
-
-unsigned int messages_with(const std::string &text) {
-    unsigned int count = 0;
-    for (const auto &each : messages()) {
-        count += each.find(text) != each.npos;
-    }
-    return count;
-}
 
 Folder::Folder() {
     char name[] = "/tmp/wurstlinen.XXXXXX";
@@ -120,8 +91,20 @@ extern "C" ssize_t write(int file, const void *bytes, size_t count) {
     return written;
 }
 
+// In place of the library's.
+void *operator new(std::size_t size) {
+    const bool is_refused = tests::has_thread_no_memory && std::this_thread::get_id() != tests::main_thread;
+    void *const made = is_refused ? nullptr : std::malloc(size > 0 ? size : 1);
+    if (made == nullptr) {
+        throw std::bad_alloc();
+    }
+    return made;
+}
+void operator delete(void *at) noexcept { std::free(at); }
+void operator delete(void *at, std::size_t) noexcept { std::free(at); }
+
 int main() {
-    ola::InitLogging(ola::OLA_LOG_INFO, new tests::Kept);
+    tests::keep_messages();
     tests::test_settings();
     tests::test_files();
     tests::test_writers();

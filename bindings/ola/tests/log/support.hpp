@@ -1,8 +1,10 @@
-// What the tests of the log share: a folder, a disk that can be full or slow, and OLA's log.
+// What the tests of the log share: a folder, a disk that can be full or slow, and
+// a thread without memory.
 #ifndef WURSTLINEN_OLA_TESTS_LOG_SUPPORT_HPP
 #define WURSTLINEN_OLA_TESTS_LOG_SUPPORT_HPP
 
 #include "../checks.hpp"
+#include "../messages.hpp"
 
 #include <atomic>
 #include <functional>
@@ -23,11 +25,8 @@ struct Disk {
 };
 extern Disk disk;
 
-// The messages that OLA's log got, at the level INFO.
-std::vector<std::string> messages();
-void forget_messages();
-// How many messages have this text.
-unsigned int messages_with(const std::string &text);
+// Whether allocations fail on all threads except the main one.
+extern std::atomic<bool> has_thread_no_memory;
 
 // A new folder, which is removed with what is in it.
 class Folder {

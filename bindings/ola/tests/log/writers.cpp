@@ -160,6 +160,26 @@ void test_disk_that_is_full_at_each_byte() {
     }
 }
 
+// Lines for which the writer's thread has no memory are counted, and the next ones are written.
+void test_no_memory() {
+    const Folder folder;
+    LogWriter writer({folder.path()});
+    writer.add(line(1));
+    writer.flush(10 * SECOND);
+    const double began = seconds();
+    has_thread_no_memory = true;
+    for (int i = 0; i < 10; i++) {
+        writer.add("{\"x\":\"" + std::string(200, 'x') + "\"}\n");
+        writer.flush(10 * SECOND);
+    }
+    has_thread_no_memory = false;
+    writer.add(line(2));
+    writer.flush(10 * SECOND);
+    const auto lines = lines_of(folder.path());
+    CHECK(lines.size() == 3 && is_each_whole(lines) && lost_in(lines[1]) == 10 && lines[2] + '\n' == line(2));
+    CHECK(seconds() - began < 5);
+}
+
 void test_rotation() {
     const Folder folder;
     {
@@ -248,6 +268,7 @@ void test_writers() {
     test_short_line_behind_a_lost_one();
     test_full_disk();
     test_disk_that_is_full_at_each_byte();
+    test_no_memory();
     test_rotation();
     test_signals();
     test_fork();
