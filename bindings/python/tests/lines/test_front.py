@@ -12,7 +12,7 @@ import unittest
 from typing import Any, List, Optional
 from unittest import mock
 
-from common import PACKAGE, TestCase, folder, needs_library
+from common import PACKAGE, ROOT, TestCase, folder, needs_library
 from fronts import FIVE, LEFT, SLOW, OneRig, called
 from wurstlinen import Session, Uid, commands, entries
 from wurstlinen.front import frames, naming, work
@@ -21,6 +21,8 @@ from wurstlinen.parameters import STANDARD, Parameter, ola
 from wurstlinen.parameters.fields import Message, Number, SubDevices
 
 FIVE_LINE = f"rig:{FIVE}"
+LOGS = ROOT / "cases/logs.txt"
+FORMATS = ROOT / "docs/FORMATS.md"
 COMMAND = [sys.executable, "-m", "wurstlinen.front"]
 ENVIRONMENT = {**os.environ, "PYTHONPATH": str(PACKAGE), "PYTHONDONTWRITEBYTECODE": "1"}
 
@@ -118,7 +120,7 @@ class Arguments(TestCase):
         self.assertEqual((status, errors, json.loads(out)["error"]["reason"]), (1, "", "line"))
 
     def test_help_has_an_example(self) -> None:
-        for name in ("get", "set", "identify", "pids", "fixtures", "save", "apply"):
+        for name in ("get", "set", "identify", "pids", "fixtures", "save", "apply", "trace"):
             status, out, errors = called(name, "--help")
             self.assertEqual((status, errors), (0, ""))
             self.assertIn(f"example: wurstlinen {name}", out)
@@ -174,8 +176,9 @@ class Requests(OneRig):
 
     def test_a_line_that_fails(self) -> None:
         self.scene({"uid": LEFT}, fails=[0])
-        self.assertEqual(self.run_command("get", LEFT, "device_label"),
-                         (1, "", f"wurstlinen: {LEFT}: the rig's file lets this exchange fail\n"))
+        self.assertEqual(self.run_command("get", LEFT, "device_label", "--frames"),
+                         (1, "", f"0000  GET {LEFT} device_label  -> the line failed\n"
+                                 f"wurstlinen: {LEFT}: the rig's file lets this exchange fail\n"))
 
     def test_a_broadcast(self) -> None:
         self.assertEqual(self.run_command("set", "ffff:ffffffff", "identify_device", "on"), (0, "", ""))
@@ -301,8 +304,42 @@ class Frames(TestCase):
             data = bytes.fromhex(frame)
             data += (sum(data) % 0x10000).to_bytes(2, "big")
             self.assertEqual(frames.exchange_text(7, data, scene.exchange(data)), f"0007  {wanted}")
-        self.assertEqual(frames.exchange_text(0, b"\x01", b"\x02"), "0000  01  -> 02")
-        self.assertEqual(frames.reply_text(b"\xcc\x01"), "damaged, 0xcc01")
+        self.assertEqual(frames.exchange_text(0, b"\x01", b"\x02"), "0000  0x01  -> damaged, 0x02")
+        self.assertEqual(frames.exchange_text(0, b"\x01", None), "0000  0x01  -> the line failed")
+
+    def test_the_log_of_a_discovery(self) -> None:
+        # These frames are written by hand.
+        text = LOGS.read_text(encoding="utf-8").partition("text exchanges\n")[2].partition("\n\n")[0]
+        wanted = [f"{number:04d}  UNMUTE ffff:ffffffff  -> silence" for number in range(3)]
+        branch = "BRANCH 0000:00000000-ffff:ffffffff  -> "
+        wanted += [f"0003  {branch}{LEFT}", f"0004  MUTE {LEFT}  -> ACK 0x0002123400000005"]
+        wanted += [f"{number:04d}  {branch}silence" for number in range(5, 10)]
+        with folder() as place:
+            file = place / "log"
+            file.write_text(text)
+            self.assertEqual(called("trace", str(file)), (0, "\n".join(wanted) + "\n", ""))
+
+    def test_the_log_of_a_session(self) -> None:
+        example = FORMATS.read_text(encoding="utf-8").partition('```text\n{"entry":"accept"')[2].partition("```")[0]
+        get = "cc01181234000000017a70000001000001000000200060000298"
+        self.assertIn(get, example)
+        text = f"""{{"entry":"accept"{example}{{"entry":"send","request":1,"frame":"{get}"}}
+{{"entry":"came","reply":""}}
+{{"entry":"send","request":2,"frame":"{get}"}}
+"""
+        self.assertEqual(called("trace", "-", text=text), (0, f"0000  GET {LEFT} device_info  -> the line failed\n"
+                                                              f"0001  GET {LEFT} device_info  -> silence\n", ""))
+        found = [json.loads(line) for line in called("trace", "-", "--json", text=text)[1].splitlines()]
+        self.assertEqual(found, [
+            {"number": 0, "text": f"GET {LEFT} device_info", "frame": get, "failed": True},
+            {"number": 1, "text": f"GET {LEFT} device_info", "frame": get, "reply": ""}])
+
+    def test_files_that_are_no_logs(self) -> None:
+        for text in ("x\n", "7\n", "null\n", '{"frame":"0"}\n', '{"frame":7}\n', '{"frame":"00","reply":[]}\n', "\n"):
+            self.assertEqual(called("trace", "-", text=text),
+                             (2, "", "wurstlinen: -: line 1 isn't an entry of a log\n"), text)
+        self.assertEqual(called("trace", "/nowhere.log"),
+                         (2, "", "wurstlinen: /nowhere.log: No such file or directory\n"))
 
 
 class Processes(TestCase):

@@ -1,6 +1,8 @@
 """Frames and their replies as text."""
 from __future__ import annotations
 
+from typing import Optional
+
 from ..lines.numbers import CommandClass, Pid, ResponseType
 from ..lines.packets import Packet, decode_branch_reply, decode_packet, uid_text
 from ..parameters import STANDARD, decode
@@ -10,13 +12,22 @@ UID_BYTES = 6
 TENTHS = 10
 
 
-def exchange_text(number: int, frame: bytes, reply: bytes) -> str:
-    """A frame and its reply, on one line."""
+def exchange_text(number: int, frame: bytes, reply: Optional[bytes]) -> str:
+    """A frame and its reply, on one line. None is a line that failed."""
     command = decode_packet(frame)
-    if command is None:
-        return f"{number:04d}  {frame.hex()}  -> {reply.hex() or 'silence'}"
-    answer = branch_text(reply) if command.is_branch else reply_text(reply)
-    return f"{number:04d}  {command_text(command)}  -> {answer}"
+    if reply is None:
+        answer = "the line failed"
+    elif command is not None and command.is_branch:
+        answer = branch_text(reply)
+    else:
+        answer = reply_text(reply)
+    return f"{number:04d}  {command_of(frame)}  -> {answer}"
+
+
+def command_of(frame: bytes) -> str:
+    """A frame."""
+    command = decode_packet(frame)
+    return f"0x{frame.hex()}" if command is None else command_text(command)
 
 
 def command_text(command: Packet) -> str:

@@ -169,6 +169,13 @@ def add_apply(made: Any, name: str) -> None:
     command.add_argument("--dry-run", action="store_true", help="show the changes, and make none")
 
 
+def add_trace(made: Any, name: str) -> None:
+    """The arguments of trace."""
+    command = add_command(made, name, "decode the frames of a log", "trace session.log", "trace.run_trace",
+                          needs_line=False)
+    command.add_argument("file", metavar="FILE", help="what --log has written; - is standard input")
+
+
 def seconds(text: str) -> float:
     """An argument that is a time."""
     try:
@@ -187,5 +194,6 @@ COMMANDS: Dict[str, Callable[[Any, str], None]] = {
     "fixtures": add_fixtures,
     "save": add_save,
     "apply": add_apply,
+    "trace": add_trace,
     "pids": add_pids,
 }

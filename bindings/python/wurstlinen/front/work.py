@@ -44,10 +44,14 @@ class WatchedLine:
             reply = self._line.exchange(frame)
         except LineFailed as failure:
             self.failure = failure
+            self._show(number, frame, None)
             raise
+        self._show(number, frame, reply)
+        return reply
+
+    def _show(self, number: int, frame: bytes, reply: Optional[bytes]) -> None:
         if self._shows_frames:
             self._output.frame(exchange_text(number, frame, reply))
-        return reply
 
 
 class Work:

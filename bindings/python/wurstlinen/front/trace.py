@@ -1,0 +1,50 @@
+"""The command trace: the frames of a log, decoded."""
+from __future__ import annotations
+
+import argparse
+import json
+import sys
+from typing import Any, Dict, Iterable, Iterator, Optional, TextIO, Tuple
+
+from .frames import command_of, exchange_text
+from .output import BAD_ARGUMENTS, DONE, Failure, Output
+
+STANDARD_STREAM = "-"
+# A frame, and the line's reply; None if the line failed.
+Exchange = Tuple[bytes, Optional[bytes]]
+
+
+def run_trace(chosen: argparse.Namespace, output: Output) -> int:
+    """Prints the exchanges of a log, as they are read."""
+    if chosen.file == STANDARD_STREAM:
+        return trace(chosen.file, sys.stdin, output)
+    try:
+        file = open(chosen.file, encoding="utf-8", errors="replace")
+    except OSError as fault:
+        raise Failure(BAD_ARGUMENTS, f"{chosen.file}: {fault.strerror}", reason="file") from None
+    with file:
+        return trace(chosen.file, file, output)
+
+
+def trace(name: str, file: TextIO, output: Output) -> int:
+    """Prints the exchanges of an open log."""
+    for number, (frame, reply) in enumerate(exchanges(name, file)):
+        keys: Dict[str, Any] = {"number": number, "text": command_of(frame), "frame": frame.hex()}
+        keys.update({"failed": True} if reply is None else {"reply": reply.hex()})
+        output.result([exchange_text(number, frame, reply)], **keys)
+    return DONE
+
+
+def exchanges(name: str, lines: Iterable[str]) -> Iterator[Exchange]:
+    """The exchanges of a session's log, or of a discovery's. A frame without a reply at the end is left out."""
+    frame: Optional[bytes] = None
+    for number, line in enumerate(lines, 1):
+        try:
+            entry = json.loads(line)
+            if "frame" in entry:
+                frame = bytes.fromhex(entry["frame"])
+            if frame is not None and ("reply" in entry or "failed" in entry):
+                yield frame, bytes.fromhex(entry["reply"]) if "reply" in entry else None
+                frame = None
+        except (ValueError, TypeError):
+            raise Failure(BAD_ARGUMENTS, f"{name}: line {number} isn't an entry of a log", reason="file") from None
