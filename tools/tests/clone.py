@@ -18,7 +18,7 @@ CRATES = "rdm_words:\nrdm_wire:\nwurstlinen: rdm_words rdm_wire\nrdm_c staticlib
 # A program that prints its arguments, and rt, which notes its calls and builds that program, or a library.
 PROGRAM = '#!/bin/sh\necho "the program: $*"\n'
 RT = """#!/bin/sh
-[ "$1" != --version ] || {{ echo "kit-of-tests 1"; exit; }}
+[ "$1" != --version ] || {{ echo "kit-of-tests logic 1"; exit; }}
 echo "$PWD $*" >> "{calls}"
 mkdir -p out/rlib
 crate="${{PWD##*/}}"

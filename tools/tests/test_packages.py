@@ -128,7 +128,7 @@ class Packages(unittest.TestCase):
     def check_proof(self, proof: Path, folder: Path, head: str) -> None:
         """Whether a file says commit and kit, and has the checksums of the files."""
         text = proof.read_text()
-        kits = "kit of the program: kit-of-tests 1\nkit of the C library: kit-of-tests 1\n"
+        kits = "kit of the program: kit-of-tests logic 1\nkit of the C library: kit-of-tests logic 1\n"
         self.assertIn(f"commit: {head}\n{kits}", text)
         self.assertIn("mustn't be given to others", text)
         found = re.findall(r"^([0-9a-f]{64})  (.*)$", text, re.M)

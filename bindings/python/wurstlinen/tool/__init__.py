@@ -4,6 +4,14 @@ The proved program's commands get their arguments, streams and status as they ar
 """
 from __future__ import annotations
 
+import sys
+
 from .main import main, run
 
-__all__ = ["main", "run"]
+
+def call() -> None:
+    """The command with the arguments of this process, which it ends."""
+    sys.exit(run())
+
+
+__all__ = ["call", "main", "run"]

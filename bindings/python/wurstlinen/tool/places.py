@@ -1,30 +1,50 @@
-"""Where the proved program is, and what is known of this build."""
+"""Where the proved program and the C library are, and what is known of this build."""
 from __future__ import annotations
 
 import os
+import pkgutil
 import re
 import subprocess
 from pathlib import Path
 from typing import Dict, Optional
 
 PROGRAM_VARIABLE = "WURSTLINEN_PROGRAM"
-# Below the prefix that the package is installed in.
-PROGRAM = "libexec/wurstlinen/wurstlinen"
+LIBRARY_VARIABLE = "WURSTLINEN_LIBRARY"
 PACKAGE = Path(__file__).resolve().parent.parent
+# The package is in PREFIX/lib/python3/site-packages/wurstlinen, or in one file with all of it.
+PROGRAM_BELOW_PREFIX = "libexec/wurstlinen/wurstlinen"
+PROGRAM_BESIDE_FILE = "rdm_port"
+LIBRARY_BESIDE_FILE = "../lib/libwurstlinen.so.0"
+
+
+def one_file() -> Optional[Path]:
+    """The file that the package is in, if it is in one."""
+    return PACKAGE.parent if PACKAGE.parent.is_file() else None
 
 
 def program() -> Optional[Path]:
-    """The proved program: where the environment says, or else below the package's prefix."""
-    named = os.environ.get(PROGRAM_VARIABLE)
-    # The package is in PREFIX/lib/python3/site-packages/wurstlinen.
-    place = Path(named) if named else PACKAGE.parents[3] / PROGRAM
+    """The proved program: where the environment says, or else where it is installed with the package."""
+    named, file = os.environ.get(PROGRAM_VARIABLE), one_file()
+    if named:
+        place = Path(named)
+    elif file is not None:
+        place = file.with_name(PROGRAM_BESIDE_FILE)
+    else:
+        place = PACKAGE.joinpath("../../../..", PROGRAM_BELOW_PREFIX)
     return place if place.is_file() else None
+
+
+def name_library() -> None:
+    """Says where the C library is, if the package is in one file, and so has no folder."""
+    file = one_file()
+    if file is not None and not os.environ.get(LIBRARY_VARIABLE):
+        os.environ[LIBRARY_VARIABLE] = os.path.normpath(file.parent / LIBRARY_BESIDE_FILE)
 
 
 def version_line() -> str:
     """The version, the kit that proved the program, and the commit."""
     facts = proof() or repository()
-    kit = facts.get("kit of the program", "unknown kit").partition(" ")[0]
+    kit = facts.get("kit of the program", "unknown kit").partition(" logic ")[0]
     commit = re.sub(r"^([0-9a-f]{8})[0-9a-f]+", r"\1", facts.get("commit", "unknown"))
     return f"wurstlinen {facts.get('version', 'unknown')} (proved with {kit}, commit {commit})"
 
@@ -32,7 +52,7 @@ def version_line() -> str:
 def proof() -> Dict[str, str]:
     """What an installed package says of itself."""
     try:
-        text = (PACKAGE / "PROOF").read_text(encoding="utf-8")
+        text = (pkgutil.get_data("wurstlinen", "PROOF") or b"").decode()
     except OSError:
         return {}
     return dict(re.findall(r"^([a-zA-Z ]+): (.*)$", text.partition("\n\n")[0], re.M))
@@ -40,7 +60,7 @@ def proof() -> Dict[str, str]:
 
 def repository() -> Dict[str, str]:
     """The same of a repository that the package is in; what isn't there isn't known."""
-    root = PACKAGE.parents[2]
+    root = PACKAGE.parent.parent.parent
     found = {"version": _text(root / "VERSION"), "kit of the program": _text(root / "out/wurstlinen.kit")}
     if found["version"]:
         found["commit"] = _commit(root)
@@ -60,7 +80,4 @@ def _commit(root: Path) -> str:
         done = subprocess.run(command, check=False, stdout=subprocess.PIPE, stderr=subprocess.DEVNULL, text=True)
     except OSError:
         return ""
-    return done.stdout.strip()
-def _said(folder: Path, *command: str) -> str:
-    done = subprocess.run(command, cwd=folder, check=True, stdout=subprocess.PIPE, stderr=subprocess.DEVNULL, text=True)
     return done.stdout.strip()
