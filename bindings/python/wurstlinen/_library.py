@@ -2,6 +2,7 @@
 
 import ctypes
 import os
+import sysconfig
 from ctypes import POINTER, c_bool, c_size_t, c_uint8, c_uint16, c_uint32, c_uint64, c_void_p
 
 VERSION = 1000
@@ -139,14 +140,17 @@ CALLS = {
 
 
 def _places():
-    """Where the library may be: where the environment says, or else beside the package or in PREFIX/lib."""
+    """Where the library may be: where the environment says, or else beside the package, in PREFIX/lib, or below it in
+    the folder that Debian has for libraries.
+    """
     named = os.environ.get("WURSTLINEN_LIBRARY")
     if named:
         return [named]
     here = os.path.dirname(os.path.abspath(__file__))
     # The package is in PREFIX/lib/python3/site-packages/wurstlinen.
     lib = os.path.dirname(os.path.dirname(os.path.dirname(here)))
-    return [os.path.join(here, NAME), os.path.join(lib, NAME)]
+    folders = [here, lib, os.path.join(lib, sysconfig.get_config_var("MULTIARCH") or "")]
+    return [os.path.join(folder, NAME) for folder in dict.fromkeys(folder.rstrip("/") for folder in folders)]
 
 
 def _load():

@@ -95,12 +95,22 @@ def parser() -> argparse.ArgumentParser:
         each.add_argument("--sub", type=sub_device, default=0, metavar="N", help="the sub-device, 0 to 65535")
     for each in (discover_command, get_command, set_command):
         each.add_argument("--source", type=device, metavar="UID", help="the controller's UID")
-    command(commands, "bridge", run_bridge, "be the far end of a line as text on the standard streams")
-    rig_command = command(commands, "rig", run_rig, "emulate an adapter on a pseudo terminal, and print its name",
-                          needs_line=False)
-    rig_command.add_argument("file", nargs="?", metavar="FILE", help="the rig's file; short for --line rig:FILE")
-    rig_command.add_argument("--firmware", type=version, default=(2, 4), metavar="N.N", help="of the adapter")
+    add_bridge(commands)
+    add_rig(commands)
     return whole
+
+
+def add_bridge(commands: argparse._SubParsersAction) -> None:  # type: ignore[type-arg]
+    """The arguments of bridge."""
+    command(commands, "bridge", run_bridge, "be the far end of a line as text on the standard streams")
+
+
+def add_rig(commands: argparse._SubParsersAction) -> None:  # type: ignore[type-arg]
+    """The arguments of rig."""
+    made = command(commands, "rig", run_rig, "emulate an adapter on a pseudo terminal, and print its name",
+                   needs_line=False)
+    made.add_argument("file", nargs="?", metavar="FILE", help="the rig's file; short for --line rig:FILE")
+    made.add_argument("--firmware", type=version, default=(2, 4), metavar="N.N", help="of the adapter")
 
 
 def command(commands: argparse._SubParsersAction, name: str, run: object, text: str,  # type: ignore[type-arg]

@@ -1,0 +1,9 @@
+"""The command wurstlinen."""
+import sys
+from pathlib import Path
+
+# In an unpacked .tar.gz the package isn't where Python looks.
+sys.path.insert(0, str(Path(__file__).resolve().parent.parent / "lib/python3/site-packages"))
+from wurstlinen.tool import run  # noqa: E402
+
+sys.exit(run())

@@ -1,0 +1,17 @@
+"""The command `wurstlinen` as a whole: what the proved program does, and what the package `front` does by names.
+
+The proved program's commands get their arguments, streams and status as they are.
+"""
+from __future__ import annotations
+
+import sys
+
+from .main import main, run
+
+
+def call() -> None:
+    """The command with the arguments of this process, which it ends."""
+    sys.exit(run())
+
+
+__all__ = ["call", "main", "run"]

@@ -1,0 +1,96 @@
+"""The arguments of all commands, from which help, manual pages and completions are made."""
+from __future__ import annotations
+
+from typing import Any, Callable, Dict
+
+from .. import commands
+from ..front.main import COMMANDS as FRONT_COMMANDS
+from ..front.main import PROGRAM, Parser, add_command
+from ..lines.opening import FORMS
+from .adapters import run_adapters
+
+DESCRIPTION = "Finds RDM devices, reads and changes what they have, and works on simulated lines."
+
+
+def parser() -> Parser:
+    """The parser of the arguments of all commands."""
+    whole = Parser(prog=PROGRAM, description=DESCRIPTION,
+                   epilog=f"'{PROGRAM} COMMAND --help' says more; '{PROGRAM} --version' says what was proved")
+    made = whole.add_subparsers(dest="command", required=True, metavar="COMMAND", parser_class=Parser)
+    for name, add in COMMANDS.items():
+        add(made, name)
+    return whole
+
+
+def add_proved(made: Any, name: str, text: str, example: str) -> Parser:
+    """A command of the proved program, which reads the arguments itself."""
+    command: Parser = made.add_parser(name, help=text, description=f"{text[0].upper()}{text[1:]}.",
+                                      epilog=f"example: {PROGRAM} {example}")
+    return command
+
+
+def add_decode(made: Any, name: str) -> None:
+    """The arguments of decode."""
+    command = add_proved(made, name, "say what the bytes of a reply to a discovery branch say",
+                         "decode fefefefefefefeaafa7ffa75aa55aa55aa55ab55ae57eff5")
+    command.add_argument("bytes", metavar="HEX", help="in hexadecimal")
+
+
+def add_encode(made: Any, name: str) -> None:
+    """The arguments of encode."""
+    command = add_proved(made, name, "print the reply of a device to a discovery branch", "encode 7a70:00000001")
+    command.add_argument("uid", metavar="UID")
+
+
+def add_discover(made: Any, name: str) -> None:
+    """The arguments of discover."""
+    command = add_proved(made, name, "find the devices on a line, or on the simulated line of a scene file",
+                         "discover --line enttec:/dev/ttyUSB0 --quick")
+    command.add_argument("file", nargs="?", metavar="FILE", help="a scene file")
+    add_line(command)
+    command.add_argument("--source", metavar="UID", help="the controller's UID")
+    command.add_argument("--known", metavar="UID", help="a device that --incremental mutes first")
+    command.add_argument("--incremental", action="store_true", help="keep known devices that answer")
+    command.add_argument("--quick", action="store_true", help="sweep before searching")
+    command.add_argument("--budget", metavar="N", help="the most frames to send")
+    command.add_argument("--log", metavar="LOG", help="a file for the exchanges, which is replaced")
+
+
+def add_run(made: Any, name: str) -> None:
+    """The arguments of run."""
+    command = add_proved(made, name, "run the clients of a session file", "run session.json --log session.log")
+    command.add_argument("file", metavar="FILE", help="a session file")
+    add_line(command)
+    command.add_argument("--port", choices=("locked", "rings"), help="how the clients share the session")
+    command.add_argument("--log", metavar="LOG", help="a file for the log, which is replaced")
+
+
+def add_line(command: Parser) -> None:
+    """Where the frames go."""
+    command.add_argument("--line", metavar="LINE", help=f"{FORMS}; or a stream that another program serves")
+    command.add_argument("--replies", metavar="IN", help="the stream of that program's replies")
+
+
+def add_adapters(made: Any, name: str) -> None:
+    """The arguments of adapters."""
+    command = add_command(made, name, "list the USB adapters that are plugged in", "adapters", "", needs_line=False)
+    command.set_defaults(run=run_adapters)
+
+
+# The commands of the proved program, of lines, and of this package, each with what adds its arguments.
+PROVED: Dict[str, Callable[[Any, str], None]] = {
+    "decode": add_decode,
+    "encode": add_encode,
+    "discover": add_discover,
+    "run": add_run,
+}
+OF_LINES: Dict[str, Callable[[Any, str], None]] = {
+    "bridge": lambda made, name: commands.add_bridge(made),
+    "rig": lambda made, name: commands.add_rig(made),
+}
+COMMANDS: Dict[str, Callable[[Any, str], None]] = {
+    **FRONT_COMMANDS,
+    "adapters": add_adapters,
+    **PROVED,
+    **OF_LINES,
+}

@@ -1,0 +1,143 @@
+"""Which part does a command: the proved program, the package `front`, or the commands of lines."""
+from __future__ import annotations
+
+import os
+import signal
+import sys
+from pathlib import Path
+from types import FrameType
+from typing import Iterator, List, Optional, Sequence, Tuple
+
+from .. import commands
+from ..front import main as front
+from ..front.main import run as run_chosen
+from ..front.output import DONE, INTERRUPTED, Failure, Output
+from ..front.work import LINE_VARIABLE
+from ..parameters.words import hint
+from . import arguments, places, serving
+from .adapters import default_line
+
+VERSION_WORDS = ("version", "--version", "-V")
+HELP_WORDS = ("-h", "--help")
+# The options with a value.
+VALUED = ("--line", "--replies", "--source", "--known", "--budget", "--port", "--log")
+NO_PROGRAM = 127
+
+
+def run() -> int:
+    """The command with the arguments of this process."""
+    # A shell makes background jobs ignore SIGINT.
+    signal.signal(signal.SIGINT, signal.default_int_handler)
+    for ending in (signal.SIGTERM, signal.SIGHUP):
+        signal.signal(ending, end)
+    places.name_library()
+    try:
+        return main(sys.argv[1:])
+    except Failure as failure:
+        Output("--json" in sys.argv).failure(failure)
+        return failure.status
+    except KeyboardInterrupt:
+        return INTERRUPTED
+
+
+def end(number: int, frame: Optional[FrameType]) -> None:
+    """Ends a command in such a way that its line is closed."""
+    sys.exit(128 + number)
+
+
+def main(words: Sequence[str]) -> int:
+    """Runs a command, and returns its status. Raises Failure."""
+    command = words[0] if words else ""
+    if command in VERSION_WORDS:
+        print(places.version_line())
+        return DONE
+    if command == "help":
+        words = [*words[1:2], "--help"]
+        command = words[0]
+    if command in arguments.PROVED and not asks_for_help(words):
+        return run_proved(list(words))
+    if command in arguments.OF_LINES and not asks_for_help(words):
+        return commands.main(words)
+    if command and not command.startswith("-") and command not in arguments.COMMANDS:
+        arguments.parser().error(f"there is no command '{command}'{hint(command, arguments.COMMANDS)}")
+    if "--raw" in words:
+        os.environ[LINE_VARIABLE] = option(words, "--line") or default_line()
+        return front(words)
+    chosen = arguments.parser().parse_args(words)
+    if "line" in chosen and not chosen.line:
+        chosen.line = default_line()
+    return run_chosen(chosen, Output(chosen.json))
+
+
+def asks_for_help(words: Sequence[str]) -> bool:
+    """Whether an option asks for help."""
+    options = words[:words.index("--")] if "--" in words else words
+    return any(word in HELP_WORDS for word in options)
+
+
+def run_proved(words: List[str]) -> int:
+    """Runs a command of the proved program: on a line that is served here, or else in the place of this process."""
+    program = places.program()
+    if program is None:
+        print(f"wurstlinen: '{words[0]}' needs the proved program, which isn't installed here; "
+              f"{places.PROGRAM_VARIABLE} may name it", file=sys.stderr)
+        return NO_PROGRAM
+    line = option(words, "--line")
+    if words[0] == "discover" and line is None and not has_file(words):
+        return serving.serve(program, words, default_line())
+    if words[0] in ("discover", "run") and serving.is_served(line):
+        assert line is not None
+        return serving.serve(program, without(words, "--line"), line)
+    return become(program, words)
+
+
+def become(program: Path, words: Sequence[str]) -> int:
+    """Runs the proved program in the place of this process."""
+    try:
+        os.execv(program, ["wurstlinen", *words])
+    except OSError as fault:
+        print(f"wurstlinen: {program}: {fault.strerror}", file=sys.stderr)
+        return NO_PROGRAM
+
+
+def parts(words: Sequence[str]) -> Iterator[Tuple[int, str]]:
+    """Where the options of a command are, with their names, and its files, with an empty name."""
+    is_value = is_over = False
+    for at, word in enumerate(words[1:], 1):
+        name, equals, _ = word.partition("=")
+        if is_value:
+            is_value = False
+        elif is_over or not word.startswith("-"):
+            yield at, ""
+        elif word == "--":
+            is_over = True
+        else:
+            is_value = name in VALUED and not equals
+            yield at, name
+
+
+def place_of(words: Sequence[str], wanted: str) -> Optional[int]:
+    """Where the first option of a name is."""
+    return next((at for at, name in parts(words) if name == wanted), None)
+
+
+def option(words: Sequence[str], name: str) -> Optional[str]:
+    """The value of an option, as NAME VALUE or NAME=VALUE."""
+    at = place_of(words, name)
+    if at is None:
+        return None
+    _, equals, value = words[at].partition("=")
+    return value if equals else next(iter(words[at + 1:at + 2]), None)
+
+
+def without(words: Sequence[str], name: str) -> List[str]:
+    """The words without the first option of a name, and its value."""
+    at = place_of(words, name)
+    if at is None:
+        return list(words)
+    return [*words[:at], *words[at + (1 if "=" in words[at] else 2):]]
+
+
+def has_file(words: Sequence[str]) -> bool:
+    """Whether one of the words after the command is a file."""
+    return any(not name for _, name in parts(words))

@@ -1,0 +1,77 @@
+"""The proved program on a line that this process serves, such as a USB adapter."""
+from __future__ import annotations
+
+import os
+import subprocess
+import sys
+from contextlib import ExitStack
+from pathlib import Path
+from typing import List, Optional, Sequence
+
+from ..commands import SOURCE, WatchedLine
+from ..front.output import BAD_ARGUMENTS, FAILED, Failure
+from ..line import LineFailed
+from ..lines import OpenLine, open_line, serve_text
+from ..lines.packets import uid_text
+
+KINDS = ("enttec", "text", "exec", "rig")
+SECONDS_TO_END = 1.0
+
+
+def is_served(text: Optional[str]) -> bool:
+    """Whether a value of --line is a line that is served here, and no stream of a far end."""
+    return text is not None and text.partition(":")[0] in KINDS and ":" in text
+
+
+def opened(text: str) -> OpenLine:
+    """Opens a line. Raises Failure."""
+    try:
+        return open_line(text)
+    except ValueError as fault:
+        raise Failure(BAD_ARGUMENTS, str(fault), reason="line") from None
+    except LineFailed as fault:
+        raise Failure(FAILED, str(fault), reason="line") from None
+    except OSError as fault:
+        raise Failure(FAILED, f"{fault.filename}: {fault.strerror}", reason="line") from None
+
+
+def serve(program: Path, words: Sequence[str], text: str) -> int:
+    """Runs the program with these words on a line, and returns its status."""
+    with opened(text) as line, ExitStack() as stack:
+        words = [words[0], *source_words(words, line), *words[1:]]
+        watched = WatchedLine(line)
+        from_program, frames = os.pipe()
+        theirs = stack.enter_context(os.fdopen(from_program, "rb", 0))
+        replies, to_program = os.pipe()
+        ours = stack.enter_context(os.fdopen(to_program, "wb", 0))
+        try:
+            streams = ["--line", f"/dev/fd/{frames}", "--replies", f"/dev/fd/{replies}"]
+            child = subprocess.Popen([program, words[0], *streams, *words[1:]], pass_fds=(frames, replies))
+        finally:
+            os.close(frames)
+            os.close(replies)
+        stack.callback(end, child)
+        serve_text(watched, theirs, ours)
+        status = child.wait()
+    if watched.failure is not None:
+        print(f"wurstlinen: {watched.failure}", file=sys.stderr)
+    return status if status >= 0 else 128 - status
+
+
+def source_words(words: Sequence[str], line: OpenLine) -> List[str]:
+    """The controller's UID, which a discovery needs: the one that the line should have."""
+    is_given = any(word.partition("=")[0] == "--source" for word in words)
+    if words[0] != "discover" or is_given:
+        return []
+    return ["--source", uid_text(SOURCE if line.source is None else line.source)]
+
+
+def end(child: "subprocess.Popen[bytes]") -> None:
+    """Ends the program if it still runs, after a second by force."""
+    if child.poll() is None:
+        child.terminate()
+    try:
+        child.wait(SECONDS_TO_END)
+    except subprocess.TimeoutExpired:
+        child.kill()
+        child.wait()

@@ -1,0 +1,93 @@
+# The commands for fixtures, which are in Python and use the C library. For the script wurstlinen, which has the
+# functions and names used here, and reads tools/library.bash too.
+# shellcheck shell=bash disable=SC2154
+
+front_folder="$own/library"
+# With these words, the command in Python needs no library.
+without_library=(adapters bridge pids rig trace)
+with_library=(apply fixtures get identify save set)
+
+is_of_front() {
+    [[ " ${without_library[*]} ${with_library[*]} " = *" $1 "* ]]
+}
+
+# Whether the program is called for a line that the command in Python serves.
+is_served() {
+    local word before=""
+    [[ "${1-}" = discover || "${1-}" = run ]] || return
+    for word in "$@"; do
+        [ "$before" != --line ] || word="--line=$word"
+        [[ "$word" != --line=@(enttec|text|exec|rig):* ]] || return 0
+        before="$word"
+    done
+    return 1
+}
+
+asks_for_help() {
+    local word
+    for word in "$@"; do
+        [[ "$word" != -- ]] || return 1
+        [[ "$word" != -h && "$word" != --help ]] || return 0
+    done
+    return 1
+}
+
+# Replaces the script by the command in Python.
+call_front() {
+    export PYTHONPATH="$root/bindings/python${PYTHONPATH:+:$PYTHONPATH}" WURSTLINEN_PROGRAM="$program"
+    # It writes no files into the sources.
+    export PYTHONDONTWRITEBYTECODE=1
+    exec python3 -m wurstlinen.tool "$@"
+}
+
+# The same with the C library, if the command needs it.
+run_front() {
+    if [ -z "${WURSTLINEN_LIBRARY-}" ] && [[ " ${with_library[*]} " = *" $1 "* ]] && ! asks_for_help "$@"; then
+        ensure_library
+        export WURSTLINEN_LIBRARY="$front_folder/$soname"
+    fi
+    call_front "$@"
+}
+
+# What the C library is built from.
+library_fingerprint() {
+    fingerprint rdm_c
+    sha256sum < "$root/bindings/c/heap.c"
+}
+
+# Proves and builds the C library into the folder out/, unless it is up to date.
+ensure_library() {
+    local made before
+    before="$(library_fingerprint)"
+    if [ -r "$front_folder/$soname" ] && [ "$(cat "$front_folder/built" 2> /dev/null)" = "$before" ]; then
+        return
+    fi
+    need_rt_and_cc
+    say "proving and building the C library, about 10 minutes; a call after an interrupt goes on"
+    ensure_folder "$front_folder"
+    rm -f "$front_folder/built"
+    make_c_library
+    put "$made/$soname" "$front_folder/$soname" || fail "$not_run" "the file $front_folder/$soname can't be written"
+    # If a source changed during the build, the next call builds again.
+    [ "$(library_fingerprint)" != "$before" ] || printf '%s\n' "$before" > "$front_folder/built"
+    rm -rf "$made"
+}
+
+# Puts the command in Python into the place of $1, as one file.
+install_front() (
+    staged="$(mktemp -d)" || exit
+    trap 'rm -rf -- "$staged"' EXIT
+    mkdir "$staged/all" && cp -R -- "$root/bindings/python/wurstlinen" "$staged/all" || exit
+    find "$staged/all" -name __pycache__ -prune -exec rm -r {} + || exit
+    front_proof > "$staged/all/wurstlinen/PROOF" || exit
+    python3 -m zipapp --python "/usr/bin/env python3" --main wurstlinen.tool:call --output "$staged/one" \
+        "$staged/all" || exit
+    put "$staged/one" "$1" 755
+)
+
+# What an installed command says of itself.
+front_proof() {
+    local commit
+    commit="$(git -C "$root" rev-parse HEAD 2> /dev/null)" || commit=unknown
+    printf 'version: %s\ncommit: %s\nkit of the program: %s\n' "$(cat "$root/VERSION")" "$commit" "$(kit_of_program)"
+}

@@ -1,0 +1,307 @@
+"""The command as a whole: which part gets which arguments, lines that it serves, adapters, and its installation."""
+from __future__ import annotations
+
+import contextlib
+import io
+import os
+import re
+import signal
+import subprocess
+import sys
+import tempfile
+import time
+import unittest
+from pathlib import Path
+from typing import Iterator, List
+
+from clone import ROOT, Clone, compile_c, is_alive, new_clone, wait_for
+
+sys.path.insert(0, str(ROOT / "bindings/python"))
+from wurstlinen.front.output import Failure, Output  # noqa: E402
+from wurstlinen.lines import open_line  # noqa: E402
+from wurstlinen.lines.emulator import Emulator, Widget  # noqa: E402
+from wurstlinen.tool import adapters, arguments, main, serving  # noqa: E402
+from wurstlinen.tool.main import has_file, option, without  # noqa: E402
+
+FIXTURES = ROOT / "bindings/examples/five_fixtures.json"
+# A program that prints its words; with a line it sends a frame, and prints the reply.
+PROGRAM = """#!/bin/sh
+echo "$*" | sed 's|/dev/fd/[0-9]*|FD|g'
+[ "$2" = --line ] || exit 4
+exec 3> "$3" 4< "$5"
+echo {frame} >&3
+read -r reply <&4
+echo "$reply"
+exit 5
+"""
+# Unmutes all devices, which none answers: the source is 7ff0:00000001.
+FRAME = "cc0118ffffffffffff7ff000000001000100000010000300"
+# The program waits for a reply that doesn't come, or for nothing, and says that it has begun.
+SLOW = '#!/bin/sh\nexec 3> "$3" 4< "$5"\necho $$ > "{note}"\n{more}\nread -r reply <&4\nexit 9\n'
+
+
+def with_sum(text: str) -> str:
+    """A packet with its checksum."""
+    data = bytes.fromhex(text)
+    return (data + sum(data).to_bytes(2, "big")).hex()
+
+
+class Place(unittest.TestCase):
+    def setUp(self) -> None:
+        place = tempfile.TemporaryDirectory(prefix="check_scripts.")
+        self.addCleanup(place.cleanup)
+        self.folder = Path(place.name).resolve()
+
+
+class Commands(Place):
+    def setUp(self) -> None:
+        super().setUp()
+        self.note = self.folder / "note"
+        self.put_program(PROGRAM.format(frame=with_sum(FRAME)))
+
+    def put_program(self, text: str) -> None:
+        (self.folder / "program").write_text(text)
+        (self.folder / "program").chmod(0o755)
+
+    def environment(self, **more: str) -> "dict[str, str]":
+        return {"PATH": os.environ["PATH"], "PYTHONPATH": str(ROOT / "bindings/python"), "PYTHONDONTWRITEBYTECODE": "1",
+                "WURSTLINEN_PROGRAM": str(self.folder / "program"), **more}
+
+    def call(self, *words: str, **more: str) -> "subprocess.CompletedProcess[str]":
+        """Runs the command."""
+        return subprocess.run([sys.executable, "-m", "wurstlinen.tool", *words], env=self.environment(**more),
+                              text=True, check=False, capture_output=True, timeout=60, cwd=self.folder, input="",
+                              errors="surrogateescape")
+
+    def expect(self, words: List[str], status: int, out: str, err: str = "", **more: str) -> None:
+        done = self.call(*words, **more)
+        self.assertEqual((done.returncode, done.stdout, done.stderr), (status, out, err), words)
+
+    def test_the_program_gets_its_words_as_they_are(self) -> None:
+        self.put_program('#!/bin/sh\nprintf "%s|" "$@"\nexit 4\n')
+        line = "rig:none.json"
+        for words in (["decode", "zz"], ["run", "file", "--line", "out", "--replies", "in"], ["run", "--", "--help"],
+                      ["discover", "a", "--quick"], ["decode", "--version"], ["discover", "--line=out"], ["run"],
+                      ["run", "a", "--log", f"--line={line}"], ["encode", "\udcff ä"]):
+            self.expect(words, 4, "".join(f"{word}|" for word in words))
+
+    def test_lines_are_served(self) -> None:
+        for words in (["discover", "--line", f"rig:{FIXTURES}", "--source", "7ff0:00000001"],
+                      ["discover", f"--line=rig:{FIXTURES}", "--source=7ff0:00000001"]):
+            done = self.call(*words)
+            self.assertEqual((done.returncode, done.stderr), (5, ""))
+            self.assertRegex(done.stdout, r"^discover --line FD --replies FD --source.7ff0:00000001\n\n$")
+        done = self.call("run", "a b", "--log", "c", "--line", f"rig:{FIXTURES}")
+        self.assertEqual((done.returncode, done.stdout), (5, "run --line FD --replies FD a b --log c\n\n"))
+
+    def test_a_discovery_has_the_lines_own_source(self) -> None:
+        done = self.call("discover", WURSTLINEN_LINE=f"rig:{FIXTURES}")
+        self.assertEqual((done.returncode, done.stderr), (5, ""))
+        self.assertRegex(done.stdout, r"^discover --line FD --replies FD --source 7ff0:00000001\n")
+
+    def test_a_program_that_opens_nothing(self) -> None:
+        self.put_program("#!/bin/sh\ncat\nexit 7\n")
+        self.expect(["run", "x", "--line", f"rig:{FIXTURES}"], 7, "")
+
+    def test_a_line_that_fails(self) -> None:
+        done = self.call("run", "x", "--line", "exec:false")
+        self.assertEqual((done.returncode, done.stdout.split("\n")[1:]), (5, ["failed", ""]))
+        self.assertRegex(done.stderr, r"^wurstlinen: the far end .*\n$")
+        self.expect(["run", "x", "--line", "enttec:/nowhere"], 1, "",
+                    "wurstlinen: /nowhere can't be opened: No such file or directory\n")
+        self.expect(["run", "x", "--line", "rig:nowhere"], 1, "", "wurstlinen: nowhere: No such file or directory\n")
+        self.expect(["run", "x", "--line", "exec:"], 2, "", "wurstlinen: 'exec:' names no line; a line is "
+                    "enttec:DEVICE, text:FRAMES[,REPLIES], exec:COMMAND or rig:FILE\n")
+
+    def test_signals_end_both(self) -> None:
+        for more in ("", "trap '' TERM INT HUP"):
+            for number, status in ((signal.SIGTERM, 143), (signal.SIGINT, 130), (signal.SIGHUP, 129)):
+                self.put_program(SLOW.format(note=self.note, more=more))
+                self.end_by(number, status)
+
+    def end_by(self, number: int, status: int) -> None:
+        """Sends a signal to the command while the program waits for a reply."""
+        self.note.unlink(missing_ok=True)
+        command = [sys.executable, "-m", "wurstlinen.tool", "run", "x", "--line", f"rig:{FIXTURES}"]
+        with subprocess.Popen(command, env=self.environment(), stderr=subprocess.PIPE, text=True) as process:
+            wait_for(lambda: self.note.exists() and self.note.read_text().strip())
+            began = time.monotonic()
+            process.send_signal(number)
+            errors = process.communicate()[1]
+        self.assertEqual((process.returncode, errors), (status, ""))
+        self.assertLess(time.monotonic() - began, 10)
+        self.assertFalse(is_alive(int(self.note.read_text())))
+
+    def test_a_command_that_is_killed_ends_the_program(self) -> None:
+        self.put_program(SLOW.format(note=self.note, more=""))
+        command = [sys.executable, "-m", "wurstlinen.tool", "run", "x", "--line", f"rig:{FIXTURES}"]
+        with subprocess.Popen(command, env=self.environment()) as process:
+            wait_for(lambda: self.note.exists() and self.note.read_text().strip())
+            process.kill()
+        wait_for(lambda: not is_alive(int(self.note.read_text())))
+
+    def test_help_is_the_fronts(self) -> None:
+        for command in arguments.COMMANDS:
+            for words in ([command, "--help"], ["help", command]):
+                done = self.call(*words)
+                self.assertEqual((done.returncode, done.stderr), (0, ""), command)
+                self.assertTrue(done.stdout.startswith("usage: "), command)
+        for command in set(arguments.COMMANDS) - set(arguments.OF_LINES):
+            self.assertIn(f"\nexample: wurstlinen {command}", self.call(command, "--help").stdout, command)
+
+    def test_wrong_arguments_are_one_line(self) -> None:
+        self.expect(["fixturs"], 2, "", "wurstlinen: there is no command 'fixturs'; did you mean fixtures?; try "
+                    "'wurstlinen --help'\n")
+        done = self.call("fixtures", "x")
+        self.assertEqual((done.returncode, done.stderr.count("\n")), (2, 1))
+
+    def test_no_program(self) -> None:
+        (self.folder / "program").unlink()
+        self.expect(["decode", "00"], 127, "", "wurstlinen: 'decode' needs the proved program, which isn't installed "
+                    "here; WURSTLINEN_PROGRAM may name it\n")
+
+    def test_words(self) -> None:
+        self.assertEqual(option(["run", "a", "--line", "b"], "--line"), "b")
+        self.assertEqual(option(["run", "--line=b=c"], "--line"), "b=c")
+        self.assertEqual(option(["run", "--", "--line", "b"], "--line"), None)
+        self.assertEqual(option(["run", "--line"], "--line"), None)
+        self.assertEqual(option(["run", "--log", "--line=a"], "--line"), None)
+        self.assertEqual(without(["run", "--line", "b", "c"], "--line"), ["run", "c"])
+        self.assertEqual(without(["run", "--line=b", "c"], "--line"), ["run", "c"])
+        for words, wanted in ((["x", "--log", "a"], False), (["x", "a"], True), (["x", "--quick"], False),
+                              (["x", "--log=a", "b"], True), (["x", "--", "b"], True)):
+            self.assertEqual(has_file(words), wanted, words)
+
+
+class Adapters(Place):
+    def setUp(self) -> None:
+        super().setUp()
+        self.sys, self.dev, self.locks = (self.folder / name for name in ("sys", "dev", "locks"))
+        for folder in (self.dev, self.locks, self.sys / "class/tty"):
+            folder.mkdir(parents=True)
+
+    def plug(self, name: str, vendor: str = "0403", product: str = "6001", to: str = "") -> Path:
+        """A serial device as /sys shows it, which is the device `to`."""
+        usb = self.sys / "devices/usb1" / f"1-{name}"
+        (usb / f"1-{name}:1.0" / name / "tty" / name).mkdir(parents=True)
+        (usb / "idVendor").write_text(f"{vendor}\n")
+        (usb / "idProduct").write_text(f"{product}\n")
+        (self.sys / "class/tty" / name).mkdir()
+        (self.sys / "class/tty" / name / "device").symlink_to(usb / f"1-{name}:1.0" / name)
+        if to:
+            (self.dev / name).symlink_to(to)
+        return self.dev / name
+
+    @contextlib.contextmanager
+    def emulated(self, **widget: object) -> Iterator[str]:
+        """An emulated adapter's device."""
+        with open_line(f"rig:{FIXTURES}") as line, Emulator(line, Widget(**widget)) as emulator:
+            yield emulator.path
+
+    def test_only_chips_of_adapters_are_found(self) -> None:
+        self.plug("ttyUSB1")
+        self.plug("ttyUSB0")
+        self.plug("ttyUSB2", product="6015")
+        self.plug("ttyACM0", vendor="2341")
+        (self.sys / "class/tty/ttyS0").mkdir()
+        (self.sys / "class/tty/ttyS1").mkdir()
+        (self.sys / "class/tty/ttyS1/device").symlink_to("/nowhere")
+        self.assertEqual(adapters.chips(self.sys, self.dev), [self.dev / "ttyUSB0", self.dev / "ttyUSB1"])
+        self.assertEqual(adapters.chips(self.folder / "none", self.dev), [])
+
+    def test_what_is_said(self) -> None:
+        with self.emulated() as path:
+            found = adapters.look_at(self.plug("ttyUSB0", to=path), self.locks)
+            self.assertEqual(found.fault, None)
+            self.assertRegex(found.text, r"^Enttec USB Pro, serial [0-9a-f]{8}, firmware 2\.4, RDM$")
+            self.assertEqual(list(self.locks.iterdir()), [])
+            out = io.StringIO()
+            self.assertEqual(adapters.show([found], Output(False, out)), 0)
+            self.assertEqual(out.getvalue(), f"enttec:{self.dev}/ttyUSB0  {found.text}\n")
+        with self.emulated(firmware=(1, 44)) as path:
+            found = adapters.look_at(self.plug("ttyUSB1", to=path), self.locks)
+            self.assertIn("has firmware 1.44; RDM needs 2.4 or later", found.text)
+            self.assertEqual(adapters.show([found], Output(True, io.StringIO())), 1)
+
+    def test_a_locked_device_is_not_opened(self) -> None:
+        # Opening a FIFO would wait.
+        os.mkfifo(self.folder / "ttyUSB0")
+        path = self.plug("ttyUSB0", to=str(self.folder / "ttyUSB0"))
+        (self.locks / "LCK..ttyUSB0").write_text(f"{os.getppid():10d}\n")
+        found = adapters.look_at(path, self.locks)
+        self.assertEqual(found.fault, f"{path} is used by process {os.getppid()}: {self.locks}/LCK..ttyUSB0")
+
+    @unittest.skipUnless(os.geteuid(), "root may open everything")
+    def test_no_permission(self) -> None:
+        path = self.plug("ttyUSB0")
+        path.touch(mode=0)
+        self.assertIn("add yourself to the group", adapters.look_at(path, self.locks).text)
+
+    def test_the_line_without_an_argument(self) -> None:
+        with self.assertRaisesRegex(Failure, "^no adapter is plugged in; "):
+            adapters.choose([])
+        self.assertEqual(adapters.choose([Path("/dev/a")]), "enttec:/dev/a")
+        with self.assertRaisesRegex(Failure, "says it: enttec:/dev/a, enttec:/dev/b$"):
+            adapters.choose([Path("/dev/a"), Path("/dev/b")])
+
+
+class Repository(unittest.TestCase):
+    def setUp(self) -> None:
+        context = new_clone()
+        self.clone: Clone = context.__enter__()
+        self.addCleanup(context.__exit__, None, None, None)
+
+    def test_commands_are_the_same_as_the_fronts(self) -> None:
+        text = (ROOT / "tools/front.bash").read_text()
+        found = {word for words in re.findall(r"^with(?:out)?_library=\((.*)\)$", text, re.M) for word in words.split()}
+        self.assertEqual(found, set(arguments.COMMANDS) - set(arguments.PROVED))
+
+    def test_what_needs_nothing_builds_nothing(self) -> None:
+        for words in (["pids", "label"], ["fixtures", "--help"], ["decode", "--help"], ["run", "-h"]):
+            done = self.clone.run("./wurstlinen", *words)
+            self.assertEqual((done.returncode, done.stderr), (0, ""), words)
+        done = self.clone.run("./wurstlinen", "save", "--help")
+        self.assertTrue(done.stdout.startswith("usage: wurstlinen save"))
+        self.assertEqual(self.clone.rt_calls(), [])
+        self.assertEqual(list(self.clone.root.rglob("__pycache__")), [])
+
+    def test_the_library_is_built_once(self) -> None:
+        part = self.clone.folder / "part.o"
+        compile_c("int one;\n", part, ["-c", "-fPIC"])
+        subprocess.run(["ar", "rcs", str(self.clone.archive), str(part)], check=True)
+        for built in (True, False):
+            done = self.clone.run("./wurstlinen", "get", "1234:00000001", "device_label", "--line", f"rig:{FIXTURES}")
+            self.assertEqual(done.returncode, 1)
+            self.assertEqual("proving and building the C library" in done.stderr, built)
+            self.assertIn("the C library is needed for this: the library has no call", done.stderr)
+        self.assertEqual([call.split(" ", 1)[1] for call in self.clone.rt_calls()], ["lib"])
+        (self.clone.root / "bindings/c/heap.c").write_text("\n")
+        done = self.clone.run("./wurstlinen", "get", "1234:00000001", "device_label", "--line", f"rig:{FIXTURES}")
+        self.assertIn("proving and building the C library", done.stderr)
+
+    def test_a_line_is_served(self) -> None:
+        (self.clone.root / "x").write_text("{}")
+        done = self.clone.run("./wurstlinen", "run", "x", "--line", f"rig:{FIXTURES}")
+        self.assertEqual(done.returncode, 0, done.stderr)
+        self.assertRegex(done.stdout, r"^the program: run --line /dev/fd/\d+ --replies /dev/fd/\d+ x\n$")
+        done = self.clone.run("./wurstlinen", "run", "x", "--line", "out")
+        self.assertEqual(done.stdout, "the program: run x --line out\n")
+        done = self.clone.run("./rdm_port", "run", "--line", "rig:x")
+        self.assertEqual(done.stdout, "the program: run --line rig:x\n")
+
+    def test_what_is_installed(self) -> None:
+        target = self.clone.folder / "a b/bin"
+        done = self.clone.run("./wurstlinen", "--install", str(target))
+        self.assertEqual(done.returncode, 0, done.stderr)
+        self.assertEqual({path.name for path in target.iterdir()}, {"wurstlinen", "rdm_port"})
+        for words, wanted in ((["decode", "00"], "the program: decode 00\n"), (["pids", "device_lab"], "0x0082"),
+                              (["--version"], "(proved with kit-of-tests, commit ")):
+            done = self.clone.run(str(target / "wurstlinen"), *words, cwd="/")
+            self.assertEqual((done.returncode, done.stderr), (0, ""))
+            self.assertIn(wanted, done.stdout)
+        done = self.clone.run(str(target / "wurstlinen"), "fixtures", "--line", f"rig:{FIXTURES}")
+        self.assertIn(f"libwurstlinen.so.0 is not at {self.clone.folder}/a b/lib/libwurstlinen.so.0", done.stderr)
+
+
+if __name__ == "__main__":
+    unittest.main()
