@@ -82,6 +82,22 @@ class Installs(unittest.TestCase):
         self.assertEqual({path.name for path in package.iterdir()}, wanted)
         self.assertEqual([path.name for path in package.parent.iterdir()], ["wurstlinen"])
 
+    def test_a_signal_never_costs_the_python_package(self) -> None:
+        """A mv that sends its caller a signal when it moves the old package away or back, or can't move the new one."""
+        package = self.prefix / "lib/python3/site-packages/wurstlinen"
+        self.install(self.prefix)
+        (package / "old.py").write_text("")
+        for case, status in (("*/old*) /bin/mv \"$@\"; kill -s HUP $PPID", 129),
+                             ("*/old*) /bin/mv \"$@\"; kill -s INT $PPID", 130),
+                             ("*/old*) /bin/mv \"$@\"; kill -s TERM $PPID", 143),
+                             ("*/new\\ *) exit 1", 1)):
+            (self.clone.bin / "mv").write_text(f'#!/bin/sh\ncase "$*" in\n{case} ;;\n*) exec /bin/mv "$@" ;;\nesac\n')
+            (self.clone.bin / "mv").chmod(0o755)
+            done = self.clone.bash(INSTALL, str(self.clone.folder), str(self.clone.root), str(self.prefix))
+            self.assertEqual(done.returncode, status, case)
+            self.assertTrue((package / "old.py").exists(), case)
+            self.assertEqual([path.name for path in package.parent.iterdir()], ["wurstlinen"])
+
     def test_everyone_can_read_what_is_installed(self) -> None:
         old = os.umask(0o077)
         self.addCleanup(os.umask, old)
