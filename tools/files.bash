@@ -16,17 +16,32 @@ put() (
     cp -- "$1" "$new" && chmod "${3-644}" -- "$new" && mv -fT -- "$new" "$2"
 )
 
-# The same with a folder of Python files. The old folder is moved away before the new one takes its name.
+# The same with a folder of Python files. The old folder is moved away before the new one takes its name, and moved back
+# if that fails.
 put_package() (
     folder="$(mktemp -d -- "$(dirname -- "$2")/.${2##*/}.XXXXXX")" || exit
-    trap 'rm -rf -- "$folder"' EXIT
+    trap 'end_put_package "$2" "$folder"' EXIT
+    # With these, the shell waits for a mv that is under way.
+    trap 'exit 129' HUP
+    trap 'exit 130' INT
+    trap 'exit 143' TERM
     cp -R -- "$1" "$folder/new" && find "$folder/new" -name __pycache__ -prune -exec rm -r {} + || exit
     chmod -R u=rwX,go=rX -- "$folder/new" || exit
     # Another call may put its own folder there between the two steps.
     for ((tries = 0; tries < 10; tries++)); do
-        [ ! -e "$2" ] && [ ! -L "$2" ] || mv -T -- "$2" "$folder/old.$tries" 2> /dev/null || continue
+        if [ -e "$2" ] || [ -L "$2" ]; then
+            rm -rf -- "$folder/old"
+            mv -T -- "$2" "$folder/old" 2> /dev/null || continue
+        fi
         mv -T -- "$folder/new" "$2" 2> /dev/null && exit
     done
     echo "the folder $2 can't be replaced" >&2
     exit 1
 )
+
+# Removes the folder $2 of a call of put_package. If there is no package $1, the old one gets its name again.
+end_put_package() {
+    trap '' HUP INT TERM
+    [ -e "$1" ] || [ -L "$1" ] || mv -T -- "$2/old" "$1" 2> /dev/null
+    rm -rf -- "$2"
+}

@@ -66,6 +66,7 @@ has_ola_headers() {
 }
 
 # Makes that library in a folder that has libwurstlinen.a. It exports only the members of OLA's classes that it defines.
+# Before glibc 2.34, dlsym is in libdl.
 make_ola_library() {
     local root="$1" folder="$2"
     cat > "$folder/exports" << 'END'
@@ -88,6 +89,6 @@ make_ola_library() {
 END
     c++ "${ola_flags[@]}" -O2 -fPIC -shared -fmacro-prefix-map="$root/=" -I"$root/bindings/c" -I"$root/bindings/cpp" \
         "$root"/bindings/ola/*.cpp -o "$folder/$ola_library" -Wl,--version-script="$folder/exports" -Wl,--no-undefined \
-        "$folder/libwurstlinen.a" -lolacommon || return
+        "$folder/libwurstlinen.a" -lolacommon -ldl || return
     rm "$folder/exports"
 }

@@ -4,17 +4,18 @@
 
 no_process=3
 
-# Prints the first of a folder and those above it that others than root can write, if there is one. Links are checked
-# as well as what they lead to.
+# Prints the first of a folder and those above it, up to the root, that others than root can write, if there is one.
+# Links are checked as well as what they lead to.
 writable_by_others() {
     local folder owner mode
     for folder in "$1" "$(readlink -f -- "$1")"; do
-        while [ -n "$folder" ]; do
+        while true; do
             read -r owner mode < <(stat -L -c '%u %a' -- "$folder/")
             if [ "$owner" != 0 ] || ((0$mode & 022)); then
-                printf '%s\n' "$folder"
+                printf '%s\n' "${folder:-/}"
                 return
             fi
+            [ -n "$folder" ] || break
             folder="${folder%/*}"
         done
     done

@@ -53,7 +53,7 @@ trap 'exit 130' INT
 trap 'exit 131' QUIT
 trap 'exit 143' TERM
 
-mkfifo "$folder/frames" "$folder/replies"
+mkfifo "$folder/frames" "$folder/replies" || exit
 # Both run in the background, so that a signal needn't wait for them, and each in a session, which can be ended as a
 # whole.
 PYTHONPATH="$package${PYTHONPATH:+:$PYTHONPATH}" setsid python3 -m wurstlinen bridge --line "$line" \

@@ -93,6 +93,16 @@ class Adapter(unittest.TestCase):
         wanted = f"adapter.sh: there is no program {self.environment['WURSTLINEN']}: name it by WURSTLINEN\n"
         self.assertEqual((done.returncode, done.stderr), (127, wanted))
 
+    def test_a_full_disk(self) -> None:
+        """Without the FIFOs nothing is started."""
+        self.put_program(f"#!/bin/sh\necho started > {self.note}\n")
+        (self.clone.bin / "mkfifo").write_text("#!/bin/sh\nexit 1\n")
+        (self.clone.bin / "mkfifo").chmod(0o755)
+        done = self.clone.run("bindings/examples/adapter.sh", self.line, "run", env=self.environment)
+        self.assertEqual((done.returncode, done.stdout, done.stderr), (1, "", ""))
+        self.assertFalse(self.note.exists())
+        self.assertEqual(list(self.temporary.iterdir()), [])
+
     def test_cdpath(self) -> None:
         for name in ("examples", "python"):
             (self.clone.folder / "other/bindings" / name).mkdir(parents=True)

@@ -115,6 +115,21 @@ class Answers(unittest.TestCase):
         self.assertEqual(done.returncode, 1)
         self.assertTrue(done.stderr.startswith("wurstlinen: the answer can't be written: "))
 
+    def test_a_full_device_for_reasons(self) -> None:
+        with open("/dev/full", "w") as full:
+            done = self.clone.run("./wurstlinen", "walk", capture_output=False, stdout=-1, stderr=full)
+        self.assertEqual((done.returncode, done.stdout, self.clone.rt_calls()), (2, "fault: command line\n", []))
+
+    def test_what_cannot_be_answered_is_left_to_the_program(self) -> None:
+        """Without the file that has the program's usage, and without Python."""
+        (self.clone.root / "crates/rdm_words/src/usage.rt").unlink()
+        done = self.clone.run("./wurstlinen", "walk")
+        self.assertEqual((done.returncode, done.stdout), (125, ""))
+        self.assertIn("proving and building", done.stderr)
+        (self.clone.bin / "python3").write_text("#!/bin/sh\nexit 127\n")
+        (self.clone.bin / "python3").chmod(0o755)
+        self.assertIn("proving and building", self.clone.run("./wurstlinen", "walk").stderr)
+
     def test_a_built_program_answers_itself(self) -> None:
         self.clone.put_rt("")
         for words in (["run", "none"], ["walk"], []):

@@ -82,6 +82,22 @@ class Installs(unittest.TestCase):
         self.assertEqual({path.name for path in package.iterdir()}, wanted)
         self.assertEqual([path.name for path in package.parent.iterdir()], ["wurstlinen"])
 
+    def test_a_signal_never_costs_the_python_package(self) -> None:
+        """A mv that sends its caller a signal when it moves the old package away or back, or can't move the new one."""
+        package = self.prefix / "lib/python3/site-packages/wurstlinen"
+        self.install(self.prefix)
+        (package / "old.py").write_text("")
+        for case, status in (("*/old*) /bin/mv \"$@\"; kill -s HUP $PPID", 129),
+                             ("*/old*) /bin/mv \"$@\"; kill -s INT $PPID", 130),
+                             ("*/old*) /bin/mv \"$@\"; kill -s TERM $PPID", 143),
+                             ("*/new\\ *) exit 1", 1)):
+            (self.clone.bin / "mv").write_text(f'#!/bin/sh\ncase "$*" in\n{case} ;;\n*) exec /bin/mv "$@" ;;\nesac\n')
+            (self.clone.bin / "mv").chmod(0o755)
+            done = self.clone.bash(INSTALL, str(self.clone.folder), str(self.clone.root), str(self.prefix))
+            self.assertEqual(done.returncode, status, case)
+            self.assertTrue((package / "old.py").exists(), case)
+            self.assertEqual([path.name for path in package.parent.iterdir()], ["wurstlinen"])
+
     def test_everyone_can_read_what_is_installed(self) -> None:
         old = os.umask(0o077)
         self.addCleanup(os.umask, old)
@@ -93,6 +109,29 @@ class Installs(unittest.TestCase):
                 mode = stat.S_IMODE(path.stat().st_mode)
                 is_program = path.name in ("wurstlinen", "rdm_port") and path.is_file()
                 self.assertEqual(mode, 0o755 if path.is_dir() or is_program else 0o644, path)
+
+    def test_all_headers_are_installed(self) -> None:
+        """Each can be included without the sources."""
+        self.install(self.prefix)
+        headers = ["wurstlinen.h", "wurstlinen.hpp", "wurstlinen_agent.hpp", "wurstlinen_ask.hpp"]
+        self.assertEqual(sorted(path.name for path in (self.prefix / "include").iterdir()), headers)
+        for header in headers:
+            done = self.clone.run("c++", "-std=c++17", "-fsyntax-only", "-x", "c++", "-include", header,
+                                  f"-I{self.prefix}/include", "/dev/null")
+            self.assertEqual((done.returncode, done.stderr), (0, ""), header)
+
+    def test_the_root_folder_is_examined_too(self) -> None:
+        """A stat that says that all folders are root's, and that anyone may write in this one."""
+        for open_to_all, found in (("/", "/\n"), ("/usr/", "/usr\n"), ("none", "")):
+            (self.clone.bin / "stat").write_text(
+                f'#!/bin/sh\nfor last; do :; done\n[ "$last" = {open_to_all} ] && echo 0 777 || echo 0 755\n')
+            (self.clone.bin / "stat").chmod(0o755)
+            for folder in ("/usr/share", "/usr"):
+                done = self.clone.bash(f'. "{self.clone.root}/tools/ola.bash"; writable_by_others "$1"', folder)
+                self.assertEqual((done.stdout, done.stderr), (found, ""), folder)
+        (self.clone.bin / "stat").write_text("#!/bin/sh\necho 0 777\n")
+        done = self.clone.bash(f'. "{self.clone.root}/tools/ola.bash"; writable_by_others ""')
+        self.assertEqual(done.stdout, "/\n")
 
     def test_a_prefix_with_blanks(self) -> None:
         prefix = self.clone.folder / "a b  c"
