@@ -147,7 +147,8 @@ pub extern "C" fn wurst_session_drain(
     log: &mut LogHandle,
     first: &mut u64,
 ) -> u32
-    ensures not_open { handle.old.is_open ≡ false → (result ≡ NOT_OPEN) × (log.new.is_open ≡ log.old.is_open) }
+    ensures not_open { handle.old.is_open ≡ false → (result ≡ NOT_OPEN)
+        × ((log.new.is_open ≡ log.old.is_open) × (first.new ≡ first.old)) }
     ensures stays { handle.new.is_open ≡ handle.old.is_open }
     ensures statuses { handle.old.is_open ≡ true → log.old.is_open ≡ true → (result ≡ DONE) ⊎ (result ≡ LOG_FULL) }
     ensures full { handle.old.is_open ≡ true → log.old.is_open ≡ true → result ≡ LOG_FULL
@@ -157,7 +158,7 @@ pub extern "C" fn wurst_session_drain(
     ensures bad { handle.old.is_open ≡ true → log.old.is_open ≡ false → drain_status handle.old.value entries ≢ 0 →
         result ≡ drain_status handle.old.value entries }
     ensures drains { handle.old.is_open ≡ true → log.old.is_open ≡ false →
-        drain_status handle.old.value entries ≡ 0 → (result ≡ OUT_OF_MEMORY) ⊎ ((result ≡ LOG_FULL) ⊎ (result ≡ DONE)) }
+        drain_status handle.old.value entries ≡ 0 → (result ≡ OUT_OF_MEMORY) ⊎ (result ≡ DONE) }
     ensures drained { handle.old.is_open ≡ true → log.old.is_open ≡ false → result ≡ DONE
         → handle.new.value ≡ drained handle.old.value (entries + 1) }
     ensures first { handle.old.is_open ≡ true → result ≡ DONE → first.new ≡ handle.old.value.gone }

@@ -1,5 +1,5 @@
 -- The statuses of calls on a session that the session's own calls don't have.
-use Rattle.std.specs.Prelude.{ℕ, ◌+◌, nat_lt, if◌then◌else◌}
+use Rattle.std.specs.Prelude.{ℕ, ◌+◌, ◌^◌, length, nat_lt, if◌then◌else◌}
 use Rattle.rdm_log.specs.log.History.{is_idle, reserved}
 use Rattle.rdm_log.specs.log.LogState.{LogState, is_full_log}
 use Rattle.rdm_handles.specs.Statuses as status
@@ -25,9 +25,10 @@ rotate_status k entries =
     first_of (entries_status entries)
     (if nat_lt entries 3 then status.log_full else (if is_idle k.entries then status.done else status.not_idle))
 
--- the first fault of going on in a log for this many entries and one more: it must have capacity for those that are
--- reserved
+-- the first fault of going on in memory for this many entries and one more: it must have capacity for those that are
+-- reserved, and at most 2^62 entries in all may fit
 abbrev pub drain_status : LogState → ℕ → ℕ
 drain_status k entries =
     first_of (if nat_lt (entries + 1) (reserved k.opening k.entries) then status.log_full else status.done)
-    (entries_status entries)
+    (first_of (entries_status entries)
+    (if nat_lt (2 ^ 62) (length k.entries + (entries + 1)) then status.log_full else status.done))

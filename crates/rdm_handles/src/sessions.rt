@@ -32,7 +32,9 @@ use crate::status::{
 };
 use arrayvec::ArrayVec;
 use rdm_join::{LineEvent, LineReply};
-use rdm_log::{ClientId, Config, LEAST_FREE, Log, MOST_FREE_ENTRIES, NoMemory, OutcomeKind, Setup};
+use rdm_log::{
+    ClientId, Config, LEAST_FREE, Log, MOST_ENTRIES, MOST_FREE_ENTRIES, NoMemory, OutcomeKind, Setup,
+};
 use rdm_queue::Session;
 use rdm_wire::{DeviceSet, MOST_FRAME_BYTES, Uid};
 use std::alloc::Global;
@@ -381,8 +383,7 @@ pub fn drain_into(session: &mut Session, page: &mut Log) -> u32
 }
 
 /// Goes on in memory for this many entries and one more, and returns all entries that the log stored, as a log.
-/// Err: the status of the first fault, or `OUT_OF_MEMORY`. `LOG_FULL` too if there would be more than 2^62 entries in
-/// all. Then the session is unchanged.
+/// Err: the status of the first fault, or `OUT_OF_MEMORY`. Then the session is unchanged.
 pub fn drain(session: &mut Session, alloc: Global, entries: usize) -> Result<Box<Log>, u32>
     ensures drained { IfOk result (λ page. (drain_status session.old entries ≡ 0)
         × (session.new ≡ drained session.old (entries + 1))) }
@@ -390,9 +391,8 @@ pub fn drain(session: &mut Session, alloc: Global, entries: usize) -> Result<Box
       entries = session.old.entries;
       gone = session.old.gone;
     }) }
-    ensures refused { IfErr result (λ fault. (session.new ≡ session.old)
-        × ((drain_status session.old entries ≢ 0 → fault ≡ drain_status session.old entries)
-        × (drain_status session.old entries ≡ 0 → (fault ≡ OUT_OF_MEMORY) ⊎ (fault ≡ LOG_FULL)))) }
+    ensures refused { IfErr result (λ fault. (session.new ≡ session.old) × (fault
+        ≡ (if drain_status session.old entries == 0 then OUT_OF_MEMORY else drain_status session.old entries))) }
 {
     if entries < session.reserved().saturating_sub(1) {
         return Err(LOG_FULL);
@@ -400,13 +400,18 @@ pub fn drain(session: &mut Session, alloc: Global, entries: usize) -> Result<Box
     if entries > MOST_FREE_ENTRIES {
         return Err(TOO_MANY_ENTRIES);
     }
+    let room = entries as u64 + 1;
+    if session.log().len_in_all() + room > MOST_ENTRIES {
+        return Err(LOG_FULL);
+    }
     let Ok(page) = page_for(alloc, entries) else {
         return Err(OUT_OF_MEMORY);
     };
     let mut page = page;
     match session.drain_into(&mut page) {
         Ok(_) => Ok(page),
-        Err(_) => Err(LOG_FULL),
+        // This is never reached: the tests above are all that can refuse it.
+        Err(_) => Err(OUT_OF_MEMORY),
     }
 }
 

@@ -6,6 +6,7 @@ mod closing;
 mod collecting;
 mod controller;
 mod discoveries;
+mod draining;
 mod faults;
 mod limits;
 mod lines;

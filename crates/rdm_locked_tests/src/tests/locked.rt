@@ -2,6 +2,7 @@
 
 mod again;
 mod calls;
+mod drained;
 mod faults;
 mod kinds;
 mod refusals;
