@@ -375,10 +375,9 @@ uint32_t wurst_controller_awaits(struct wurst_controller *handle, bool *answer);
 /* ---- Sessions: a controller with a log of all that it does.
  *
  * The log has a fixed capacity of entries. A request takes 5, and 2 for each further frame. A discovery takes 3, and
- * its run 2 for each frame. _drain empties the log at any time, best when half of it is taken. Some entries are
- * reserved: 1 for a close, 1 for a reply that is awaited, 2 for each request and discovery that hasn't ended, 1 for
- * each outcome that isn't collected. A log with fewer than WURST_LEAST_FREE free entries refuses some calls; replies,
- * closes and collects always fit.
+ * its run 2 for each frame. _drain empties the log at any time. Some entries are reserved: 1 for a close, 1 for a reply
+ * that is awaited, 2 for each request and discovery that hasn't ended, 1 for each outcome that isn't collected. A log
+ * with fewer than WURST_LEAST_FREE free entries refuses some calls; replies, closes and collects always fit.
  *
  * Calls that a controller also has do the same as the controller's. What is said here is in addition. On a closed
  * handle each call except _open and _dispose returns WURST_NOT_OPEN. */
