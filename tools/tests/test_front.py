@@ -13,6 +13,7 @@ import time
 import unittest
 from pathlib import Path
 from typing import Iterator, List
+from unittest import mock
 
 from clone import ROOT, Clone, compile_c, is_alive, new_clone, wait_for
 
@@ -20,7 +21,7 @@ sys.path.insert(0, str(ROOT / "bindings/python"))
 from wurstlinen.front.output import Failure, Output  # noqa: E402
 from wurstlinen.lines import open_line  # noqa: E402
 from wurstlinen.lines.emulator import Emulator, Widget  # noqa: E402
-from wurstlinen.tool import adapters, arguments, main, serving  # noqa: E402
+from wurstlinen.tool import adapters, arguments, main  # noqa: E402
 from wurstlinen.tool.main import has_file, option, without  # noqa: E402
 
 FIXTURES = ROOT / "bindings/examples/five_fixtures.json"
@@ -154,6 +155,10 @@ class Commands(Place):
                     "'wurstlinen --help'\n")
         done = self.call("fixtures", "x")
         self.assertEqual((done.returncode, done.stderr.count("\n")), (2, 1))
+
+    def test_an_interrupt_of_the_commands_for_bytes(self) -> None:
+        with mock.patch("wurstlinen.commands.run_bridge", side_effect=KeyboardInterrupt):
+            self.assertEqual(main(["bridge", "--line", "rig:x"]), 130)
 
     def test_no_program(self) -> None:
         (self.folder / "program").unlink()
