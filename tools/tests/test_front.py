@@ -270,6 +270,17 @@ class Repository(unittest.TestCase):
         self.assertEqual(self.clone.rt_calls(), [])
         self.assertEqual(list(self.clone.root.rglob("__pycache__")), [])
 
+    def test_the_doctor_builds_nothing(self) -> None:
+        done = self.clone.run("./wurstlinen", "doctor")
+        self.assertEqual((done.returncode, done.stderr), (0, ""))
+        for line in ("kit        kit-of-tests logic 1", "program    its first command proves and builds it: about 80",
+                     "program    decode, encode, discover and run need it, and it isn't here",
+                     "C library  fixtures by names need it: libwurstlinen.so.0 is not at ", "adapter    "):
+            self.assertIn(f"\n{line}", f"\n{done.stdout}")
+        self.assertEqual(self.clone.rt_calls(), [])
+        self.assertEqual(self.clone.run("./wurstlinen", "decode", "00").returncode, 0)
+        self.assertIn("\nprogram    there\n", self.clone.run("./wurstlinen", "doctor").stdout)
+
     def test_the_library_is_built_once(self) -> None:
         part = self.clone.folder / "part.o"
         compile_c("int one;\n", part, ["-c", "-fPIC"])
