@@ -4,7 +4,7 @@
 
 front_folder="$own/library"
 # With these words, the command in Python needs no library.
-without_library=(adapters bridge pids rig trace)
+without_library=(adapters bridge doctor pids rig trace)
 with_library=(apply fixtures get identify save set)
 
 is_of_front() {
@@ -40,8 +40,22 @@ call_front() {
     exec python3 -m wurstlinen.tool "$@"
 }
 
+# Says what the next steps in the repository cost.
+show_costs() {
+    local kit_found
+    kit_found="$(kit)"
+    echo "kit        ${kit_found:-not there: add its folder bin to PATH}"
+    is_up_to_date || echo "program    its first command proves and builds it: about 80 processor minutes"
+    library_is_up_to_date || echo "C library  its first command proves and builds it: about 10 minutes"
+    command -v c++ > /dev/null && has_ola_headers || echo "OLA        no headers: --install-ola needs libola-dev"
+}
+
 # The same with the C library, if the command needs it.
 run_front() {
+    if [ "$1" = doctor ] && ! asks_for_help "$@"; then
+        [ $# -gt 1 ] || show_costs
+        [ -n "${WURSTLINEN_LIBRARY-}" ] || export WURSTLINEN_LIBRARY="$front_folder/$soname"
+    fi
     if [ -z "${WURSTLINEN_LIBRARY-}" ] && [[ " ${with_library[*]} " = *" $1 "* ]] && ! asks_for_help "$@"; then
         ensure_library
         export WURSTLINEN_LIBRARY="$front_folder/$soname"
@@ -55,13 +69,15 @@ library_fingerprint() {
     sha256sum < "$root/bindings/c/heap.c"
 }
 
+library_is_up_to_date() {
+    [ -r "$front_folder/$soname" ] && [ "$(cat "$front_folder/built" 2> /dev/null)" = "$(library_fingerprint)" ]
+}
+
 # Proves and builds the C library into the folder out/, unless it is up to date.
 ensure_library() {
     local made before
+    ! library_is_up_to_date || return 0
     before="$(library_fingerprint)"
-    if [ -r "$front_folder/$soname" ] && [ "$(cat "$front_folder/built" 2> /dev/null)" = "$before" ]; then
-        return
-    fi
     need_rt_and_cc
     say "proving and building the C library, about 10 minutes; a call after an interrupt goes on"
     ensure_folder "$front_folder"

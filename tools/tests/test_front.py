@@ -13,6 +13,7 @@ import time
 import unittest
 from pathlib import Path
 from typing import Iterator, List
+from unittest import mock
 
 from clone import ROOT, Clone, compile_c, is_alive, new_clone, wait_for
 
@@ -20,7 +21,7 @@ sys.path.insert(0, str(ROOT / "bindings/python"))
 from wurstlinen.front.output import Failure, Output  # noqa: E402
 from wurstlinen.lines import open_line  # noqa: E402
 from wurstlinen.lines.emulator import Emulator, Widget  # noqa: E402
-from wurstlinen.tool import adapters, arguments, main, serving  # noqa: E402
+from wurstlinen.tool import adapters, arguments, main  # noqa: E402
 from wurstlinen.tool.main import has_file, option, without  # noqa: E402
 
 FIXTURES = ROOT / "bindings/examples/five_fixtures.json"
@@ -155,6 +156,10 @@ class Commands(Place):
         done = self.call("fixtures", "x")
         self.assertEqual((done.returncode, done.stderr.count("\n")), (2, 1))
 
+    def test_an_interrupt_of_the_commands_for_bytes(self) -> None:
+        with mock.patch("wurstlinen.commands.run_bridge", side_effect=KeyboardInterrupt):
+            self.assertEqual(main(["bridge", "--line", "rig:x"]), 130)
+
     def test_no_program(self) -> None:
         (self.folder / "program").unlink()
         self.expect(["decode", "00"], 127, "", "wurstlinen: 'decode' needs the proved program, which isn't installed "
@@ -264,6 +269,17 @@ class Repository(unittest.TestCase):
         self.assertTrue(done.stdout.startswith("usage: wurstlinen save"))
         self.assertEqual(self.clone.rt_calls(), [])
         self.assertEqual(list(self.clone.root.rglob("__pycache__")), [])
+
+    def test_the_doctor_builds_nothing(self) -> None:
+        done = self.clone.run("./wurstlinen", "doctor")
+        self.assertEqual((done.returncode, done.stderr), (0, ""))
+        for line in ("kit        kit-of-tests logic 1", "program    its first command proves and builds it: about 80",
+                     "program    decode, encode, discover and run need it, and it isn't here",
+                     "C library  fixtures by names need it: libwurstlinen.so.0 is not at ", "adapter    "):
+            self.assertIn(f"\n{line}", f"\n{done.stdout}")
+        self.assertEqual(self.clone.rt_calls(), [])
+        self.assertEqual(self.clone.run("./wurstlinen", "decode", "00").returncode, 0)
+        self.assertIn("\nprogram    there\n", self.clone.run("./wurstlinen", "doctor").stdout)
 
     def test_the_library_is_built_once(self) -> None:
         part = self.clone.folder / "part.o"

@@ -160,6 +160,17 @@ class Installs(unittest.TestCase):
         for words in ([""], [], ["a", "b"]):
             self.assertEqual(self.clone.run("./wurstlinen", "--install-library", *words).returncode, 2)
 
+    def test_what_the_prover_prints(self) -> None:
+        self.clone.put_rt('echo "a proof"; echo "rt: waiting for another rt to finish in x" >&2')
+        for before, shown in ([], False), (["--verbose"], True):
+            done = self.clone.run("./wurstlinen", *before, "--install-library", str(self.prefix))
+            self.assertEqual((done.returncode, "a proof\n" in done.stderr), (0, shown), done.stderr)
+            self.assertIn("waiting for another rt", done.stderr)
+        self.clone.put_rt('echo "a reason"; exit 1')
+        done = self.clone.run("./wurstlinen", "--install-library", str(self.prefix))
+        self.assertEqual(done.returncode, 125)
+        self.assertIn("a reason\n", done.stderr)
+
     def test_another_folder_of_cdpath_is_left_alone(self) -> None:
         other = self.clone.folder / "other"
         (other / "prefix").mkdir(parents=True)

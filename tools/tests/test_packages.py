@@ -2,6 +2,7 @@
 from __future__ import annotations
 
 import contextlib
+import gzip
 import hashlib
 import os
 import re
@@ -199,6 +200,18 @@ class Packages(unittest.TestCase):
         source = ROOT / "bindings/python/wurstlinen"
         modules = {str(path.relative_to(source)) for path in source.rglob("*.py")}
         self.assertEqual({name for name in files_below(self.folder / "wurstlinen") if name.endswith(".py")}, modules)
+
+    def test_manual_pages_and_completion(self) -> None:
+        share = self.unpacked("wurstlinen") / "usr/share"
+        for name in ("wurstlinen", "rdm_port"):
+            text = gzip.decompress((share / f"man/man1/{name}.1.gz").read_bytes()).decode()
+            self.assertTrue(text.startswith(f".TH {name.upper()} 1 "))
+        script = f'. "{share}/bash-completion/completions/wurstlinen"; COMP_WORDS=("$@"); COMP_CWORD=$(($# - 1)); ' \
+                 '_wurstlinen; echo "${COMPREPLY[@]}"'
+        for words, wanted in ((["wurstlinen", "fi"], "fixtures"), (["wurstlinen", "apply", "--dr"], "--dry-run"),
+                              (["wurstlinen", "apply", "x", "--dr"], "--dry-run")):
+            done = subprocess.run(["bash", "-c", script, "bash", *words], check=True, capture_output=True, text=True)
+            self.assertEqual((done.stdout, done.stderr), (f"{wanted}\n", ""))
 
     def test_the_service_for_ola(self) -> None:
         root = self.unpacked("wurstlinen-ola")

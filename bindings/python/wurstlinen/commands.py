@@ -1,7 +1,8 @@
 """The commands of `python3 -m wurstlinen`.
 
-A command ends with status 0 if it was done, 1 if the line, the device or the library failed, and 2 if its arguments are
-wrong. Results go to standard output, in the formats of docs/FORMATS.md, and reasons to standard error.
+A command ends with status 0 if it was done, 1 if the line, the device or the library failed, 2 if its arguments are
+wrong, and 130 after an interrupt. Results go to standard output, in the formats of docs/FORMATS.md, and reasons to
+standard error.
 """
 from __future__ import annotations
 
@@ -21,6 +22,7 @@ if TYPE_CHECKING:
 
 DONE = 0
 FAILED = 1
+INTERRUPTED = 130
 # A manufacturer that E1.20 reserves for experiments, for lines that have no UID of their own.
 SOURCE = 0x7FF000000001
 DEFAULT_BUDGET = 384_008
@@ -64,7 +66,7 @@ def main(arguments: Optional[Sequence[str]] = None) -> int:
     except (LineFailed, OSError, ValueError) as error:
         return fail(str(error))
     except KeyboardInterrupt:
-        return FAILED
+        return INTERRUPTED
 
 
 def fail(reason: str) -> int:

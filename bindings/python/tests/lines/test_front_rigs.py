@@ -24,7 +24,7 @@ UID            ADDRESS  SLOTS  LABEL         MAKER       MODEL                PE
 5 fixtures, {frames} frames; discovery without a fault
 """
 DATA_OUT_OF_RANGE = "0006"
-PAGE = PACKAGE / "COMMANDS.md"
+PAGE = PACKAGE / "ADAPTER.md"
 
 
 @needs_library

@@ -8,6 +8,7 @@ from ..front.main import COMMANDS as FRONT_COMMANDS
 from ..front.main import PROGRAM, Parser, add_command
 from ..lines.opening import FORMS
 from .adapters import run_adapters
+from .doctor import run_doctor
 
 DESCRIPTION = "Finds RDM devices, reads and changes what they have, and works on simulated lines."
 
@@ -77,6 +78,12 @@ def add_adapters(made: Any, name: str) -> None:
     command.set_defaults(run=run_adapters)
 
 
+def add_doctor(made: Any, name: str) -> None:
+    """The arguments of doctor."""
+    command = add_command(made, name, "say what is missing on this machine", "doctor", "", needs_line=False)
+    command.set_defaults(run=run_doctor)
+
+
 # The commands of the proved program, of lines, and of this package, each with what adds its arguments.
 PROVED: Dict[str, Callable[[Any, str], None]] = {
     "decode": add_decode,
@@ -91,6 +98,7 @@ OF_LINES: Dict[str, Callable[[Any, str], None]] = {
 COMMANDS: Dict[str, Callable[[Any, str], None]] = {
     **FRONT_COMMANDS,
     "adapters": add_adapters,
+    "doctor": add_doctor,
     **PROVED,
     **OF_LINES,
 }

@@ -1,0 +1,36 @@
+"""The command doctor: what is there on this machine, and what is missing."""
+from __future__ import annotations
+
+import argparse
+from typing import List, Tuple
+
+from .._library import LIBRARY
+from ..front.output import DONE, Output
+from . import places
+from .adapters import chips, look_at
+
+
+def run_doctor(chosen: argparse.Namespace, output: Output) -> int:
+    """Prints what is there."""
+    for name, text in [*parts(), *adapters()]:
+        output.result([f"{name:<11}{text}"], part=name, text=text)
+    return DONE
+
+
+def parts() -> List[Tuple[str, str]]:
+    """The proved program and the C library."""
+    program = places.program()
+    try:
+        LIBRARY.wurst_version()
+        library = "there"
+    except ImportError as fault:
+        library = f"fixtures by names need it: {fault}"
+    return [("version", places.version_line()),
+            ("program", "decode, encode, discover and run need it, and it isn't here" if program is None else "there"),
+            ("C library", library)]
+
+
+def adapters() -> List[Tuple[str, str]]:
+    """The adapters that are plugged in."""
+    found = [look_at(device) for device in chips()]
+    return [("adapter", f"{each.line}: {each.text}") for each in found] or [("adapter", "none is plugged in")]

@@ -1,0 +1,108 @@
+"""Manual pages and the completion of bash, made from the arguments of all commands.
+
+usage: python3 -m wurstlinen.tool.manual FOLDER
+"""
+from __future__ import annotations
+
+import argparse
+import re
+import sys
+from pathlib import Path
+from typing import Dict, List
+
+from . import arguments
+
+STATUSES = (("0", "It was done."), ("1", "The line failed, or no device answered."), ("2", "The arguments are wrong."),
+            ("3", "A device refused it."), ("130", "It was interrupted."))
+ENVIRONMENT = (("WURSTLINEN_LINE", "The line that is used without --line."),
+               ("WURSTLINEN_LIBRARY", "The C library, if it isn't where it is installed."))
+
+
+def subcommands() -> Dict[str, argparse.ArgumentParser]:
+    """The parsers of all commands, by their names."""
+    found, = (action for action in arguments.parser()._actions if isinstance(action, argparse._SubParsersAction))
+    return dict(found.choices)
+
+
+def escaped(text: str) -> str:
+    """A text as troff has it."""
+    text = text.replace("\\", "\\e").replace("-", "\\-")
+    return re.sub(r"^([.'])", r"\\&\1", text, flags=re.M)
+
+
+def page() -> str:
+    """The manual page of the whole."""
+    lines = ['.TH WURSTLINEN 1 "" "Wurstlinen" "User Commands"', ".SH NAME",
+             "wurstlinen \\- finds RDM devices, and reads and changes what they have", ".SH SYNOPSIS",
+             ".B wurstlinen", "COMMAND [ARGUMENT ..]", ".SH DESCRIPTION", escaped(arguments.DESCRIPTION),
+             "Its queue and its discovery are proved.", ".SH COMMANDS"]
+    for name, command in subcommands().items():
+        lines += section(name, command)
+    for title, entries in (("EXIT STATUS", STATUSES), ("ENVIRONMENT", ENVIRONMENT)):
+        lines += [f".SH {title}", *(line for entry in entries for line in item(*entry))]
+    lines += [".SH SEE ALSO", "rdm_port(1)"]
+    return "\n".join(lines) + "\n"
+
+
+def section(name: str, command: argparse.ArgumentParser) -> List[str]:
+    """The part of a command."""
+    usage = re.sub(r"\s+", " ", command.format_usage()).partition(name)[2]
+    lines = [f".SS {name}{escaped(usage).rstrip()}", escaped(command.description or "")]
+    for action in command._actions:
+        if action.help and not isinstance(action, argparse._HelpAction):
+            lines += item(title_of(action), action.help)
+    if command.epilog:
+        example = command.epilog.partition(": ")[2]
+        lines += [".PP", "Example:", ".nf", f".B {escaped(example)}", ".fi"]
+    return lines
+
+
+def title_of(action: argparse.Action) -> str:
+    """What an argument is called."""
+    name = action.metavar if isinstance(action.metavar, str) else action.dest.upper()
+    if not action.option_strings:
+        return name
+    value = "" if action.nargs == 0 else f" {name if action.choices is None else '|'.join(action.choices)}"
+    return f"{', '.join(action.option_strings)}{value}"
+
+
+def item(name: str, text: str) -> List[str]:
+    """An entry of a list."""
+    return [".TP", f".B {escaped(name)}", escaped(text)]
+
+
+def program_page() -> str:
+    """The manual page of the proved program."""
+    lines = ['.TH RDM_PORT 1 "" "Wurstlinen" "User Commands"', ".SH NAME",
+             "rdm_port \\- the proved program of wurstlinen", ".SH SYNOPSIS", ".B rdm_port", "COMMAND ARGUMENT ..",
+             ".SH DESCRIPTION", "It has the commands decode, encode, discover and run, with lines that are streams.",
+             "Each other answer than a result has the status 1 or 2. wurstlinen calls it.", ".SH SEE ALSO",
+             "wurstlinen(1)"]
+    return "\n".join(lines) + "\n"
+
+
+def completion() -> str:
+    """The completion for bash."""
+    cases = []
+    for name, command in subcommands().items():
+        options = [option for action in command._actions for option in action.option_strings]
+        cases.append(f"        {name}) words='{' '.join(options)}' ;;")
+    return "\n".join([
+        "# Completes the arguments of wurstlinen in bash.", "_wurstlinen() {",
+        '    local words="" word="${COMP_WORDS[COMP_CWORD]}"', '    case "${COMP_WORDS[1]}" in', *cases, "    esac",
+        f'    [ "$COMP_CWORD" -gt 1 ] || words=\'{" ".join(subcommands())}\'',
+        '    mapfile -t COMPREPLY < <(compgen -W "$words" -- "$word")', "}",
+        "complete -o default -F _wurstlinen wurstlinen"]) + "\n"
+
+
+def main() -> int:
+    """Writes all of it into a folder."""
+    folder = Path(sys.argv[1])
+    folder.mkdir(parents=True, exist_ok=True)
+    for name, text in (("wurstlinen.1", page()), ("rdm_port.1", program_page()), ("wurstlinen.bash", completion())):
+        (folder / name).write_text(text, encoding="utf-8")
+    return 0
+
+
+if __name__ == "__main__":
+    sys.exit(main())
