@@ -451,9 +451,8 @@ uint32_t wurst_session_rotate(struct wurst_session *handle, size_t entries, stru
 /* Hands out all entries that the log stores, at any time, and continues in other memory. An open handle `log` is
  * emptied, its memory is used next, whatever `entries` is, and nothing is allocated. With a closed one, memory for this
  * many entries and a close is allocated. Then `log` holds what was handed out. Writes the number of its first entry,
- * from 0 for the session's first, or the first after its last rotation. WURST_LOG_FULL, for less capacity than is
- * reserved; WURST_TOO_MANY_ENTRIES; WURST_LOG_FULL, for more than 2^62 entries in all; WURST_OUT_OF_MEMORY. A refused
- * drain changes nothing, and an open `log` keeps its entries. */
+ * from 0 for the session's first, or the first after its last rotation. WURST_LOG_FULL (less capacity than reserved);
+ * WURST_TOO_MANY_ENTRIES; WURST_LOG_FULL (more than 2^62 entries in all); WURST_OUT_OF_MEMORY. */
 uint32_t wurst_session_drain(struct wurst_session *handle, size_t entries, struct wurst_log *log, uint64_t *first);
 
 /* Frees the log that the handle holds, and closes the handle. Without effect on a closed handle. */
