@@ -11,16 +11,19 @@ make_folder() {
 # into, so programs that run it, or have it mapped, aren't disturbed. The copy's name is new, so links and other calls
 # can't interfere.
 put() (
-    new="$(mktemp -- "$(dirname -- "$2")/.${2##*/}.XXXXXX")" || exit
+    new="$(mktemp -u -- "$(dirname -- "$2")/.${2##*/}.XXXXXX")" || exit
+    # The trap is set before the file is there, which is made only if nothing has its name.
     trap 'rm -f -- "$new"' EXIT
+    (umask 077 && set -C && : > "$new") || { trap - EXIT && exit 1; }
     cp -- "$1" "$new" && chmod "${3-644}" -- "$new" && mv -fT -- "$new" "$2"
 )
 
 # The same with a folder of Python files. The old folder is moved away before the new one takes its name, and moved back
 # if that fails.
 put_package() (
-    folder="$(mktemp -d -- "$(dirname -- "$2")/.${2##*/}.XXXXXX")" || exit
+    folder="$(mktemp -u -- "$(dirname -- "$2")/.${2##*/}.XXXXXX")" || exit
     trap 'end_put_package "$2" "$folder"' EXIT
+    mkdir -m 700 -- "$folder" || { trap - EXIT && exit 1; }
     # With these, the shell waits for a mv that is under way.
     trap 'exit 129' HUP
     trap 'exit 130' INT

@@ -106,6 +106,18 @@ def is_alive(process: int) -> bool:
         return False
 
 
+def runs_in_group(group: int, name: str) -> bool:
+    """Whether a process of this group runs the command `name`."""
+    for stat in Path("/proc").glob("[0-9]*/stat"):
+        try:
+            head, _, rest = stat.read_text().rpartition(")")
+        except OSError:
+            continue
+        if head.partition("(")[2] == name and int(rest.split()[2]) == group:
+            return True
+    return False
+
+
 def compile_c(text: str, to: Path, flags: Sequence[str]) -> None:
     """Compiles a C program or library."""
     subprocess.run(["cc", "-x", "c", "-", "-o", str(to), *flags], input=text, text=True, check=True)

@@ -11,7 +11,7 @@ import unittest
 from pathlib import Path
 from typing import List
 
-from clone import ROOT, Clone, compile_c, is_alive, new_clone, wait_for
+from clone import ROOT, Clone, compile_c, is_alive, new_clone, runs_in_group, wait_for
 
 INSTALL = 'mkdir "$1/made" && cp "$1/stand_in.a" "$1/made/libwurstlinen.a" && cp "$1/$soname" "$1/made/" ' \
           '&& install_library "$2" "$1/made" "$3"; status=$?; rm -r "$1/made"; exit $status'
@@ -218,7 +218,9 @@ class Installs(unittest.TestCase):
         target = self.clone.folder / "target"
         text = f'. "{self.clone.root}/tools/library.bash"; put "{self.clone.folder}/source" "{target}" 644'
         with self.clone.start("bash", "-c", text) as process:
-            wait_for(lambda: list(self.clone.folder.glob(".target.*")))
+            # cp waits for the FIFO's other end.
+            wait_for(lambda: runs_in_group(process.pid, "cp"))
+            self.assertTrue(list(self.clone.folder.glob(".target.*")))
             os.killpg(process.pid, signal.SIGTERM)
             process.communicate()
         wait_for(lambda: not is_alive(process.pid) and not list(self.clone.folder.glob(".target.*")))
