@@ -33,7 +33,8 @@ use crate::status::{
 use arrayvec::ArrayVec;
 use rdm_join::{LineEvent, LineReply};
 use rdm_log::{
-    ClientId, Config, LEAST_FREE, Log, MOST_ENTRIES, MOST_FREE_ENTRIES, NoMemory, OutcomeKind, Setup,
+    ClientId, Config, LEAST_FREE, Log, MOST_ENTRIES, MOST_FREE_ENTRIES, NoMemory, OutcomeKind,
+    Setup,
 };
 use rdm_queue::Session;
 use rdm_wire::{DeviceSet, MOST_FRAME_BYTES, Uid};
