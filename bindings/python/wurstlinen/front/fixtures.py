@@ -62,7 +62,10 @@ def run_fixtures(chosen: argparse.Namespace, output: Output) -> int:
 
 def look_at_all(work: Work, devices: Sequence[Device]) -> List[Fixture]:
     """Asks each device, and notes whose slots overlap."""
-    found = [look_at(work, device) for device in devices]
+    found = []
+    for number, device in enumerate(devices, 1):
+        work.output.progress(f"asking {number} of {len(devices)}")
+        found.append(look_at(work, device))
     for fixture in found:
         others = [str(other.uid) for other in found if overlap(fixture, other)]
         fixture.notes += [f"overlaps {', '.join(others)}"] if others else []
