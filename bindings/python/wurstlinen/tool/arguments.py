@@ -1,11 +1,13 @@
 """The arguments of all commands, from which help, manual pages and completions are made."""
 from __future__ import annotations
 
+import argparse
 from typing import Any, Callable, Dict
 
 from .. import commands
 from ..front.main import COMMANDS as FRONT_COMMANDS
 from ..front.main import PROGRAM, Parser, add_command
+from ..front.output import DONE, Output
 from ..lines.opening import FORMS
 from .adapters import run_adapters
 from .doctor import run_doctor
@@ -84,6 +86,23 @@ def add_doctor(made: Any, name: str) -> None:
     command.set_defaults(run=run_doctor)
 
 
+def add_completion(made: Any, name: str) -> None:
+    """The arguments of completion."""
+    command = add_command(made, name, "print what completes the commands in a shell", "completion bash", "",
+                          needs_line=False)
+    command.add_argument("shell", choices=("bash",), metavar="bash")
+    command.set_defaults(run=run_completion)
+
+
+def run_completion(chosen: argparse.Namespace, output: Output) -> int:
+    """Prints the completion."""
+    # It is made from these arguments.
+    from .manual import completion
+    text = completion()
+    output.result(text.splitlines(), shell=chosen.shell, completion=text)
+    return DONE
+
+
 # The commands of the proved program, of lines, and of this package, each with what adds its arguments.
 PROVED: Dict[str, Callable[[Any, str], None]] = {
     "decode": add_decode,
@@ -98,6 +117,7 @@ OF_LINES: Dict[str, Callable[[Any, str], None]] = {
 COMMANDS: Dict[str, Callable[[Any, str], None]] = {
     **FRONT_COMMANDS,
     "adapters": add_adapters,
+    "completion": add_completion,
     "doctor": add_doctor,
     **PROVED,
     **OF_LINES,

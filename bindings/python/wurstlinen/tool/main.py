@@ -79,8 +79,9 @@ def run_proved(words: List[str]) -> int:
     """Runs a command of the proved program: on a line that is served here, or else in the place of this process."""
     program = places.program()
     if program is None:
-        print(f"wurstlinen: '{words[0]}' needs the proved program, which isn't installed here; "
-              f"{places.PROGRAM_VARIABLE} may name it", file=sys.stderr)
+        print(f"wurstlinen: '{words[0]}' needs the proved program, which isn't installed here: it is in the Debian "
+              f"package wurstlinen and in the .tar.gz, but not in the wheel; {places.PROGRAM_VARIABLE} may name it",
+              file=sys.stderr)
         return NO_PROGRAM
     line = option(words, "--line")
     if words[0] == "discover" and line is None and not has_file(words):
