@@ -190,6 +190,10 @@ uid,label,address,personality
     def test_to_standard_output(self) -> None:
         status, out, _ = self.run_command("save", "-")
         self.assertEqual((status, out.splitlines()[1]), (0, "1234:00000001,Front left,1,1"))
+        status, out, errors = self.run_command("save", "-", "--json")
+        rows = [json.loads(line) for line in out.splitlines()]
+        self.assertEqual((status, len(rows), errors), (0, 5, ""))
+        self.assertEqual(rows[0], {"uid": LEFT, "label": "Front left", "address": "1", "personality": "1"})
 
     def test_only_what_differs_is_set(self) -> None:
         with folder() as place:
