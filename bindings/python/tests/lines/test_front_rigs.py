@@ -42,9 +42,9 @@ class Fixtures(OneRig):
 
     def test_five(self) -> None:
         wanted = FIVE_TABLE.format(both="9abc:00000002, 9abc:00000003", slow="answers slowly; overlaps 1234:00000001",
-                                   part="part of 9abc:00000002; overlaps 1234:00000001", frames=149)
+                                   part="part of 9abc:00000002; overlaps 1234:00000001", frames=117)
         self.assertEqual(self.run_command("fixtures"), (0, wanted, f"wurstlinen: {SLOW} asks for 0.3 s\n"))
-        self.assertEqual(len(self.frames), 149)
+        self.assertEqual(len(self.frames), 117)
         self.assertIn(f"$ wurstlinen fixtures\n{wanted}", PAGE.read_text(encoding="utf-8"))
 
     def test_what_is_wrong_is_noted(self) -> None:
@@ -92,6 +92,23 @@ class Fixtures(OneRig):
         status, out, _ = self.run_command("fixtures")
         self.assertEqual((status, out), (1, "0 fixtures, 4 frames; the discovery ended early: the rig's file lets this "
                                             "exchange fail\n"))
+
+    def test_devices_that_lie(self) -> None:
+        wrong = "ended the discovery by wrong answers"
+        for lie in ("ignores mutes", "stays unmuted", "cuts short", "wrong sum"):
+            self.scene({"uid": LEFT, "rig": {"lies": [lie]}}, {"uid": "1234:00000002", "rig": {"address": 9}})
+            self.assertEqual(self.rows(), {"1234:00000002": "", LEFT: wrong}, lie)
+            self.assertEqual((self.status, self.end["fixtures"]), (1, 2))
+            self.assertIn(f"the branch of {LEFT} alone", self.end["fault"])
+        for other in ("1234:00000009", "1234:00000002"):
+            self.scene({"uid": LEFT, "rig": {"spells": other}}, {"uid": "1234:00000002", "rig": {"address": 9}})
+            self.assertEqual(self.rows(), {"1234:00000002": "", LEFT: wrong}, other)
+        # Nobody has the UID of this branch.
+        self.scene({"uid": LEFT, "rig": {"lies": ["answers all"]}}, {"uid": "1234:00000002"})
+        self.assertEqual((self.rows(), self.status), ({}, 1))
+        for lie in ("every other", "unmutes late", "adds bytes"):
+            self.scene({"uid": LEFT, "rig": {"lies": [lie]}}, {"uid": "1234:00000002", "rig": {"address": 9}})
+            self.assertEqual((self.rows(), self.status), ({"1234:00000002": "", LEFT: ""}, 0), lie)
 
     def test_nobody(self) -> None:
         self.scene()

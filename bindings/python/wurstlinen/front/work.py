@@ -75,6 +75,8 @@ class Work:
         self.output = output
         # The devices that asked for time.
         self.slow: Set[Uid] = set()
+        # The UID whose branch was answered again and again, so that the last discovery ended early.
+        self.unmuted: Optional[Uid] = None
         self._client = client
         self._asked: Optional[Uid] = None
         self._asker = Asker(client, line, wait, on_wait=self._waits)
@@ -159,6 +161,7 @@ class Work:
             self.output.end_progress()
         found = self._client.next_discovery()
         assert found is not None
+        self.unmuted = None if found.fault is None else found.fault.uid
         if found.fault is None:
             return found.devices, None
         reason = str(self.line.failure or RUN_FAULTS[found.fault.kind].format(uid=found.fault.uid))
