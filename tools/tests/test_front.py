@@ -148,14 +148,16 @@ class Commands(Place):
                 done = self.call(*words)
                 self.assertEqual((done.returncode, done.stderr), (0, ""), command)
                 self.assertTrue(done.stdout.startswith("usage: "), command)
-        for command in set(arguments.COMMANDS) - set(arguments.OF_LINES):
+        for command in arguments.COMMANDS:
             self.assertIn(f"\nexample: wurstlinen {command}", self.call(command, "--help").stdout, command)
 
     def test_wrong_arguments_are_one_line(self) -> None:
         self.expect(["fixturs"], 2, "", "wurstlinen: there is no command 'fixturs'; did you mean fixtures?; try "
                     "'wurstlinen --help'\n")
-        done = self.call("fixtures", "x")
-        self.assertEqual((done.returncode, done.stderr.count("\n")), (2, 1))
+        for words in (["fixtures", "x"], ["rig", "a", "b"], ["bridge", "--lien", "x"], ["rig", "--firmware", "x"]):
+            done = self.call(*words)
+            self.assertEqual((done.returncode, done.stderr.count("\n")), (2, 1), words)
+            self.assertRegex(done.stderr, r"^wurstlinen: .*; try 'wurstlinen( [a-z]+)? --help'\n$")
         for words in (["fixturs"], ["fixtures", "x"], ["get"], ["adapters", "x"]):
             done = self.call(*words, "--json")
             self.assertEqual((done.returncode, done.stderr), (2, ""), words)

@@ -103,6 +103,18 @@ def run_completion(chosen: argparse.Namespace, output: Output) -> int:
     return DONE
 
 
+def add_bridge(made: Any, name: str) -> None:
+    """The arguments of bridge."""
+    commands.add_bridge(made)
+    made.choices[name].epilog = f"example: {PROGRAM} bridge --line enttec:/dev/ttyUSB0"
+
+
+def add_rig(made: Any, name: str) -> None:
+    """The arguments of rig."""
+    commands.add_rig(made)
+    made.choices[name].epilog = f"example: {PROGRAM} rig five_fixtures.json"
+
+
 # The commands of the proved program, of lines, and of this package, each with what adds its arguments.
 PROVED: Dict[str, Callable[[Any, str], None]] = {
     "decode": add_decode,
@@ -111,8 +123,8 @@ PROVED: Dict[str, Callable[[Any, str], None]] = {
     "run": add_run,
 }
 OF_LINES: Dict[str, Callable[[Any, str], None]] = {
-    "bridge": lambda made, name: commands.add_bridge(made),
-    "rig": lambda made, name: commands.add_rig(made),
+    "bridge": add_bridge,
+    "rig": add_rig,
 }
 COMMANDS: Dict[str, Callable[[Any, str], None]] = {
     **FRONT_COMMANDS,

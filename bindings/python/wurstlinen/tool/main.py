@@ -57,7 +57,7 @@ def main(words: Sequence[str]) -> int:
     if command in arguments.PROVED and not asks_for_help(words):
         return run_proved(list(words))
     if command in arguments.OF_LINES and not asks_for_help(words):
-        return commands.main(words)
+        return commands.run(arguments.parser().parse_args(words))
     if command and not command.startswith("-") and command not in arguments.COMMANDS:
         arguments.parser().error(f"there is no command '{command}'{hint(command, arguments.COMMANDS)}")
     if "--raw" in words:
