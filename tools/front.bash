@@ -4,7 +4,7 @@
 
 front_folder="$own/library"
 # With these words, the command in Python needs no library.
-without_library=(adapters bridge doctor pids rig trace)
+without_library=(adapters bridge completion doctor pids rig trace)
 with_library=(apply fixtures get identify save set)
 
 is_of_front() {
@@ -23,6 +23,29 @@ is_served() {
     return 1
 }
 
+# Whether the program's command discover names neither a file nor a line, and there is a line that it can have.
+lacks_line() {
+    local word is_value=""
+    [ "${1-}" = discover ] || return
+    for word in "${@:2}"; do
+        if [ -n "$is_value" ]; then
+            is_value=""
+            continue
+        fi
+        case "$word" in
+            --line | --line=* | -- | [!-]* | "") return 1 ;;
+            --replies | --source | --known | --budget | --log) is_value=1 ;;
+        esac
+    done
+    [ -n "${WURSTLINEN_LINE-}" ] || has_adapter
+}
+
+# Whether an adapter is plugged in. If there are several, the command in Python lists the choice.
+has_adapter() (
+    export_front
+    python3 -c 'import sys; from wurstlinen.tool.adapters import chips; sys.exit(not chips())' 2> /dev/null
+)
+
 asks_for_help() {
     local word
     for word in "$@"; do
@@ -32,11 +55,15 @@ asks_for_help() {
     return 1
 }
 
+# Lets Python find the package. It writes no files into the sources.
+export_front() {
+    export PYTHONPATH="$root/bindings/python${PYTHONPATH:+:$PYTHONPATH}" PYTHONDONTWRITEBYTECODE=1
+}
+
 # Replaces the script by the command in Python.
 call_front() {
-    export PYTHONPATH="$root/bindings/python${PYTHONPATH:+:$PYTHONPATH}" WURSTLINEN_PROGRAM="$program"
-    # It writes no files into the sources.
-    export PYTHONDONTWRITEBYTECODE=1
+    export_front
+    export WURSTLINEN_PROGRAM="$program"
     exec python3 -m wurstlinen.tool "$@"
 }
 
@@ -103,7 +130,18 @@ install_front() (
 
 # What an installed command says of itself.
 front_proof() {
-    local commit
-    commit="$(git -C "$root" rev-parse HEAD 2> /dev/null)" || commit=unknown
-    printf 'version: %s\ncommit: %s\nkit of the program: %s\n' "$(cat "$root/VERSION")" "$commit" "$(kit_of_program)"
+    printf 'version: %s\ncommit: %s\nkit of the program: %s\n' "$(cat "$root/VERSION")" "$(commit)" "$(kit_of_program)"
+}
+
+commit() {
+    git -C "$root" rev-parse HEAD 2> /dev/null || echo unknown
+}
+
+# Prints the version, the kit that proved the program, and the commit.
+show_version() {
+    local found state="not proved here yet"
+    [ ! -x "$program" ] || state="changed since it was proved with $(kit_of_program)"
+    ! is_up_to_date || state="proved with $(kit_of_program)"
+    found="$(commit)"
+    printf 'wurstlinen %s (%s, commit %s)\n' "$(cat "$root/VERSION")" "${state%% logic *}" "${found:0:8}"
 }

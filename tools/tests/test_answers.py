@@ -67,7 +67,7 @@ class Answers(unittest.TestCase):
         self.assertEqual(self.clone.rt_calls(), [])
 
     def test_help_and_version(self) -> None:
-        version = f"wurstlinen {(ROOT / 'VERSION').read_text().strip()}\n"
+        version = f"wurstlinen {(ROOT / 'VERSION').read_text().strip()} (not proved here yet, commit unknown)\n"
         for before in ([], ["--unproved"]):
             self.expect([*before, "help"], 0, usage(), "")
             self.expect([*before, "help", "decode"], 0, usage(), "")

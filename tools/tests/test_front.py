@@ -3,6 +3,7 @@ from __future__ import annotations
 
 import contextlib
 import io
+import json
 import os
 import re
 import signal
@@ -21,7 +22,7 @@ sys.path.insert(0, str(ROOT / "bindings/python"))
 from wurstlinen.front.output import Failure, Output  # noqa: E402
 from wurstlinen.lines import open_line  # noqa: E402
 from wurstlinen.lines.emulator import Emulator, Widget  # noqa: E402
-from wurstlinen.tool import adapters, arguments, main  # noqa: E402
+from wurstlinen.tool import adapters, arguments, main, manual  # noqa: E402
 from wurstlinen.tool.main import has_file, option, without  # noqa: E402
 
 FIXTURES = ROOT / "bindings/examples/five_fixtures.json"
@@ -147,14 +148,20 @@ class Commands(Place):
                 done = self.call(*words)
                 self.assertEqual((done.returncode, done.stderr), (0, ""), command)
                 self.assertTrue(done.stdout.startswith("usage: "), command)
-        for command in set(arguments.COMMANDS) - set(arguments.OF_LINES):
+        for command in arguments.COMMANDS:
             self.assertIn(f"\nexample: wurstlinen {command}", self.call(command, "--help").stdout, command)
 
     def test_wrong_arguments_are_one_line(self) -> None:
         self.expect(["fixturs"], 2, "", "wurstlinen: there is no command 'fixturs'; did you mean fixtures?; try "
                     "'wurstlinen --help'\n")
-        done = self.call("fixtures", "x")
-        self.assertEqual((done.returncode, done.stderr.count("\n")), (2, 1))
+        for words in (["fixtures", "x"], ["rig", "a", "b"], ["bridge", "--lien", "x"], ["rig", "--firmware", "x"]):
+            done = self.call(*words)
+            self.assertEqual((done.returncode, done.stderr.count("\n")), (2, 1), words)
+            self.assertRegex(done.stderr, r"^wurstlinen: .*; try 'wurstlinen( [a-z]+)? --help'\n$")
+        for words in (["fixturs"], ["fixtures", "x"], ["get"], ["adapters", "x"]):
+            done = self.call(*words, "--json")
+            self.assertEqual((done.returncode, done.stderr), (2, ""), words)
+            self.assertEqual(json.loads(done.stdout)["error"]["reason"], "arguments")
 
     def test_an_interrupt_of_the_commands_for_bytes(self) -> None:
         with mock.patch("wurstlinen.commands.run_bridge", side_effect=KeyboardInterrupt):
@@ -163,7 +170,8 @@ class Commands(Place):
     def test_no_program(self) -> None:
         (self.folder / "program").unlink()
         self.expect(["decode", "00"], 127, "", "wurstlinen: 'decode' needs the proved program, which isn't installed "
-                    "here; WURSTLINEN_PROGRAM may name it\n")
+                    "here: it is in the Debian package wurstlinen and in the .tar.gz, but not in the wheel; "
+                    "WURSTLINEN_PROGRAM may name it\n")
 
     def test_words(self) -> None:
         self.assertEqual(option(["run", "a", "--line", "b"], "--line"), "b")
@@ -304,6 +312,52 @@ class Repository(unittest.TestCase):
         self.assertEqual(done.stdout, "the program: run x --line out\n")
         done = self.clone.run("./rdm_port", "run", "--line", "rig:x")
         self.assertEqual(done.stdout, "the program: run --line rig:x\n")
+
+    def test_a_discovery_takes_the_line_that_is_there(self) -> None:
+        self.clone.environment.update(WURSTLINEN_LINE=f"rig:{FIXTURES}")
+        for more in ([], ["--quick"], ["--log", "x"]):
+            done = self.clone.run("./wurstlinen", "discover", *more)
+            self.assertEqual(done.returncode, 0, done.stderr)
+            wanted = " ".join(["the program: discover --line FD --replies FD --source 7ff0:00000001", *more])
+            self.assertEqual(re.sub(r"/dev/fd/\d+", "FD", done.stdout), f"{wanted}\n")
+        for words in (["discover", "VERSION"], ["discover", "--line", "out"], ["discover", "--", "VERSION"]):
+            self.assertEqual(self.clone.run("./wurstlinen", *words).stdout, f"the program: {' '.join(words)}\n")
+        self.assertEqual(self.clone.run("./rdm_port", "discover").stdout, "the program: discover\n")
+
+    @unittest.skipIf(adapters.chips(), "an adapter is plugged in")
+    def test_a_discovery_without_a_line_is_the_programs(self) -> None:
+        self.clone.environment.pop("WURSTLINEN_LINE", None)
+        self.assertEqual(self.clone.run("./wurstlinen", "discover").stdout, "the program: discover\n")
+
+    def test_the_version_says_what_was_proved(self) -> None:
+        version = (ROOT / "VERSION").read_text().strip()
+        self.assertEqual(self.clone.run("./wurstlinen", "decode", "00").returncode, 0)
+        calls = self.clone.rt_calls()
+        self.expect_version(f"wurstlinen {version} (proved with kit-of-tests, commit unknown)\n")
+        (self.clone.root / "crates/rdm_wire/src/lib.rt").write_text("pub fn two() {}\n")
+        changed = "changed since it was proved with kit-of-tests"
+        self.expect_version(f"wurstlinen {version} ({changed}, commit unknown)\n")
+        user = ["-c", "user.name=a", "-c", "user.email=a"]
+        for words in (["init", "-q"], ["add", "VERSION"], [*user, "commit", "-qma"]):
+            self.assertEqual(self.clone.run("git", *words).returncode, 0)
+        head = self.clone.run("git", "rev-parse", "HEAD").stdout
+        self.expect_version(f"wurstlinen {version} ({changed}, commit {head[:8]})\n")
+        self.assertEqual(self.clone.rt_calls(), calls)
+
+    def expect_version(self, wanted: str) -> None:
+        done = self.clone.run("./wurstlinen", "--version")
+        self.assertEqual((done.returncode, done.stdout, done.stderr), (0, wanted, ""))
+
+    def test_the_completion_is_printed(self) -> None:
+        done = self.clone.run("./wurstlinen", "completion", "bash")
+        self.assertEqual((done.returncode, done.stdout, done.stderr), (0, manual.completion(), ""))
+        script = '. /dev/stdin; COMP_WORDS=(wurstlinen fi); COMP_CWORD=1; _wurstlinen; echo "${COMPREPLY[@]}"'
+        shown = subprocess.run(["bash", "-c", script], input=done.stdout, check=True, capture_output=True, text=True)
+        self.assertEqual((shown.stdout, shown.stderr), ("fixtures\n", ""))
+        text = self.clone.run("./wurstlinen", "completion", "bash", "--json").stdout
+        self.assertEqual(json.loads(text), {"shell": "bash", "completion": manual.completion()})
+        self.assertEqual(self.clone.run("./wurstlinen", "completion", "fish").returncode, 2)
+        self.assertEqual(self.clone.rt_calls(), [])
 
     def test_what_is_installed(self) -> None:
         target = self.clone.folder / "a b/bin"

@@ -200,6 +200,14 @@ class Packages(unittest.TestCase):
         source = ROOT / "bindings/python/wurstlinen"
         modules = {str(path.relative_to(source)) for path in source.rglob("*.py")}
         self.assertEqual({name for name in files_below(self.folder / "wurstlinen") if name.endswith(".py")}, modules)
+        self.assertTrue((self.folder / "wurstlinen/py.typed").is_file())
+
+    def test_others_have_the_whole_python_package(self) -> None:
+        source = ROOT / "bindings/python/wurstlinen"
+        wanted = {str(path.relative_to(source)) for path in source.rglob("*.py")} | {"py.typed"}
+        for folder in (self.unpacked("python3-wurstlinen") / DIST,
+                       self.unpacked_archive() / "lib/python3/site-packages"):
+            self.assertLessEqual(wanted, files_below(folder / "wurstlinen"))
 
     def test_manual_pages_and_completion(self) -> None:
         share = self.unpacked("wurstlinen") / "usr/share"

@@ -58,9 +58,14 @@ class WatchedLine:
 
 def main(arguments: Optional[Sequence[str]] = None) -> int:
     """Runs a command, and returns its status."""
-    chosen = parser().parse_args(arguments)
+    return run(parser().parse_args(arguments))
+
+
+def run(chosen: argparse.Namespace) -> int:
+    """Runs a command whose arguments are read."""
     try:
-        return chosen.run(chosen)
+        status: int = chosen.run(chosen)
+        return status
     except ImportError as error:
         return fail(f"the C library is needed for this: {error}")
     except (LineFailed, OSError, ValueError) as error:

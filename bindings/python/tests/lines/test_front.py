@@ -15,7 +15,7 @@ from unittest import mock
 from common import PACKAGE, ROOT, TestCase, folder, needs_library
 from fronts import FIVE, LEFT, SLOW, OneRig, called
 from wurstlinen import Session, Uid, commands, entries
-from wurstlinen.front import frames, naming, work
+from wurstlinen.front import frames, naming, pids, work
 from wurstlinen.lines import open_line
 from wurstlinen.parameters import STANDARD, Parameter, ola
 from wurstlinen.parameters.fields import Message, Number, SubDevices
@@ -102,8 +102,12 @@ class Arguments(TestCase):
                  "ffff:ffffffff is no device's own UID, and nobody answers a GET to it"),
                 (["identify"], "identify takes a UID, or else --each"),
                 (["identify", LEFT, "--each"], "identify takes a UID, or else --each")):
-            self.assertEqual(called(*arguments, *(["--line", "none:x"] if len(arguments) > 2 else [])),
-                             (2, "", f"wurstlinen: {wanted}\n"), arguments)
+            words = [*arguments, *(["--line", "none:x"] if len(arguments) > 2 else [])]
+            self.assertEqual(called(*words), (2, "", f"wurstlinen: {wanted}\n"), arguments)
+            status, out, errors = called(*words, "--json")
+            error = json.loads(out)["error"]
+            self.assertEqual((status, error["text"], errors), (2, wanted, ""), arguments)
+            self.assertTrue(error["reason"], arguments)
 
     @needs_library
     def test_a_line_that_is_not_there(self) -> None:
@@ -118,6 +122,13 @@ class Arguments(TestCase):
         self.assertEqual((status, out, errors), (1, "", "wurstlinen: /nowhere/rig.json: No such file or directory\n"))
         status, out, errors = called("get", LEFT, "device_label", "--line", "enttec:/nowhere", "--json")
         self.assertEqual((status, errors, json.loads(out)["error"]["reason"]), (1, "", "line"))
+
+    def test_faults_of_the_system(self) -> None:
+        with mock.patch.object(pids, "run_pids", side_effect=OSError(5, "Input/output error")):
+            self.assertEqual(called("pids"), (1, "", "wurstlinen: Input/output error\n"))
+            status, out, errors = called("pids", "--json")
+        self.assertEqual((status, errors), (1, ""))
+        self.assertEqual(json.loads(out), {"error": {"text": "Input/output error", "reason": "system"}})
 
     def test_help_has_an_example(self) -> None:
         for name in ("get", "set", "identify", "pids", "fixtures", "save", "apply", "trace"):
@@ -359,8 +370,9 @@ class Processes(TestCase):
 
     def test_output_that_is_full(self) -> None:
         with open("/dev/full", "wb") as full:
-            done = self.run_command("pids", stdout=full.fileno())
-        self.assertEqual((done.returncode, done.stderr), (1, b"wurstlinen: No space left on device\n"))
+            for words in (["pids"], ["pids", "--json"]):
+                done = self.run_command(*words, stdout=full.fileno())
+                self.assertEqual((done.returncode, done.stderr), (1, b"wurstlinen: No space left on device\n"))
 
     def test_without_the_library(self) -> None:
         with mock.patch.dict(ENVIRONMENT, {"WURSTLINEN_LIBRARY": "/nowhere"}):

@@ -1,9 +1,12 @@
 """The commands of the front that work on all devices: fixtures, save, apply and identify."""
 from __future__ import annotations
 
+import contextlib
 import errno
+import io
 import json
 import os
+import re
 import unittest
 from pathlib import Path
 from typing import Any, Dict, List, Tuple
@@ -11,8 +14,8 @@ from unittest import mock
 
 from common import PACKAGE, folder, needs_library
 from fronts import LEFT, SLOW, OneRig
-from wurstlinen.front import csv_files, requests, work
-from wurstlinen.front.output import Failure
+from wurstlinen.front import csv_files, main, requests, work
+from wurstlinen.front.output import Failure, Output
 
 FIVE_TABLE = """\
 UID            ADDRESS  SLOTS  LABEL         MAKER       MODEL                PERSONALITY  NOTE
@@ -24,6 +27,7 @@ UID            ADDRESS  SLOTS  LABEL         MAKER       MODEL                PE
 5 fixtures, {frames} frames; discovery without a fault
 """
 DATA_OUT_OF_RANGE = "0006"
+DISCOVERY_COMMAND = 0x10
 PAGE = PACKAGE / "ADAPTER.md"
 
 
@@ -89,6 +93,23 @@ class Fixtures(OneRig):
         self.assertEqual((status, out), (1, "0 fixtures, 4 frames; the discovery ended early: the rig's file lets this "
                                             "exchange fail\n"))
 
+    def test_devices_that_lie(self) -> None:
+        wrong = "ended the discovery by wrong answers"
+        for lie in ("ignores mutes", "stays unmuted", "cuts short", "wrong sum"):
+            self.scene({"uid": LEFT, "rig": {"lies": [lie]}}, {"uid": "1234:00000002", "rig": {"address": 9}})
+            self.assertEqual(self.rows(), {"1234:00000002": "", LEFT: wrong}, lie)
+            self.assertEqual((self.status, self.end["fixtures"]), (1, 2))
+            self.assertIn(f"the branch of {LEFT} alone", self.end["fault"])
+        for other in ("1234:00000009", "1234:00000002"):
+            self.scene({"uid": LEFT, "rig": {"spells": other}}, {"uid": "1234:00000002", "rig": {"address": 9}})
+            self.assertEqual(self.rows(), {"1234:00000002": "", LEFT: wrong}, other)
+        # Nobody has the UID of this branch.
+        self.scene({"uid": LEFT, "rig": {"lies": ["answers all"]}}, {"uid": "1234:00000002"})
+        self.assertEqual((self.rows(), self.status), ({}, 1))
+        for lie in ("every other", "unmutes late", "adds bytes"):
+            self.scene({"uid": LEFT, "rig": {"lies": [lie]}}, {"uid": "1234:00000002", "rig": {"address": 9}})
+            self.assertEqual((self.rows(), self.status), ({"1234:00000002": "", LEFT: ""}, 0), lie)
+
     def test_nobody(self) -> None:
         self.scene()
         status, out, _ = self.run_command("fixtures")
@@ -97,6 +118,68 @@ class Fixtures(OneRig):
     def test_a_device_that_answers_too_much(self) -> None:
         self.scene({"uid": LEFT, "rig": {"timer": 0}, "params": [{"pid": "0020", "parts": ["00"]}]})
         self.assertIn("answers slowly", self.rows()[LEFT])
+
+
+class Terminal(io.StringIO):
+    """A terminal, as its lines are in the end."""
+
+    def isatty(self) -> bool:
+        return True
+
+    def lines(self) -> List[str]:
+        """What can be read on it."""
+        found = []
+        for line in self.getvalue().split("\n"):
+            cells = ""
+            for part in line.split("\r"):
+                cells = part + cells[len(part):]
+            found.append(cells.rstrip())
+        return found
+
+
+@needs_library
+class Progress(OneRig):
+    def on_terminal(self, *arguments: str) -> Terminal:
+        """What a command prints on a terminal as its standard error."""
+        with contextlib.redirect_stderr(Terminal()) as terminal, contextlib.redirect_stdout(io.StringIO()) as out:
+            self.status = main([*arguments, "--line", "rig:it"])
+        self.out = out.getvalue()
+        return terminal
+
+    def test_of_a_discovery(self) -> None:
+        terminal = self.on_terminal("fixtures")
+        shown = re.findall(r"\r(\d+) found, (\d+) frames", terminal.getvalue())
+        found = [int(count) for count, _ in shown]
+        self.assertEqual((found[0], found[-1], found), (0, 5, sorted(found)))
+        discovery = sum(frame[20] == DISCOVERY_COMMAND for frame in self.frames)
+        self.assertEqual([int(count) for _, count in shown], list(range(1, discovery + 1)))
+        self.assertEqual(re.findall(r"\rasking (\d) of 5", terminal.getvalue()), list("12345"))
+        self.assertEqual(terminal.lines(), [f"wurstlinen: {SLOW} asks for 0.3 s", ""])
+
+    def test_only_people_want_it(self) -> None:
+        self.assertEqual(self.on_terminal("fixtures", "--json").getvalue(), "")
+        self.frames.clear()
+        terminal = self.on_terminal("fixtures", "--frames")
+        self.assertNotIn(" found, ", terminal.getvalue())
+        self.assertEqual(len([line for line in terminal.lines() if "  -> " in line]), len(self.frames))
+
+    def test_an_interrupt_deletes_it(self) -> None:
+        exchange = self.rig.exchange
+
+        def interrupted(frame: bytes) -> bytes:
+            if len(self.frames) == 10:
+                raise KeyboardInterrupt
+            return exchange(frame)
+        with mock.patch.object(self.rig, "exchange", interrupted):
+            terminal = self.on_terminal("fixtures")
+        self.assertIn(" found, 9 frames", terminal.getvalue())
+        self.assertEqual((self.status, self.out, terminal.lines()), (130, "", [""]))
+
+    def test_a_terminal_that_is_gone(self) -> None:
+        output = Output(False, errors=Terminal())
+        with mock.patch.object(Terminal, "write", side_effect=OSError(errno.EIO, os.strerror(errno.EIO))):
+            output.progress("1 found, 9 frames")
+            output.end_progress()
 
 
 @needs_library
@@ -124,6 +207,10 @@ uid,label,address,personality
     def test_to_standard_output(self) -> None:
         status, out, _ = self.run_command("save", "-")
         self.assertEqual((status, out.splitlines()[1]), (0, "1234:00000001,Front left,1,1"))
+        status, out, errors = self.run_command("save", "-", "--json")
+        rows = [json.loads(line) for line in out.splitlines()]
+        self.assertEqual((status, len(rows), errors), (0, 5, ""))
+        self.assertEqual(rows[0], {"uid": LEFT, "label": "Front left", "address": "1", "personality": "1"})
 
     def test_only_what_differs_is_set(self) -> None:
         with folder() as place:

@@ -305,6 +305,8 @@ class Comparison(TestCase):
             for number, label in labels.items():
                 identifier = f"{prefix}{label.upper()}"
                 self.assertEqual(numbers.get(SPELLINGS.get(identifier, identifier)), number, identifier)
+        reasons = {number for name, number in numbers.items() if name.startswith("NR_")}
+        self.assertLessEqual(reasons, set(names.NACK_REASONS))
         for parameter in STANDARD.parameters:
             # OLA's header has an older name for this one.
             identifier = f"PID_{parameter.name.upper()}".replace("DNS_IPV4_NAME_SERVER", "DNS_NAME_SERVER")

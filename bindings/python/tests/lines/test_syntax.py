@@ -15,9 +15,9 @@ MOST_COLUMNS = 120
 # Python 3.9 has no list of them.
 STANDARD_MODULES = {
     "__future__", "abc", "argparse", "collections", "contextlib", "csv", "dataclasses", "decimal", "difflib", "enum",
-    "errno", "fcntl", "functools", "importlib", "io", "ipaddress", "json", "os", "pathlib", "queue", "random", "re",
-    "secrets", "select", "shlex", "signal", "stat", "subprocess", "sys", "tempfile", "termios", "threading", "time",
-    "tty", "types", "typing", "weakref",
+    "errno", "fcntl", "functools", "grp", "importlib", "io", "ipaddress", "json", "os", "pathlib", "pkgutil", "queue",
+    "random", "re", "secrets", "select", "shlex", "signal", "stat", "subprocess", "sys", "tempfile", "termios",
+    "threading", "time", "tty", "types", "typing", "weakref",
 }
 LINES = PACKAGE / "wurstlinen"
 Function = Union[ast.FunctionDef, ast.AsyncFunctionDef]
@@ -30,8 +30,9 @@ def files() -> List[Path]:
 
 def own_files() -> List[Path]:
     """The files of lines, parameters and commands."""
-    folders = [path for folder in ("front", "lines", "parameters") for path in sorted((LINES / folder).glob("*.py"))]
-    return [*folders, LINES / "line.py", LINES / "commands.py", LINES / "__main__.py", LINES / "_ask.py"]
+    folders = [LINES / name for name in ("front", "lines", "parameters", "tool")]
+    below = [path for folder in folders for path in sorted(folder.glob("*.py"))]
+    return [*below, LINES / "line.py", LINES / "commands.py", LINES / "__main__.py", LINES / "_ask.py"]
 
 
 def parsed(path: Path) -> ast.Module:

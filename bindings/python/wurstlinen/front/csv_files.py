@@ -49,19 +49,38 @@ def run_save(chosen: argparse.Namespace, output: Output) -> int:
         devices, fault = work.discover()
         if fault is not None:
             raise Failure(FAILED, f"the discovery ended early, so nothing is written: {fault}", reason="discovery")
-        rows = [row_of(work, device.uid, output) for device in devices]
+        rows = []
+        for number, device in enumerate(devices, 1):
+            output.progress(f"asking {number} of {len(devices)}")
+            rows.append(row_of(work, device.uid, output))
+    if chosen.file == STANDARD_STREAM:
+        print_rows(rows, output)
+        return DONE
+    try:
+        write(chosen.file, table_of(rows))
+    except OSError as fault:
+        raise Failure(FAILED, f"{chosen.file}: {fault.strerror}", reason="file") from None
+    count = "1 device" if len(rows) == 1 else f"{len(rows)} devices"
+    output.result([f"{count}: {chosen.file}"], devices=len(rows), file=chosen.file)
+    return DONE
+
+
+def table_of(rows: Sequence[Mapping[str, str]]) -> str:
+    """The rows as comma-separated values."""
     text = io.StringIO()
     writer = csv.DictWriter(text, WRITTEN, lineterminator="\n")
     writer.writeheader()
     writer.writerows(rows)
-    try:
-        write(chosen.file, text.getvalue())
-    except OSError as fault:
-        raise Failure(FAILED, f"{chosen.file}: {fault.strerror}", reason="file") from None
-    if chosen.file != STANDARD_STREAM:
-        count = "1 device" if len(rows) == 1 else f"{len(rows)} devices"
-        output.result([f"{count}: {chosen.file}"], devices=len(rows), file=chosen.file)
-    return DONE
+    return text.getvalue()
+
+
+def print_rows(rows: Sequence[Mapping[str, str]], output: Output) -> None:
+    """Prints the table, or an object for each row."""
+    if not output.is_json:
+        output.result(table_of(rows).splitlines())
+        return
+    for row in rows:
+        output.result([], **row)
 
 
 def row_of(work: Work, uid: Uid, output: Output) -> Dict[str, str]:
@@ -90,9 +109,6 @@ def value_of(work: Work, uid: Uid, column: str) -> str:
 
 def write(name: str, text: str) -> None:
     """Writes a file as a whole, or not at all."""
-    if name == STANDARD_STREAM:
-        sys.stdout.write(text)
-        return
     path = Path(name)
     handle, made = tempfile.mkstemp(prefix=f".{path.name}.", dir=path.parent)
     try:

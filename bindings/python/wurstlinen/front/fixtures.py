@@ -62,11 +62,29 @@ def run_fixtures(chosen: argparse.Namespace, output: Output) -> int:
 
 def look_at_all(work: Work, devices: Sequence[Device]) -> List[Fixture]:
     """Asks each device, and notes whose slots overlap."""
-    found = [look_at(work, device) for device in devices]
+    found = []
+    for number, device in enumerate(devices, 1):
+        work.output.progress(f"asking {number} of {len(devices)}")
+        found.append(look_at(work, device))
+    note_unmuted(work, found)
     for fixture in found:
         others = [str(other.uid) for other in found if overlap(fixture, other)]
         fixture.notes += [f"overlaps {', '.join(others)}"] if others else []
     return found
+
+
+def note_unmuted(work: Work, found: List[Fixture]) -> None:
+    """Notes which device ended the discovery, if there is one that answers to this UID."""
+    uid = work.unmuted
+    if uid is None or uid.is_broadcast:
+        return
+    fixture = next((each for each in found if each.uid == uid), None)
+    if fixture is None:
+        fixture = look_at(work, Device(uid))
+        if fixture.is_gone:
+            return
+        found.append(fixture)
+    fixture.notes.insert(0, "ended the discovery by wrong answers")
 
 
 def overlap(first: Fixture, second: Fixture) -> bool:

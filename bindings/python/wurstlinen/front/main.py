@@ -27,8 +27,8 @@ class Parser(argparse.ArgumentParser):
     """A parser that says what is wrong on one line."""
 
     def error(self, message: str) -> NoReturn:
-        """Ends the program."""
-        self.exit(BAD_ARGUMENTS, f"{PROGRAM}: {message}; try '{self.prog} --help'\n")
+        """Raises Failure."""
+        raise Failure(BAD_ARGUMENTS, f"{message}; try '{self.prog} --help'", reason="arguments")
 
 
 def main(arguments: Optional[Sequence[str]] = None) -> int:
@@ -36,8 +36,12 @@ def main(arguments: Optional[Sequence[str]] = None) -> int:
     words = list(sys.argv[1:] if arguments is None else arguments)
     if words[:1] in ([each] for each in RAW_COMMANDS) and "--raw" in words:
         return run_raw(words)
-    check_command(words)
-    chosen = parser().parse_args(words)
+    try:
+        check_command(words)
+        chosen = parser().parse_args(words)
+    except Failure as failure:
+        Output("--json" in words).failure(failure)
+        return failure.status
     return run(chosen, Output(chosen.json))
 
 
@@ -56,10 +60,20 @@ def run(chosen: argparse.Namespace, output: Output) -> int:
         # Who reads the output is gone.
         return FAILED
     except OSError as fault:
-        print(f"{PROGRAM}: {fault.strerror}", file=sys.stderr)
-        return FAILED
+        return failed(output, fault)
     except KeyboardInterrupt:
         return INTERRUPTED
+    finally:
+        output.end_progress()
+
+
+def failed(output: Output, fault: OSError) -> int:
+    """Says that the system failed, where it can."""
+    try:
+        output.failure(Failure(FAILED, str(fault.strerror), reason="system"))
+    except OSError:
+        print(f"{PROGRAM}: {fault.strerror}", file=sys.stderr)
+    return FAILED
 
 
 def run_raw(words: List[str]) -> int:
@@ -72,7 +86,7 @@ def run_raw(words: List[str]) -> int:
 
 
 def check_command(words: Sequence[str]) -> None:
-    """Ends the program, if there is no such command."""
+    """Raises Failure if there is no such command."""
     if words and not words[0].startswith("-") and words[0] not in COMMANDS:
         parser().error(f"there is no command '{words[0]}'{hint(words[0], COMMANDS)}")
 

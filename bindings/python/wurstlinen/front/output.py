@@ -1,6 +1,7 @@
 """What the commands print: lines for people, or JSON."""
 from __future__ import annotations
 
+import contextlib
 import json
 import sys
 from typing import Any, Iterable, Optional, TextIO
@@ -30,9 +31,27 @@ class Output:
         self.is_json = is_json
         self._out = sys.stdout if out is None else out
         self._errors = sys.stderr if errors is None else errors
+        self._progress = ""
+
+    def progress(self, text: str) -> None:
+        """How far a command is: on a terminal, until something else is printed."""
+        if self.is_json or not self._errors.isatty():
+            return
+        # The work goes on, even if nobody can see it.
+        with contextlib.suppress(OSError):
+            print(f"\r{text.ljust(len(self._progress))}", end="", file=self._errors, flush=True)
+        self._progress = text
+
+    def end_progress(self) -> None:
+        """Deletes that line."""
+        if self._progress:
+            self.progress("")
+            with contextlib.suppress(OSError):
+                print("\r", end="", file=self._errors, flush=True)
 
     def result(self, lines: Iterable[str], **keys: Any) -> None:
         """A result: lines for people, or keys for JSON."""
+        self.end_progress()
         for line in [json.dumps(keys, default=float)] if self.is_json else lines:
             print(line, file=self._out, flush=True)
 
@@ -54,6 +73,7 @@ class Output:
 
     def note(self, text: str) -> None:
         """A remark for people."""
+        self.end_progress()
         if not self.is_json:
             print(f"wurstlinen: {text}", file=self._errors, flush=True)
 
@@ -66,6 +86,7 @@ class Output:
 
     def frame(self, line: str) -> None:
         """A frame with its reply, for those who want to see them."""
+        self.end_progress()
         print(line, file=self._errors, flush=True)
 
 

@@ -30,7 +30,8 @@ def request(chosen: argparse.Namespace, output: Output, is_set: bool) -> int:
     """Makes a request, and prints what it returns."""
     uid = Uid.from_number(chosen.uid)
     if uid.is_broadcast and not is_set:
-        raise Failure(BAD_ARGUMENTS, f"{uid_text(chosen.uid)} is no device's own UID, and nobody answers a GET to it")
+        raise Failure(BAD_ARGUMENTS, f"{uid_text(chosen.uid)} is no device's own UID, and nobody answers a GET to it",
+                      reason="arguments")
     pid = pid_of(uid.manufacturer, chosen.parameter)
     known = STANDARD.numbered(pid)
     if known is not None:
@@ -64,7 +65,7 @@ def data_of(parameter: Parameter, chosen: argparse.Namespace, is_set: bool) -> b
 def run_identify(chosen: argparse.Namespace, output: Output) -> int:
     """Lets a device show which one it is, or one after another."""
     if chosen.each == (chosen.uid is not None):
-        raise Failure(BAD_ARGUMENTS, "identify takes a UID, or else --each")
+        raise Failure(BAD_ARGUMENTS, "identify takes a UID, or else --each", reason="arguments")
     with open_work(chosen, output) as work:
         if chosen.each:
             return identify_each(work, output)

@@ -14,6 +14,7 @@ from ..commands import RUN_FAULTS, source_of
 from ..line import Line, LineFailed
 from ..lines import open_line
 from ..lines.numbers import Pid
+from ..lines.packets import decode_packet, is_answer
 from ..parameters import Misfit, Parameter, Reading, decode, described
 from ..parameters.fields import Bytes, Message, SubDevices
 from ..parameters.names import NACK_REASONS
@@ -35,6 +36,8 @@ class WatchedLine:
         self._shows_frames = shows_frames
         self.frames = 0
         self.failure: Optional[LineFailed] = None
+        # The devices that a discovery has muted so far; None if none runs.
+        self.found: Optional[Set[int]] = None
 
     def exchange(self, frame: bytes) -> bytes:
         """The line's exchange."""
@@ -47,7 +50,17 @@ class WatchedLine:
             self._show(number, frame, None)
             raise
         self._show(number, frame, reply)
+        if self.found is not None:
+            self._show_progress(self.found, frame, reply)
         return reply
+
+    def _show_progress(self, found: Set[int], frame: bytes, reply: bytes) -> None:
+        command = decode_packet(frame)
+        if (command is not None and command.pid == Pid.DISC_MUTE and decode_packet(reply) is not None
+                and is_answer(reply, frame)):
+            found.add(command.destination)
+        if not self._shows_frames:
+            self._output.progress(f"{len(found)} found, {self.frames} frames")
 
     def _show(self, number: int, frame: bytes, reply: Optional[bytes]) -> None:
         if self._shows_frames:
@@ -62,6 +75,8 @@ class Work:
         self.output = output
         # The devices that asked for time.
         self.slow: Set[Uid] = set()
+        # The UID whose branch was answered again and again, so that the last discovery ended early.
+        self.unmuted: Optional[Uid] = None
         self._client = client
         self._asked: Optional[Uid] = None
         self._asker = Asker(client, line, wait, on_wait=self._waits)
@@ -79,7 +94,7 @@ class Work:
         try:
             answer = self._asker.ask(Request(uid, pid, data, sub_device, request_class))
         except Unserved as fault:
-            raise Failure(FAILED, str(fault)) from None
+            raise Failure(FAILED, str(fault), reason="unserved") from None
         for message in answer.queued:
             self._report(uid, message)
         if answer.is_late:
@@ -138,9 +153,15 @@ class Work:
     def discover(self) -> Tuple[Tuple[Device, ...], Optional[str]]:
         """The devices on the line, and why the run ended early; None if it didn't."""
         self._client.discover(Kind.FULL)
-        self._client.queue.run(self.line)
+        self.line.found = set()
+        try:
+            self._client.queue.run(self.line)
+        finally:
+            self.line.found = None
+            self.output.end_progress()
         found = self._client.next_discovery()
         assert found is not None
+        self.unmuted = None if found.fault is None else found.fault.uid
         if found.fault is None:
             return found.devices, None
         reason = str(self.line.failure or RUN_FAULTS[found.fault.kind].format(uid=found.fault.uid))

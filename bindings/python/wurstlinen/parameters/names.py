@@ -17,6 +17,16 @@ NACK_REASONS: Mapping[int, str] = {
     0x000A: "proxy_buffer_full",
     # E1.37-2
     0x000B: "action_not_supported",
+    # E1.37-7
+    0x000C: "endpoint_number_invalid",
+    0x000D: "invalid_endpoint_mode",
+    0x000E: "unknown_uid",
+    # E1.33
+    0x000F: "unknown_scope",
+    0x0010: "invalid_static_config_type",
+    0x0011: "invalid_ipv4_address",
+    0x0012: "invalid_ipv6_address",
+    0x0013: "invalid_port",
 }
 
 STATUS_TYPES: Mapping[int, str] = {

@@ -1,11 +1,13 @@
 """The arguments of all commands, from which help, manual pages and completions are made."""
 from __future__ import annotations
 
+import argparse
 from typing import Any, Callable, Dict
 
 from .. import commands
 from ..front.main import COMMANDS as FRONT_COMMANDS
 from ..front.main import PROGRAM, Parser, add_command
+from ..front.output import DONE, Output
 from ..lines.opening import FORMS
 from .adapters import run_adapters
 from .doctor import run_doctor
@@ -84,6 +86,35 @@ def add_doctor(made: Any, name: str) -> None:
     command.set_defaults(run=run_doctor)
 
 
+def add_completion(made: Any, name: str) -> None:
+    """The arguments of completion."""
+    command = add_command(made, name, "print what completes the commands in a shell", "completion bash", "",
+                          needs_line=False)
+    command.add_argument("shell", choices=("bash",), metavar="bash")
+    command.set_defaults(run=run_completion)
+
+
+def run_completion(chosen: argparse.Namespace, output: Output) -> int:
+    """Prints the completion."""
+    # It is made from these arguments.
+    from .manual import completion
+    text = completion()
+    output.result(text.splitlines(), shell=chosen.shell, completion=text)
+    return DONE
+
+
+def add_bridge(made: Any, name: str) -> None:
+    """The arguments of bridge."""
+    commands.add_bridge(made)
+    made.choices[name].epilog = f"example: {PROGRAM} bridge --line enttec:/dev/ttyUSB0"
+
+
+def add_rig(made: Any, name: str) -> None:
+    """The arguments of rig."""
+    commands.add_rig(made)
+    made.choices[name].epilog = f"example: {PROGRAM} rig five_fixtures.json"
+
+
 # The commands of the proved program, of lines, and of this package, each with what adds its arguments.
 PROVED: Dict[str, Callable[[Any, str], None]] = {
     "decode": add_decode,
@@ -92,12 +123,13 @@ PROVED: Dict[str, Callable[[Any, str], None]] = {
     "run": add_run,
 }
 OF_LINES: Dict[str, Callable[[Any, str], None]] = {
-    "bridge": lambda made, name: commands.add_bridge(made),
-    "rig": lambda made, name: commands.add_rig(made),
+    "bridge": add_bridge,
+    "rig": add_rig,
 }
 COMMANDS: Dict[str, Callable[[Any, str], None]] = {
     **FRONT_COMMANDS,
     "adapters": add_adapters,
+    "completion": add_completion,
     "doctor": add_doctor,
     **PROVED,
     **OF_LINES,

@@ -57,7 +57,7 @@ def main(words: Sequence[str]) -> int:
     if command in arguments.PROVED and not asks_for_help(words):
         return run_proved(list(words))
     if command in arguments.OF_LINES and not asks_for_help(words):
-        return commands.main(words)
+        return commands.run(arguments.parser().parse_args(words))
     if command and not command.startswith("-") and command not in arguments.COMMANDS:
         arguments.parser().error(f"there is no command '{command}'{hint(command, arguments.COMMANDS)}")
     if "--raw" in words:
@@ -79,8 +79,9 @@ def run_proved(words: List[str]) -> int:
     """Runs a command of the proved program: on a line that is served here, or else in the place of this process."""
     program = places.program()
     if program is None:
-        print(f"wurstlinen: '{words[0]}' needs the proved program, which isn't installed here; "
-              f"{places.PROGRAM_VARIABLE} may name it", file=sys.stderr)
+        print(f"wurstlinen: '{words[0]}' needs the proved program, which isn't installed here: it is in the Debian "
+              f"package wurstlinen and in the .tar.gz, but not in the wheel; {places.PROGRAM_VARIABLE} may name it",
+              file=sys.stderr)
         return NO_PROGRAM
     line = option(words, "--line")
     if words[0] == "discover" and line is None and not has_file(words):

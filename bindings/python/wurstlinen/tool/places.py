@@ -44,9 +44,10 @@ def name_library() -> None:
 def version_line() -> str:
     """The version, the kit that proved the program, and the commit."""
     facts = proof() or repository()
-    kit = facts.get("kit of the program", "unknown kit").partition(" logic ")[0]
+    kit = facts.get("kit of the program", "").partition(" logic ")[0]
+    state = f"proved with {kit}" if kit else "not proved here yet"
     commit = re.sub(r"^([0-9a-f]{8})[0-9a-f]+", r"\1", facts.get("commit", "unknown"))
-    return f"wurstlinen {facts.get('version', 'unknown')} (proved with {kit}, commit {commit})"
+    return f"wurstlinen {facts.get('version', 'unknown')} ({state}, commit {commit})"
 
 
 def proof() -> Dict[str, str]:
