@@ -27,15 +27,8 @@ use std::sync::Wait;
 // How many entries the log has free, beside one for a close.
 const ENTRIES: usize = 1_000;
 
-// How many rounds there are between two drains. In one round of as many, drawn at random, there is one more, before the
-// reply to a frame.
+// How many rounds there are between two drains.
 const ROUNDS: u64 = 8;
-
-// After how many requests the memory that the process holds has to be settled.
-const SETTLED_AFTER: u64 = 1_000_000;
-
-// How many kilobytes more it may hold from then on.
-const MOST_GROWTH: u64 = 64;
 
 /// Which session it is.
 #[derive(Clone, Copy, PartialEq, Eq)]
@@ -75,7 +68,6 @@ pub fn print<R: Files + AllocGlobal + Print + Eprint + Wait>(
         next: Vec::with_capacity(alloc, ENTRIES).ok()?,
         told: Tally::default(),
         pages: Pages::default(),
-        settled: None,
     };
     let log = log(alloc, ENTRIES).ok()?;
     match port {
@@ -169,17 +161,6 @@ struct Alone {
     line: Drawn,
 }
 
-impl Alone {
-    // Makes the exchange with this frame, and delivers what came.
-    fn answer(&mut self, frame: &Frame) -> Option<()> {
-        let event = match self.line.exchange(frame) {
-            Ok(reply) => LineEvent::Reply(reply),
-            Err(LineFault) => LineEvent::Failed,
-        };
-        holds(self.session.deliver(self.alloc, event).is_ok())
-    }
-}
-
 impl Served for Alone {
     fn submit(&mut self, client: usize, tag: u64) -> Option<bool> {
         match self.session.submit(id_of(client), request(tag)) {
@@ -191,9 +172,14 @@ impl Served for Alone {
 
     fn work(&mut self, turns: u64) -> Option<()> {
         for _ in 0..turns {
-            if let Some(frame) = self.session.take().ok()? {
-                self.answer(&frame)?;
-            }
+            let Some(frame) = self.session.take().ok()? else {
+                continue;
+            };
+            let event = match self.line.exchange(&frame) {
+                Ok(reply) => LineEvent::Reply(reply),
+                Err(LineFault) => LineEvent::Failed,
+            };
+            holds(self.session.deliver(self.alloc, event).is_ok())?;
         }
         Some(())
     }
@@ -256,15 +242,6 @@ impl Served for Alone {
         let entries = self.session.drain(next).ok()?;
         Some(Page { first, entries })
     }
-
-    fn work_drained(&mut self, next: Vec<Entry>) -> Option<Page> {
-        let frame = self.session.take().ok()?;
-        let page = self.drain(next)?;
-        if let Some(frame) = frame {
-            self.answer(&frame)?;
-        }
-        Some(page)
-    }
 }
 
 // The calls that clients wait for, oldest first, by client. Nothing else of a call is kept.
@@ -306,8 +283,6 @@ struct Pages {
     asks: u64,
     answers: u64,
     collects: u64,
-    // How many pages end with a frame whose reply is awaited.
-    awaited: u64,
 }
 
 impl Pages {
@@ -324,9 +299,6 @@ impl Pages {
                 Entry::Collect { .. } => self.collects = self.collects.wrapping_add(1),
                 _ => {}
             }
-        }
-        if let Some(Entry::Send { .. }) = page.entries.last() {
-            self.awaited = self.awaited.wrapping_add(1);
         }
         Some(())
     }
@@ -350,8 +322,6 @@ struct Soak<'a, R> {
     next: Vec<Entry>,
     told: Tally,
     pages: Pages,
-    // How much memory the process held after the first million requests.
-    settled: Option<u64>,
 }
 
 impl<R: Files + AllocGlobal + Print + Eprint> Job for Soak<'_, R> {
@@ -440,9 +410,6 @@ impl<R: Files + AllocGlobal + Print + Eprint> Soak<'_, R> {
             served.pause(false)?;
         }
         served.work(self.random.below(4).wrapping_add(1))?;
-        if self.random.below(ROUNDS) == 0 {
-            self.work_drained(served)?;
-        }
         let client = self.random.below(u64::from(CLIENTS)) as usize;
         for _ in 0..self.random.below(8) {
             self.collect(served, client)?;
@@ -495,21 +462,11 @@ impl<R: Files + AllocGlobal + Print + Eprint> Soak<'_, R> {
         Some(())
     }
 
+    // The page that was drained before is the memory of the next.
     fn drain<S: Served>(&mut self, served: &mut S) -> Option<()> {
         let mut next = mem::replace(&mut self.next, Vec::new(self.bench.alloc));
         next.clear();
-        self.follow(served.drain(next)?)
-    }
-
-    // A turn in which the log is drained.
-    fn work_drained<S: Served>(&mut self, served: &mut S) -> Option<()> {
-        let mut next = mem::replace(&mut self.next, Vec::new(self.bench.alloc));
-        next.clear();
-        self.follow(served.work_drained(next)?)
-    }
-
-    // The page is the memory of the next one.
-    fn follow(&mut self, page: Page) -> Option<()> {
+        let page = served.drain(next)?;
         self.pages.follow(&page)?;
         self.next = page.entries;
         Some(())
@@ -523,7 +480,7 @@ impl<R: Files + AllocGlobal + Print + Eprint> Soak<'_, R> {
         holds(pages.collects == calls.submitted.wrapping_add(calls.asked))
     }
 
-    fn print(&mut self) -> Option<()> {
+    fn print(&self) -> Option<()> {
         let rt = self.bench.rt;
         let name = self.name;
         let Tally {
@@ -535,23 +492,8 @@ impl<R: Files + AllocGlobal + Print + Eprint> Soak<'_, R> {
         } = self.told;
         println!(rt; "{name}: {completed} completed, {timeouts} timeouts, {failed} failed").ok()?;
         println!(rt; "{name}: {discovered} discovered, {aborted} failed").ok()?;
-        let Pages {
-            entries,
-            awaited,
-            ..
-        } = self.pages;
-        println!(rt; "{name}: {entries} entries, {awaited} drains before a reply").ok()?;
+        println!(rt; "{name}: {} entries", self.pages.entries).ok()?;
         let kilobytes = resident(rt).unwrap_or(0);
-        eprintln!(rt; "{name}: {kilobytes} kB").ok()?;
-        self.stays_within(kilobytes)
-    }
-
-    // From the first million requests on, the process may hold at most 64 kB more than it held then.
-    fn stays_within(&mut self, kilobytes: u64) -> Option<()> {
-        if self.calls.submitted < SETTLED_AFTER {
-            return Some(());
-        }
-        let settled = *self.settled.get_or_insert(kilobytes);
-        holds(kilobytes <= settled.saturating_add(MOST_GROWTH))
+        eprintln!(rt; "{name}: {kilobytes} kB").ok()
     }
 }

@@ -9,10 +9,10 @@ use crate::served::{CLIENTS, Ending, FREE, Job, PLACES, Served, Timing, config, 
 use left_right::Absorb;
 use rdm_agent::Kind;
 use rdm_client::{AskTold, Collected, DeviceView, Told};
-use rdm_join::{LineEvent, LineReply};
+use rdm_join::LineEvent;
 use rdm_lanes::views::{BlankHistory, Shown, ViewHistory};
 use rdm_lanes::{Lanes, RingFault, WorkerEnd, open_lanes};
-use rdm_line::{Line, LineFault};
+use rdm_line::Line;
 use rdm_locked::{CallShare, DiscoverFault, Exchange, Left, LockedClient, Port};
 use rdm_queue::{AskFault, Entry, Log, Page, SubmitFault};
 use rdm_rig::{AskNote, Note, cancels, log, request};
@@ -107,46 +107,16 @@ fn count_in(collected: &Option<Collected>) -> Option<usize> {
 
 type PortClient<'a, L> = LockedClient<'a, L, Note, AskNote>;
 
-// A line that drains the log of a port during an exchange, before it answers. Another thread may do so.
-#[derive(Drop)]
-struct DrainingLine<'a, L: Ledger, R, X: Drop> {
-    rt: &'a R,
-    port: &'a Port<L>,
-    line: X,
-    // The memory in which the log goes on, if it is to be drained during the next exchange.
-    next: Option<Vec<Entry>>,
-    // What was handed out then.
-    page: Option<Page>,
-}
-
-impl<L: Ledger, R: Wait, X: Line + Drop> Line for DrainingLine<'_, L, R, X> {
-    ghost step = { λ old x new. X.step old.line x new.line };
-
-    ghost failures_of = { λ line. X.failures_of line.line };
-
-    fn exchange(&mut self, frame: &Frame) -> Result<LineReply, LineFault> {
-        if let Some(mut next) = self.next.take() {
-            next.clear();
-            self.page = self.port.drain(self.rt, next).ok();
-        }
-        self.line.exchange(frame)
-    }
-
-    fn failures(&self) -> u64 {
-        self.line.failures()
-    }
-}
-
 // A port with its clients, its worker and its line.
-struct Locked<'a, L: Ledger, R, X: Drop> {
+struct Locked<'a, L: Ledger, R, X> {
     bench: &'a Bench<'a, R>,
     port: &'a Port<L>,
     clients: Vec<PortClient<'a, L>>,
-    line: DrainingLine<'a, L, R, X>,
+    line: X,
     record: Vec<Exchange>,
 }
 
-impl<L: Ledger, R: Wait, X: Line + Drop> Served for Locked<'_, L, R, X> {
+impl<L: Ledger, R: Wait, X: Line> Served for Locked<'_, L, R, X> {
     fn submit(&mut self, client: usize, tag: u64) -> Option<bool> {
         let client = self.clients.get_mut(client)?;
         match client.submit(self.bench.rt, request(tag), Note(tag)) {
@@ -213,21 +183,6 @@ impl<L: Ledger, R: Wait, X: Line + Drop> Served for Locked<'_, L, R, X> {
         self.record.clear();
         Some(page)
     }
-
-    fn work_drained(&mut self, next: Vec<Entry>) -> Option<Page> {
-        self.line.next = Some(next);
-        self.work(1)?;
-        match self.line.next.take() {
-            Some(mut next) => {
-                next.clear();
-                self.drain(next)
-            }
-            None => {
-                self.record.clear();
-                self.line.page.take()
-            }
-        }
-    }
 }
 
 /// Opens a port, or ring buffers, for this many clients over this log and this line. Does this, and ends the clients. A
@@ -270,13 +225,7 @@ fn on_port<L: Ledger, X: Line + Drop, D: Job, R: Wait>(
         bench,
         port: &port,
         clients: Vec::new(bench.alloc),
-        line: DrainingLine {
-            rt: bench.rt,
-            port: &port,
-            line,
-            next: None,
-            page: None,
-        },
+        line,
         record,
     };
     let joined = join(bench, &port, count, &mut locked.clients);

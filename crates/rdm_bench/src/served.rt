@@ -62,15 +62,6 @@ pub trait Served {
     /// The entries that the log stores; it goes on in this memory. None: there is no log, or too little memory.
     fn drain(&mut self, next: Vec<Entry>) -> Option<Page>
         requires { next.items ≡ [] };
-
-    /// The worker makes a turn, and the log is drained before the line's answer, if it may be drained then. If not, or
-    /// if there is no frame, it is drained afterwards.
-    fn work_drained(&mut self, next: Vec<Entry>) -> Option<Page>
-        requires { next.items ≡ [] }
-    {
-        self.work(1)?;
-        self.drain(next)
-    }
 }
 
 /// What is done with the clients of a session.
