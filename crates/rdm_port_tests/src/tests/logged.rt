@@ -76,11 +76,7 @@ fn outcomes(
 
 // Whether these outcomes are those of the session's log.
 fn are_of(rt: &impl Abort, alloc: Global, session: &Session, told: &[Outcomes], same: bool) {
-    let log = session.log();
-    if log.gone() > 0 {
-        return check(rt, false);
-    }
-    check(rt, are_logged(alloc, log, told) == Ok(same));
+    check(rt, are_logged(alloc, session.log(), told) == Ok(same));
 }
 
 const FAILED: Option<AgentFault> = Some(AgentFault::LineFailed);

@@ -16,9 +16,19 @@ use rdm_reports::{Discovered, Outcomes};
 use std::alloc::{AllocError, Global};
 
 /// Whether each client received the outcomes of all its requests and discoveries that ended, in order, and each agrees
-/// with the log: a request in its status and the number of its bytes, a discovery in its fault. The log must store all
-/// its entries. Err: there was no memory.
+/// with the log: a request in its status and the number of its bytes, a discovery in its fault. False too if entries of
+/// the log were handed out. Err: there was no memory.
 pub fn are_logged(alloc: Global, log: &Log, told: &[Outcomes]) -> Result<bool, AllocError>
+    ensures { IfOk result (λ same. OnTrue same (AllLogged log.now.opening log.now.entries 0 told.now)) }
+{
+    if log.gone() > 0 {
+        return Ok(false);
+    }
+    are_all_logged(alloc, log, told)
+}
+
+// The same for a log that stores all its entries.
+fn are_all_logged(alloc: Global, log: &Log, told: &[Outcomes]) -> Result<bool, AllocError>
     requires whole { log.now.gone ≡ 0 }
     ensures { IfOk result (λ same. OnTrue same (AllLogged log.now.opening log.now.entries 0 told.now)) }
 {
