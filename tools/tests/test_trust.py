@@ -21,6 +21,13 @@ class Trust(unittest.TestCase):
         self.assertEqual((done.returncode, done.stdout), (2, ""))
         self.assertEqual(done.stderr, "trust: there is no promise '99'; ./trust lists them\n")
 
+    def test_subjects_of_the_standard(self) -> None:
+        lines = self.run_bash("./trust --standard").stdout.splitlines()
+        begin = lines.index(next(line for line in lines if line.startswith("discovery mute message: cited ")))
+        end = lines.index(next(line for line in lines if line.startswith("discovery un-mute message: cited ")))
+        # This citation is broken between two lines of its comment.
+        self.assertIn("  crates/rdm_wire/src/muted.rt: 12", lines[begin:end])
+
 
 if __name__ == "__main__":
     unittest.main()
