@@ -20,11 +20,12 @@ ESCAPED = {b"n": b"\n", b"r": b"\r", b"t": b"\t", b"\\": b"\\", b'"': b'"'}
 REPEATED = re.compile(r"\{(\d+) x ([^{}]+)\}")
 NAMED_TEXT = re.compile(r"\{([a-z ]+)\}")
 PORTS = (b"locked", b"rings")
+ROOT = Path(__file__).resolve().parent.parent.parent
 # A reply without bytes.
 NOTHING = "nothing"
 FIELDS = frozenset(
     "case args file bytes path length unreadable ports program stdout out err err-has status"
-    " line replies fixtures answers sent log no-log".split()
+    " line replies fixtures answers sent log no-log folder times".split()
 )
 
 Fields = Dict[str, str]
@@ -127,6 +128,8 @@ def case_of(fields: Fields) -> Case:
         commands=tuple(commands_of(fields)),
         expected=expected_of(fields),
         files=tuple(files_of(fields)),
+        folder=folder_of(fields),
+        times=number_of(fields, "times", 1),
         program=program,
         output=output_of(fields),
         far_end=far_end_of(fields),
@@ -209,6 +212,15 @@ def files_of(fields: Fields) -> Iterator[File]:
         path=fields.get("path", FILE_NAME),
         is_readable="unreadable" not in fields,
     )
+
+
+def folder_of(fields: Fields) -> Optional[Path]:
+    """The folder in which the program runs, if it isn't a new one."""
+    if "folder" not in fields:
+        return None
+    if not (ROOT / fields["folder"]).is_dir() or "file" in fields or "bytes" in fields:
+        raise ValueError("folder: expected a folder of the repository, and no file")
+    return ROOT / fields["folder"]
 
 
 def contents_of(fields: Fields) -> Optional[bytes]:

@@ -16,6 +16,9 @@ from typing import Any, Iterator, List, Optional, Set, Tuple
 PACKAGE = Path(__file__).resolve().parents[2]
 ROOT = PACKAGE.parents[1]
 sys.path.insert(0, str(PACKAGE))
+sys.path.append(str(ROOT))
+from cases.checker.tables import read_table  # noqa: E402
+from cases.generated import neighbours  # noqa: E402
 from wurstlinen.line import Line  # noqa: E402
 from wurstlinen.lines import EnttecPro  # noqa: E402
 from wurstlinen.lines.emulator import Emulator, Widget  # noqa: E402
@@ -50,6 +53,15 @@ class TestCase(unittest.TestCase):
 
 def _too_long(number: int, frame: Optional[FrameType]) -> None:
     raise TimeoutError(f"the test takes more than {SECONDS} seconds")
+
+
+def discoveries_of_examples() -> Iterator[Tuple[Path, List[str], str]]:
+    """Each discovery on an example's scene: the file, the options, and what the proved program prints."""
+    for case in [*read_table(ROOT / "cases/examples.txt").cases, *neighbours.cases()]:
+        command, file, *options = (argument.decode() for argument in case.commands[0])
+        printed = (case.expected.out or b"").decode()
+        if case.folder and command == "discover" and not printed.startswith("fault: "):
+            yield case.folder / file, options, printed
 
 
 def has_library() -> bool:

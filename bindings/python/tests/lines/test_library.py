@@ -13,8 +13,8 @@ from typing import Any, Iterator, List, Optional, Tuple
 from unittest import mock
 
 from common import (
-    FIRMWARES, LOSSES, PACKAGE, ROOT, SEEDS, SEEDS_OF_LARGE_RIGS, TestCase, adapter, needs_library, one, random_scene,
-    uids_of,
+    FIRMWARES, LOSSES, PACKAGE, SEEDS, SEEDS_OF_LARGE_RIGS, TestCase, adapter, discoveries_of_examples,
+    needs_library, one, random_scene, uids_of,
 )
 from search import Controller as OwnController
 from test_discovery import GETS, WASH
@@ -25,7 +25,6 @@ from wurstlinen.lines.emulator import Widget
 from wurstlinen.lines.packets import parse_uid
 from wurstlinen.lines.scene import Scene
 
-EXAMPLES = ROOT / "examples"
 SOURCE = "7a70:00000100"
 
 
@@ -53,16 +52,11 @@ class Examples(TestCase):
 
     def test_each_discovery_of_the_examples(self) -> None:
         ran = 0
-        for path in sorted(EXAMPLES.glob("*.json.args")):
-            words = path.read_text().split()
-            file = path.with_suffix("")
-            wanted = file.with_suffix(".json.stdout").read_text()
-            if words[0] != "discover" or wanted.startswith("fault: "):
-                continue
+        for file, options, wanted in discoveries_of_examples():
             ran += 1
-            arguments = [word for word in words if word != "{}"] + self.options(file, "--incremental" in words)
+            arguments = ["discover", *options, *self.options(file, "--incremental" in options)]
             status, out = printed(*arguments, "--line", f"rig:{file}")
-            self.assertEqual((status, out), (int(wanted.startswith("fault")), wanted), path.name)
+            self.assertEqual((status, out), (int(wanted.startswith("fault")), wanted), file.name)
         self.assertGreater(ran, 8)
 
     def options(self, file: Path, is_incremental: bool) -> List[str]:

@@ -5,7 +5,9 @@ import random
 import unittest
 from typing import Any, Dict, List, Tuple
 
-from common import LOSSES, ROOT, SEEDS, SOURCE, Collide, TestCase, one, random_scene, scene, uids_of
+from common import (
+    LOSSES, ROOT, SEEDS, SOURCE, Collide, TestCase, discoveries_of_examples, one, random_scene, scene, uids_of,
+)
 from search import TIMEOUT, Answer, Controller, Corrupt, discover
 from wurstlinen.line import LineFailed
 from wurstlinen.lines import Rig, SceneFault
@@ -420,12 +422,10 @@ class Files(TestCase):
 
     def test_a_rig_is_searched_as_the_simulated_line_is(self) -> None:
         read = 0
-        for path in sorted((ROOT / "examples").glob("*.json.args")):
-            wanted = path.with_suffix("").with_suffix(".json.stdout").read_text()
-            keys = path.with_suffix("").read_text()
-            if path.read_text().split() != ["discover", "{}"] or wanted.startswith("fault: ") or '"budget"' in keys:
+        for path, options, wanted in discoveries_of_examples():
+            if options or '"budget"' in path.read_text():
                 continue
-            self.assertEqual(self.printed(Controller(Rig(path.with_suffix("")))), wanted, path.name)
+            self.assertEqual(self.printed(Controller(Rig(path))), wanted, path.name)
             read += 1
         self.assertGreater(read, 7)
 
