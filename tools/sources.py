@@ -1,4 +1,4 @@
-"""Reads the definitions and the contracts of all crates, for `trust` and `check_pages`.
+"""Reads the definitions and the contracts of all crates, for `trust` and `checks/pages`.
 
 Definitions are in crates/*/specs/**/*.antt, and contracts in crates/*/src/**/*.rt. Names are looked up by the lines
 `use` and `ghost use` of a file. Names of other origin, such as those of std, cite nothing here.

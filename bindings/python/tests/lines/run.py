@@ -1,4 +1,4 @@
-"""Runs the tests of one module for `check_lines`. The last line of the output counts them, as JSON."""
+"""Runs the tests of one module for `checks/lines`. The last line of the output counts them, as JSON."""
 from __future__ import annotations
 
 import json

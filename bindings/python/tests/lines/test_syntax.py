@@ -25,7 +25,7 @@ Function = Union[ast.FunctionDef, ast.AsyncFunctionDef]
 
 def files() -> List[Path]:
     """All Python below bindings, and the script of these tests."""
-    return sorted((ROOT / "bindings").rglob("*.py")) + [ROOT / "check_lines"]
+    return sorted((ROOT / "bindings").rglob("*.py")) + [ROOT / "checks/lines"]
 
 
 def own_files() -> List[Path]:
@@ -61,7 +61,7 @@ class Syntax(TestCase):
             parsed(path)
 
     def test_nothing_is_too_long(self) -> None:
-        for path in [*own_files(), *Path(__file__).parent.glob("*.py"), ROOT / "check_lines"]:
+        for path in [*own_files(), *Path(__file__).parent.glob("*.py"), ROOT / "checks/lines"]:
             lines = path.read_text().splitlines()
             self.assertLessEqual(len(lines), MOST_LINES_OF_A_FILE, path)
             self.assertLessEqual(max(map(len, lines), default=0), MOST_COLUMNS, path)

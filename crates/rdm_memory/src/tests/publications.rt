@@ -1,5 +1,5 @@
-//! A view whose publication fails in two turns in a row. In a test whose name ends with `twice`, `check_memory` lets an
-//! allocation and the next one fail.
+//! A view whose publication fails in two turns in a row. In a test whose name ends with `twice`, `checks/memory` lets
+//! an allocation and the next one fail.
 use super::checks::check;
 use rdm_agent::Kind;
 use rdm_join::{LineReply, Status};

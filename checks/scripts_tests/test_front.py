@@ -50,7 +50,7 @@ def with_sum(text: str) -> str:
 
 class Place(unittest.TestCase):
     def setUp(self) -> None:
-        place = tempfile.TemporaryDirectory(prefix="check_scripts.")
+        place = tempfile.TemporaryDirectory(prefix="scripts.")
         self.addCleanup(place.cleanup)
         self.folder = Path(place.name).resolve()
 

@@ -85,7 +85,7 @@ class Clone:
 @contextlib.contextmanager
 def new_clone() -> Iterator[Clone]:
     """A clone in a temporary folder."""
-    with tempfile.TemporaryDirectory(prefix="check_scripts.") as name:
+    with tempfile.TemporaryDirectory(prefix="scripts.") as name:
         yield Clone(Path(name).resolve())
 
 
