@@ -345,6 +345,7 @@ impl Session {
     /// than 2^62 entries in all; nothing has changed, and the memory is returned.
     pub fn drain(&mut self, next: Vec<Entry>) -> Result<Vec<Entry>, (LogFull, Vec<Entry>)>
         requires empty { next.items ≡ [] }
+        ensures fits { OnOk result (MayGoOn self.old (vec_capacity next)) }
         ensures handed_out { IfOk result (λ page. page.items ≡ stored self.old) }
         ensures log { OnOk result (self.new ≡ drained self.old (vec_capacity next)) }
         ensures history { (self.new.opening ≡ self.old.opening) × (self.new.entries ≡ self.old.entries) }
@@ -365,6 +366,7 @@ impl Session {
     /// ([`Log::drain_into`]).
     /// Err: as `drain` returns; nothing has changed.
     pub fn drain_into(&mut self, page: &mut Log) -> Result<(), LogFull>
+        ensures fits { OnOk result (MayGoOn self.old (page.old.room - page.old.gone)) }
         ensures handed_out { OnOk result (page.new ≡ record page.old {
           entries = self.old.entries;
           room = self.old.room;
