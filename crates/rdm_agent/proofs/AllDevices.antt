@@ -1,16 +1,12 @@
 -- What a line that is honest to a set of devices shows of a run.
-use Rattle.std.proofs.Common.{◌≡◌, ℕ, ◌+◌, ◌≤◌, Bool, true, false, ◌&&◌, not, cond, List, [], ◌∷◌, Option, Some, None}
-use Rattle.std.proofs.Common.{refl, sym, ap, ◌∙◌, subst, inl, inr, true≢false, arith}
-use Rattle.std.specs.Prelude.{◌⊎◌, ◌==◌, MatchBool, filter}
-use Rattle.std.specs.List.{cons_option}
-use Rattle.std.proofs.lemmas.Bool.{eqb-true, eq-eqb, cases_Bool, or_cases}
-use Rattle.rdm_wire.specs.Uid.{has, is_within}
-use Rattle.rdm_wire.specs.Honest.{Asked, Heard, Seen, LineState, HonestToStep, HonestTo, HonestStep, HonestTrace, Chain}
-use Rattle.rdm_wire.specs.Honest.{Counts, due_in, lost_after, KeepsMuted, MuteMoves, is_silent, before_run}
-use Rattle.rdm_wire.specs.Honest.Asked.{Unmute, Branch, Mute, Other}
-use Rattle.rdm_wire.specs.Honest.Heard.{Failed, Silent, One, Acked, Noise}
-use Rattle.rdm_wire.specs.declared.mute_ack.MuteAck.{MuteAck}
-use Rattle.rdm_agent.specs.Run.{acked_uid, acked_in, FailureIsLast}
+use Rattle.rdm_agent.proofs.Common.{◌≡◌, ℕ, ◌+◌, ◌≤◌, Bool, true, false, ◌&&◌, not, cond, List, [], ◌∷◌, Option, Some}
+use Rattle.rdm_agent.proofs.Common.{None, refl, sym, ap, ◌∙◌, subst, inl, inr, true≢false, arith, ◌⊎◌, ◌==◌, MatchBool}
+use Rattle.rdm_agent.proofs.Common.{filter, cons_option, eqb-true, eq-eqb, cases_Bool, or_cases, has, is_within, Asked}
+use Rattle.rdm_agent.proofs.Common.{Heard, Seen, LineState, HonestToStep, HonestTo, HonestStep, HonestTrace, Chain}
+use Rattle.rdm_agent.proofs.Common.{Counts, due_in, lost_after, KeepsMuted, MuteMoves, before_run, Unmute, Branch, Mute}
+use Rattle.rdm_agent.proofs.Common.{Other, Failed, Silent, One, Acked, Noise, MuteAck, acked_uid, acked_in}
+use Rattle.rdm_agent.proofs.Common.{FailureIsLast}
+use Rattle.rdm_wire.specs.Honest.{is_silent}
 use Rattle.rdm_agent.proofs.Members.{put-has}
 
 none_some : (u : ℕ) → None ≡ Some u → ⊥

@@ -1,10 +1,7 @@
 -- The bound, call by call.
-use Rattle.std.proofs.Common.{◌≡◌, ℕ, ◌≤◌, false, List, length, Some, None, sym, ◌∙◌, subst}
-use Rattle.rdm_agent.specs.Machine.{AgentState, fault_of, found_uids}
-use Rattle.rdm_agent.specs.Calls.{next_op, HasRunBy, RunSoFar}
-use Rattle.rdm_agent.specs.Bound.{enough_by, IsUndisturbed, StaysInBound, EndsWithin}
-use Rattle.rdm_agent.specs.declared.fault.AgentFault.{AgentFault}
-use Rattle.rdm_agent.specs.declared.op.Op.TheVariants.{End}
+use Rattle.rdm_agent.proofs.Common.{◌≡◌, ℕ, ◌≤◌, false, List, length, Some, None, sym, ◌∙◌, subst, AgentState, fault_of}
+use Rattle.rdm_agent.proofs.Common.{found_uids, next_op, HasRunBy, RunSoFar, enough_by, EndsWithin, AgentFault, End}
+use Rattle.rdm_agent.specs.Bound.{IsUndisturbed, StaysInBound}
 use Rattle.rdm_agent.proofs.BoundRuns.{ends_in_bound_by}
 use Rattle.rdm_agent.proofs.CallLemmas.{runs-own, none_ends, next_none, frames-counted, end-finds_all}
 

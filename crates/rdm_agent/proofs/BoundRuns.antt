@@ -1,26 +1,14 @@
 -- Runs on an honest line end within their bound, and without fault.
-use Rattle.std.proofs.Common.{◌≡◌, ℕ, ◌+◌, ◌*◌, ◌≤◌, Bool, true, List, [], ◌∷◌, length, Option, None, Some, refl, sym}
-use Rattle.std.proofs.Common.{ap, subst, inl, inr, true≢false, arith}
-use Rattle.std.specs.Prelude.{◌≢◌, ◌⊎◌, ◌↔◌, nat_lt, MatchOption, filter}
-use Rattle.std.specs.List.{AllByRecursion}
-use Rattle.std.proofs.lemmas.Bool.{lt-ltb, cond_both}
-use Rattle.rdm_wire.specs.Uid.{IsDeviceSet}
-use Rattle.rdm_wire.specs.declared.uid_set.TheConstants.{MOST_DEVICES}
-use Rattle.rdm_wire.specs.Span.{whole}
-use Rattle.rdm_wire.specs.Honest.{Asked, Heard, Seen, LineState, HonestStep, Chain, before_run}
-use Rattle.rdm_wire.specs.Honest.Heard.{Failed, Silent, One, Acked, Noise}
-use Rattle.rdm_agent.specs.Certificate.{known_of}
-use Rattle.rdm_agent.specs.Machine.{Phase, AgentState, Runs, start_by, wanted, fed, found_uids, fault_of}
-use Rattle.rdm_agent.specs.Machine.{heard_by_phase}
-use Rattle.rdm_agent.specs.Machine.Phase.{Unmuting, MutingKnown, Searching, MutingRead, Sweeping, MutingSwept}
-use Rattle.rdm_agent.specs.Machine.Phase.{Ended}
+use Rattle.rdm_agent.proofs.Common.{◌≡◌, ℕ, ◌+◌, ◌*◌, ◌≤◌, Bool, true, List, [], ◌∷◌, length, Option, None, Some, refl}
+use Rattle.rdm_agent.proofs.Common.{sym, ap, subst, inl, inr, true≢false, arith, ◌≢◌, ◌⊎◌, ◌↔◌, nat_lt, MatchOption}
+use Rattle.rdm_agent.proofs.Common.{filter, AllByRecursion, lt-ltb, cond_both, IsDeviceSet, MOST_DEVICES, whole, Asked}
+use Rattle.rdm_agent.proofs.Common.{Heard, Seen, LineState, HonestStep, Chain, before_run, Failed, Silent, One, Acked}
+use Rattle.rdm_agent.proofs.Common.{Noise, known_of, Phase, AgentState, Runs, start_by, wanted, fed, found_uids}
+use Rattle.rdm_agent.proofs.Common.{fault_of, heard_by_phase, Unmuting, MutingKnown, Searching, MutingRead, Sweeping}
+use Rattle.rdm_agent.proofs.Common.{MutingSwept, Ended, enough_by, EndsWithin, Kind, Search, Steady, Quick}
+use Rattle.rdm_agent.proofs.Common.{DEFAULT_BUDGET, Full, Incremental}
 use Rattle.rdm_agent.proofs.Potential.{is_left, left_in, worth, Ahead, Costs, Affords}
-use Rattle.rdm_agent.specs.Bound.{enough_for, enough_by, EndsWithin, EndsInBoundBy, EndsInBound, EndsByDefault}
-use Rattle.rdm_agent.specs.declared.kind.Kind.{Kind}
-use Rattle.rdm_agent.specs.declared.search.Search.{Search}
-use Rattle.rdm_agent.specs.declared.search.Search.TheVariants.{Steady, Quick}
-use Rattle.rdm_agent.specs.declared.limits.TheConstants.{DEFAULT_BUDGET}
-use Rattle.rdm_agent.specs.declared.kind.Kind.TheVariants.{Full, Incremental}
+use Rattle.rdm_agent.specs.Bound.{enough_for, EndsInBoundBy, EndsInBound, EndsByDefault}
 use Rattle.rdm_agent.proofs.OneDevice.{NotFailed}
 use Rattle.rdm_agent.proofs.LeftLemmas.{no_more_than}
 use Rattle.rdm_agent.proofs.CoverLemmas.{Covers-some, worth-fewer}

@@ -1,26 +1,15 @@
 -- How an agent stands after a list of exchanges, call by call.
-use Rattle.std.proofs.Common.{◌≡◌, ℕ, ◌≤◌, Bool, true, false, cond, List, [], ◌∷◌, ◌++◌, length, Option, Some, None}
-use Rattle.std.proofs.Common.{refl, sym, ap, ◌∙◌, subst, true≢false, arith}
-use Rattle.std.specs.Prelude.{◌≢◌, nat_lt, MatchOption, IfNone, IfSome}
-use Rattle.rdm_wire.specs.Uid.{has, IsDevice}
-use Rattle.rdm_wire.specs.Honest.{Asked, Heard, Seen, HonestTrace, HonestTo}
-use Rattle.rdm_wire.specs.HonestOver.{HonestOver}
-use Rattle.rdm_wire.specs.Honest.Asked.{Unmute, Branch, Mute, Other}
-use Rattle.rdm_agent.specs.Run.{asked_by, heard_by, seen_op, IsReport}
-use Rattle.rdm_agent.specs.Certificate.{Certificate}
-use Rattle.rdm_agent.specs.Cause.{Cause, EndsFailed}
-use Rattle.rdm_agent.specs.Machine.{Phase, AgentState, Runs, start_by, next_of, wanted, fed, fault_of, found_uids}
-use Rattle.rdm_agent.specs.Machine.Phase.{Unmuting, MutingKnown, Searching, MutingRead, Sweeping, MutingSwept}
-use Rattle.rdm_agent.specs.Machine.Phase.{Ended}
-use Rattle.rdm_agent.specs.Statements.{IsInOrder, IsInEach, IsInOne}
-use Rattle.rdm_agent.specs.Calls.{op_of, next_op, fits, ended_by_abort, HasRunBy}
-use Rattle.rdm_agent.specs.declared.kind.Kind.{Kind}
-use Rattle.rdm_agent.specs.declared.search.Search.{Search}
-use Rattle.rdm_agent.specs.declared.fault.AgentFault.{AgentFault}
-use Rattle.rdm_agent.specs.declared.fault.AgentFault.TheVariants.{Corrupt, TooMany, Exhausted, LineFailed, Aborted}
-use Rattle.rdm_agent.specs.declared.op.Op.{Op}
-use Rattle.rdm_agent.specs.declared.op.Op.TheVariants.{End}
-use Rattle.rdm_agent.specs.declared.op.OpReply.{OpReply}
+use Rattle.rdm_agent.proofs.Common.{◌≡◌, ℕ, ◌≤◌, Bool, true, false, cond, List, [], ◌∷◌, ◌++◌, length, Option, Some}
+use Rattle.rdm_agent.proofs.Common.{None, refl, sym, ap, ◌∙◌, subst, true≢false, arith, ◌≢◌, nat_lt, MatchOption}
+use Rattle.rdm_agent.proofs.Common.{IfNone, IfSome, has, IsDevice, Asked, Heard, Seen, HonestTrace, HonestTo}
+use Rattle.rdm_agent.proofs.Common.{HonestOver, Unmute, Branch, Mute, Other, asked_by, heard_by, seen_op, Certificate}
+use Rattle.rdm_agent.proofs.Common.{Cause, EndsFailed, Phase, AgentState, Runs, start_by, next_of, wanted, fed}
+use Rattle.rdm_agent.proofs.Common.{fault_of, found_uids, Unmuting, MutingKnown, Searching, MutingRead, Sweeping}
+use Rattle.rdm_agent.proofs.Common.{MutingSwept, Ended, IsInOrder, IsInEach, IsInOne, op_of, next_op, HasRunBy, Kind}
+use Rattle.rdm_agent.proofs.Common.{Search, AgentFault, TooMany, Exhausted, LineFailed, Op, End, OpReply}
+use Rattle.rdm_agent.specs.Run.{IsReport}
+use Rattle.rdm_agent.specs.Calls.{fits, ended_by_abort}
+use Rattle.rdm_agent.specs.declared.fault.AgentFault.TheVariants.{Corrupt, Aborted}
 use Rattle.rdm_agent.specs.declared.op.OpReply.TheVariants.{Done, Mute as Muted, Branch as Branched, Failed}
 use Rattle.rdm_agent.proofs.Runs.{asks_in_order_by, ends_at_failure_by, ends_at_budget_by, ends_certified_by}
 use Rattle.rdm_agent.proofs.Runs.{finds_acknowledged_by}

@@ -1,9 +1,10 @@
 -- The frames that the encoders write carry the agent's operations.
-use Rattle.std.proofs.Common.{◌≡◌, ℕ, ◌<◌, ◌^◌, Bool, true, false, cond, List, [], ◌∷◌, Option, Some, None, bytes_eq}
-use Rattle.std.proofs.Common.{refl, sym, ap, ◌∙◌, subst, arith}
-use Rattle.std.specs.Prelude.{◌↔◌, nat_lt}
+use Rattle.rdm_agent.proofs.Common.{◌≡◌, ℕ, ◌<◌, ◌^◌, Bool, true, false, cond, List, [], ◌∷◌, Option, Some, None}
+use Rattle.rdm_agent.proofs.Common.{bytes_eq, refl, sym, ap, ◌∙◌, subst, arith, ◌↔◌, nat_lt, Span, Asked, Heard, Seen}
+use Rattle.rdm_agent.proofs.Common.{Silent, Acked, Noise, MuteAck, BranchReply, Phase, AgentState, fed, heard_by_phase}
+use Rattle.rdm_agent.proofs.Common.{wanted, Unmuting, MutingKnown, Searching, MutingRead, Sweeping, MutingSwept, Ended}
+use Rattle.rdm_agent.proofs.Common.{asked_by, heard_by, heard_of_mute, seen_op, next_op, op_of, op_frame, Op, OpReply}
 use Rattle.std.proofs.lemmas.Slice.Eq.{bytes_eq-Decides}
-use Rattle.rdm_wire.specs.Span.{Span}
 use Rattle.rdm_wire.specs.BranchText.{ReadsAs}
 use Rattle.rdm_wire.specs.Reading.{text_read, ack_read}
 use Rattle.rdm_wire.specs.Packet.{Fields, fields_at}
@@ -13,25 +14,14 @@ use Rattle.rdm_wire.specs.declared.command.Command.{Command}
 use Rattle.rdm_wire.specs.declared.command.Command.TheVariants as commands
 use Rattle.rdm_wire.specs.Frames.{asked_in, asked_with, heard_in, heard_bytes, one_or_noise, acked_or_noise}
 use Rattle.rdm_wire.specs.Frames.{seen_exchange}
-use Rattle.rdm_wire.specs.Honest.{Asked, Heard, Seen}
 use Rattle.rdm_wire.specs.Honest.Asked.{Unmute as unmuted, Branch as branched, Mute as muted, Other as nothing}
-use Rattle.rdm_wire.specs.Honest.Heard.{Silent, Acked, Noise}
-use Rattle.rdm_wire.specs.declared.mute_ack.MuteAck.{MuteAck}
-use Rattle.rdm_wire.specs.declared.branch.BranchReply.{BranchReply}
 use Rattle.rdm_wire.specs.declared.branch.BranchReply.TheVariants as replies
 use Rattle.rdm_wire.proofs.BytesLemmas.{number_of-uid_bytes}
 use Rattle.rdm_wire.proofs.PacketLemmas.{fields_at-packet}
 use Rattle.rdm_wire.proofs.Text.{text_read-of, of-text_read}
 use Rattle.rdm_wire.proofs.CommandLemmas.{one_command}
-use Rattle.rdm_agent.specs.Machine.{Phase, AgentState, fed, heard_by_phase, wanted}
-use Rattle.rdm_agent.specs.Machine.Phase.{Unmuting, MutingKnown, Searching, MutingRead, Sweeping, MutingSwept}
-use Rattle.rdm_agent.specs.Machine.Phase.{Ended}
-use Rattle.rdm_agent.specs.Run.{asked_by, heard_by, heard_of_mute, seen_op}
-use Rattle.rdm_agent.specs.Calls.{next_op, op_of}
-use Rattle.rdm_agent.specs.OpFrames.{op_frame, IsSendable}
-use Rattle.rdm_agent.specs.declared.op.Op.{Op}
+use Rattle.rdm_agent.specs.OpFrames.{IsSendable}
 use Rattle.rdm_agent.specs.declared.op.Op.TheVariants as ops
-use Rattle.rdm_agent.specs.declared.op.OpReply.{OpReply}
 use Rattle.rdm_agent.specs.declared.op.OpReply.TheVariants as came
 
 same_bytes : (b c : List ℕ) → b ≡ c → bytes_eq b c ≡ true

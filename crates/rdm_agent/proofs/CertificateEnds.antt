@@ -1,31 +1,17 @@
 -- A run that has a certificate has ended, without fault: what clears the greatest UID is the end of the search.
-use Rattle.std.proofs.Common.{◌≡◌, ℕ, zero, suc, ◌+◌, ◌*◌, ◌^◌, ◌<◌, ◌≤◌, Bool, true, false, cond, List, [], ◌∷◌}
-use Rattle.std.proofs.Common.{◌++◌, length, append_assoc, append-nil, Option, None, Some, refl, sym, ap, ◌∙◌, subst}
-use Rattle.std.proofs.Common.{inl, inr, true≢false, arith}
-use Rattle.std.specs.Prelude.{◌≢◌, ◌⊎◌, ◌==◌, nat_le, nat_lt, MatchOption}
-use Rattle.std.proofs.lemmas.Bool.{eqb-false, leb-true, and_parts, cond_both}
-use Rattle.std.specs.List.{AllByRecursion}
+use Rattle.rdm_agent.proofs.Common.{◌≡◌, ℕ, zero, suc, ◌+◌, ◌*◌, ◌^◌, ◌<◌, ◌≤◌, Bool, true, false, cond, List, [], ◌∷◌}
+use Rattle.rdm_agent.proofs.Common.{◌++◌, length, append_assoc, append-nil, Option, None, Some, refl, sym, ap, ◌∙◌}
+use Rattle.rdm_agent.proofs.Common.{subst, inl, inr, true≢false, arith, ◌≢◌, ◌⊎◌, ◌==◌, nat_le, nat_lt, MatchOption}
+use Rattle.rdm_agent.proofs.Common.{eqb-false, leb-true, and_parts, cond_both, AllByRecursion, has, IsDevice}
+use Rattle.rdm_agent.proofs.Common.{IsDeviceSet, uids_of, Span, whole, Asked, Heard, Seen, Unmute, Branch, Mute, Other}
+use Rattle.rdm_agent.proofs.Common.{Acked, Failed, Silent, One, Noise, acked_uid, muted_uid, acked_in, muted_in}
+use Rattle.rdm_agent.proofs.Common.{InSuccession, IsSilentBranch, SearchShows, Phase, AgentState, Runs, start_by}
+use Rattle.rdm_agent.proofs.Common.{wanted, fed, fault_of, heard_by_phase, search_below, found_uids, is_whole, choose}
+use Rattle.rdm_agent.proofs.Common.{counted, sweep_on, sweep_silent, believed_silent, Belief, Sweep, Unmuting}
+use Rattle.rdm_agent.proofs.Common.{MutingKnown, Searching, MutingRead, Sweeping, MutingSwept, Ended, IsStack, Kind}
+use Rattle.rdm_agent.proofs.Common.{Search, Steady, TRIES}
 use Rattle.std.proofs.lemmas.List.{length-append}
-use Rattle.rdm_wire.specs.Uid.{has, IsDevice, IsDeviceSet}
-use Rattle.rdm_wire.specs.Devices.{uids_of}
-use Rattle.rdm_wire.specs.Span.{Span, whole}
-use Rattle.rdm_wire.specs.Honest.{Asked, Heard, Seen}
-use Rattle.rdm_wire.specs.Honest.Asked.{Unmute, Branch, Mute, Other}
-use Rattle.rdm_wire.specs.Honest.Heard.{Acked, Failed, Silent, One, Noise}
-use Rattle.rdm_agent.specs.Run.{acked_uid, muted_uid, acked_in, muted_in, InSuccession, IsSilentBranch}
-use Rattle.rdm_agent.specs.Certificate.{SearchShows}
-use Rattle.rdm_agent.specs.Machine.{Phase, AgentState, Runs, start_by, wanted, fed, fault_of, heard_by_phase}
-use Rattle.rdm_agent.specs.Machine.{search_below, found_uids, is_whole, choose, counted, sweep_on, sweep_silent}
-use Rattle.rdm_agent.specs.Machine.{believed_silent}
-use Rattle.rdm_agent.specs.declared.belief.Belief.{Belief}
-use Rattle.rdm_agent.specs.declared.sweep.Sweep.{Sweep}
-use Rattle.rdm_agent.specs.Machine.Phase.{Unmuting, MutingKnown, Searching, MutingRead, Sweeping, MutingSwept, Ended}
-use Rattle.rdm_agent.specs.body.Sound.{IsStack}
 use Rattle.rdm_agent.specs.Statements.{CertificateIsTheEnd}
-use Rattle.rdm_agent.specs.declared.kind.Kind.{Kind}
-use Rattle.rdm_agent.specs.declared.search.Search.{Search}
-use Rattle.rdm_agent.specs.declared.search.Search.TheVariants.{Steady}
-use Rattle.rdm_agent.specs.declared.limits.TheConstants.{TRIES}
 use Rattle.rdm_agent.proofs.Members.{member, first_part, last_part, heads, tails, put-has, has-put, has-first}
 use Rattle.rdm_agent.proofs.Sets.{has-set_of}
 use Rattle.rdm_agent.proofs.Stacks.{IsStack-pop, IsStack-ends}

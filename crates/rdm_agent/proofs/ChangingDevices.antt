@@ -1,13 +1,9 @@
 -- What an honest line whose devices come and leave shows of a run.
-use Rattle.std.proofs.Common.{◌≡◌, ℕ, true, List, [], ◌∷◌, ◌++◌, refl, sym, ap, ◌∙◌, subst, inl, inr, true≢false, arith}
-use Rattle.std.specs.List.{cons_option}
-use Rattle.rdm_wire.specs.Uid.{has, IsDevice}
-use Rattle.rdm_wire.specs.Honest.{Seen, LineState, HonestToStep, HonestTo, Chain, before_run}
-use Rattle.rdm_wire.specs.HonestOver.{ComeAndLeave, ChainOver, HonestOver, first_set}
-use Rattle.rdm_agent.specs.Run.{acked_uid, acked_in, FailureIsLast}
-use Rattle.rdm_agent.specs.Certificate.{SearchShows}
-use Rattle.rdm_agent.specs.declared.kind.Kind.{Kind}
-use Rattle.rdm_agent.specs.Statements.{IsInEach, IsInOne}
+use Rattle.rdm_agent.proofs.Common.{◌≡◌, ℕ, true, List, [], ◌∷◌, ◌++◌, refl, sym, ap, ◌∙◌, subst, inl, inr, true≢false}
+use Rattle.rdm_agent.proofs.Common.{arith, cons_option, has, IsDevice, Seen, LineState, HonestToStep, HonestTo, Chain}
+use Rattle.rdm_agent.proofs.Common.{before_run, HonestOver, acked_uid, acked_in, FailureIsLast, SearchShows, Kind}
+use Rattle.rdm_agent.proofs.Common.{IsInEach, IsInOne}
+use Rattle.rdm_wire.specs.HonestOver.{ComeAndLeave, ChainOver, first_set}
 use Rattle.rdm_agent.proofs.Members.{member, put-has}
 use Rattle.rdm_agent.proofs.OneDevice.{found}
 use Rattle.rdm_agent.proofs.AllDevices.{IsBelow, below_step, acked_present, failed_none}

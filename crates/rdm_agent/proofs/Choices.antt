@@ -1,16 +1,11 @@
 -- What a sweep chooses to ask, whatever it believes.
-use Rattle.std.proofs.Common.{◌≡◌, ℕ, ◌+◌, ◌<◌, ◌≤◌, ◌^◌, Bool, true, false, ◌&&◌, not, refl, sym, ap, ◌∙◌}
-use Rattle.std.proofs.Common.{inl, inr, subst, true≢false, arith}
-use Rattle.std.specs.Prelude.{◌⊎◌, ◌==◌, nat_lt, min}
-use Rattle.std.proofs.lemmas.Bool.{cond_both, and_parts, eqb-true, eq-eqb, ltb-false, not-true}
-use Rattle.std.proofs.Math.Nat.{min-le_left, min-le_right, le-min}
-use Rattle.rdm_wire.specs.Span.{Span, whole}
-use Rattle.rdm_agent.specs.declared.limits.TheConstants.{TRIES}
-use Rattle.rdm_agent.specs.declared.belief.Belief.{Belief}
+use Rattle.rdm_agent.proofs.Common.{◌≡◌, ℕ, ◌+◌, ◌<◌, ◌≤◌, ◌^◌, Bool, true, false, ◌&&◌, not, refl, sym, ap, ◌∙◌, inl}
+use Rattle.rdm_agent.proofs.Common.{inr, subst, true≢false, arith, ◌⊎◌, ◌==◌, nat_lt, min, cond_both, and_parts}
+use Rattle.rdm_agent.proofs.Common.{eqb-true, eq-eqb, ltb-false, not-true, Span, whole, TRIES, Belief, Sweep, is_whole}
+use Rattle.rdm_agent.proofs.Common.{is_one, choose}
+use Rattle.std.proofs.Math.Nat.{min-le_right, le-min}
 use Rattle.rdm_agent.specs.declared.belief.Question.{Question}
-use Rattle.rdm_agent.specs.declared.sweep.Sweep.{Sweep}
-use Rattle.rdm_agent.specs.Machine.{spanning, last_uid, is_same, is_whole, is_one, part_of, with_lower, question}
-use Rattle.rdm_agent.specs.Machine.{above, ready, asking, choose}
+use Rattle.rdm_agent.specs.Machine.{spanning, last_uid, is_same, part_of, with_lower, question, above, ready, asking}
 
 -- a range of UIDs
 abbrev pub IsRange : Span → Type 0

@@ -1,19 +1,12 @@
 -- When one UID is corrupt.
-use Rattle.std.proofs.Common.{◌≡◌, ℕ, ◌<◌, ◌≤◌, ◌^◌, true, false, not, ◌&&◌, List, [], ◌∷◌, ◌++◌, length, refl, sym, ap}
-use Rattle.std.proofs.Common.{ap₂, ◌∙◌, subst, inl, inr, true≢false, arith, append_assoc}
-use Rattle.std.specs.Prelude.{◌⊎◌, ◌≢◌, nat_le}
-use Rattle.std.specs.List.{AllByRecursion}
-use Rattle.std.proofs.lemmas.Bool.{le-leb, leb-true, and_parts, not-true, not-false}
-use Rattle.rdm_wire.specs.Uid.{has, is_within, is_broadcast, IsDevice}
-use Rattle.rdm_wire.specs.Span.{Span}
-use Rattle.rdm_wire.specs.Honest.{Heard, Seen}
-use Rattle.rdm_wire.specs.Honest.Asked.{Branch, Mute}
-use Rattle.rdm_wire.specs.Honest.Heard.{Acked, Failed, Silent, One}
-use Rattle.rdm_wire.specs.declared.mute_ack.MuteAck.{MuteAck}
-use Rattle.rdm_agent.specs.Run.{acked_by, acked_in, asks_range, is_branch, IsLostMute}
-use Rattle.rdm_agent.specs.Cause.{IsCorrupt, IsCorruptReply}
-use Rattle.rdm_agent.specs.Machine.{is_new}
-use Rattle.rdm_agent.specs.declared.limits.TheConstants.{TRIES}
+use Rattle.rdm_agent.proofs.Common.{◌≡◌, ℕ, ◌<◌, ◌≤◌, ◌^◌, true, false, not, ◌&&◌, List, [], ◌∷◌, ◌++◌, length, refl}
+use Rattle.rdm_agent.proofs.Common.{sym, ap, ap₂, ◌∙◌, subst, inl, inr, true≢false, arith, append_assoc, ◌⊎◌, ◌≢◌}
+use Rattle.rdm_agent.proofs.Common.{nat_le, AllByRecursion, le-leb, leb-true, and_parts, not-true, has, is_within}
+use Rattle.rdm_agent.proofs.Common.{is_broadcast, IsDevice, Span, Heard, Seen, Branch, Mute, Acked, Failed, Silent, One}
+use Rattle.rdm_agent.proofs.Common.{MuteAck, acked_by, acked_in, asks_range, is_branch, IsLostMute, IsCorrupt, is_new}
+use Rattle.rdm_agent.proofs.Common.{TRIES}
+use Rattle.std.proofs.lemmas.Bool.{not-false}
+use Rattle.rdm_agent.specs.Cause.{IsCorruptReply}
 use Rattle.rdm_agent.proofs.Members.{last_part, tails, heads}
 use Rattle.rdm_agent.proofs.OneDevice.{NotFailed}
 use Rattle.rdm_agent.proofs.Pushes.{All-at, All-push, has-front}

@@ -1,12 +1,8 @@
 -- What covers the open ranges, as a device is found and as a range is split.
-use Rattle.std.proofs.Common.{◌≡◌, ℕ, zero, suc, ◌+◌, ◌-◌, ◌*◌, ◌/◌, ◌^◌, ◌<◌, ◌≤◌, Bool, true, false, ◌&&◌, not, List}
-use Rattle.std.proofs.Common.{[], ◌∷◌, refl, sym, ap, ◌∙◌, true≢false, arith}
-use Rattle.std.specs.Prelude.{nat_le}
-use Rattle.std.proofs.lemmas.Bool.{leb-true, and_parts, and_from}
-use Rattle.std.proofs.Math.Pow.{pow_pos}
-use Rattle.std.proofs.Math.Nat.{pow-suc}
-use Rattle.rdm_wire.specs.Uid.{has, is_within, IsAscending}
-use Rattle.rdm_wire.specs.Span.{Span, middle, lower_half, upper_half}
+use Rattle.rdm_agent.proofs.Common.{◌≡◌, ℕ, zero, suc, ◌+◌, ◌-◌, ◌*◌, ◌/◌, ◌^◌, ◌<◌, ◌≤◌, Bool, true, false, ◌&&◌, not}
+use Rattle.rdm_agent.proofs.Common.{List, [], ◌∷◌, refl, sym, ap, ◌∙◌, true≢false, arith, nat_le, leb-true, and_parts}
+use Rattle.rdm_agent.proofs.Common.{and_from, pow_pos, pow-suc, has, is_within, IsAscending, Span, middle, lower_half}
+use Rattle.rdm_agent.proofs.Common.{upper_half}
 use Rattle.rdm_agent.proofs.Potential.{is_left, left_in, worth, Covers}
 use Rattle.rdm_agent.proofs.LeftLemmas.{no_more, one_fewer, at_most_one, left-halves}
 

@@ -1,10 +1,8 @@
 -- An agent after a reply to a mute or a branch.
-use Rattle.std.proofs.Common.{◌≡◌, Option, Some, None, refl}
-use Rattle.rdm_wire.specs.declared.branch.BranchReply.{BranchReply}
+use Rattle.rdm_agent.proofs.Common.{◌≡◌, Option, Some, None, refl, BranchReply, MuteAck, AgentState, fed}
+use Rattle.rdm_agent.proofs.Common.{heard_by_phase, heard_of_mute}
 use Rattle.rdm_wire.specs.declared.branch.BranchReply.TheVariants.{Silent, One, Collision}
-use Rattle.rdm_wire.specs.declared.mute_ack.MuteAck.{MuteAck}
-use Rattle.rdm_agent.specs.Machine.{AgentState, fed, heard_by_phase}
-use Rattle.rdm_agent.specs.Run.{heard_of_mute, heard_of_branch}
+use Rattle.rdm_agent.specs.Run.{heard_of_branch}
 
 pub fed-mute : (a : AgentState) (ack : Option MuteAck)
     → fed a (heard_of_mute ack) ≡ heard_by_phase a a.phase (heard_of_mute ack)

@@ -1,18 +1,12 @@
 -- The devices found stay as their first acknowledgements said them.
-use Rattle.std.proofs.Common.{◌≡◌, ℕ, Bool, true, false, cond, List, [], ◌∷◌, ◌++◌, Option, None, Some, refl, sym, ap}
-use Rattle.std.proofs.Common.{◌∙◌, subst}
-use Rattle.std.specs.Prelude.{◌==◌, nat_lt}
-use Rattle.std.specs.List.{cons_option}
-use Rattle.std.proofs.lemmas.Bool.{eq-eqb}
+use Rattle.rdm_agent.proofs.Common.{◌≡◌, ℕ, Bool, true, false, cond, List, [], ◌∷◌, ◌++◌, Option, None, Some, refl, sym}
+use Rattle.rdm_agent.proofs.Common.{ap, ◌∙◌, subst, ◌==◌, nat_lt, cons_option, eq-eqb, has, uids_of, with_device}
+use Rattle.rdm_agent.proofs.Common.{Device, Asked, Heard, Seen, Unmute, Branch, Mute, Other, Failed, Silent, One, Acked}
+use Rattle.rdm_agent.proofs.Common.{Noise, acked_uid, acked_in, AsFirstAcked}
 use Rattle.std.proofs.lemmas.List.Elements.{filter_map-append}
-use Rattle.rdm_wire.specs.Uid.{has}
-use Rattle.rdm_wire.specs.Devices.{uids_of, device_with, with_device}
-use Rattle.rdm_wire.specs.declared.device.Device.{Device}
-use Rattle.rdm_wire.specs.Honest.{Asked, Heard, Seen}
-use Rattle.rdm_wire.specs.Honest.Asked.{Unmute, Branch, Mute, Other}
-use Rattle.rdm_wire.specs.Honest.Heard.{Failed, Silent, One, Acked, Noise}
+use Rattle.rdm_wire.specs.Devices.{device_with}
 use Rattle.rdm_wire.proofs.DeviceLemmas.{no-device_with}
-use Rattle.rdm_agent.specs.Run.{acked_uid, acked_device, acked_in, device_by, devices_in, AsFirstAcked}
+use Rattle.rdm_agent.specs.Run.{acked_device, device_by, devices_in}
 
 -- what acknowledgements say is of the UIDs that were acknowledged
 same_uid : (o : Option Device) (p : Option ℕ) (ds : List Device) (us : List ℕ)

@@ -1,16 +1,9 @@
 -- What is found, as acknowledgements come.
-use Rattle.std.proofs.Common.{◌≡◌, ℕ, ◌+◌, ◌<◌, true, false, List, [], ◌∷◌, ◌++◌, length, take, None, Some, refl, sym}
-use Rattle.std.proofs.Common.{ap, ◌∙◌, arith}
-use Rattle.std.proofs.lemmas.List.{take_all, take_at, length_push}
-use Rattle.rdm_wire.specs.Uid.{has, set_of, with_uid}
-use Rattle.rdm_wire.specs.declared.uid_set.TheConstants.{MOST_DEVICES}
-use Rattle.rdm_wire.specs.Lists.{once}
-use Rattle.rdm_wire.specs.Honest.{Seen}
-use Rattle.rdm_wire.specs.Honest.Asked.{Mute}
-use Rattle.rdm_wire.specs.Honest.Heard.{Acked}
-use Rattle.rdm_wire.specs.declared.mute_ack.MuteAck.{MuteAck}
-use Rattle.rdm_agent.specs.Run.{acked_by, acked_in, reported}
-use Rattle.rdm_agent.specs.Cause.{IsOneTooMany, AllReported}
+use Rattle.rdm_agent.proofs.Common.{◌≡◌, ℕ, ◌+◌, ◌<◌, true, false, List, [], ◌∷◌, ◌++◌, length, take, None, Some, refl}
+use Rattle.rdm_agent.proofs.Common.{sym, ap, ◌∙◌, arith, length_push, has, set_of, with_uid, MOST_DEVICES, once, Seen}
+use Rattle.rdm_agent.proofs.Common.{Mute, Acked, MuteAck, acked_by, acked_in, reported, AllReported}
+use Rattle.std.proofs.lemmas.List.{take_all, take_at}
+use Rattle.rdm_agent.specs.Cause.{IsOneTooMany}
 use Rattle.rdm_agent.proofs.Pushes.{read-push_none, read-push_some}
 use Rattle.rdm_agent.proofs.Sets.{has-set_of, set_of-push, set_of-again, set_of-once, once-again, once-new}
 use Rattle.rdm_agent.proofs.Sets.{length-with_uid}

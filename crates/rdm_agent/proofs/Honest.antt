@@ -1,10 +1,6 @@
 -- A certificate on an honest line.
-use Rattle.std.proofs.Common.{◌≡◌, ℕ, true, List, ◌∙◌, sym, subst}
-use Rattle.rdm_wire.specs.Uid.{has, IsDevice, set_of}
-use Rattle.rdm_wire.specs.Honest.{Seen, HonestTrace, before_run}
-use Rattle.rdm_agent.specs.Run.{acked_in, FailureIsLast}
-use Rattle.rdm_agent.specs.Certificate.{SearchShows}
-use Rattle.rdm_agent.specs.declared.kind.Kind.{Kind}
+use Rattle.rdm_agent.proofs.Common.{◌≡◌, ℕ, true, List, ◌∙◌, sym, subst, has, IsDevice, set_of, Seen, HonestTrace}
+use Rattle.rdm_agent.proofs.Common.{before_run, acked_in, FailureIsLast, SearchShows, Kind}
 use Rattle.rdm_agent.proofs.Members.{member}
 use Rattle.rdm_agent.proofs.Pushes.{All-at}
 use Rattle.rdm_agent.proofs.Sets.{same_members, ascending-set_of, has-set_of}

@@ -1,19 +1,9 @@
 -- Runs on an honest line.
-use Rattle.std.proofs.Common.{◌≡◌, ℕ, true, List, [], ◌∷◌, take, None, sym, ap, ◌∙◌, subst}
-use Rattle.std.specs.Prelude.{MatchOption}
-use Rattle.rdm_wire.specs.Uid.{has, IsDevice, IsDeviceSet}
-use Rattle.rdm_wire.specs.declared.uid_set.TheConstants.{MOST_DEVICES}
-use Rattle.rdm_wire.specs.Lists.{once}
-use Rattle.rdm_wire.specs.Honest.{Seen}
-use Rattle.rdm_wire.specs.HonestOver.{HonestOver}
-use Rattle.rdm_agent.specs.Run.{acked_in}
-use Rattle.rdm_agent.specs.Certificate.{Certificate}
-use Rattle.rdm_agent.specs.Cause.{Cause}
-use Rattle.rdm_agent.specs.Machine.{AgentState, Runs, start_by, next_of, fault_of, found_uids}
+use Rattle.rdm_agent.proofs.Common.{◌≡◌, ℕ, true, List, [], ◌∷◌, take, None, sym, ap, ◌∙◌, subst, MatchOption, has}
+use Rattle.rdm_agent.proofs.Common.{IsDevice, IsDeviceSet, MOST_DEVICES, once, Seen, HonestOver, acked_in, Certificate}
+use Rattle.rdm_agent.proofs.Common.{Cause, AgentState, Runs, start_by, next_of, fault_of, found_uids, Kind, Search}
+use Rattle.rdm_agent.proofs.Common.{Steady}
 use Rattle.rdm_agent.specs.Statements.{FindsAll, FindsEach, FindsNoPhantom, FindsStaying, FindsNoStranger}
-use Rattle.rdm_agent.specs.declared.kind.Kind.{Kind}
-use Rattle.rdm_agent.specs.declared.search.Search.{Search}
-use Rattle.rdm_agent.specs.declared.search.Search.TheVariants.{Steady}
 use Rattle.rdm_agent.proofs.OneDevice.{found}
 use Rattle.rdm_agent.proofs.Honest.{devices, no_phantom}
 use Rattle.rdm_agent.proofs.ChangingDevices.{honest_over_to_each, no_stranger, staying_device}

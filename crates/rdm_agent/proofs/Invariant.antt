@@ -1,27 +1,13 @@
 -- What holds of an agent after its exchanges: the invariant of a run.
-use Rattle.std.proofs.Common.{◌≡◌, ℕ, ◌+◌, ◌<◌, ◌≤◌, true, false, List, [], ◌∷◌, ◌++◌, length, map, take, Option, Some}
-use Rattle.std.proofs.Common.{None}
-use Rattle.std.specs.Prelude.{◌⊎◌, MatchOption, replicate}
-use Rattle.std.specs.List.{AllByRecursion, before_first}
-use Rattle.rdm_wire.specs.Uid.{has, set_of, IsDevice}
-use Rattle.rdm_wire.specs.declared.uid_set.TheConstants.{MOST_DEVICES}
-use Rattle.rdm_wire.specs.Lists.{EachAfter, once}
-use Rattle.rdm_wire.specs.Span.{Span, whole}
-use Rattle.rdm_wire.specs.Honest.{Seen}
-use Rattle.rdm_wire.specs.Honest.Asked.{Unmute, Branch}
-use Rattle.rdm_wire.specs.Honest.Heard.{One}
-use Rattle.rdm_agent.specs.Run.{muted_in, acked_in, reported, is_branch, AsFirstAcked, IsSilentBranch, IsLostMute}
-use Rattle.rdm_agent.specs.Certificate.{SearchShows, IsTried, IsCleared, MutesNamed, known_of}
-use Rattle.rdm_agent.specs.Cause.{Cause, IsCorrupt}
-use Rattle.rdm_agent.specs.Machine.{Phase, AgentState, is_new, found_uids}
-use Rattle.rdm_agent.specs.Machine.Phase.{Unmuting, MutingKnown, Searching, MutingRead, Sweeping, MutingSwept, Ended}
-use Rattle.rdm_agent.specs.declared.kind.Kind.{Kind}
-use Rattle.rdm_agent.specs.declared.fault.AgentFault.{AgentFault}
-use Rattle.rdm_agent.specs.declared.sweep.Sweep.{Sweep}
+use Rattle.rdm_agent.proofs.Common.{◌≡◌, ℕ, ◌+◌, ◌<◌, ◌≤◌, true, false, List, [], ◌∷◌, ◌++◌, length, map, take, Option}
+use Rattle.rdm_agent.proofs.Common.{Some, None, ◌⊎◌, MatchOption, replicate, AllByRecursion, before_first, has, set_of}
+use Rattle.rdm_agent.proofs.Common.{IsDevice, MOST_DEVICES, EachAfter, once, Span, whole, Seen, Unmute, Branch, One}
+use Rattle.rdm_agent.proofs.Common.{muted_in, acked_in, reported, is_branch, AsFirstAcked, IsSilentBranch, IsLostMute}
+use Rattle.rdm_agent.proofs.Common.{SearchShows, IsTried, IsCleared, MutesNamed, known_of, Cause, IsCorrupt, Phase}
+use Rattle.rdm_agent.proofs.Common.{AgentState, is_new, found_uids, Unmuting, MutingKnown, Searching, MutingRead}
+use Rattle.rdm_agent.proofs.Common.{Sweeping, MutingSwept, Ended, Kind, AgentFault, Sweep, IsStack, TRIES, UNMUTES}
 use Rattle.rdm_agent.proofs.OneDevice.{NotFailed}
 use Rattle.rdm_agent.proofs.Choices.{IsRange, Asks}
-use Rattle.rdm_agent.specs.body.Sound.{IsStack}
-use Rattle.rdm_agent.specs.declared.limits.TheConstants.{TRIES, UNMUTES}
 
 -- the last n exchanges have P
 pub record EndsWith (n : ℕ) (P : Seen → Type 0) (x : List Seen) : Type 0 where

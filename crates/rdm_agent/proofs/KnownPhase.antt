@@ -1,22 +1,9 @@
 -- The mutes of known UIDs, up to the search.
-use Rattle.std.proofs.Common.{◌≡◌, ℕ, true, false, List, [], ◌∷◌, ◌++◌, length, None, Some, refl, sym, ap, ◌∙◌, subst}
-use Rattle.std.proofs.Common.{inl, inr, true≢false, append_assoc, arith}
-use Rattle.std.specs.Prelude.{◌⊎◌, ◌==◌}
-use Rattle.std.specs.List.{AllByRecursion}
-use Rattle.std.proofs.lemmas.Bool.{eqb-true, or_cases}
-use Rattle.rdm_wire.specs.Uid.{has}
-use Rattle.rdm_wire.specs.Span.{whole}
-use Rattle.rdm_wire.specs.Honest.{Heard, Seen, is_acked}
-use Rattle.rdm_wire.specs.Honest.Asked.{Mute}
-use Rattle.rdm_wire.specs.Honest.Heard.{Acked}
-use Rattle.rdm_wire.specs.declared.mute_ack.MuteAck.{MuteAck}
-use Rattle.rdm_agent.specs.Run.{muted_uid, muted_by, muted_in, is_branch, InSuccession, IsLostMute}
-use Rattle.rdm_agent.specs.Certificate.{known_of}
-use Rattle.rdm_agent.specs.Machine.{search_from, first_phase}
-use Rattle.rdm_agent.specs.declared.kind.Kind.{Kind}
-use Rattle.rdm_agent.specs.declared.search.Search.{Search}
-use Rattle.rdm_agent.specs.declared.search.Search.TheVariants.{Steady, Quick}
-use Rattle.rdm_agent.specs.declared.limits.TheConstants.{TRIES}
+use Rattle.rdm_agent.proofs.Common.{◌≡◌, ℕ, true, false, List, [], ◌∷◌, ◌++◌, length, None, Some, refl, sym, ap, ◌∙◌}
+use Rattle.rdm_agent.proofs.Common.{subst, inl, inr, true≢false, append_assoc, arith, ◌⊎◌, ◌==◌, AllByRecursion}
+use Rattle.rdm_agent.proofs.Common.{eqb-true, or_cases, has, whole, Heard, Seen, is_acked, Mute, Acked, MuteAck}
+use Rattle.rdm_agent.proofs.Common.{muted_uid, muted_by, muted_in, is_branch, InSuccession, IsLostMute, known_of}
+use Rattle.rdm_agent.proofs.Common.{search_from, first_phase, Kind, Search, Steady, Quick, TRIES}
 use Rattle.rdm_agent.proofs.OneDevice.{NotFailed}
 use Rattle.rdm_agent.proofs.Pushes.{All-push, has-front, has-at, no_branch-before}
 use Rattle.rdm_agent.proofs.Stacks.{IsStack-whole}

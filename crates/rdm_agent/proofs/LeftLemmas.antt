@@ -1,10 +1,9 @@
 -- How many devices of a range are left.
-use Rattle.std.proofs.Common.{◌≡◌, ℕ, ◌+◌, ◌<◌, ◌≤◌, Bool, true, false, ◌&&◌, not, cond, List, [], ◌∷◌, length, refl}
-use Rattle.std.proofs.Common.{sym, ap, ◌∙◌, subst, inl, inr, true≢false, arith}
-use Rattle.std.specs.Prelude.{filter, ◌==◌, ◌⊎◌}
-use Rattle.std.specs.List.{AllByRecursion}
-use Rattle.std.proofs.lemmas.Bool.{le-leb, lt-leb, cases_lt, cases_Bool, or_cases, eqb-true}
-use Rattle.rdm_wire.specs.Uid.{has, is_within, IsAscending}
+use Rattle.rdm_agent.proofs.Common.{◌≡◌, ℕ, ◌+◌, ◌<◌, ◌≤◌, Bool, true, false, ◌&&◌, not, cond, List, [], ◌∷◌, length}
+use Rattle.rdm_agent.proofs.Common.{refl, sym, ap, ◌∙◌, subst, inl, inr, true≢false, arith, filter, ◌==◌, ◌⊎◌}
+use Rattle.rdm_agent.proofs.Common.{AllByRecursion, le-leb, cases_lt, cases_Bool, or_cases, eqb-true, has, is_within}
+use Rattle.rdm_agent.proofs.Common.{IsAscending}
+use Rattle.std.proofs.lemmas.Bool.{lt-leb}
 use Rattle.rdm_agent.proofs.Potential.{is_left, left_in}
 use Rattle.rdm_agent.proofs.Members.{heads}
 use Rattle.rdm_agent.proofs.Sets.{has-head, has-rest}

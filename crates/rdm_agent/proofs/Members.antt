@@ -1,11 +1,7 @@
 -- Members of lists of UIDs.
-use Rattle.std.proofs.Common.{◌≡◌, ℕ, true, ◌||◌, List, [], ◌∷◌, ◌++◌, Option, Some, None, refl, sym, ap, ◌∙◌, inl, inr}
-use Rattle.std.proofs.Common.{true≢false}
-use Rattle.std.specs.Prelude.{◌⊎◌, ◌==◌}
-use Rattle.std.specs.List.{AllByRecursion, cons_option}
-use Rattle.std.proofs.lemmas.Bool.{eqb-true, eq-eqb, or_cases}
-use Rattle.std.proofs.Math.Bool.{or-true}
-use Rattle.rdm_wire.specs.Uid.{has}
+use Rattle.rdm_agent.proofs.Common.{◌≡◌, ℕ, true, ◌||◌, List, [], ◌∷◌, ◌++◌, Option, Some, None, refl, sym, ap, ◌∙◌}
+use Rattle.rdm_agent.proofs.Common.{inl, inr, true≢false, ◌⊎◌, ◌==◌, AllByRecursion, cons_option, eqb-true, eq-eqb}
+use Rattle.rdm_agent.proofs.Common.{or_cases, or-true, has}
 
 -- a member of a list is one of it with one more in front, and the one in front is
 pub has-put : (o : Option ℕ) (us : List ℕ) (u : ℕ) → has us u ≡ true → has (cons_option o us) u ≡ true

@@ -1,18 +1,11 @@
 -- What a line that is honest to one device shows of a run.
-use Rattle.std.proofs.Common.{◌≡◌, ℕ, ◌+◌, ◌≤◌, Bool, true, false, List, [], ◌∷◌, ◌++◌, length, suc, map, take}
-use Rattle.std.proofs.Common.{append_assoc, Some, refl, sym, ap, ◌∙◌, subst, inl, inr, true≢false, arith}
-use Rattle.std.specs.Prelude.{◌⊎◌, ◌≢◌, ◌==◌, MatchBool}
-use Rattle.std.specs.List.{AllByRecursion}
-use Rattle.std.proofs.lemmas.Bool.{eqb-true, eq-eqb, cases_Bool}
-use Rattle.rdm_wire.specs.Uid.{has, is_within, IsDevice}
-use Rattle.rdm_wire.specs.Honest.{Asked, Heard, Seen, LineState, HonestToStep, HonestTo, Chain, Counts, due_in}
-use Rattle.rdm_wire.specs.Honest.{lost_after, KeepsMuted, MuteMoves, is_acked, before_run}
-use Rattle.rdm_wire.specs.Honest.Asked.{Unmute, Branch, Mute, Other}
-use Rattle.rdm_wire.specs.Honest.Heard.{Failed, Silent}
-use Rattle.rdm_agent.specs.Run.{muted_uid, muted_by, muted_in, InSuccession, IsSilentBranch, IsLostMute}
-use Rattle.rdm_agent.specs.Certificate.{SearchShows, IsTried, IsCleared}
-use Rattle.rdm_agent.specs.declared.kind.Kind.{Kind}
-use Rattle.rdm_agent.specs.declared.limits.TheConstants.{TRIES}
+use Rattle.rdm_agent.proofs.Common.{◌≡◌, ℕ, ◌+◌, ◌≤◌, Bool, true, false, List, [], ◌∷◌, ◌++◌, length, suc, map, take}
+use Rattle.rdm_agent.proofs.Common.{append_assoc, Some, refl, sym, ap, ◌∙◌, subst, inl, inr, true≢false, arith, ◌⊎◌}
+use Rattle.rdm_agent.proofs.Common.{◌≢◌, ◌==◌, MatchBool, AllByRecursion, eqb-true, eq-eqb, cases_Bool, has, is_within}
+use Rattle.rdm_agent.proofs.Common.{IsDevice, Asked, Heard, Seen, LineState, HonestToStep, HonestTo, Chain, Counts}
+use Rattle.rdm_agent.proofs.Common.{due_in, lost_after, KeepsMuted, MuteMoves, is_acked, before_run, Unmute, Branch}
+use Rattle.rdm_agent.proofs.Common.{Mute, Other, Failed, Silent, muted_uid, muted_by, muted_in, InSuccession}
+use Rattle.rdm_agent.proofs.Common.{IsSilentBranch, IsLostMute, SearchShows, IsTried, IsCleared, Kind, TRIES}
 use Rattle.rdm_agent.proofs.Pushes.{has-front}
 use Rattle.rdm_agent.proofs.Members.{heads, tails, has-put, has-first, member, first_part, last_part}
 

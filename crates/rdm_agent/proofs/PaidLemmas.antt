@@ -1,29 +1,17 @@
 -- What an exchange on an honest line pays.
-use Rattle.std.proofs.Common.{◌≡◌, ℕ, ◌+◌, ◌-◌, ◌*◌, ◌<◌, ◌≤◌, Bool, true, false, ◌&&◌, not, cond, List, [], ◌∷◌}
-use Rattle.std.proofs.Common.{length, Some, refl, sym, ap, ◌∙◌, subst, inl, inr, true≢false, arith}
-use Rattle.std.specs.Prelude.{filter, nat_lt, ◌==◌, ◌⊎◌, ◌≢◌, MatchBool}
-use Rattle.std.proofs.lemmas.Bool.{and_parts, and_from, cases_Bool, cond_both, or_cases, or_right, or_left, eqb-true}
-use Rattle.std.proofs.lemmas.Bool.{eqb-false, eq-eqb, ltb-true, ltb-false}
-use Rattle.rdm_wire.specs.Uid.{has, is_within, is_broadcast, with_uid, IsAscending, IsDevice, IsDeviceSet}
-use Rattle.rdm_wire.specs.Devices.{uids_of, with_device}
-use Rattle.rdm_wire.specs.declared.uid_set.TheConstants.{MOST_DEVICES}
-use Rattle.rdm_wire.proofs.DeviceLemmas.{uids_of-with_device}
-use Rattle.rdm_agent.specs.Run.{device_from}
-use Rattle.rdm_wire.specs.Span.{Span, whole}
-use Rattle.rdm_wire.specs.Honest.{Heard, LineState, HonestStep, MayReply, MuteMoves, KeepsMuted, Counts, due_in}
-use Rattle.rdm_wire.specs.Honest.{is_acked}
-use Rattle.rdm_wire.specs.Honest.Asked.{Branch, Mute}
-use Rattle.rdm_wire.specs.Honest.Heard.{Failed, Silent, One, Acked, Noise}
-use Rattle.rdm_wire.specs.declared.mute_ack.MuteAck.{MuteAck}
-use Rattle.rdm_agent.specs.Machine.{Phase, AgentState, to_phase, to_found, split, search_from, search_below, is_new}
-use Rattle.rdm_agent.specs.Machine.{found_uids, branch_heard, known_heard, mute_heard, heard_by_phase}
-use Rattle.rdm_agent.specs.Machine.Phase.{Unmuting, MutingKnown, Searching, MutingRead, Ended}
+use Rattle.rdm_agent.proofs.Common.{◌≡◌, ℕ, ◌+◌, ◌-◌, ◌*◌, ◌<◌, ◌≤◌, Bool, true, false, ◌&&◌, not, cond, List, [], ◌∷◌}
+use Rattle.rdm_agent.proofs.Common.{length, Some, refl, sym, ap, ◌∙◌, subst, inl, inr, true≢false, arith, filter}
+use Rattle.rdm_agent.proofs.Common.{nat_lt, ◌==◌, ◌⊎◌, ◌≢◌, MatchBool, and_parts, and_from, cases_Bool, cond_both}
+use Rattle.rdm_agent.proofs.Common.{or_cases, or_right, or_left, eqb-true, eqb-false, eq-eqb, ltb-true, ltb-false, has}
+use Rattle.rdm_agent.proofs.Common.{is_within, is_broadcast, with_uid, IsAscending, IsDevice, IsDeviceSet, uids_of}
+use Rattle.rdm_agent.proofs.Common.{with_device, MOST_DEVICES, uids_of-with_device, device_from, Span, whole, Heard}
+use Rattle.rdm_agent.proofs.Common.{LineState, HonestStep, MayReply, MuteMoves, KeepsMuted, Counts, due_in, is_acked}
+use Rattle.rdm_agent.proofs.Common.{Branch, Mute, Failed, Silent, One, Acked, Noise, MuteAck, Phase, AgentState}
+use Rattle.rdm_agent.proofs.Common.{to_phase, to_found, split, search_from, search_below, is_new, found_uids}
+use Rattle.rdm_agent.proofs.Common.{branch_heard, known_heard, mute_heard, heard_by_phase, Unmuting, MutingKnown}
+use Rattle.rdm_agent.proofs.Common.{Searching, MutingRead, Ended, TRIES, Search, Steady, Quick, TooMany}
 use Rattle.rdm_agent.proofs.Potential.{Ahead, sweep_cost, unfound, is_left, left_in, Covers, Costs, CostsKnown}
 use Rattle.rdm_agent.proofs.Potential.{CostsSearching, CostsRead, Finds, Affords}
-use Rattle.rdm_agent.specs.declared.limits.TheConstants.{TRIES}
-use Rattle.rdm_agent.specs.declared.search.Search.{Search}
-use Rattle.rdm_agent.specs.declared.search.Search.TheVariants.{Steady, Quick}
-use Rattle.rdm_agent.specs.declared.fault.AgentFault.TheVariants.{TooMany}
 use Rattle.rdm_agent.proofs.Members.{member}
 use Rattle.rdm_agent.proofs.Sets.{has-with_uid, length-with_uid}
 use Rattle.rdm_agent.proofs.LeftLemmas.{no_more, one_fewer, first_passes}

@@ -1,14 +1,8 @@
 -- What a run on an honest line still costs at most, in half exchanges: half of one is the least that a level adds.
-use Rattle.std.specs.Prelude.{◌≡◌, ◌⊎◌, ℕ, ◌+◌, ◌*◌, ◌^◌, ◌<◌, ◌≤◌, Bool}
-use Rattle.std.specs.Prelude.{true, ◌&&◌, not, List, [], ◌∷◌, length, filter, None}
-use Rattle.rdm_wire.specs.Uid.{has, is_within}
-use Rattle.rdm_wire.specs.Span.{Span, whole}
-use Rattle.rdm_wire.specs.Honest.{LineState}
-use Rattle.rdm_agent.specs.Machine.{Phase, AgentState, found_uids, is_new}
-use Rattle.rdm_agent.specs.declared.sweep.Sweep.{Sweep}
-use Rattle.rdm_agent.specs.Machine.Phase.{Unmuting, MutingKnown, Searching, MutingRead, Sweeping, MutingSwept, Ended}
-use Rattle.rdm_agent.specs.declared.search.Search.{Search}
-use Rattle.rdm_agent.specs.declared.search.Search.TheVariants.{Steady, Quick}
+use Rattle.rdm_agent.proofs.Common.{◌⊎◌, filter, has, is_within, Span, whole, LineState, Phase, AgentState, found_uids}
+use Rattle.rdm_agent.proofs.Common.{is_new, Sweep, Unmuting, MutingKnown, Searching, MutingRead, Sweeping, MutingSwept}
+use Rattle.rdm_agent.proofs.Common.{Ended, Search, Steady, Quick}
+use Rattle.std.specs.Prelude.{◌≡◌, ℕ, ◌+◌, ◌*◌, ◌^◌, ◌<◌, ◌≤◌, Bool, true, ◌&&◌, not, List, [], ◌∷◌, length, None}
 
 -- the present devices that aren't found, and those of them in a range
 abbrev pub unfound : List ℕ → List ℕ → List ℕ

@@ -1,14 +1,9 @@
 -- What a list of exchanges keeps as it grows at its end.
-use Rattle.std.proofs.Common.{◌≡◌, ℕ, ◌+◌, Bool, true, false, cond, not, one-add, List, [], ◌∷◌, ◌++◌, map, take}
-use Rattle.std.proofs.Common.{append_assoc, Option, None, Some, refl, sym, ap, ◌∙◌, subst, inl, inr, true≢false}
-use Rattle.std.specs.Prelude.{◌⊎◌, filter_map, replicate}
-use Rattle.std.specs.List.{AllByRecursion, before_first, position_or_len, cons_option}
-use Rattle.rdm_wire.specs.Uid.{has}
-use Rattle.rdm_wire.specs.Honest.{Asked, Seen}
-use Rattle.rdm_wire.specs.Honest.Asked.{Unmute}
-use Rattle.rdm_agent.specs.Run.{InSuccession, is_branch}
-use Rattle.rdm_agent.specs.Certificate.{IsTried, IsCleared}
-use Rattle.rdm_agent.specs.declared.limits.TheConstants.{UNMUTES}
+use Rattle.rdm_agent.proofs.Common.{◌≡◌, ℕ, ◌+◌, Bool, true, false, cond, not, one-add, List, [], ◌∷◌, ◌++◌, map, take}
+use Rattle.rdm_agent.proofs.Common.{append_assoc, Option, None, Some, refl, sym, ap, ◌∙◌, subst, inl, inr, true≢false}
+use Rattle.rdm_agent.proofs.Common.{◌⊎◌, filter_map, replicate, AllByRecursion, before_first, cons_option, has, Asked}
+use Rattle.rdm_agent.proofs.Common.{Seen, Unmute, InSuccession, is_branch, IsTried, IsCleared, UNMUTES}
+use Rattle.std.specs.List.{position_or_len}
 use Rattle.rdm_agent.proofs.Members.{has-put, has-first, put-has, last_part}
 
 -- what holds of each holds of each of the longer list

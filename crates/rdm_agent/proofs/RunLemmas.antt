@@ -1,30 +1,15 @@
 -- An agent that ran stands after its exchanges.
-use Rattle.std.proofs.Common.{◌≡◌, ℕ, ◌+◌, ◌-◌, ◌<◌, ◌≤◌, true, false, cond, List, [], ◌∷◌, ◌++◌, length, take, None}
-use Rattle.std.proofs.Common.{Some, refl, sym, ap, ◌∙◌, subst, append_assoc, append-nil, arith}
-use Rattle.std.specs.Prelude.{◌≢◌, ◌==◌, nat_lt}
-use Rattle.std.specs.List.{AllByRecursion}
-use Rattle.std.proofs.lemmas.Bool.{cond_both, or_left, or_right, eq-eqb, eqb-true, eqb-false, ltb-true, ltb-false}
-use Rattle.std.proofs.lemmas.List.{length_push}
-use Rattle.rdm_wire.specs.Uid.{has, set_of, with_uid, IsDevice}
-use Rattle.rdm_wire.specs.declared.uid_set.TheConstants.{MOST_DEVICES}
-use Rattle.rdm_wire.specs.Lists.{once}
-use Rattle.rdm_wire.specs.Devices.{uids_of, with_device}
-use Rattle.rdm_wire.specs.declared.device.Device.{Device}
-use Rattle.rdm_wire.proofs.DeviceLemmas.{uids_of-with_device}
-use Rattle.rdm_wire.specs.Span.{Span}
-use Rattle.rdm_wire.specs.Honest.{Asked, Heard, Seen, is_acked}
-use Rattle.rdm_wire.specs.Honest.Asked.{Unmute, Branch, Mute}
-use Rattle.rdm_wire.specs.Honest.Heard.{Acked, Failed, Silent, One, Noise}
-use Rattle.rdm_wire.specs.declared.mute_ack.MuteAck.{MuteAck}
-use Rattle.rdm_agent.specs.Run.{acked_by, device_from, read_by, read_in, reported, InSuccession, IsSilentBranch}
-use Rattle.rdm_agent.specs.Run.{IsLostMute}
-use Rattle.rdm_agent.specs.Certificate.{known_of}
-use Rattle.rdm_agent.specs.Machine.{Phase, AgentState, heard_by_phase, branch_heard, known_heard, mute_heard, to_phase}
-use Rattle.rdm_agent.specs.Machine.{to_found, search_from, search_below, split, is_new, found_uids}
-use Rattle.rdm_agent.specs.Machine.Phase.{Unmuting, MutingKnown, Searching, MutingRead, Ended}
-use Rattle.rdm_agent.specs.declared.kind.Kind.{Kind}
-use Rattle.rdm_agent.specs.declared.fault.AgentFault.TheVariants.{TooMany}
-use Rattle.rdm_agent.specs.declared.limits.TheConstants.{TRIES}
+use Rattle.rdm_agent.proofs.Common.{◌≡◌, ℕ, ◌+◌, ◌-◌, ◌<◌, ◌≤◌, true, false, cond, List, [], ◌∷◌, ◌++◌, length, take}
+use Rattle.rdm_agent.proofs.Common.{None, Some, refl, sym, ap, ◌∙◌, subst, append_assoc, append-nil, arith, ◌≢◌, ◌==◌}
+use Rattle.rdm_agent.proofs.Common.{nat_lt, AllByRecursion, cond_both, or_left, or_right, eq-eqb, eqb-true, eqb-false}
+use Rattle.rdm_agent.proofs.Common.{ltb-true, ltb-false, length_push, has, set_of, with_uid, IsDevice, MOST_DEVICES}
+use Rattle.rdm_agent.proofs.Common.{once, uids_of, with_device, Device, uids_of-with_device, Span, Asked, Heard, Seen}
+use Rattle.rdm_agent.proofs.Common.{is_acked, Unmute, Branch, Mute, Acked, Failed, Silent, One, Noise, MuteAck}
+use Rattle.rdm_agent.proofs.Common.{acked_by, device_from, read_in, reported, InSuccession, IsSilentBranch, IsLostMute}
+use Rattle.rdm_agent.proofs.Common.{known_of, Phase, AgentState, heard_by_phase, branch_heard, known_heard, mute_heard}
+use Rattle.rdm_agent.proofs.Common.{to_phase, to_found, search_from, search_below, split, is_new, found_uids, Unmuting}
+use Rattle.rdm_agent.proofs.Common.{MutingKnown, Searching, MutingRead, Ended, Kind, TooMany, TRIES, IsCorrupt}
+use Rattle.rdm_agent.specs.Run.{read_by}
 use Rattle.rdm_agent.proofs.OneDevice.{NotFailed}
 use Rattle.rdm_agent.proofs.Pushes.{All-push, read-push_none, has-at}
 use Rattle.rdm_agent.proofs.Sets.{has-with_uid}
@@ -39,7 +24,6 @@ use Rattle.rdm_agent.proofs.SearchPhase.{search-branch, search-lost, search-acke
 use Rattle.rdm_agent.proofs.SearchPhase.{search-collided}
 use Rattle.rdm_agent.proofs.CorruptLemmas.{is_new-device, corrupt-reply, corrupt-mutes, lost_no_branches}
 use Rattle.rdm_agent.proofs.CorruptLemmas.{not_corrupt-several, not_corrupt-silent, not_corrupt-acked}
-use Rattle.rdm_agent.specs.Cause.{IsCorrupt}
 use Rattle.rdm_agent.proofs.Invariant.{EndsWith, IsFound, MutesKnown, Searches, IsUnmuting, IsMutingKnown, IsSearching}
 use Rattle.rdm_agent.proofs.Invariant.{IsMutingRead, WasSpelt, InPhase, RunInvariant}
 

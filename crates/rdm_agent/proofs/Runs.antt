@@ -1,30 +1,18 @@
 -- What is shown of whole runs.
-use Rattle.std.proofs.Common.{◌≡◌, ℕ, ◌+◌, ◌<◌, ◌≤◌, Bool, true, false, cond, List, [], ◌∷◌, ◌++◌, length, map}
-use Rattle.std.proofs.Common.{Option, None, Some, refl, sym, ap, ◌∙◌, subst, append_assoc, append-nil, arith}
-use Rattle.std.specs.Prelude.{◌≢◌, nat_lt, MatchOption}
-use Rattle.std.specs.List.{AllByRecursion}
-use Rattle.std.proofs.lemmas.Bool.{ltb-false, le-ltb, cond-false}
-use Rattle.std.proofs.lemmas.List.{length-map, length-take}
-use Rattle.rdm_wire.specs.Uid.{IsDevice, IsDeviceSet}
-use Rattle.rdm_wire.specs.Honest.{Asked, Heard, Seen}
-use Rattle.rdm_wire.specs.Honest.Asked.{Unmute, Branch, Mute}
-use Rattle.rdm_wire.specs.Honest.Heard.{Acked, Failed, Silent, One, Noise}
-use Rattle.rdm_agent.specs.Run.{FailureIsLast}
-use Rattle.rdm_agent.specs.Certificate.{Certificate, SearchShows, known_of}
-use Rattle.rdm_agent.specs.Cause.{Cause, IsCorrupt, EndsFailed, AllReported}
-use Rattle.rdm_agent.specs.Machine.{Phase, AgentState, Runs, start, start_by, next_of, wanted, fed, fault_of}
-use Rattle.rdm_agent.specs.Machine.{heard_by_phase, to_phase, open_ranges, found_uids}
-use Rattle.rdm_agent.specs.Machine.Phase.{Unmuting, MutingKnown, Searching, MutingRead, Sweeping, MutingSwept}
-use Rattle.rdm_agent.specs.Machine.Phase.{Ended}
+use Rattle.rdm_agent.proofs.Common.{◌≡◌, ℕ, ◌+◌, ◌<◌, ◌≤◌, Bool, true, false, cond, List, [], ◌∷◌, ◌++◌, length, map}
+use Rattle.rdm_agent.proofs.Common.{Option, None, Some, refl, sym, ap, ◌∙◌, subst, append_assoc, append-nil, arith, ◌≢◌}
+use Rattle.rdm_agent.proofs.Common.{nat_lt, MatchOption, AllByRecursion, ltb-false, cond-false, length-map, IsDevice}
+use Rattle.rdm_agent.proofs.Common.{IsDeviceSet, Asked, Heard, Seen, Unmute, Branch, Mute, Acked, Failed, Silent, One}
+use Rattle.rdm_agent.proofs.Common.{Noise, FailureIsLast, Certificate, SearchShows, known_of, Cause, IsCorrupt}
+use Rattle.rdm_agent.proofs.Common.{EndsFailed, AllReported, Phase, AgentState, Runs, start, start_by, next_of, wanted}
+use Rattle.rdm_agent.proofs.Common.{fed, fault_of, heard_by_phase, to_phase, found_uids, Unmuting, MutingKnown}
+use Rattle.rdm_agent.proofs.Common.{Searching, MutingRead, Sweeping, MutingSwept, Ended, IsInOrder, Kind, Search}
+use Rattle.rdm_agent.proofs.Common.{Steady, Full, Incremental, AgentFault, LineFailed, Exhausted, UNMUTES}
+use Rattle.std.proofs.lemmas.Bool.{le-ltb}
+use Rattle.std.proofs.lemmas.List.{length-take}
+use Rattle.rdm_agent.specs.Machine.{open_ranges}
 use Rattle.rdm_agent.specs.Statements.{AsksInOrder, EndsAtFailure, EndsAtBudget, GoesOnSoundly, FindsAcknowledged}
-use Rattle.rdm_agent.specs.Statements.{HasFewRanges, EndsCertified, IsInOrder}
-use Rattle.rdm_agent.specs.declared.kind.Kind.{Kind}
-use Rattle.rdm_agent.specs.declared.search.Search.{Search}
-use Rattle.rdm_agent.specs.declared.search.Search.TheVariants.{Steady}
-use Rattle.rdm_agent.specs.declared.kind.Kind.TheVariants.{Full, Incremental}
-use Rattle.rdm_agent.specs.declared.fault.AgentFault.{AgentFault}
-use Rattle.rdm_agent.specs.declared.fault.AgentFault.TheVariants.{LineFailed, Exhausted}
-use Rattle.rdm_agent.specs.declared.limits.TheConstants.{UNMUTES}
+use Rattle.rdm_agent.specs.Statements.{HasFewRanges, EndsCertified}
 use Rattle.rdm_agent.proofs.Members.{heads, tails}
 use Rattle.rdm_agent.proofs.OneDevice.{NotFailed}
 use Rattle.rdm_agent.proofs.AllDevices.{failed_none}

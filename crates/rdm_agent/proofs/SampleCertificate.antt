@@ -1,17 +1,9 @@
 -- The sample run has its certificate.
-use Rattle.std.proofs.Common.{◌≡◌, ℕ, true, List, [], ◌∷◌, ◌++◌, take, drop, Some, None, refl, subst, inl, inr, arith}
-use Rattle.std.specs.Prelude.{◌⊎◌, nat_le}
-use Rattle.std.proofs.lemmas.Bool.{le-leb, and_from}
-use Rattle.rdm_wire.specs.Uid.{has}
-use Rattle.rdm_wire.specs.Lists.{EachAfter}
-use Rattle.rdm_wire.specs.Honest.{Seen}
-use Rattle.rdm_wire.specs.Honest.Asked.{Unmute, Mute}
-use Rattle.rdm_wire.specs.Honest.Heard.{Silent, One, Acked}
-use Rattle.rdm_wire.proofs.EachAfterLemmas.{EachAfter-push}
-use Rattle.rdm_agent.specs.Run.{muted_by, read_in}
-use Rattle.rdm_agent.specs.Certificate.{Certificate, SearchShows}
-use Rattle.rdm_agent.specs.SampleRun.{sample_run, sample_uid, sample_ack, sample_device, exchange, all_branch}
-use Rattle.rdm_agent.specs.declared.kind.Kind.TheVariants.{Full}
+use Rattle.rdm_agent.proofs.Common.{◌≡◌, ℕ, true, List, [], ◌∷◌, ◌++◌, take, drop, Some, None, refl, subst, inl, inr}
+use Rattle.rdm_agent.proofs.Common.{arith, ◌⊎◌, nat_le, le-leb, and_from, has, EachAfter, Seen, Unmute, Mute, Silent}
+use Rattle.rdm_agent.proofs.Common.{One, Acked, EachAfter-push, muted_by, read_in, Certificate, SearchShows, sample_run}
+use Rattle.rdm_agent.proofs.Common.{sample_uid, sample_device, exchange, all_branch, Full}
+use Rattle.rdm_agent.specs.SampleRun.{sample_ack}
 
 -- a muted UID was read before
 abbrev WasRead : List Seen → Seen → Type 0

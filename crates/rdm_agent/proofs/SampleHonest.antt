@@ -1,12 +1,10 @@
 -- The sample runs are an honest line's, but not if five replies in a row are lost.
-use Rattle.std.proofs.Common.{◌≡◌, ℕ, zero, suc, ◌+◌, ◌≤◌, Bool, false, List, [], ◌∷◌, ◌++◌, replicate, length, take}
-use Rattle.std.proofs.Common.{drop, refl, inl, inr, arith}
-use Rattle.std.specs.Prelude.{◌==◌, ◌⊎◌}
-use Rattle.std.specs.List.{AllByRecursion}
-use Rattle.rdm_wire.specs.Honest.{Seen, LineState, HonestStep, HonestTo, HonestTrace, Chain, Counts, due_in, before_run}
-use Rattle.rdm_wire.specs.Honest.Asked.{Unmute, Branch, Mute}
-use Rattle.rdm_wire.specs.Honest.Heard.{Silent}
-use Rattle.rdm_agent.specs.SampleRun.{sample_uid, sample_run, all_branch, exchange, lossy_run}
+use Rattle.rdm_agent.proofs.Common.{◌≡◌, ℕ, zero, suc, ◌+◌, ◌≤◌, Bool, false, List, [], ◌∷◌, ◌++◌, length, take, drop}
+use Rattle.rdm_agent.proofs.Common.{refl, inl, inr, arith, ◌==◌, ◌⊎◌, AllByRecursion, Seen, LineState, HonestStep}
+use Rattle.rdm_agent.proofs.Common.{HonestTo, HonestTrace, Chain, Counts, due_in, before_run, Unmute, Branch, Mute}
+use Rattle.rdm_agent.proofs.Common.{Silent, sample_uid, sample_run, all_branch, exchange}
+use Rattle.std.proofs.Common.{replicate}
+use Rattle.rdm_agent.specs.SampleRun.{lossy_run}
 use Rattle.rdm_agent.proofs.OneDevice.{NotFailed, Begun, begin, silences, five_mutes}
 use Rattle.rdm_agent.proofs.AllDevices.{honest_to_each}
 

@@ -1,17 +1,10 @@
 -- The incremental sample run is an honest line's, and has its certificate.
-use Rattle.std.proofs.Common.{ℕ, zero, suc, List, [], ◌∷◌, ◌++◌, drop, replicate, None, refl, ap, cond, true, inl, inr}
-use Rattle.std.proofs.Common.{arith}
-use Rattle.rdm_wire.specs.Uid.{IsDeviceSet}
-use Rattle.rdm_wire.specs.Honest.{Seen, HonestTrace}
-use Rattle.rdm_wire.specs.Honest.Asked.{Mute}
-use Rattle.rdm_wire.specs.Honest.Heard.{Silent}
-use Rattle.rdm_agent.specs.Certificate.{Certificate}
-use Rattle.rdm_agent.specs.Machine.{AgentState, Runs, start}
-use Rattle.rdm_agent.specs.Machine.Phase.{Ended}
-use Rattle.rdm_agent.specs.SampleRun.{exchange, sample_uid, absent_uid, sample_device, other_device, incremental_run}
-use Rattle.rdm_agent.specs.declared.kind.Kind.TheVariants.{Incremental}
-use Rattle.rdm_agent.specs.declared.search.Search.TheVariants.{Steady}
-use Rattle.rdm_agent.specs.declared.limits.TheConstants.{DEFAULT_BUDGET}
+use Rattle.rdm_agent.proofs.Common.{ℕ, zero, suc, List, [], ◌∷◌, ◌++◌, drop, None, refl, ap, cond, true, inl, inr}
+use Rattle.rdm_agent.proofs.Common.{arith, IsDeviceSet, Seen, HonestTrace, Mute, Silent, Certificate, AgentState, Runs}
+use Rattle.rdm_agent.proofs.Common.{start, Ended, exchange, sample_uid, sample_device, Incremental, Steady}
+use Rattle.rdm_agent.proofs.Common.{DEFAULT_BUDGET}
+use Rattle.std.proofs.Common.{replicate}
+use Rattle.rdm_agent.specs.SampleRun.{absent_uid, other_device, incremental_run}
 use Rattle.rdm_agent.proofs.Runs.{ends_certified_by}
 use Rattle.rdm_agent.proofs.SampleHonest.{none_muted, one_muted, line, counts, Goes, unmutes, silent}
 use Rattle.rdm_agent.proofs.SampleLines.{both, both_muted}

@@ -1,12 +1,8 @@
 -- Devices that collide, a line that fails, and one that is honest to one device alone.
-use Rattle.std.proofs.Common.{◌≡◌, ℕ, Bool, true, false, cond, List, [], ◌∷◌, drop, refl, ap, inl, inr, arith}
-use Rattle.std.specs.Prelude.{◌==◌, MatchBool}
-use Rattle.rdm_wire.specs.Uid.{has}
-use Rattle.rdm_wire.specs.Honest.{LineState, HonestTo, HonestTrace, HonestStep, KeepsMuted, MuteMoves, Counts}
-use Rattle.rdm_wire.specs.Honest.{before_run}
-use Rattle.rdm_wire.specs.Honest.Asked.{Mute}
-use Rattle.rdm_wire.specs.Honest.Heard.{Failed, Silent, Noise}
-use Rattle.rdm_agent.specs.SampleRun.{sample_uid, other_uid, colliding_run, swept_run, failed_run, garbled_run}
+use Rattle.rdm_agent.proofs.Common.{◌≡◌, ℕ, Bool, true, false, cond, List, [], ◌∷◌, drop, refl, ap, inl, inr, arith}
+use Rattle.rdm_agent.proofs.Common.{◌==◌, MatchBool, has, LineState, HonestTo, HonestTrace, HonestStep, KeepsMuted}
+use Rattle.rdm_agent.proofs.Common.{MuteMoves, Counts, before_run, Mute, Failed, Silent, Noise, sample_uid}
+use Rattle.rdm_agent.specs.SampleRun.{other_uid, colliding_run, swept_run, failed_run, garbled_run}
 use Rattle.rdm_agent.proofs.SampleHonest.{none_muted, one_muted, line, counts, unmutes, silent}
 
 abbrev pub both : List ℕ

@@ -1,21 +1,10 @@
 -- The search: branches of the top range, and mutes of what it spells.
-use Rattle.std.proofs.Common.{◌≡◌, ℕ, ◌+◌, ◌<◌, ◌^◌, true, false, List, [], ◌∷◌, ◌++◌, Option, None, Some, refl, sym}
-use Rattle.std.proofs.Common.{subst, inl, inr, arith}
-use Rattle.std.specs.Prelude.{◌⊎◌, ◌==◌, nat_le}
-use Rattle.std.specs.List.{before_first}
-use Rattle.std.proofs.lemmas.Bool.{eqb-true, eqb-false, le-leb, and_from, cases_lt, cond_both}
-use Rattle.rdm_wire.specs.Uid.{has, IsDevice}
-use Rattle.rdm_wire.specs.Span.{Span, middle}
-use Rattle.rdm_wire.specs.Honest.{Heard, Seen, is_acked}
-use Rattle.rdm_wire.specs.Honest.Asked.{Branch, Mute}
-use Rattle.rdm_wire.specs.Honest.Heard.{Acked}
-use Rattle.rdm_wire.specs.declared.mute_ack.MuteAck.{MuteAck}
-use Rattle.rdm_agent.specs.Run.{muted_by, muted_in, read_in, is_branch, InSuccession, IsSilentBranch, IsLostMute}
-use Rattle.rdm_agent.specs.Certificate.{SearchShows, IsTried, IsCleared, known_of}
-use Rattle.rdm_agent.specs.Cause.{IsCorrupt}
-use Rattle.rdm_agent.specs.Machine.{split, search_below}
-use Rattle.rdm_agent.specs.declared.kind.Kind.{Kind}
-use Rattle.rdm_agent.specs.declared.limits.TheConstants.{TRIES}
+use Rattle.rdm_agent.proofs.Common.{◌≡◌, ℕ, ◌+◌, ◌<◌, ◌^◌, true, false, List, [], ◌∷◌, ◌++◌, Option, None, Some, refl}
+use Rattle.rdm_agent.proofs.Common.{sym, subst, inl, inr, arith, ◌⊎◌, ◌==◌, nat_le, before_first, eqb-true, eqb-false}
+use Rattle.rdm_agent.proofs.Common.{le-leb, and_from, cases_lt, cond_both, has, IsDevice, Span, middle, Heard, Seen}
+use Rattle.rdm_agent.proofs.Common.{is_acked, Branch, Mute, Acked, MuteAck, muted_by, muted_in, read_in, is_branch}
+use Rattle.rdm_agent.proofs.Common.{InSuccession, IsSilentBranch, IsLostMute, SearchShows, IsTried, IsCleared, known_of}
+use Rattle.rdm_agent.proofs.Common.{IsCorrupt, split, search_below, Kind, TRIES}
 use Rattle.rdm_agent.proofs.Members.{first_part}
 use Rattle.rdm_agent.proofs.OneDevice.{NotFailed}
 use Rattle.rdm_agent.proofs.Pushes.{has-before_branch, IsCleared-push}

@@ -1,13 +1,12 @@
 -- Ascending lists as sets.
-use Rattle.std.proofs.Common.{◌≡◌, ℕ, ◌<◌, Bool, true, false, ◌||◌, cond, List, [], ◌∷◌, ◌++◌, length, ◌+◌, fold, take}
-use Rattle.std.proofs.Common.{zero, suc, refl, sym, ap, ◌∙◌, inl, inr, true≢false, arith}
-use Rattle.std.specs.Prelude.{◌⊎◌, ◌==◌, nat_lt}
-use Rattle.std.specs.List.{AllByRecursion}
-use Rattle.std.proofs.lemmas.Bool.{eqb-true, eq-eqb, or_cases, or_parts, cases_Bool, cond-true, cond-false}
-use Rattle.std.proofs.Math.Bool.{or-true, or-false}
-use Rattle.rdm_wire.specs.Uid.{has, IsAscending, with_uid, set_of}
+use Rattle.rdm_agent.proofs.Common.{◌≡◌, ℕ, ◌<◌, Bool, true, false, ◌||◌, cond, List, [], ◌∷◌, ◌++◌, length, ◌+◌, fold}
+use Rattle.rdm_agent.proofs.Common.{take, zero, suc, refl, sym, ap, ◌∙◌, inl, inr, true≢false, arith, ◌⊎◌, ◌==◌, nat_lt}
+use Rattle.rdm_agent.proofs.Common.{AllByRecursion, eqb-true, eq-eqb, or_cases, cases_Bool, cond-false, or-true, has}
+use Rattle.rdm_agent.proofs.Common.{IsAscending, with_uid, set_of, once}
+use Rattle.std.proofs.lemmas.Bool.{or_parts, cond-true}
+use Rattle.std.proofs.Math.Bool.{or-false}
 use Rattle.std.proofs.lemmas.List.Sums.{fold_push}
-use Rattle.rdm_wire.specs.Lists.{once, with_new}
+use Rattle.rdm_wire.specs.Lists.{with_new}
 use Rattle.rdm_wire.proofs.SetLemmas.{ascending-with_uid}
 use Rattle.rdm_agent.proofs.Members.{member}
 

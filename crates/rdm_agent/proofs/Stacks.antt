@@ -1,11 +1,9 @@
 -- Open ranges: halves of halves of the whole, ascending from the top of the stack.
-use Rattle.std.proofs.Common.{◌≡◌, ℕ, zero, suc, ◌+◌, ◌-◌, ◌*◌, ◌/◌, ◌^◌, ◌<◌, ◌≤◌, List, [], ◌∷◌, length, refl, arith}
-use Rattle.std.specs.Prelude.{Bool, true, false, Some, None, ◌==◌, if◌then◌else◌}
-use Rattle.std.proofs.lemmas.Bool.{eqb-false}
-use Rattle.std.proofs.Math.Pow.{pow_pos}
-use Rattle.std.proofs.Math.Nat.{pow-suc}
-use Rattle.rdm_wire.specs.Span.{Span, whole, lower_half, upper_half}
-use Rattle.rdm_agent.specs.body.Sound.{Ascends, IsStack}
+use Rattle.rdm_agent.proofs.Common.{◌≡◌, ℕ, zero, suc, ◌+◌, ◌-◌, ◌*◌, ◌/◌, ◌^◌, ◌<◌, ◌≤◌, List, [], ◌∷◌, length, refl}
+use Rattle.rdm_agent.proofs.Common.{arith, ◌==◌, if◌then◌else◌, eqb-false, pow_pos, pow-suc, Span, whole, lower_half}
+use Rattle.rdm_agent.proofs.Common.{upper_half, IsStack}
+use Rattle.std.specs.Prelude.{Bool, true, false, Some, None}
+use Rattle.rdm_agent.specs.body.Sound.{Ascends}
 
 -- they begin among the UIDs
 pub Ascends-below : (from level : ℕ) (rs : List Span) → Ascends from level rs → from ≤ 2 ^ 48

@@ -1,23 +1,14 @@
 -- What an exchange of a sweep on an honest line pays.
-use Rattle.std.proofs.Common.{◌≡◌, ℕ, ◌+◌, ◌-◌, ◌*◌, ◌<◌, ◌≤◌, true, false, cond, List, [], length, refl, sym, ap}
-use Rattle.std.proofs.Common.{◌∙◌, inl, inr, true≢false, arith}
-use Rattle.std.specs.Prelude.{◌==◌, nat_lt, ◌&&◌, ◌⊎◌, ◌≢◌, not}
-use Rattle.std.proofs.lemmas.Bool.{cond_both, and_parts, eqb-true, eqb-false, ltb-true, not-true}
-use Rattle.std.proofs.lemmas.List.{length-map}
-use Rattle.rdm_wire.specs.Uid.{has, IsDeviceSet}
-use Rattle.rdm_wire.specs.declared.uid_set.TheConstants.{MOST_DEVICES}
-use Rattle.rdm_wire.specs.Span.{Span, whole}
-use Rattle.rdm_wire.specs.Honest.{Heard, LineState, HonestStep, MayReply, due_in, is_acked}
-use Rattle.rdm_wire.specs.Honest.Asked.{Branch, Mute}
-use Rattle.rdm_wire.specs.Honest.Heard.{Failed, Silent, One, Acked, Noise}
-use Rattle.rdm_agent.specs.Machine.{Phase, AgentState, found_uids, is_new, is_one, is_whole, is_wanted, is_last}
-use Rattle.rdm_agent.specs.Machine.{counted, sweep_suspecting, choose, to_phase, sweep_on, sweep_silent, sweep_apart}
-use Rattle.rdm_agent.specs.Machine.{sweep_heard, swept_heard, believed_silent, believed_found, believed_apart}
-use Rattle.rdm_agent.specs.Machine.Phase.{Searching, Sweeping, MutingSwept}
-use Rattle.rdm_agent.specs.declared.search.Search.{Search}
-use Rattle.rdm_agent.specs.declared.limits.TheConstants.{TRIES}
-use Rattle.rdm_agent.specs.declared.belief.Belief.{Belief}
-use Rattle.rdm_agent.specs.declared.sweep.Sweep.{Sweep}
+use Rattle.rdm_agent.proofs.Common.{◌≡◌, ℕ, ◌+◌, ◌-◌, ◌*◌, ◌<◌, ◌≤◌, true, false, cond, List, [], length, refl, sym, ap}
+use Rattle.rdm_agent.proofs.Common.{◌∙◌, inl, inr, true≢false, arith, ◌==◌, nat_lt, ◌⊎◌, ◌≢◌, cond_both, and_parts}
+use Rattle.rdm_agent.proofs.Common.{eqb-true, eqb-false, ltb-true, not-true, length-map, has, IsDeviceSet, MOST_DEVICES}
+use Rattle.rdm_agent.proofs.Common.{Span, whole, Heard, LineState, HonestStep, MayReply, due_in, is_acked, Branch, Mute}
+use Rattle.rdm_agent.proofs.Common.{Failed, Silent, One, Acked, Noise, Phase, AgentState, found_uids, is_new, is_one}
+use Rattle.rdm_agent.proofs.Common.{is_whole, is_wanted, is_last, counted, sweep_suspecting, choose, to_phase, sweep_on}
+use Rattle.rdm_agent.proofs.Common.{sweep_silent, sweep_apart, sweep_heard, swept_heard, believed_silent}
+use Rattle.rdm_agent.proofs.Common.{believed_found, believed_apart, Searching, Sweeping, MutingSwept, Search, TRIES}
+use Rattle.rdm_agent.proofs.Common.{Belief, Sweep}
+use Rattle.std.specs.Prelude.{◌&&◌, not}
 use Rattle.rdm_agent.proofs.Choices.{IsChosen, chosen}
 use Rattle.rdm_agent.proofs.Potential.{unfound, is_left, left_in, sweep_cost, CostsSweeping, CostsSwept, Finds, Affords}
 use Rattle.rdm_agent.proofs.LeftLemmas.{no_more}

@@ -1,22 +1,11 @@
 -- What a sweep's exchanges keep.
-use Rattle.std.proofs.Common.{◌≡◌, ℕ, ◌+◌, ◌*◌, ◌<◌, Bool, true, false, ◌&&◌, not, List, [], ◌∷◌, ◌++◌, None, refl, sym}
-use Rattle.std.proofs.Common.{inl, inr, subst, true≢false, arith}
-use Rattle.std.specs.Prelude.{◌==◌, nat_lt}
-use Rattle.std.proofs.lemmas.Bool.{cond_both, eqb-true, eqb-false, eq-eqb}
-use Rattle.rdm_wire.specs.Span.{Span, whole}
-use Rattle.rdm_wire.specs.Honest.{Seen}
-use Rattle.rdm_wire.specs.Honest.Asked.{Branch}
-use Rattle.rdm_wire.specs.Honest.Heard.{Silent}
-use Rattle.rdm_agent.specs.Certificate.{known_of}
-use Rattle.rdm_agent.specs.Run.{IsSilentBranch}
-use Rattle.rdm_agent.specs.Cause.{IsCorrupt}
-use Rattle.rdm_agent.specs.declared.limits.TheConstants.{TRIES}
-use Rattle.rdm_agent.specs.declared.belief.Belief.{Belief}
-use Rattle.rdm_agent.specs.declared.sweep.Sweep.{Sweep}
-use Rattle.rdm_agent.specs.Machine.{Phase, is_suspect, is_one, is_new, is_whole, is_wanted, is_last, choose}
-use Rattle.rdm_agent.specs.Machine.{sweep_on, sweep_silent, sweep_apart, believed_silent, believed_apart}
-use Rattle.rdm_agent.specs.Machine.Phase.{Searching, Sweeping}
-use Rattle.rdm_agent.specs.declared.kind.Kind.{Kind}
+use Rattle.rdm_agent.proofs.Common.{◌≡◌, ℕ, ◌+◌, ◌*◌, ◌<◌, Bool, true, false, ◌&&◌, not, List, [], ◌∷◌, ◌++◌, None}
+use Rattle.rdm_agent.proofs.Common.{refl, sym, inl, inr, subst, true≢false, arith, ◌==◌, nat_lt, cond_both, eqb-true}
+use Rattle.rdm_agent.proofs.Common.{eqb-false, eq-eqb, Span, whole, Seen, Branch, Silent, known_of, IsSilentBranch}
+use Rattle.rdm_agent.proofs.Common.{IsCorrupt, TRIES, Belief, Sweep, Phase, is_one, is_new, is_whole, is_wanted}
+use Rattle.rdm_agent.proofs.Common.{is_last, choose, sweep_on, sweep_silent, sweep_apart, believed_silent}
+use Rattle.rdm_agent.proofs.Common.{believed_apart, Searching, Sweeping, Kind}
+use Rattle.rdm_agent.specs.Machine.{is_suspect}
 use Rattle.rdm_agent.proofs.Members.{first_part}
 use Rattle.rdm_agent.proofs.OneDevice.{NotFailed}
 use Rattle.rdm_agent.proofs.Choices.{Asks, IsChosen, chosen, same_range}

@@ -1,21 +1,10 @@
 -- An agent that sweeps stands after its exchanges.
-use Rattle.std.proofs.Common.{◌≡◌, ℕ, ◌+◌, true, false, cond, List, [], ◌∷◌, ◌++◌, length, None, Some, refl}
-use Rattle.std.proofs.Common.{subst, arith}
-use Rattle.std.specs.Prelude.{◌≢◌, ◌==◌, nat_lt}
-use Rattle.std.proofs.lemmas.Bool.{cond_both, and_parts, eqb-true, eqb-false}
-use Rattle.rdm_wire.specs.Uid.{IsDevice}
-use Rattle.rdm_wire.specs.Span.{Span, whole}
-use Rattle.rdm_wire.specs.Honest.{Heard, Seen, is_acked}
-use Rattle.rdm_wire.specs.Honest.Asked.{Branch, Mute}
-use Rattle.rdm_wire.specs.Honest.Heard.{Acked, Failed, Silent, One, Noise}
-use Rattle.rdm_agent.specs.Certificate.{known_of}
-use Rattle.rdm_agent.specs.Machine.{Phase, AgentState, to_phase, found_uids, is_new, is_wanted, counted}
-use Rattle.rdm_agent.specs.Machine.{sweep_suspecting, sweep_on, sweep_silent, sweep_apart}
-use Rattle.rdm_agent.specs.Machine.{believed_found, sweep_heard, swept_heard}
-use Rattle.rdm_agent.specs.Machine.Phase.{MutingSwept}
-use Rattle.rdm_agent.specs.declared.kind.Kind.{Kind}
-use Rattle.rdm_agent.specs.declared.limits.TheConstants.{TRIES}
-use Rattle.rdm_agent.specs.declared.sweep.Sweep.{Sweep}
+use Rattle.rdm_agent.proofs.Common.{◌≡◌, ℕ, ◌+◌, true, false, cond, List, [], ◌∷◌, ◌++◌, length, None, Some, refl}
+use Rattle.rdm_agent.proofs.Common.{subst, arith, ◌≢◌, ◌==◌, nat_lt, cond_both, and_parts, eqb-true, eqb-false}
+use Rattle.rdm_agent.proofs.Common.{IsDevice, Span, whole, Heard, Seen, is_acked, Branch, Mute, Acked, Failed, Silent}
+use Rattle.rdm_agent.proofs.Common.{One, Noise, known_of, Phase, AgentState, to_phase, found_uids, is_new, is_wanted}
+use Rattle.rdm_agent.proofs.Common.{counted, sweep_suspecting, sweep_on, sweep_silent, sweep_apart, believed_found}
+use Rattle.rdm_agent.proofs.Common.{sweep_heard, swept_heard, MutingSwept, Kind, TRIES, Sweep}
 use Rattle.rdm_agent.proofs.CorruptLemmas.{is_new-device, corrupt-reply, corrupt-mutes, lost_no_branches}
 use Rattle.rdm_agent.proofs.CorruptLemmas.{not_corrupt-several, not_corrupt-silent, not_corrupt-acked}
 use Rattle.rdm_agent.proofs.UnderWay.{EndsWith-none, lost-acks_none}

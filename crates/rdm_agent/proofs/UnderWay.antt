@@ -1,17 +1,9 @@
 -- What an exchange after the unmutes keeps.
-use Rattle.std.proofs.Common.{◌≡◌, ℕ, true, false, List, [], ◌∷◌, ◌++◌, ◌+◌, Option, None, Some, refl, sym, ap, ◌∙◌}
-use Rattle.std.proofs.Common.{subst, inl, inr, true≢false, append_assoc, append-nil}
-use Rattle.std.specs.Prelude.{◌⊎◌}
-use Rattle.std.proofs.lemmas.List.{length_push}
-use Rattle.rdm_wire.specs.Uid.{has, IsDevice}
-use Rattle.rdm_wire.specs.Honest.{Heard, Seen, is_acked}
-use Rattle.rdm_wire.specs.Honest.Asked.{Branch, Mute}
-use Rattle.rdm_wire.specs.Honest.Heard.{Acked, Failed, Silent, One, Noise}
-use Rattle.rdm_wire.specs.declared.mute_ack.MuteAck.{MuteAck}
-use Rattle.rdm_wire.proofs.EachAfterLemmas.{EachAfter-push}
-use Rattle.rdm_agent.specs.Run.{acked_uid, muted_by, read_in, InSuccession, IsLostMute}
-use Rattle.rdm_agent.specs.Certificate.{IsTried, MutesNamed}
-use Rattle.rdm_agent.specs.declared.limits.TheConstants.{TRIES}
+use Rattle.rdm_agent.proofs.Common.{◌≡◌, ℕ, true, false, List, [], ◌∷◌, ◌++◌, ◌+◌, Option, None, Some, refl, sym, ap}
+use Rattle.rdm_agent.proofs.Common.{◌∙◌, subst, inl, inr, true≢false, append_assoc, append-nil, ◌⊎◌, length_push, has}
+use Rattle.rdm_agent.proofs.Common.{IsDevice, Heard, Seen, is_acked, Branch, Mute, Acked, Failed, Silent, One, Noise}
+use Rattle.rdm_agent.proofs.Common.{MuteAck, EachAfter-push, acked_uid, muted_by, read_in, InSuccession, IsLostMute}
+use Rattle.rdm_agent.proofs.Common.{IsTried, MutesNamed, TRIES}
 use Rattle.rdm_agent.proofs.OneDevice.{NotFailed}
 use Rattle.rdm_agent.proofs.Pushes.{All-push, push-has, begun-push, IsTried-push}
 use Rattle.rdm_agent.proofs.Invariant.{EndsWith, IsFound, IsUnderWay}

@@ -1,14 +1,8 @@
 -- The three unmutes, with which a run begins.
-use Rattle.std.proofs.Common.{◌≡◌, ℕ, ◌-◌, ◌≤◌, false, true, List, [], ◌∷◌, ◌++◌, length, map, take, Option, None, Some}
-use Rattle.std.proofs.Common.{refl, sym, ap, ◌∙◌, subst, inr, true≢false, arith}
-use Rattle.std.specs.Prelude.{filter_map, replicate}
-use Rattle.std.specs.List.{AllByRecursion}
-use Rattle.std.proofs.lemmas.List.{length_push}
-use Rattle.rdm_wire.specs.Uid.{has, IsDevice}
-use Rattle.rdm_wire.specs.Honest.{Heard, Seen}
-use Rattle.rdm_wire.specs.Honest.Asked.{Unmute}
-use Rattle.rdm_agent.specs.Run.{muted_uid, asks_range, muted_by, is_branch}
-use Rattle.rdm_agent.specs.declared.limits.TheConstants.{UNMUTES}
+use Rattle.rdm_agent.proofs.Common.{◌≡◌, ℕ, ◌-◌, ◌≤◌, false, true, List, [], ◌∷◌, ◌++◌, length, map, take, Option, None}
+use Rattle.rdm_agent.proofs.Common.{Some, refl, sym, ap, ◌∙◌, subst, inr, true≢false, arith, filter_map, replicate}
+use Rattle.rdm_agent.proofs.Common.{AllByRecursion, length_push, has, IsDevice, Heard, Seen, Unmute, muted_uid}
+use Rattle.rdm_agent.proofs.Common.{asks_range, muted_by, is_branch, UNMUTES}
 use Rattle.rdm_agent.proofs.OneDevice.{NotFailed}
 use Rattle.rdm_agent.proofs.Pushes.{All-push, All-at}
 use Rattle.rdm_agent.proofs.Sets.{each_member}

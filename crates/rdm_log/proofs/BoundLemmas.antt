@@ -1,8 +1,6 @@
 -- Blocks whose Answers are in bound.
-use Rattle.std.proofs.Common.{◌≡◌, List, [], ◌∷◌, ◌++◌, append_assoc, append-nil}
-use Rattle.rdm_log.specs.declared.entry.Entry.{Entry}
-use Rattle.rdm_log.specs.log.LogState.{LogState, grown}
-use Rattle.rdm_log.specs.promises.InBound.{FaultNeedsClose, AnswersInBound}
+use Rattle.rdm_log.proofs.Common.{◌≡◌, List, [], ◌∷◌, ◌++◌, append_assoc, append-nil, Entry, LogState, grown}
+use Rattle.rdm_log.proofs.Common.{FaultNeedsClose, AnswersInBound}
 
 -- a block after a block
 pub both_in_bound : (k : LogState) (block more : List Entry) → AnswersInBound k block

@@ -1,32 +1,21 @@
 -- What an agent that has made a run's exchanges shows about that run in the log.
-use Rattle.std.proofs.Common.{◌≡◌, ℕ, ◌<◌, ◌≤◌, Bool, true, false, List, [], ◌∷◌, length, Option, None, Some, refl, sym}
-use Rattle.std.proofs.Common.{ap, ◌∙◌, subst, inl, inr, filter_map, arith}
-use Rattle.std.specs.Prelude.{◌≢◌, ◌⊎◌}
-use Rattle.std.specs.List.{AllByRecursion}
-use Rattle.std.proofs.lemmas.Bool.{cases_lt, false≢true}
-use Rattle.std.proofs.lemmas.Option.{none-some}
-use Rattle.rdm_wire.specs.Devices.{uids_of, device_with}
-use Rattle.rdm_wire.specs.declared.device.Device.{Device}
-use Rattle.rdm_wire.specs.Honest.{Seen}
-use Rattle.rdm_wire.specs.Honest.Heard.{Failed}
-use Rattle.rdm_agent.specs.Run.{IsReport, asked_by, devices_in}
-use Rattle.rdm_agent.specs.Cause.{Cause, IsCorrupt}
-use Rattle.rdm_agent.specs.Certificate.{Certificate}
-use Rattle.rdm_agent.specs.Machine.{AgentState, Runs, start_by, next_of, fault_of}
+use Rattle.rdm_log.proofs.Common.{◌≡◌, ℕ, ◌<◌, ◌≤◌, Bool, true, false, List, [], ◌∷◌, length, Option, None, Some, refl}
+use Rattle.rdm_log.proofs.Common.{sym, ap, ◌∙◌, subst, inl, inr, filter_map, arith, ◌≢◌, ◌⊎◌, AllByRecursion, cases_lt}
+use Rattle.rdm_log.proofs.Common.{false≢true, none-some, uids_of, device_with, Device, Seen, Failed, IsReport}
+use Rattle.rdm_log.proofs.Common.{devices_in, IsCorrupt, Certificate, AgentState, Runs, next_of, Kind, AgentFault}
+use Rattle.rdm_log.proofs.Common.{Exhausted, LineFailed, Aborted, Opening, Entry, is_closed, run_kind, known_at_run}
+use Rattle.rdm_log.proofs.Common.{run_exchanges, run_devices, reported_devices, GoesOn}
+use Rattle.rdm_agent.specs.Run.{asked_by}
+use Rattle.rdm_agent.specs.Cause.{Cause}
+use Rattle.rdm_agent.specs.Machine.{start_by, fault_of}
 use Rattle.rdm_agent.specs.Calls.{next_op, HasRunBy}
 use Rattle.rdm_agent.specs.declared.search.Search.{Search}
-use Rattle.rdm_agent.specs.declared.kind.Kind.{Kind}
 use Rattle.rdm_agent.specs.declared.op.Op.TheVariants.{End}
-use Rattle.rdm_agent.specs.declared.fault.AgentFault.{AgentFault}
-use Rattle.rdm_agent.specs.declared.fault.AgentFault.TheVariants.{Corrupt, TooMany, Exhausted, LineFailed, Aborted}
+use Rattle.rdm_agent.specs.declared.fault.AgentFault.TheVariants.{Corrupt, TooMany}
 use Rattle.rdm_agent.proofs.Runs.{goes_on_soundly_by, all_reported_by, asks_in_order_by, ends_at_budget_by}
 use Rattle.rdm_agent.proofs.CertificateEnds.{certificate_ends_by}
 use Rattle.rdm_agent.proofs.CallLemmas.{next_asked, runs-own, fault-certified, fault-caused, found-report}
-use Rattle.rdm_log.specs.declared.entry.Opening.{Opening}
-use Rattle.rdm_log.specs.declared.entry.Entry.{Entry}
-use Rattle.rdm_log.specs.log.History.{is_closed}
-use Rattle.rdm_log.specs.log.Runs.{run_kind, known_at_run, run_exchanges, run_devices, reported_devices}
-use Rattle.rdm_log.specs.log.Due.{IsDone, GoesOn}
+use Rattle.rdm_log.specs.log.Due.{IsDone}
 use Rattle.rdm_log.specs.log.MayAnswer.{IsAborted, Shows}
 
 -- a run whose agent asks for more goes on

@@ -1,19 +1,9 @@
 -- The counts and numbers of discoveries in a log in which each entry may follow those before it.
-use Rattle.std.proofs.Common.{◌≡◌, ℕ, ◌+◌, ◌≤◌, ◌<◌, List, [], ◌∷◌, ◌++◌, length, Option, Some, None, slice_get, refl}
-use Rattle.std.proofs.Common.{sym, ◌∙◌, arith, length-append}
-use Rattle.std.proofs.lemmas.Option.{none-some, slice_get_within}
-use Rattle.std.proofs.lemmas.List.{length_push}
-use Rattle.rdm_wire.specs.Lists.{EachAfter}
-use Rattle.rdm_agent.specs.declared.kind.Kind.{Kind}
-use Rattle.rdm_agent.specs.declared.fault.AgentFault.{AgentFault}
-use Rattle.rdm_log.specs.declared.entry.ClientId.{ClientId}
-use Rattle.rdm_log.specs.declared.entry.Opening.{Opening}
-use Rattle.rdm_log.specs.declared.entry.Entry.{Entry}
-use Rattle.rdm_log.specs.declared.entry.Entry.TheVariants.{Ask, Answer}
-use Rattle.rdm_log.specs.log.Entries.{AskedDiscovery, Answered, asked_of, answered_of, joins, asks, answers}
-use Rattle.rdm_log.specs.log.History.{next_client, unanswered}
-use Rattle.rdm_log.specs.log.MayAnswer.{MayAnswer}
-use Rattle.rdm_log.specs.log.Legal.{MayFollow}
+use Rattle.rdm_log.proofs.Common.{◌≡◌, ℕ, ◌+◌, ◌≤◌, ◌<◌, List, [], ◌∷◌, ◌++◌, length, Option, Some, None, slice_get}
+use Rattle.rdm_log.proofs.Common.{refl, sym, ◌∙◌, arith, length-append, none-some, slice_get_within, length_push}
+use Rattle.rdm_log.proofs.Common.{EachAfter, Kind, AgentFault, ClientId, Opening, Entry, Ask, Answer, AskedDiscovery}
+use Rattle.rdm_log.proofs.Common.{Answered, asked_of, answered_of, joins, asks, answers, next_client, unanswered}
+use Rattle.rdm_log.proofs.Common.{MayAnswer, MayFollow}
 use Rattle.rdm_log.proofs.LogLemmas.PushLemmas.{joins-append, asks_same, asks_more, answered_same, answered_more}
 use Rattle.rdm_log.proofs.LogLemmas.RefusalLemmas.{ask_passes}
 use Rattle.rdm_log.proofs.LogLemmas.LegalFacts.{along}

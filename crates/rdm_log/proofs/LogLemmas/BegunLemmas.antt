@@ -1,25 +1,14 @@
 -- Runs begin one after another: what earlier runs serve was asked for before the last one.
-use Rattle.std.proofs.Common.{◌≡◌, ℕ, ◌+◌, ◌<◌, ◌≤◌, Bool, true, false, List, [], ◌∷◌, ◌++◌, length, Option, Some, None}
-use Rattle.std.proofs.Common.{slice_get, refl, sym, ap, ◌∙◌, inl, inr, length-append, fold, filter_map, arith, drop}
-use Rattle.std.specs.Prelude.{◌⊎◌, ◌==◌, ◌||◌, ◌-◌}
-use Rattle.std.specs.List.{list_any, before_first}
-use Rattle.std.proofs.lemmas.Bool.{cases_Bool, false≢true, eqb-true, eq-eqb, or_parts}
-use Rattle.std.proofs.lemmas.Option.{none-some, same_Some}
+use Rattle.rdm_log.proofs.Common.{◌≡◌, ℕ, ◌+◌, ◌<◌, ◌≤◌, Bool, true, false, List, [], ◌∷◌, ◌++◌, length, Option, Some}
+use Rattle.rdm_log.proofs.Common.{None, slice_get, refl, sym, ap, ◌∙◌, inl, inr, length-append, fold, filter_map, arith}
+use Rattle.rdm_log.proofs.Common.{drop, ◌⊎◌, ◌==◌, ◌||◌, list_any, before_first, cases_Bool, false≢true, eqb-true}
+use Rattle.rdm_log.proofs.Common.{eq-eqb, or_parts, none-some, same_Some, ArrayVec, EachAfter, Owner, Opening, Entry}
+use Rattle.rdm_log.proofs.Common.{Send, AskedDiscovery, Answered, Sending, asks, answers, sends, sending_of, is_run}
+use Rattle.rdm_log.proofs.Common.{unanswered, run_of_owner, has_begun, entries_before_run, last_run, open_run}
+use Rattle.rdm_log.proofs.Common.{asked_before, unserved, sends_run, has_answer, AllAnswered, MayBegin, MayFollow}
+use Rattle.std.specs.Prelude.{◌-◌}
 use Rattle.std.proofs.lemmas.Map.Keys.{any_passes_from_place}
-use Rattle.arrayvec.specs.ArrayVec.{ArrayVec}
-use Rattle.rdm_wire.specs.Lists.{EachAfter}
-use Rattle.rdm_log.specs.declared.entry.Owner.{Owner}
 use Rattle.rdm_log.specs.declared.entry.Owner.TheVariants as owners
-use Rattle.rdm_log.specs.declared.entry.Opening.{Opening}
-use Rattle.rdm_log.specs.declared.entry.Entry.{Entry}
-use Rattle.rdm_log.specs.declared.entry.Entry.TheVariants.{Send}
-use Rattle.rdm_log.specs.log.Entries.{AskedDiscovery, Answered, Sending, asks, answers, sends, sending_of, is_run}
-use Rattle.rdm_log.specs.log.History.{unanswered}
-use Rattle.rdm_log.specs.log.Runs.{run_of_owner, has_begun, entries_before_run, last_run, open_run, asked_before}
-use Rattle.rdm_log.specs.log.Runs.{unserved, sends_run}
-use Rattle.rdm_log.specs.log.Due.{has_answer, AllAnswered}
-use Rattle.rdm_log.specs.log.MaySend.{MayBegin}
-use Rattle.rdm_log.specs.log.Legal.{MayFollow}
 use Rattle.rdm_log.proofs.LogLemmas.Indices.{all_from_indices, slice_get-drop, slice_get-append_left, index_within}
 use Rattle.rdm_log.proofs.LogLemmas.Indices.{within_some}
 use Rattle.rdm_log.proofs.LogLemmas.PushLemmas.{asks-append, sends_same}

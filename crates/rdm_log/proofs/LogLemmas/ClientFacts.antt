@@ -1,30 +1,15 @@
 -- What holds of each client in a log in which each entry may follow those before it.
-use Rattle.std.proofs.Common.{◌≡◌, ℕ, filter_map, ◌+◌, ◌≤◌, Bool, true, false, List, [], ◌∷◌, ◌++◌, length, drop, take}
-use Rattle.std.proofs.Common.{filter, map, Option, Some, None, if◌then◌else◌, refl, ap, ◌∙◌, append-nil, length-append}
-use Rattle.std.proofs.Common.{arith, inl, inr}
-use Rattle.std.specs.Prelude.{◌≢◌, ◌⊎◌, ◌==◌}
-use Rattle.std.specs.List.{AllByRecursion}
-use Rattle.std.proofs.lemmas.Bool.{cases_Bool, eqb-true, false≢true}
-use Rattle.std.proofs.lemmas.List.{length_push, length-map, length-take-le, take-append-drop}
-use Rattle.std.proofs.lemmas.List.Elements.{filter-append, recursion_from_All, filter_passes}
-use Rattle.rdm_wire.specs.Lists.{EachAfter}
-use Rattle.rdm_wire.specs.declared.request.Request.{Request}
-use Rattle.rdm_join.specs.declared.status.Status.{Status}
-use Rattle.rdm_agent.specs.declared.kind.Kind.{Kind}
-use Rattle.rdm_agent.specs.declared.fault.AgentFault.{AgentFault}
-use Rattle.rdm_log.specs.declared.entry.ClientId.{ClientId}
-use Rattle.rdm_log.specs.declared.entry.Opening.{Opening}
-use Rattle.rdm_log.specs.declared.entry.Entry.{Entry}
-use Rattle.rdm_log.specs.declared.entry.Entry.TheVariants.{Accept, Ask, Finish, Answer, Collect}
-use Rattle.rdm_log.specs.log.Entries.{Accepted, AskedDiscovery, Finished, Answered, collector_of, finished_of}
-use Rattle.rdm_log.specs.log.Entries.{answered_of, accepts, asks, finishes, answers, collectors}
-use Rattle.rdm_log.specs.log.History.{unfinished, unanswered}
-use Rattle.rdm_log.specs.log.Clients.{accepts_by, asks_by, client_of_request, client_of_discovery, is_answer_to}
-use Rattle.rdm_log.specs.log.Clients.{answers_to, collects_by, collected, uncollected, outstanding_requests}
-use Rattle.rdm_log.specs.log.Clients.{outstanding_discoveries}
-use Rattle.rdm_log.specs.log.MayFinish.{MayFinish}
-use Rattle.rdm_log.specs.log.MayAnswer.{MayAnswer}
-use Rattle.rdm_log.specs.log.Legal.{MayFollow}
+use Rattle.rdm_log.proofs.Common.{◌≡◌, ℕ, filter_map, ◌+◌, ◌≤◌, Bool, true, false, List, [], ◌∷◌, ◌++◌, length, drop}
+use Rattle.rdm_log.proofs.Common.{take, filter, map, Option, Some, None, if◌then◌else◌, refl, ap, ◌∙◌, append-nil}
+use Rattle.rdm_log.proofs.Common.{length-append, arith, inl, inr, ◌≢◌, ◌⊎◌, ◌==◌, AllByRecursion, cases_Bool, eqb-true}
+use Rattle.rdm_log.proofs.Common.{false≢true, length_push, length-map, length-take-le, take-append-drop, filter-append}
+use Rattle.rdm_log.proofs.Common.{recursion_from_All, filter_passes, EachAfter, Request, Status, Kind, AgentFault}
+use Rattle.rdm_log.proofs.Common.{ClientId, Opening, Entry, Accept, Ask, Finish, Answer, Collect, Accepted}
+use Rattle.rdm_log.proofs.Common.{AskedDiscovery, Finished, Answered, collector_of, finished_of, answered_of, accepts}
+use Rattle.rdm_log.proofs.Common.{asks, finishes, answers, collectors, unfinished, unanswered, accepts_by, asks_by}
+use Rattle.rdm_log.proofs.Common.{client_of_request, client_of_discovery, is_answer_to, answers_to, collects_by}
+use Rattle.rdm_log.proofs.Common.{collected, uncollected, outstanding_requests, outstanding_discoveries, MayFinish}
+use Rattle.rdm_log.proofs.Common.{MayAnswer, MayFollow}
 use Rattle.rdm_log.proofs.LogLemmas.Indices.{slice_get_first, drop_some_within}
 use Rattle.rdm_log.proofs.LogLemmas.Counts.{count, count-map, length_filter_push, length_filter_cons, no_longer}
 use Rattle.rdm_log.proofs.LogLemmas.PushLemmas.{accepts_same, accepts_more, asks_same, asks_more, finishes_same}

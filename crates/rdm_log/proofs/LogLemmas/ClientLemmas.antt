@@ -1,22 +1,12 @@
 -- What a log says of one client, as the log grows.
-use Rattle.std.proofs.Common.{◌≡◌, ℕ, ◌-◌, ◌<◌, Bool, true, false, Option, List, [], ◌∷◌, ◌++◌, length, filter, map}
-use Rattle.std.proofs.Common.{Some, None, slice_get, refl, ap, ◌∙◌, append-nil, arith, ◌+◌}
-use Rattle.std.specs.Prelude.{◌==◌}
-use Rattle.std.proofs.lemmas.List.{map-append, length-map}
-use Rattle.std.proofs.lemmas.List.Elements.{filter-append, filter_agree}
-use Rattle.std.proofs.lemmas.Option.{slice_get-map, slice_get_within}
-use Rattle.rdm_wire.specs.declared.request.Request.{Request}
-use Rattle.rdm_agent.specs.declared.kind.Kind.{Kind}
-use Rattle.rdm_agent.specs.declared.fault.AgentFault.{AgentFault}
-use Rattle.rdm_join.specs.declared.status.Status.{Status}
-use Rattle.rdm_log.specs.declared.entry.ClientId.{ClientId}
-use Rattle.rdm_log.specs.declared.entry.Opening.{Opening}
-use Rattle.rdm_log.specs.declared.entry.Entry.{Entry}
-use Rattle.rdm_log.specs.declared.entry.Entry.TheVariants.{Accept, Ask, Finish, Answer}
-use Rattle.rdm_log.specs.log.Entries.{Accepted, AskedDiscovery, accepted_of, asked_of, finished_of, answered_of}
-use Rattle.rdm_log.specs.log.Entries.{accepts, asks, finishes, answers}
-use Rattle.rdm_log.specs.log.History.{unfinished, unanswered}
-use Rattle.rdm_log.specs.log.Clients.{client_of_request, client_of_discovery, is_client_of, is_answer_to, answers_to}
+use Rattle.rdm_log.proofs.Common.{◌≡◌, ℕ, ◌-◌, ◌<◌, Bool, true, false, Option, List, [], ◌∷◌, ◌++◌, length, filter, map}
+use Rattle.rdm_log.proofs.Common.{Some, None, slice_get, refl, ap, ◌∙◌, append-nil, arith, ◌+◌, ◌==◌, map-append}
+use Rattle.rdm_log.proofs.Common.{length-map, filter-append, slice_get-map, slice_get_within, Request, Kind, AgentFault}
+use Rattle.rdm_log.proofs.Common.{Status, ClientId, Opening, Entry, Accept, Ask, Finish, Answer, Accepted}
+use Rattle.rdm_log.proofs.Common.{AskedDiscovery, accepted_of, asked_of, finished_of, answered_of, accepts, asks}
+use Rattle.rdm_log.proofs.Common.{finishes, answers, unfinished, unanswered, client_of_request, client_of_discovery}
+use Rattle.rdm_log.proofs.Common.{is_client_of, is_answer_to, answers_to}
+use Rattle.std.proofs.lemmas.List.Elements.{filter_agree}
 use Rattle.rdm_log.proofs.LogLemmas.Indices.{slice_get_append_within, filter_map_has, filter_agree_on}
 use Rattle.rdm_log.proofs.LogLemmas.PushLemmas.{accepts-append, accepts_same, asks-append, asks_same}
 use Rattle.rdm_log.proofs.LogLemmas.LegalFacts.{LogFacts, unfinished_index}

@@ -1,16 +1,10 @@
 -- What a client has outstanding, and what it may collect, as the log grows.
-use Rattle.std.proofs.Common.{◌≡◌, ℕ, ◌≤◌, true, false, List, [], ◌∷◌, ◌++◌, length, take, Some, None, refl, inl, inr}
-use Rattle.std.specs.Prelude.{◌⊎◌, ◌==◌}
-use Rattle.std.proofs.lemmas.Bool.{cases_Bool}
+use Rattle.rdm_log.proofs.Common.{◌≡◌, ℕ, ◌≤◌, true, false, List, [], ◌∷◌, ◌++◌, length, take, Some, None, refl, inl}
+use Rattle.rdm_log.proofs.Common.{inr, ◌⊎◌, ◌==◌, cases_Bool, EachAfter, Opening, Entry, Accept, Ask, Finish, Answer}
+use Rattle.rdm_log.proofs.Common.{Collect, accepted_of, asked_of, collector_of, client_of_request, client_of_discovery}
+use Rattle.rdm_log.proofs.Common.{answers_to, collects_by, collected, uncollected, outstanding_requests}
+use Rattle.rdm_log.proofs.Common.{outstanding_discoveries, MayFollow}
 use Rattle.std.proofs.lemmas.List.{take-append-le}
-use Rattle.rdm_wire.specs.Lists.{EachAfter}
-use Rattle.rdm_log.specs.declared.entry.Opening.{Opening}
-use Rattle.rdm_log.specs.declared.entry.Entry.{Entry}
-use Rattle.rdm_log.specs.declared.entry.Entry.TheVariants.{Accept, Ask, Finish, Answer, Collect}
-use Rattle.rdm_log.specs.log.Entries.{accepted_of, asked_of, collector_of}
-use Rattle.rdm_log.specs.log.Clients.{client_of_request, client_of_discovery, answers_to, collects_by, collected}
-use Rattle.rdm_log.specs.log.Clients.{uncollected, outstanding_requests, outstanding_discoveries}
-use Rattle.rdm_log.specs.log.Legal.{MayFollow}
 use Rattle.rdm_log.proofs.LogLemmas.Grows.{front}
 use Rattle.rdm_log.proofs.LogLemmas.PushLemmas.{accepts_same, asks_same, collectors_same}
 use Rattle.rdm_log.proofs.LogLemmas.LegalFacts.{legal_facts}

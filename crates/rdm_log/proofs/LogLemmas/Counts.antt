@@ -1,9 +1,7 @@
 -- How often a number occurs in a list.
-use Rattle.std.proofs.Common.{◌≡◌, ℕ, suc, ◌+◌, ◌<◌, ◌≤◌, Bool, true, false, cond, List, [], ◌∷◌, ◌++◌, length, ap}
-use Rattle.std.proofs.Common.{length-append, filter, map, if◌then◌else◌, refl, arith, inl, inr}
-use Rattle.std.specs.Prelude.{◌⊎◌, ◌==◌}
-use Rattle.std.proofs.lemmas.List.Elements.{filter-append}
-use Rattle.std.proofs.lemmas.Bool.{cases_Bool, eqb-true, eq-eqb}
+use Rattle.rdm_log.proofs.Common.{◌≡◌, ℕ, suc, ◌+◌, ◌<◌, ◌≤◌, Bool, true, false, cond, List, [], ◌∷◌, ◌++◌, length, ap}
+use Rattle.rdm_log.proofs.Common.{length-append, filter, map, if◌then◌else◌, refl, arith, inl, inr, ◌⊎◌, ◌==◌}
+use Rattle.rdm_log.proofs.Common.{filter-append, cases_Bool, eqb-true, eq-eqb}
 
 -- how often c occurs in a list
 abbrev pub count : ℕ → List ℕ → ℕ

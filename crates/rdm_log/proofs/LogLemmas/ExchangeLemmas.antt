@@ -1,16 +1,9 @@
 -- A request's exchanges and its result, as a log grows by a frame or by what came for it.
-use Rattle.std.proofs.Common.{◌≡◌, ℕ, true, false, List, [], ◌∷◌, ◌++◌, length, map, filter, Some, None, slice_get, zip}
-use Rattle.std.proofs.Common.{refl, ap, append-nil, suc}
-use Rattle.std.proofs.lemmas.List.{map-append}
-use Rattle.std.proofs.lemmas.List.Elements.{filter-append}
-use Rattle.arrayvec.specs.ArrayVec.{ArrayVec}
-use Rattle.rdm_join.specs.declared.event.LineEvent.{LineEvent}
+use Rattle.rdm_log.proofs.Common.{◌≡◌, ℕ, true, false, List, [], ◌∷◌, ◌++◌, length, map, filter, Some, None, slice_get}
+use Rattle.rdm_log.proofs.Common.{zip, refl, ap, append-nil, suc, map-append, filter-append, ArrayVec, LineEvent, Owner}
+use Rattle.rdm_log.proofs.Common.{Entry, Send, Came, Sending, traded_of, is_request, verdict_on, sends, cames, traded}
+use Rattle.rdm_log.proofs.Common.{of_request, verdicts, result}
 use Rattle.rdm_join.specs.Result.{result_of}
-use Rattle.rdm_log.specs.declared.entry.Owner.{Owner}
-use Rattle.rdm_log.specs.declared.entry.Entry.{Entry}
-use Rattle.rdm_log.specs.declared.entry.Entry.TheVariants.{Send, Came}
-use Rattle.rdm_log.specs.log.Entries.{Sending, traded_of, is_request, verdict_on, sends, cames, traded, of_request}
-use Rattle.rdm_log.specs.log.Entries.{verdicts, result}
 use Rattle.rdm_log.proofs.LogLemmas.Indices.{zip_first_more, zip_both_more}
 use Rattle.rdm_log.proofs.LogLemmas.PushLemmas.{sends_same, sends_more, cames_same, cames_more}
 

@@ -1,12 +1,7 @@
 -- A log that grows.
-use Rattle.std.proofs.Common.{◌≡◌, List, [], ◌∷◌, ◌++◌, refl}
-use Rattle.rdm_wire.specs.Lists.{EachAfter}
-use Rattle.rdm_wire.proofs.EachAfterLemmas.{EachAfter-push, EachAfter-front}
-use Rattle.rdm_log.specs.declared.entry.Opening.{Opening}
-use Rattle.rdm_log.specs.declared.entry.Entry.{Entry}
-use Rattle.rdm_log.specs.log.Entries.{accepts, asks, sends, finishes, answers}
-use Rattle.rdm_log.specs.log.Runs.{last_run}
-use Rattle.rdm_log.specs.log.Legal.{MayFollow, Legal}
+use Rattle.rdm_log.proofs.Common.{◌≡◌, List, [], ◌∷◌, ◌++◌, refl, EachAfter, EachAfter-push, Opening, Entry, accepts}
+use Rattle.rdm_log.proofs.Common.{asks, sends, finishes, answers, last_run, MayFollow, Legal}
+use Rattle.rdm_wire.proofs.EachAfterLemmas.{EachAfter-front}
 
 pub pushed : (o : Opening) (h : List Entry) (e : Entry) → EachAfter (MayFollow o) h → MayFollow o h e
     → EachAfter (MayFollow o) (h ++ e ∷ [])

@@ -1,12 +1,10 @@
 -- Elements of a list by their indices, and lists with one more at the end.
-use Rattle.std.proofs.Common.{◌≡◌, ℕ, zero, suc, ◌+◌, List, [], ◌∷◌, ◌++◌, length, drop, Option, Some, None, slice_get}
-use Rattle.std.proofs.Common.{◌<◌, ◌≤◌, Bool, filter, refl, ap, ◌∙◌, zero-add, suc-add, append-nil, inl, inr, arith}
-use Rattle.std.proofs.Common.{filter_map}
-use Rattle.std.specs.Prelude.{◌⊎◌, ◌≢◌, zip}
-use Rattle.std.specs.List.{AllByRecursion, cons_option}
+use Rattle.rdm_log.proofs.Common.{◌≡◌, ℕ, zero, suc, ◌+◌, List, [], ◌∷◌, ◌++◌, length, drop, Option, Some, None}
+use Rattle.rdm_log.proofs.Common.{slice_get, ◌<◌, ◌≤◌, Bool, filter, refl, ap, ◌∙◌, zero-add, suc-add, append-nil, inl}
+use Rattle.rdm_log.proofs.Common.{inr, arith, filter_map, ◌⊎◌, ◌≢◌, AllByRecursion, cons_option, cases_lt}
+use Rattle.rdm_log.proofs.Common.{filter_map-append}
+use Rattle.std.specs.Prelude.{zip}
 use Rattle.std.proofs.lemmas.List.{drop_all}
-use Rattle.std.proofs.lemmas.Bool.{cases_lt}
-use Rattle.std.proofs.lemmas.List.Elements.{filter_map-append}
 
 -- what holds of each index holds of all
 pub all_from_indices : {X : Type 0} (P : X → Type 0) (xs : List X) → ((i : ℕ) (x : X) → slice_get xs i ≡ Some x → P x)

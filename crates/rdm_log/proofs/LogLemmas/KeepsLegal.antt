@@ -1,30 +1,16 @@
 -- What a call adds keeps a log legal.
-use Rattle.std.proofs.Common.{◌≡◌, ℕ, ◌<◌, ◌≤◌, true, false, List, [], ◌∷◌, ◌++◌, length, Option, Some, None, slice_get}
-use Rattle.std.proofs.Common.{refl, sym, ap, ◌∙◌, arith, inl, inr}
-use Rattle.std.specs.Prelude.{◌≢◌, ◌⊎◌, ◌==◌, MatchOption}
-use Rattle.std.specs.List.{AllByRecursion}
-use Rattle.rdm_wire.specs.Honest.Asked.{Unmute}
-use Rattle.std.proofs.lemmas.Bool.{false≢true, cases_Bool, eqb-true, eq-eqb, ne_eqb}
-use Rattle.arrayvec.specs.ArrayVec.{ArrayVec}
-use Rattle.rdm_wire.specs.declared.request.Request.{Request}
-use Rattle.rdm_agent.specs.declared.kind.Kind.{Kind}
-use Rattle.rdm_log.specs.declared.entry.ClientId.{ClientId}
-use Rattle.rdm_log.specs.declared.entry.Call.{Call}
-use Rattle.rdm_log.specs.declared.entry.Cause.{Cause}
-use Rattle.rdm_log.specs.declared.entry.Owner.{Owner}
+use Rattle.rdm_log.proofs.Common.{◌≡◌, ℕ, ◌<◌, ◌≤◌, true, false, List, [], ◌∷◌, ◌++◌, length, Option, Some, None}
+use Rattle.rdm_log.proofs.Common.{slice_get, refl, sym, ap, ◌∙◌, arith, inl, inr, ◌≢◌, ◌⊎◌, ◌==◌, MatchOption}
+use Rattle.rdm_log.proofs.Common.{AllByRecursion, Unmute, false≢true, cases_Bool, eqb-true, eq-eqb, ne_eqb, ArrayVec}
+use Rattle.rdm_log.proofs.Common.{Request, Kind, ClientId, Call, Cause, Owner, Opening, Entry, Join, Refuse, Accept}
+use Rattle.rdm_log.proofs.Common.{Ask, Send, Collect, Pause, Resume, Accepted, Answered, asks, sends, cames, answers}
+use Rattle.rdm_log.proofs.Common.{result, has_begun, entries_before_run, open_run, served, run_exchanges, awaited}
+use Rattle.rdm_log.proofs.Common.{is_closed, can_pause, can_resume, unfinished, next_client, next_request, next_ask}
+use Rattle.rdm_log.proofs.Common.{uncollected, join_fault, submit_fault, ask_fault, NothingDue, AllAnswered, GoesOn}
+use Rattle.rdm_log.proofs.Common.{MaySendRequest, MayBegin, MaySendRun, MayFollow, Legal}
 use Rattle.rdm_log.specs.declared.entry.Owner.TheVariants as owners
-use Rattle.rdm_log.specs.declared.entry.Opening.{Opening}
-use Rattle.rdm_log.specs.declared.entry.Entry.{Entry}
-use Rattle.rdm_log.specs.declared.entry.Entry.TheVariants.{Join, Refuse, Accept, Ask, Send, Collect, Pause, Resume}
-use Rattle.rdm_log.specs.log.Entries.{Accepted, Answered, asks, sends, cames, answers, result}
-use Rattle.rdm_log.specs.log.Runs.{has_begun, entries_before_run, open_run, served, run_exchanges}
-use Rattle.rdm_log.specs.log.History.{awaited, is_closed, can_pause, can_resume, unfinished, next_client, next_request}
-use Rattle.rdm_log.specs.log.History.{next_ask}
-use Rattle.rdm_log.specs.log.Clients.{uncollected}
-use Rattle.rdm_log.specs.log.Refusals.{join_fault, submit_fault, ask_fault, IsRefused}
-use Rattle.rdm_log.specs.log.Due.{NothingDue, AllAnswered, GoesOn}
-use Rattle.rdm_log.specs.log.MaySend.{MaySendRequest, MayBegin, MaySendRun, NoSend}
-use Rattle.rdm_log.specs.log.Legal.{MayFollow, Legal}
+use Rattle.rdm_log.specs.log.Refusals.{IsRefused}
+use Rattle.rdm_log.specs.log.MaySend.{NoSend}
 use Rattle.rdm_log.proofs.LogLemmas.Grows.{pushed}
 use Rattle.rdm_log.proofs.LogLemmas.Indices.{all_at, all_from_indices, each_index_push}
 use Rattle.rdm_log.proofs.LogLemmas.PushLemmas.{unfinished_accept, SameRequests, same_after, accepts_same}

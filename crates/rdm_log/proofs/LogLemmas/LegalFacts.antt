@@ -1,28 +1,14 @@
 -- What holds for a log in which each entry may follow those before it, even if something is due at its end.
-use Rattle.std.proofs.Common.{◌≡◌, false, ℕ, ◌+◌, ◌≤◌, ◌<◌, true, List, [], ◌∷◌, ◌++◌, length, Some, None}
-use Rattle.std.proofs.Common.{if◌then◌else◌, slice_get, refl, sym, ap, ◌∙◌, append_assoc, append-nil, arith}
-use Rattle.std.proofs.Common.{length-append, inl, inr}
-use Rattle.std.specs.Prelude.{◌⊎◌}
-use Rattle.std.proofs.lemmas.Bool.{false≢true, eqb-true, false_from_ne_true}
-use Rattle.std.proofs.lemmas.Option.{none-some, same_Some, slice_get_within}
-use Rattle.std.proofs.lemmas.List.{length_push}
-use Rattle.arrayvec.specs.ArrayVec.{ArrayVec}
-use Rattle.rdm_wire.specs.Lists.{EachAfter}
-use Rattle.rdm_wire.specs.declared.request.Request.{Request}
-use Rattle.rdm_join.specs.declared.event.LineEvent.{LineEvent}
-use Rattle.rdm_join.specs.declared.status.Status.{Status}
-use Rattle.rdm_log.specs.declared.entry.ClientId.{ClientId}
+use Rattle.rdm_log.proofs.Common.{◌≡◌, false, ℕ, ◌+◌, ◌≤◌, ◌<◌, true, List, [], ◌∷◌, ◌++◌, length, Some, None}
+use Rattle.rdm_log.proofs.Common.{if◌then◌else◌, slice_get, refl, sym, ap, ◌∙◌, append_assoc, append-nil, arith}
+use Rattle.rdm_log.proofs.Common.{length-append, inl, inr, ◌⊎◌, false≢true, eqb-true, none-some, same_Some}
+use Rattle.rdm_log.proofs.Common.{slice_get_within, length_push, ArrayVec, EachAfter, Request, LineEvent, Status}
+use Rattle.rdm_log.proofs.Common.{ClientId, Opening, Entry, Accept, Send, Came, Finish, Accepted, Sending, Finished}
+use Rattle.rdm_log.proofs.Common.{joins, accepts, sends, cames, finishes, is_request, result, awaited, unfinished}
+use Rattle.rdm_log.proofs.Common.{next_client, next_request, NothingDue, MaySendRequest, MaySendRun, MayFinish}
+use Rattle.rdm_log.proofs.Common.{IsClosing, FitsResult, MayFollow}
+use Rattle.std.proofs.lemmas.Bool.{false_from_ne_true}
 use Rattle.rdm_log.specs.declared.entry.Owner.TheVariants as owners
-use Rattle.rdm_log.specs.declared.entry.Opening.{Opening}
-use Rattle.rdm_log.specs.declared.entry.Entry.{Entry}
-use Rattle.rdm_log.specs.declared.entry.Entry.TheVariants.{Accept, Send, Came, Finish}
-use Rattle.rdm_log.specs.log.Entries.{Accepted, Sending, Finished, joins, accepts, sends, cames, finishes, is_request}
-use Rattle.rdm_log.specs.log.Entries.{result}
-use Rattle.rdm_log.specs.log.History.{awaited, unfinished, next_client, next_request}
-use Rattle.rdm_log.specs.log.Due.{NothingDue}
-use Rattle.rdm_log.specs.log.MaySend.{MaySendRequest, MaySendRun}
-use Rattle.rdm_log.specs.log.MayFinish.{MayFinish, IsClosing, FitsResult}
-use Rattle.rdm_log.specs.log.Legal.{MayFollow}
 use Rattle.rdm_log.proofs.LogLemmas.Grows.{front}
 use Rattle.rdm_log.proofs.LogLemmas.PushLemmas.{unfinished_accept, SameRequests, same_after, joins-append, accepts_more}
 use Rattle.rdm_log.proofs.LogLemmas.PushLemmas.{accepts_same, sends_more, sends_same, cames_more, cames_same}

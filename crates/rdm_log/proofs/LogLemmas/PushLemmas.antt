@@ -1,20 +1,13 @@
 -- How what a log says grows with its last entries.
-use Rattle.std.proofs.Common.{◌≡◌, ℕ, false, List, [], ◌∷◌, ◌++◌, Some, None, ◌∙◌, ◌≤◌, length, drop, refl, sym}
-use Rattle.std.proofs.lemmas.List.Elements.{filter_map-append}
-use Rattle.std.proofs.lemmas.List.{length_push, drop-append-le, drop-drop}
-use Rattle.std.proofs.lemmas.List.Sums.{fold_push}
-use Rattle.rdm_wire.specs.declared.request.Request.{Request}
-use Rattle.rdm_join.specs.declared.status.Status.{Status}
-use Rattle.rdm_join.specs.declared.event.LineEvent.{LineEvent}
-use Rattle.rdm_log.specs.declared.entry.ClientId.{ClientId}
-use Rattle.rdm_log.specs.declared.entry.Opening.{Opening}
-use Rattle.rdm_log.specs.declared.entry.Entry.{Entry}
-use Rattle.rdm_log.specs.declared.entry.Entry.TheVariants.{Accept, Finish}
-use Rattle.rdm_log.specs.log.Entries.{Accepted, AskedDiscovery, Sending, Finished, Answered, join_of, accepted_of}
-use Rattle.rdm_log.specs.log.Entries.{asked_of, sending_of, came_of, finished_of, answered_of, collector_of, joins}
-use Rattle.rdm_log.specs.log.Entries.{accepts, asks, sends, cames, finishes, answers, collectors}
-use Rattle.rdm_log.specs.log.History.{unfinished, unanswered, awaits_after, paused_after, closed_after, awaited}
-use Rattle.rdm_log.specs.log.History.{is_paused, is_closed}
+use Rattle.rdm_log.proofs.Common.{◌≡◌, ℕ, false, List, [], ◌∷◌, ◌++◌, Some, None, ◌∙◌, ◌≤◌, length, drop, refl, sym}
+use Rattle.rdm_log.proofs.Common.{filter_map-append, length_push, drop-append-le, fold_push, Request, Status, LineEvent}
+use Rattle.rdm_log.proofs.Common.{ClientId, Opening, Entry, Accept, Finish, Accepted, AskedDiscovery, Sending, Finished}
+use Rattle.rdm_log.proofs.Common.{Answered, accepted_of, asked_of, sending_of, came_of, finished_of, answered_of}
+use Rattle.rdm_log.proofs.Common.{collector_of, joins, accepts, asks, sends, cames, finishes, answers, collectors}
+use Rattle.rdm_log.proofs.Common.{unfinished, unanswered, awaits_after, closed_after, awaited, is_paused, is_closed}
+use Rattle.std.proofs.lemmas.List.{drop-drop}
+use Rattle.rdm_log.specs.log.Entries.{join_of}
+use Rattle.rdm_log.specs.log.History.{paused_after}
 use Rattle.rdm_log.proofs.LogLemmas.Indices.{filter_map_none, filter_map_some}
 
 -- for two parts: what the first says, and then what the second says

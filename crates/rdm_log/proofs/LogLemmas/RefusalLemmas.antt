@@ -1,12 +1,9 @@
 -- What holds if a call isn't refused.
-use Rattle.std.proofs.Common.{◌≡◌, ℕ, ◌+◌, ◌-◌, ◌^◌, ◌<◌, ◌≤◌, Bool, true, false, Option, Some, None, if◌then◌else◌}
-use Rattle.std.proofs.Common.{slice_index, sum, List, refl}
-use Rattle.std.proofs.lemmas.Bool.{leb-false, ltb-false, or_parts}
-use Rattle.rdm_log.specs.declared.entry.Opening.{Opening}
-use Rattle.rdm_log.specs.declared.entry.Entry.{Entry}
-use Rattle.rdm_log.specs.log.History.{is_closed, places, next_client, next_request, next_ask}
-use Rattle.rdm_log.specs.log.Clients.{outstanding_requests, outstanding_discoveries}
-use Rattle.rdm_log.specs.log.Refusals.{join_fault, submit_fault, ask_fault}
+use Rattle.rdm_log.proofs.Common.{◌≡◌, ℕ, ◌+◌, ◌-◌, ◌^◌, ◌<◌, ◌≤◌, Bool, true, false, Option, Some, None, if◌then◌else◌}
+use Rattle.rdm_log.proofs.Common.{slice_index, sum, List, refl, leb-false, or_parts, Opening, Entry, is_closed, places}
+use Rattle.rdm_log.proofs.Common.{next_client, next_request, next_ask, outstanding_requests, outstanding_discoveries}
+use Rattle.rdm_log.proofs.Common.{join_fault, submit_fault, ask_fault}
+use Rattle.std.proofs.lemmas.Bool.{ltb-false}
 
 -- of faults in order, none applies
 pub none_stands : {X : Type 0} (b : Bool) (fault : X) (later : Option X) → (if b then Some fault else later) ≡ None

@@ -1,26 +1,13 @@
 -- How much of a log's room an entry uses, what is reserved for later ones among it.
-use Rattle.std.proofs.Common.{◌≡◌, ℕ, ◌+◌, ◌<◌, ◌≤◌, true, false, Option, None, List, [], ◌∷◌, ◌++◌, length, refl}
-use Rattle.std.proofs.Common.{append_assoc, append-nil, length-drop, arith}
-use Rattle.std.proofs.lemmas.List.{length_push}
-use Rattle.std.proofs.lemmas.Option.{slice_get_within}
-use Rattle.arrayvec.specs.ArrayVec.{ArrayVec}
-use Rattle.rdm_wire.specs.Lists.{EachAfter}
-use Rattle.rdm_wire.specs.declared.request.Request.{Request}
-use Rattle.rdm_join.specs.declared.event.LineEvent.{LineEvent}
-use Rattle.rdm_join.specs.declared.status.Status.{Status}
-use Rattle.rdm_agent.specs.declared.kind.Kind.{Kind}
-use Rattle.rdm_agent.specs.declared.fault.AgentFault.{AgentFault}
-use Rattle.rdm_log.specs.declared.entry.ClientId.{ClientId}
-use Rattle.rdm_log.specs.declared.entry.Owner.{Owner}
+use Rattle.rdm_log.proofs.Common.{◌≡◌, ℕ, ◌+◌, ◌<◌, ◌≤◌, true, false, Option, None, List, [], ◌∷◌, ◌++◌, length, refl}
+use Rattle.rdm_log.proofs.Common.{append_assoc, append-nil, length-drop, arith, length_push, slice_get_within, ArrayVec}
+use Rattle.rdm_log.proofs.Common.{EachAfter, Request, LineEvent, Status, Kind, AgentFault, ClientId, Owner, Opening}
+use Rattle.rdm_log.proofs.Common.{Entry, Join, Refuse, Accept, Ask, Send, Came, Finish, Answer, Collect, Pause, Resume}
+use Rattle.rdm_log.proofs.Common.{Close, Accepted, AskedDiscovery, Finished, Answered, asked_of, answered_of, accepts}
+use Rattle.rdm_log.proofs.Common.{asks, finishes, answers, collectors, awaited, is_closed, unfinished, unanswered}
+use Rattle.rdm_log.proofs.Common.{MayFollow}
 use Rattle.rdm_log.specs.declared.entry.Owner.TheVariants as owners
-use Rattle.rdm_log.specs.declared.entry.Opening.{Opening}
-use Rattle.rdm_log.specs.declared.entry.Entry.{Entry}
-use Rattle.rdm_log.specs.declared.entry.Entry.TheVariants.{Join, Refuse, Accept, Ask, Send, Came, Finish, Answer}
-use Rattle.rdm_log.specs.declared.entry.Entry.TheVariants.{Collect, Pause, Resume, Close}
-use Rattle.rdm_log.specs.log.Entries.{Accepted, AskedDiscovery, Finished, Answered, asked_of, answered_of, accepts}
-use Rattle.rdm_log.specs.log.Entries.{asks, finishes, answers, collectors}
-use Rattle.rdm_log.specs.log.History.{awaited, is_closed, unfinished, unanswered, reserved}
-use Rattle.rdm_log.specs.log.Legal.{MayFollow}
+use Rattle.rdm_log.specs.log.History.{reserved}
 use Rattle.rdm_log.proofs.LogLemmas.Grows.{front, pushed}
 use Rattle.rdm_log.proofs.LogLemmas.LegalFacts.{legal_facts}
 use Rattle.rdm_log.proofs.LogLemmas.AskFacts.{ask_facts}

@@ -1,31 +1,15 @@
 -- What holds of the runs of a log in which each entry may follow those before it.
-use Rattle.std.proofs.Common.{◌≡◌, ℕ, suc, ◌+◌, ◌≤◌, ◌<◌, Bool, true, false, List, [], ◌∷◌, ◌++◌, length, Option, Some}
-use Rattle.std.proofs.Common.{None, slice_get, refl, sym, ap, ◌∙◌, inl, inr, arith, if◌then◌else◌}
-use Rattle.std.specs.Prelude.{◌⊎◌, ◌≢◌, ◌||◌, ◌==◌}
-use Rattle.std.specs.List.{AllByRecursion, list_any}
-use Rattle.std.proofs.lemmas.Bool.{cases_Bool, false≢true, eqb-true, eq-eqb}
-use Rattle.std.proofs.lemmas.Option.{none-some, same_Some}
-use Rattle.arrayvec.specs.ArrayVec.{ArrayVec}
-use Rattle.rdm_wire.specs.Lists.{EachAfter}
-use Rattle.rdm_wire.specs.Honest.{Seen}
-use Rattle.rdm_wire.specs.Honest.Heard.{Failed}
-use Rattle.rdm_join.specs.declared.event.LineEvent.{LineEvent}
+use Rattle.rdm_log.proofs.Common.{◌≡◌, ℕ, suc, ◌+◌, ◌≤◌, ◌<◌, Bool, true, false, List, [], ◌∷◌, ◌++◌, length, Option}
+use Rattle.rdm_log.proofs.Common.{Some, None, slice_get, refl, sym, ap, ◌∙◌, inl, inr, arith, if◌then◌else◌, ◌⊎◌, ◌≢◌}
+use Rattle.rdm_log.proofs.Common.{◌||◌, ◌==◌, AllByRecursion, list_any, cases_Bool, false≢true, eqb-true, eq-eqb}
+use Rattle.rdm_log.proofs.Common.{none-some, same_Some, ArrayVec, EachAfter, Seen, Failed, LineEvent, AgentFault, Owner}
+use Rattle.rdm_log.proofs.Common.{Opening, Entry, Send, Came, Answer, Sending, Answered, sending_of, came_of}
+use Rattle.rdm_log.proofs.Common.{answered_of, sends, cames, traded, answers, is_run, awaits_after, awaited, has_begun}
+use Rattle.rdm_log.proofs.Common.{last_run, is_answered, unless_answered, open_run, served, run_exchanges, GoesOn}
+use Rattle.rdm_log.proofs.Common.{NothingDue, MayBegin, MaySendRun, MayAnswer, MayFollow}
 use Rattle.rdm_agent.specs.Run.{FailureIsLast}
-use Rattle.rdm_agent.specs.declared.fault.AgentFault.{AgentFault}
-use Rattle.rdm_log.specs.declared.entry.Owner.{Owner}
 use Rattle.rdm_log.specs.declared.entry.Owner.TheVariants as owners
-use Rattle.rdm_log.specs.declared.entry.Opening.{Opening}
-use Rattle.rdm_log.specs.declared.entry.Entry.{Entry}
-use Rattle.rdm_log.specs.declared.entry.Entry.TheVariants.{Send, Came, Answer}
-use Rattle.rdm_log.specs.log.Entries.{Sending, Answered, sending_of, came_of, answered_of, sends, cames, traded}
-use Rattle.rdm_log.specs.log.Entries.{answers, is_run}
-use Rattle.rdm_log.specs.log.History.{awaits_after, awaited}
-use Rattle.rdm_log.specs.log.Runs.{has_begun, last_run, next_run, is_answered, unless_answered, open_run, served}
-use Rattle.rdm_log.specs.log.Runs.{run_exchanges}
-use Rattle.rdm_log.specs.log.Due.{GoesOn, NothingDue}
-use Rattle.rdm_log.specs.log.MaySend.{MayBegin, MaySendRun}
-use Rattle.rdm_log.specs.log.MayAnswer.{MayAnswer}
-use Rattle.rdm_log.specs.log.Legal.{MayFollow}
+use Rattle.rdm_log.specs.log.Runs.{next_run}
 use Rattle.rdm_log.proofs.LogLemmas.PushLemmas.{sends_same, sends_more, cames_same, answered_same, answered_more}
 use Rattle.rdm_log.proofs.LogLemmas.PushLemmas.{awaited-push}
 use Rattle.rdm_log.proofs.LogLemmas.ExchangeLemmas.{IsUnanswered}

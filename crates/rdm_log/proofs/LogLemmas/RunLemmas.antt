@@ -1,28 +1,16 @@
 -- What a log says of its runs, as it grows.
-use Rattle.std.proofs.Common.{◌≡◌, ℕ, ◌≤◌, arith, Bool, true, false, cond, List, [], ◌∷◌, ◌++◌, length, filter}
-use Rattle.std.proofs.Common.{filter_map, map, Option, Some, None, fold, ◌+◌, take, not, one-add, refl, sym, ap, ◌∙◌}
-use Rattle.std.proofs.Common.{append-nil, inl, inr}
-use Rattle.std.specs.Prelude.{◌⊎◌, ◌||◌, zip}
-use Rattle.std.specs.List.{list_any, before_first, position_or_len}
-use Rattle.std.proofs.lemmas.Bool.{cases_Bool, false≢true, eq-eqb, or_parts}
-use Rattle.std.proofs.lemmas.List.{map-append}
-use Rattle.std.proofs.lemmas.List.Folds.{list_any-append}
-use Rattle.std.proofs.lemmas.List.Sums.{fold_push}
-use Rattle.std.proofs.lemmas.List.Elements.{filter-append}
-use Rattle.std.proofs.lemmas.Option.{none-some, same_Some}
-use Rattle.arrayvec.specs.ArrayVec.{ArrayVec}
-use Rattle.rdm_wire.specs.Honest.{Seen}
-use Rattle.rdm_join.specs.declared.event.LineEvent.{LineEvent}
-use Rattle.rdm_log.specs.declared.entry.Owner.{Owner}
+use Rattle.rdm_log.proofs.Common.{◌≡◌, ℕ, ◌≤◌, arith, Bool, true, false, cond, List, [], ◌∷◌, ◌++◌, length, filter}
+use Rattle.rdm_log.proofs.Common.{filter_map, map, Option, Some, None, fold, ◌+◌, take, not, one-add, refl, sym, ap}
+use Rattle.rdm_log.proofs.Common.{◌∙◌, append-nil, inl, inr, ◌⊎◌, ◌||◌, list_any, before_first, position_or_len}
+use Rattle.rdm_log.proofs.Common.{cases_Bool, false≢true, eq-eqb, or_parts, map-append, list_any-append, fold_push}
+use Rattle.rdm_log.proofs.Common.{filter-append, none-some, same_Some, ArrayVec, Seen, LineEvent, Owner, Opening, Entry}
+use Rattle.rdm_log.proofs.Common.{Send, Came, Sending, Traded, traded_of, sending_of, came_of, answered_of, asks}
+use Rattle.rdm_log.proofs.Common.{answers, sends, cames, traded, is_run, sends_run, has_begun, entries_before_run}
+use Rattle.rdm_log.proofs.Common.{run_of_owner, last_run, unless_answered, open_run, asked_before, served}
+use Rattle.rdm_log.proofs.Common.{run_exchanges, run_frames, last_run_without_fault, devices_of, known_devices}
+use Rattle.std.specs.Prelude.{zip}
 use Rattle.rdm_log.specs.declared.entry.Owner.TheVariants as owners
-use Rattle.rdm_log.specs.declared.entry.Opening.{Opening}
-use Rattle.rdm_log.specs.declared.entry.Entry.{Entry}
-use Rattle.rdm_log.specs.declared.entry.Entry.TheVariants.{Send, Came}
-use Rattle.rdm_log.specs.log.Entries.{Sending, Traded, traded_of, sending_of, came_of, answered_of, asks, answers}
-use Rattle.rdm_log.specs.log.Entries.{sends, cames, traded, is_run}
-use Rattle.rdm_log.specs.log.Runs.{sends_run, has_begun, entries_before_run, run_of_owner, last_run, unless_answered}
-use Rattle.rdm_log.specs.log.Runs.{open_run, asked_before, served, seen_of, run_exchanges, run_frames}
-use Rattle.rdm_log.specs.log.Runs.{last_run_without_fault, devices_of, known_devices}
+use Rattle.rdm_log.specs.log.Runs.{seen_of}
 use Rattle.rdm_log.proofs.LogLemmas.PushLemmas.{sends_more, sends_same, cames_same, answered_same}
 use Rattle.rdm_log.proofs.LogLemmas.ExchangeLemmas.{IsUnanswered, traded_sent, traded_came}
 

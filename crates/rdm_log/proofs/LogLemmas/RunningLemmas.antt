@@ -1,18 +1,10 @@
 -- The run that has begun, as the log grows.
-use Rattle.std.proofs.Common.{◌≡◌, ℕ, Bool, true, false, List, [], ◌∷◌, ◌++◌, length, Option, Some, None, refl, sym, ap}
-use Rattle.std.proofs.Common.{◌∙◌}
-use Rattle.std.proofs.lemmas.Option.{none-some}
-use Rattle.rdm_wire.specs.Devices.{uids_of}
-use Rattle.arrayvec.specs.ArrayVec.{ArrayVec}
-use Rattle.rdm_join.specs.declared.event.LineEvent.{LineEvent}
+use Rattle.rdm_log.proofs.Common.{◌≡◌, ℕ, Bool, true, false, List, [], ◌∷◌, ◌++◌, length, Option, Some, None, refl, sym}
+use Rattle.rdm_log.proofs.Common.{ap, ◌∙◌, none-some, uids_of, ArrayVec, LineEvent, Opening, Entry, Send, Came, Close}
+use Rattle.rdm_log.proofs.Common.{sending_of, came_of, answered_of, answers, asks, awaits_after, closed_after, awaited}
+use Rattle.rdm_log.proofs.Common.{is_closed, has_begun, entries_before_run, last_run, unless_answered, open_run}
+use Rattle.rdm_log.proofs.Common.{asked_before, served, run_exchanges, run_kind, known_at_run, known_devices}
 use Rattle.rdm_log.specs.declared.entry.Owner.TheVariants as owners
-use Rattle.rdm_log.specs.declared.entry.Opening.{Opening}
-use Rattle.rdm_log.specs.declared.entry.Entry.{Entry}
-use Rattle.rdm_log.specs.declared.entry.Entry.TheVariants.{Send, Came, Close}
-use Rattle.rdm_log.specs.log.Entries.{sending_of, came_of, answered_of, answers, asks}
-use Rattle.rdm_log.specs.log.History.{awaits_after, closed_after, awaited, is_closed}
-use Rattle.rdm_log.specs.log.Runs.{has_begun, entries_before_run, last_run, unless_answered, open_run, asked_before}
-use Rattle.rdm_log.specs.log.Runs.{served, run_exchanges, run_kind, known_at_run, known_devices}
 use Rattle.rdm_log.proofs.LogLemmas.PushLemmas.{sends_same, answered_same, awaited-push, is_closed-push}
 use Rattle.rdm_log.proofs.LogLemmas.ExchangeLemmas.{IsUnanswered}
 use Rattle.rdm_log.proofs.LogLemmas.RunLemmas.{last_run_same, last_begun, served_stays, entries_before_run_stays}

@@ -1,22 +1,13 @@
 -- Each discovery has exactly one answer, first in, first out.
-use Rattle.std.proofs.Common.{◌≡◌, ℕ, zero, suc, ◌+◌, ◌-◌, ◌<◌, ◌≤◌, Bool, true, false, List, [], ◌∷◌, ◌++◌, length}
-use Rattle.std.proofs.Common.{take, drop, filter, Some, slice_get, if◌then◌else◌, refl, sym, ap, ◌∙◌, inl, inr}
-use Rattle.std.proofs.Common.{length-drop, arith}
-use Rattle.std.specs.Prelude.{◌⊎◌, ◌==◌, filter_map}
-use Rattle.std.specs.List.{Contains, range_with_len}
-use Rattle.std.proofs.lemmas.List.{map-append, take-append-drop, length-take-le}
-use Rattle.std.proofs.lemmas.List.Elements.{filter-append}
-use Rattle.rdm_log.specs.declared.entry.Opening.{Opening}
-use Rattle.rdm_log.specs.declared.entry.Entry.{Entry}
-use Rattle.rdm_log.specs.declared.entry.Entry.TheVariants.{Finish, Answer}
-use Rattle.rdm_log.specs.log.Entries.{AskedDiscovery, Answered, answered_of, asks, answers}
-use Rattle.rdm_log.specs.log.History.{awaited, is_closed}
-use Rattle.rdm_log.specs.log.Clients.{asks_by, client_of_request, client_of_discovery, is_client_of, is_answer_to}
-use Rattle.rdm_log.specs.log.Clients.{answers_to}
-use Rattle.rdm_log.specs.log.Legal.{Legal}
-use Rattle.rdm_log.specs.promises.Headline.{Begins}
-use Rattle.rdm_log.specs.promises.Discoveries.{numbers_asked, numbers_answered, answer_count, OneAnswer}
-use Rattle.rdm_log.specs.promises.Discoveries.{AnsweredInOrder}
+use Rattle.rdm_log.proofs.Common.{◌≡◌, ℕ, zero, suc, ◌+◌, ◌-◌, ◌<◌, ◌≤◌, Bool, true, false, List, [], ◌∷◌, ◌++◌, length}
+use Rattle.rdm_log.proofs.Common.{take, drop, filter, Some, slice_get, if◌then◌else◌, refl, sym, ap, ◌∙◌, inl, inr}
+use Rattle.rdm_log.proofs.Common.{length-drop, arith, ◌⊎◌, ◌==◌, Contains, range_with_len, map-append, take-append-drop}
+use Rattle.rdm_log.proofs.Common.{length-take-le, filter-append, Opening, Entry, Finish, Answer, AskedDiscovery}
+use Rattle.rdm_log.proofs.Common.{Answered, answered_of, asks, answers, awaited, is_closed, asks_by, client_of_request}
+use Rattle.rdm_log.proofs.Common.{client_of_discovery, is_client_of, is_answer_to, answers_to, Legal, Begins}
+use Rattle.rdm_log.proofs.Common.{numbers_asked}
+use Rattle.std.specs.Prelude.{filter_map}
+use Rattle.rdm_log.specs.promises.Discoveries.{numbers_answered, answer_count, OneAnswer, AnsweredInOrder}
 use Rattle.rdm_log.proofs.PromiseLemmas.Numbers.{range_parts, numbers_by_index, count_outside, count_within}
 use Rattle.rdm_log.proofs.PromiseLemmas.OneResult.{IsAmong, among, contains_range, range_contains}
 use Rattle.rdm_log.proofs.LogLemmas.AskFacts.{AskFacts, ask_facts}

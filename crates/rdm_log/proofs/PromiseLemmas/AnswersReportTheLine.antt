@@ -1,36 +1,20 @@
 -- The devices of an Answer are those that its run showed on the line.
-use Rattle.std.proofs.Common.{◌≡◌, ℕ, suc, zero, true, false, List, [], ◌∷◌, ◌++◌, take, drop, Option, Some, None}
-use Rattle.std.proofs.Common.{slice_get, filter_map, refl, sym, ap, ◌∙◌, inl, inr, fold}
-use Rattle.std.specs.Prelude.{◌⊎◌, ◌≢◌, ◌==◌}
-use Rattle.std.specs.List.{Contains, cons_option}
-use Rattle.std.proofs.lemmas.Bool.{cases_Bool, false≢true, eqb-true, eq-eqb}
-use Rattle.std.proofs.lemmas.Option.{none-some, same_Some}
-use Rattle.rdm_wire.specs.Lists.{EachAfter}
-use Rattle.rdm_wire.specs.Uid.{has, IsDevice}
-use Rattle.rdm_wire.specs.Devices.{uids_of}
-use Rattle.rdm_wire.specs.declared.device.Device.{Device}
-use Rattle.rdm_wire.specs.Honest.{Seen, HonestTo, HonestTrace}
-use Rattle.rdm_wire.specs.Honest.Asked.{Unmute}
+use Rattle.rdm_log.proofs.Common.{◌≡◌, ℕ, suc, zero, true, false, List, [], ◌∷◌, ◌++◌, take, drop, Option, Some, None}
+use Rattle.rdm_log.proofs.Common.{slice_get, filter_map, refl, sym, ap, ◌∙◌, inl, inr, fold, ◌⊎◌, ◌≢◌, ◌==◌, Contains}
+use Rattle.rdm_log.proofs.Common.{cons_option, cases_Bool, false≢true, eqb-true, eq-eqb, none-some, same_Some}
+use Rattle.rdm_log.proofs.Common.{EachAfter, has, uids_of, Device, Seen, HonestTrace, Unmute, acked_in, Certificate}
+use Rattle.rdm_log.proofs.Common.{Kind, AgentFault, Aborted, Opening, Entry, Answer, Answered, answered_of, answers}
+use Rattle.rdm_log.proofs.Common.{run_kind, known_at_run, run_exchanges, run_devices, answer_devices, if_without_fault}
+use Rattle.rdm_log.proofs.Common.{last_run_without_fault, known_devices, MayAnswer, MayFollow, Legal}
+use Rattle.rdm_log.proofs.Common.{AnswersReportTheLine}
+use Rattle.rdm_wire.specs.Uid.{IsDevice}
+use Rattle.rdm_wire.specs.Honest.{HonestTo}
 use Rattle.rdm_wire.specs.HonestOver.{HonestOver}
-use Rattle.rdm_agent.specs.Run.{acked_in}
-use Rattle.rdm_agent.specs.Certificate.{Certificate}
 use Rattle.rdm_agent.specs.Statements.{IsInEach}
-use Rattle.rdm_agent.specs.declared.kind.Kind.{Kind}
-use Rattle.rdm_agent.specs.declared.fault.AgentFault.{AgentFault}
-use Rattle.rdm_agent.specs.declared.fault.AgentFault.TheVariants.{Aborted}
 use Rattle.rdm_agent.proofs.Honest as honest_runs
 use Rattle.rdm_agent.proofs.OneDevice.{found}
 use Rattle.rdm_agent.proofs.ChangingDevices.{honest_over_to_each, staying_device}
 use Rattle.rdm_agent.proofs.ChangingDevices as changing
-use Rattle.rdm_log.specs.declared.entry.Opening.{Opening}
-use Rattle.rdm_log.specs.declared.entry.Entry.{Entry}
-use Rattle.rdm_log.specs.declared.entry.Entry.TheVariants.{Answer}
-use Rattle.rdm_log.specs.log.Entries.{Answered, answered_of, answers}
-use Rattle.rdm_log.specs.log.Runs.{run_kind, known_at_run, run_exchanges, run_devices, answer_devices, if_without_fault}
-use Rattle.rdm_log.specs.log.Runs.{last_run_without_fault, known_devices}
-use Rattle.rdm_log.specs.log.MayAnswer.{MayAnswer}
-use Rattle.rdm_log.specs.log.Legal.{MayFollow, Legal}
-use Rattle.rdm_log.specs.promises.Discoveries.{AnswersReportTheLine}
 use Rattle.rdm_log.proofs.LogLemmas.RunFacts.{run_facts}
 use Rattle.rdm_log.proofs.PromiseLemmas.StableResults.{contains_from_get}
 use Rattle.rdm_log.proofs.PromiseLemmas.RunReports.{reports, device_acked}

@@ -1,18 +1,11 @@
 -- What the blocks of a session's calls say if the log isn't full, and which entries a refused call leaves.
-use Rattle.std.proofs.Common.{◌≡◌, ℕ, Bool, true, false, List, [], ◌∷◌, ap, inl, inr}
-use Rattle.std.specs.Prelude.{◌⊎◌, Result, Ok, Err}
-use Rattle.rdm_wire.specs.declared.request.Request.{Request}
-use Rattle.rdm_agent.specs.declared.kind.Kind.{Kind}
-use Rattle.rdm_log.specs.declared.entry.ClientId.{ClientId}
-use Rattle.rdm_log.specs.declared.entry.Entry.{Entry}
+use Rattle.rdm_log.proofs.Common.{◌≡◌, ℕ, Bool, true, false, List, [], ◌∷◌, ap, inl, inr, ◌⊎◌, Result, Ok, Err, Request}
+use Rattle.rdm_log.proofs.Common.{Kind, ClientId, Entry, SubmitFault, AskFault, LogState, is_full_log, join_refused}
+use Rattle.rdm_log.proofs.Common.{submit_refused, ask_refused, SubmitAdds, DiscoverAdds}
 use Rattle.rdm_log.specs.declared.fault.JoinFault.{JoinFault}
-use Rattle.rdm_log.specs.declared.fault.SubmitFault.{SubmitFault}
 use Rattle.rdm_log.specs.declared.fault.SubmitFault.TheVariants as submit_faults
-use Rattle.rdm_log.specs.declared.fault.AskFault.{AskFault}
 use Rattle.rdm_log.specs.declared.fault.AskFault.TheVariants as ask_faults
-use Rattle.rdm_log.specs.log.LogState.{LogState, is_full_log}
-use Rattle.rdm_log.specs.promises.Blocks.{join_refused, submit_refused, ask_refused, JoinAdds, SubmitAdds, DiscoverAdds}
-use Rattle.rdm_log.specs.promises.Blocks.{UnlessFull, JoinLogs, SubmitLogs, DiscoverLogs}
+use Rattle.rdm_log.specs.promises.Blocks.{JoinAdds, UnlessFull, JoinLogs, SubmitLogs, DiscoverLogs}
 
 -- what isn't refused for a full log
 not_refused : {A B : Type 0} (full : Bool) → (A → ⊥) → UnlessFull full A B → B

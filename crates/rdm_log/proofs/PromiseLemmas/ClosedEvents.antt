@@ -1,26 +1,12 @@
 -- Events after a close start nothing.
-use Rattle.std.proofs.Common.{◌≡◌, ℕ, zero, suc, ◌<◌, Bool, true, false, List, [], ◌∷◌, ◌++◌, Some, None, slice_get}
-use Rattle.std.proofs.Common.{refl, sym, ◌∙◌, append_assoc, append-nil, arith}
-use Rattle.std.specs.Prelude.{Ok, Err}
-use Rattle.std.proofs.lemmas.Bool.{false≢true}
-use Rattle.std.proofs.lemmas.Option.{none-some, same_Some}
-use Rattle.rdm_wire.specs.declared.request.Request.{Request}
-use Rattle.rdm_agent.specs.declared.kind.Kind.{Kind}
-use Rattle.rdm_log.specs.declared.entry.ClientId.{ClientId}
-use Rattle.rdm_log.specs.declared.entry.Owner.{Owner}
+use Rattle.rdm_log.proofs.Common.{◌≡◌, ℕ, zero, suc, ◌<◌, Bool, true, false, List, [], ◌∷◌, ◌++◌, Some, None, slice_get}
+use Rattle.rdm_log.proofs.Common.{refl, sym, ◌∙◌, append_assoc, append-nil, arith, Ok, Err, false≢true, none-some}
+use Rattle.rdm_log.proofs.Common.{same_Some, Request, Kind, ClientId, Owner, Opening, Entry, Close, Event, is_closed}
+use Rattle.rdm_log.proofs.Common.{MaySend, LogState, CloseAddsWhere, Adds, IsAnswered, Explains}
 use Rattle.rdm_log.specs.declared.entry.Owner.TheVariants as owners
-use Rattle.rdm_log.specs.declared.entry.Opening.{Opening}
-use Rattle.rdm_log.specs.declared.entry.Entry.{Entry}
-use Rattle.rdm_log.specs.declared.entry.Entry.TheVariants.{Close}
-use Rattle.rdm_log.specs.declared.event.Event.{Event}
 use Rattle.rdm_log.specs.declared.event.Event.TheVariants as events
 use Rattle.rdm_log.specs.declared.event.Answer.{Answer}
 use Rattle.rdm_log.specs.declared.event.Answer.TheVariants as answers
-use Rattle.rdm_log.specs.log.History.{is_closed}
-use Rattle.rdm_log.specs.log.MaySend.{MaySend}
-use Rattle.rdm_log.specs.log.LogState.{LogState}
-use Rattle.rdm_log.specs.promises.Blocks.{CloseAddsWhere}
-use Rattle.rdm_log.specs.promises.Explains.{Adds, IsAnswered, Explains}
 use Rattle.rdm_log.proofs.PromiseLemmas.BlockLemmas.{join_ok, submit_ok, discover_ok}
 use Rattle.rdm_log.specs.promises.EventsHeadline.{starts}
 use Rattle.rdm_log.proofs.LogLemmas.PushLemmas.{is_closed-push}

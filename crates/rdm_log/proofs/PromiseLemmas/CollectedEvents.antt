@@ -1,33 +1,18 @@
 -- A client collects the outcomes of its Finishes and Answers once, in order.
-use Rattle.std.proofs.Common.{◌≡◌, ℕ, zero, suc, Bool, true, false, List, [], ◌∷◌, ◌++◌, length, take, drop, Option}
-use Rattle.std.proofs.Common.{Some, None, if◌then◌else◌, slice_get, refl, ap, ◌∙◌, append_assoc, append-nil, add-one}
-use Rattle.std.proofs.Common.{inl, inr, filter_map}
-use Rattle.std.specs.Prelude.{◌⊎◌, ◌==◌, Ok, Err}
-use Rattle.std.specs.List.{AllByRecursion, cons_option}
-use Rattle.std.proofs.lemmas.Bool.{eq-eqb, cases_Bool, false≢true, eqb-true}
-use Rattle.std.proofs.lemmas.List.{length_push}
-use Rattle.std.proofs.lemmas.List.Elements.{filter-append, filter_map-append}
-use Rattle.std.proofs.lemmas.Option.{same_Some}
-use Rattle.rdm_wire.specs.Lists.{EachAfter}
-use Rattle.rdm_log.specs.declared.entry.ClientId.{ClientId}
-use Rattle.rdm_log.specs.declared.entry.Opening.{Opening}
-use Rattle.rdm_log.specs.declared.entry.Entry.{Entry}
-use Rattle.rdm_log.specs.declared.entry.Entry.TheVariants.{Came, Finish, Collect, Pause, Resume, Close}
+use Rattle.rdm_log.proofs.Common.{◌≡◌, ℕ, zero, suc, Bool, true, false, List, [], ◌∷◌, ◌++◌, length, take, drop, Option}
+use Rattle.rdm_log.proofs.Common.{Some, None, if◌then◌else◌, slice_get, refl, ap, ◌∙◌, append_assoc, append-nil}
+use Rattle.rdm_log.proofs.Common.{add-one, inl, inr, filter_map, ◌⊎◌, ◌==◌, Ok, Err, AllByRecursion, cons_option}
+use Rattle.rdm_log.proofs.Common.{eq-eqb, cases_Bool, false≢true, eqb-true, length_push, filter-append}
+use Rattle.rdm_log.proofs.Common.{filter_map-append, same_Some, EachAfter, ClientId, Opening, Entry, Came, Finish}
+use Rattle.rdm_log.proofs.Common.{Collect, Pause, Resume, Close, Outcome, Event, collector_of, collectors, is_closed}
+use Rattle.rdm_log.proofs.Common.{can_pause, can_resume, answers_to, collects_by, collected, uncollected, MayFollow}
+use Rattle.rdm_log.proofs.Common.{OutcomeValue, outcome_value, outcome_of, unboxed, LogState, grown, join_refused}
+use Rattle.rdm_log.proofs.Common.{submit_refused, ask_refused, is_result, IsWithResults, IsOldest, SwitchAdds}
+use Rattle.rdm_log.proofs.Common.{CloseAddsWhere, Adds, IsAnswered, Explains}
 use Rattle.rdm_log.specs.declared.entry.Entry.TheVariants as discovery
-use Rattle.rdm_log.specs.declared.outcome.Outcome.{Outcome}
-use Rattle.rdm_log.specs.declared.event.Event.{Event}
 use Rattle.rdm_log.specs.declared.event.Event.TheVariants as events
 use Rattle.rdm_log.specs.declared.event.Answer.{Answer}
 use Rattle.rdm_log.specs.declared.event.Answer.TheVariants as answers
-use Rattle.rdm_log.specs.log.Entries.{collector_of, collectors}
-use Rattle.rdm_log.specs.log.History.{is_closed, can_pause, can_resume}
-use Rattle.rdm_log.specs.log.Clients.{answers_to, collects_by, collected, uncollected}
-use Rattle.rdm_log.specs.log.Legal.{MayFollow}
-use Rattle.rdm_log.specs.promises.Outcomes.{OutcomeValue, outcome_value, outcome_of, unboxed}
-use Rattle.rdm_log.specs.log.LogState.{LogState, grown}
-use Rattle.rdm_log.specs.promises.Blocks.{join_refused, submit_refused, ask_refused, is_result, IsWithResults, IsOldest}
-use Rattle.rdm_log.specs.promises.Blocks.{SwitchAdds, CloseAddsWhere}
-use Rattle.rdm_log.specs.promises.Explains.{Adds, IsAnswered, Explains}
 use Rattle.rdm_log.proofs.PromiseLemmas.BlockLemmas.{join_ok, submit_ok, discover_ok, join_refusal, submit_refusal}
 use Rattle.rdm_log.proofs.PromiseLemmas.BlockLemmas.{discover_refusal}
 use Rattle.rdm_log.specs.promises.EventsHeadline.{outcome_given, given_to, collected_outcomes}

@@ -1,30 +1,16 @@
 -- A discovery that was accepted is in the log, and a client that has as many as it may is refused.
-use Rattle.std.proofs.Common.{◌≡◌, ℕ, zero, suc, false, List, [], ◌∷◌, ◌++◌, Option, Some, slice_get, refl, sym, ap}
-use Rattle.std.proofs.Common.{◌∙◌}
-use Rattle.std.specs.Prelude.{Result, Ok, Err, option_map}
-use Rattle.std.specs.List.{Contains}
-use Rattle.std.proofs.lemmas.Option.{none-some, slice_get-get_or, slice_get-map, same_Some}
-use Rattle.rdm_wire.specs.Lists.{EachAfter}
-use Rattle.rdm_agent.specs.declared.kind.Kind.{Kind}
-use Rattle.rdm_log.specs.declared.entry.ClientId.{ClientId}
-use Rattle.rdm_log.specs.declared.entry.Entry.{Entry}
-use Rattle.rdm_log.specs.declared.entry.Entry.TheVariants.{Ask}
+use Rattle.rdm_log.proofs.Common.{◌≡◌, ℕ, zero, suc, false, List, [], ◌∷◌, ◌++◌, Option, Some, slice_get, refl, sym, ap}
+use Rattle.rdm_log.proofs.Common.{◌∙◌, Result, Ok, Err, option_map, Contains, none-some, slice_get-get_or}
+use Rattle.rdm_log.proofs.Common.{slice_get-map, same_Some, EachAfter, Kind, ClientId, Entry, Ask, NoMemory}
+use Rattle.rdm_log.proofs.Common.{BoxedOutcome, Event, AskedDiscovery, asked_of, asks, ask_fault, MayFollow, Legal}
+use Rattle.rdm_log.proofs.Common.{LogState, grown, is_full_log, ask_refused, DiscoverAdds, Adds, Explains}
+use Rattle.rdm_log.proofs.Common.{HasMostDiscoveries, numbers_asked, AnsweredAt}
 use Rattle.rdm_log.specs.declared.entry.Call.TheVariants as calls
 use Rattle.rdm_log.specs.declared.fault.AskFault.TheVariants.{Full}
-use Rattle.rdm_wire.specs.declared.fault.NoMemory.{NoMemory}
-use Rattle.rdm_log.specs.declared.outcome.BoxedOutcome.{BoxedOutcome}
-use Rattle.rdm_log.specs.declared.event.Event.{Event}
 use Rattle.rdm_log.specs.declared.event.Event.TheVariants as events
 use Rattle.rdm_log.specs.declared.event.Answer.{Answer}
 use Rattle.rdm_log.specs.declared.event.Answer.TheVariants as answers
-use Rattle.rdm_log.specs.log.Entries.{AskedDiscovery, asked_of, asks}
-use Rattle.rdm_log.specs.log.Refusals.{ask_fault}
-use Rattle.rdm_log.specs.log.Legal.{MayFollow, Legal}
-use Rattle.rdm_log.specs.log.LogState.{LogState, grown, is_full_log}
-use Rattle.rdm_log.specs.promises.Blocks.{ask_refused, DiscoverAdds}
-use Rattle.rdm_log.specs.promises.Explains.{Adds, Explains}
-use Rattle.rdm_log.specs.promises.Discoveries.{HasMostDiscoveries, numbers_asked}
-use Rattle.rdm_log.specs.promises.EventsHeadline.{AnsweredAt, MostExactly, refuses_discovery}
+use Rattle.rdm_log.specs.promises.EventsHeadline.{MostExactly, refuses_discovery}
 use Rattle.rdm_log.proofs.LogLemmas.Indices.{filter_map_has}
 use Rattle.rdm_log.proofs.PromiseLemmas.StableResults.{contains_from_get}
 use Rattle.rdm_log.proofs.PromiseLemmas.FullRefuses.{refusal_changes_nothing}

@@ -1,26 +1,15 @@
 -- On a calm line, with a budget that suffices, a discovery that events answered has a fault only after a close.
-use Rattle.std.proofs.Common.{◌≡◌, ℕ, zero, suc, Bool, true, false, List, [], ◌∷◌, ◌++◌, Some, None, refl, sym, ap, ◌∙◌}
-use Rattle.std.proofs.Common.{append_assoc, append-nil, inl, inr}
-use Rattle.std.specs.Prelude.{◌⊎◌, ◌≢◌, Ok, Err}
-use Rattle.std.proofs.lemmas.List.{append_cancel_left}
-use Rattle.rdm_wire.specs.Lists.{EachAfter}
-use Rattle.rdm_agent.specs.declared.fault.AgentFault.{AgentFault}
-use Rattle.rdm_log.specs.declared.entry.Entry.{Entry}
-use Rattle.rdm_log.specs.declared.entry.Entry.TheVariants.{Pause, Resume, Close}
+use Rattle.rdm_log.proofs.Common.{◌≡◌, ℕ, zero, suc, Bool, true, false, List, [], ◌∷◌, ◌++◌, Some, None, refl, sym, ap}
+use Rattle.rdm_log.proofs.Common.{◌∙◌, append_assoc, append-nil, inl, inr, ◌⊎◌, ◌≢◌, Ok, Err, append_cancel_left}
+use Rattle.rdm_log.proofs.Common.{EachAfter, AgentFault, Entry, Pause, Resume, Close, Event, is_closed, can_pause}
+use Rattle.rdm_log.proofs.Common.{can_resume, has_begun, MayAnswer, MayFollow, LogState, grown, with_entries}
+use Rattle.rdm_log.proofs.Common.{join_refused, submit_refused, ask_refused, SwitchAdds, CloseAddsWhere, IsCalmRun}
+use Rattle.rdm_log.proofs.Common.{FaultNeedsClose, AnswersInBound, Adds, Explains}
 use Rattle.rdm_log.specs.declared.entry.Entry.TheVariants as discovery
-use Rattle.rdm_log.specs.declared.event.Event.{Event}
 use Rattle.rdm_log.specs.declared.event.Event.TheVariants as events
 use Rattle.rdm_log.specs.declared.event.Answer.{Answer}
 use Rattle.rdm_log.specs.declared.event.Answer.TheVariants as answers
-use Rattle.rdm_log.specs.log.History.{is_closed, can_pause, can_resume}
-use Rattle.rdm_log.specs.log.Runs.{has_begun}
-use Rattle.rdm_log.specs.log.MayAnswer.{MayAnswer}
-use Rattle.rdm_log.specs.log.Legal.{MayFollow}
-use Rattle.rdm_log.specs.log.LogState.{LogState, grown, with_entries}
-use Rattle.rdm_log.specs.promises.Blocks.{join_refused, submit_refused, ask_refused, SwitchAdds, CloseAddsWhere}
 use Rattle.rdm_log.specs.promises.Blocks.{GrowsBy}
-use Rattle.rdm_log.specs.promises.InBound.{IsCalmRun, FaultNeedsClose, AnswersInBound}
-use Rattle.rdm_log.specs.promises.Explains.{Adds, Explains}
 use Rattle.rdm_log.proofs.BoundLemmas.{both_in_bound, after_growth, within_block}
 use Rattle.rdm_log.proofs.LogLemmas.PushLemmas.{is_closed-push}
 use Rattle.rdm_log.proofs.LogLemmas.RunLemmas.{entries_before_run_stays, served_stays}

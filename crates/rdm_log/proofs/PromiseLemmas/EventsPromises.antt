@@ -1,34 +1,18 @@
 -- What is promised of a list of events.
-use Rattle.std.proofs.Common.{◌≡◌, ℕ, false, List, [], ◌∷◌, ◌++◌, Option, Some, slice_get, refl, sym, ap, ◌∙◌}
-use Rattle.std.proofs.Common.{append_assoc, append-nil}
-use Rattle.std.specs.Prelude.{Ok, Err, option_map}
-use Rattle.std.specs.List.{Contains}
-use Rattle.std.proofs.lemmas.Option.{none-some, slice_get-get_or, slice_get-map, same_Some}
-use Rattle.rdm_wire.specs.Lists.{EachAfter}
-use Rattle.rdm_wire.specs.declared.request.Request.{Request}
-use Rattle.rdm_log.specs.declared.entry.ClientId.{ClientId}
-use Rattle.rdm_log.specs.declared.entry.Entry.{Entry}
-use Rattle.rdm_log.specs.declared.entry.Entry.TheVariants.{Accept}
+use Rattle.rdm_log.proofs.Common.{◌≡◌, ℕ, false, List, [], ◌∷◌, ◌++◌, Option, Some, slice_get, refl, sym, ap, ◌∙◌}
+use Rattle.rdm_log.proofs.Common.{append_assoc, append-nil, Ok, Err, option_map, Contains, none-some, slice_get-get_or}
+use Rattle.rdm_log.proofs.Common.{slice_get-map, same_Some, EachAfter, Request, ClientId, Entry, Accept, NoMemory}
+use Rattle.rdm_log.proofs.Common.{BoxedOutcome, Event, Accepted, accepted_of, accepts, submit_fault, MayFollow, Legal}
+use Rattle.rdm_log.proofs.Common.{LogState, grown, is_full_log, submit_refused, SubmitAdds, discovered, unboxed, Adds}
+use Rattle.rdm_log.proofs.Common.{Explains, IsFull, numbers_accepted, AnsweredAt, IsOwnOutcome, ReportsTheLine}
 use Rattle.rdm_log.specs.declared.entry.Call.TheVariants as calls
 use Rattle.rdm_log.specs.declared.fault.SubmitFault.TheVariants.{Full}
 use Rattle.rdm_log.specs.declared.outcome.AskCompletion.{AskCompletion}
-use Rattle.rdm_wire.specs.declared.fault.NoMemory.{NoMemory}
 use Rattle.rdm_log.specs.declared.outcome.Outcome.TheVariants as outcomes
-use Rattle.rdm_log.specs.declared.outcome.BoxedOutcome.{BoxedOutcome}
-use Rattle.rdm_log.specs.declared.event.Event.{Event}
 use Rattle.rdm_log.specs.declared.event.Event.TheVariants as events
 use Rattle.rdm_log.specs.declared.event.Answer.{Answer}
 use Rattle.rdm_log.specs.declared.event.Answer.TheVariants as answers
-use Rattle.rdm_log.specs.log.Entries.{Accepted, accepted_of, accepts}
-use Rattle.rdm_log.specs.log.Refusals.{submit_fault}
-use Rattle.rdm_log.specs.log.Legal.{MayFollow, Legal}
-use Rattle.rdm_log.specs.log.LogState.{LogState, grown, is_full_log}
-use Rattle.rdm_log.specs.promises.Blocks.{submit_refused, SubmitAdds}
-use Rattle.rdm_log.specs.promises.Outcomes.{discovered, unboxed}
-use Rattle.rdm_log.specs.promises.Explains.{Adds, Explains}
-use Rattle.rdm_log.specs.promises.Headline.{IsFull, numbers_accepted}
-use Rattle.rdm_log.specs.promises.EventsHeadline.{AnsweredAt, FullExactly, refuses_full, IsOwnOutcome, ReportsTheLine}
-use Rattle.rdm_log.specs.promises.EventsHeadline.{RefusesDiscovery, EventsPromised}
+use Rattle.rdm_log.specs.promises.EventsHeadline.{FullExactly, refuses_full, RefusesDiscovery, EventsPromised}
 use Rattle.rdm_log.proofs.LogLemmas.Indices.{filter_map_has}
 use Rattle.rdm_log.proofs.PromiseLemmas.StableResults.{contains_from_get}
 use Rattle.rdm_log.proofs.PromiseLemmas.OneResult.{one_result}
@@ -43,9 +27,8 @@ use Rattle.rdm_log.proofs.PromiseLemmas.EventsInBound.{in_bound}
 use Rattle.rdm_log.proofs.PromiseLemmas.ClosedEvents.{closes, nothing_after, nothing_closed}
 use Rattle.rdm_log.proofs.PromiseLemmas.QuietEvents.{idle_after}
 use Rattle.rdm_log.proofs.PromiseLemmas.RisingNumbers.{numbers_rise, asks_rise}
-use Rattle.rdm_log.proofs.PromiseLemmas.ExplainsLemmas.{HasBlock, has_block, one_answer_each}
-use Rattle.rdm_log.proofs.PromiseLemmas.ExplainsLemmas.{explained_grows, answered_at}
-use Rattle.rdm_log.proofs.PromiseLemmas.ExplainsLemmas.{block_contained, block_follows}
+use Rattle.rdm_log.proofs.PromiseLemmas.ExplainsLemmas.{HasBlock, has_block, one_answer_each, explained_grows}
+use Rattle.rdm_log.proofs.PromiseLemmas.ExplainsLemmas.{answered_at, block_contained, block_follows}
 
 -- a request that was accepted is in the log
 accepted : (old : LogState) (es : List Event) (rs : List Answer) (new : LogState) → Explains old es rs new

@@ -1,17 +1,10 @@
 -- The log before and after each event of a list that a log explains.
-use Rattle.std.proofs.Common.{◌≡◌, ℕ, zero, suc, ◌+◌, List, [], ◌∷◌, ◌++◌, length, drop, Some, slice_get, refl, sym, ap}
-use Rattle.std.proofs.Common.{◌∙◌, append_assoc, append-nil, arith}
-use Rattle.std.specs.List.{Contains}
-use Rattle.std.proofs.lemmas.List.Elements.{Contains-append_left, Contains-append_right}
-use Rattle.std.proofs.lemmas.Option.{none-some, same_Some}
-use Rattle.rdm_wire.specs.Lists.{EachAfter}
-use Rattle.rdm_log.specs.declared.entry.Entry.{Entry}
-use Rattle.rdm_log.specs.declared.event.Event.{Event}
+use Rattle.rdm_log.proofs.Common.{◌≡◌, ℕ, zero, suc, ◌+◌, List, [], ◌∷◌, ◌++◌, length, drop, Some, slice_get, refl, sym}
+use Rattle.rdm_log.proofs.Common.{ap, ◌∙◌, append_assoc, append-nil, arith, Contains, Contains-append_left, none-some}
+use Rattle.rdm_log.proofs.Common.{same_Some, EachAfter, Entry, Event, MayFollow, LogState, grown, IsAnswered, Explains}
+use Rattle.rdm_log.proofs.Common.{AnsweredAt}
+use Rattle.std.proofs.lemmas.List.Elements.{Contains-append_right}
 use Rattle.rdm_log.specs.declared.event.Answer.{Answer}
-use Rattle.rdm_log.specs.log.Legal.{MayFollow}
-use Rattle.rdm_log.specs.log.LogState.{LogState, grown}
-use Rattle.rdm_log.specs.promises.Explains.{IsAnswered, Explains}
-use Rattle.rdm_log.specs.promises.EventsHeadline.{AnsweredAt}
 use Rattle.rdm_log.proofs.LogLemmas.Grows.{front}
 
 pub one_answer_each : (old : LogState) (es : List Event) (rs : List Answer) (new : LogState) → Explains old es rs new

@@ -1,24 +1,14 @@
 -- A full queue refuses, and changes nothing.
-use Rattle.std.proofs.Common.{◌≡◌, ℕ, ◌≤◌, Bool, true, false, List, [], ◌∷◌, ◌++◌, Option, Some, None, if◌then◌else◌}
-use Rattle.std.proofs.Common.{slice_index, refl, sym, ◌∙◌, inl, inr, arith, append_assoc}
-use Rattle.std.specs.Prelude.{◌⊎◌, ◌||◌, option_map, nat_le}
-use Rattle.std.proofs.lemmas.Bool.{leb-true, leb-false, le-leb, lt-leb, or_cases, or_left, or_right}
-use Rattle.std.proofs.lemmas.Option.{same_Some}
-use Rattle.rdm_wire.specs.Lists.{EachAfter}
-use Rattle.rdm_log.specs.declared.entry.ClientId.{ClientId}
-use Rattle.rdm_log.specs.declared.entry.Call.{Call}
+use Rattle.rdm_log.proofs.Common.{◌≡◌, ℕ, ◌≤◌, Bool, true, false, List, [], ◌∷◌, ◌++◌, Option, Some, None}
+use Rattle.rdm_log.proofs.Common.{if◌then◌else◌, slice_index, refl, sym, ◌∙◌, inl, inr, arith, append_assoc, ◌⊎◌, ◌||◌}
+use Rattle.rdm_log.proofs.Common.{option_map, nat_le, leb-true, leb-false, le-leb, lt-leb, or_cases, or_left, or_right}
+use Rattle.rdm_log.proofs.Common.{same_Some, EachAfter, ClientId, Call, Cause, Opening, Entry, Refuse, Accept}
+use Rattle.rdm_log.proofs.Common.{SubmitFault, is_closed, places, next_client, next_request, outstanding_requests}
+use Rattle.rdm_log.proofs.Common.{submit_fault, MayFollow, Legal, IsFull}
 use Rattle.rdm_log.specs.declared.entry.Call.TheVariants as calls
-use Rattle.rdm_log.specs.declared.entry.Cause.{Cause}
-use Rattle.rdm_log.specs.declared.entry.Opening.{Opening}
-use Rattle.rdm_log.specs.declared.entry.Entry.{Entry}
-use Rattle.rdm_log.specs.declared.entry.Entry.TheVariants.{Refuse, Accept}
-use Rattle.rdm_log.specs.declared.fault.SubmitFault.{SubmitFault}
 use Rattle.rdm_log.specs.declared.fault.SubmitFault.TheVariants as faults
-use Rattle.rdm_log.specs.log.History.{is_closed, places, next_client, next_request}
-use Rattle.rdm_log.specs.log.Clients.{outstanding_requests}
-use Rattle.rdm_log.specs.log.Refusals.{submit_fault, number_of_submit_fault}
-use Rattle.rdm_log.specs.log.Legal.{MayFollow, Legal}
-use Rattle.rdm_log.specs.promises.Headline.{IsFull, SameQueue, FullRefuses}
+use Rattle.rdm_log.specs.log.Refusals.{number_of_submit_fault}
+use Rattle.rdm_log.specs.promises.Headline.{SameQueue, FullRefuses}
 use Rattle.rdm_log.proofs.LogLemmas.Grows.{front}
 use Rattle.rdm_log.proofs.LogLemmas.PushLemmas.{joins_same, accepts_same, asks_same, answered_same, finishes_same}
 use Rattle.rdm_log.proofs.LogLemmas.PushLemmas.{sends_same, cames_same, unfinished_same, awaited-push, is_paused-push}

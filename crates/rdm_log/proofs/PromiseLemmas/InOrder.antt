@@ -1,18 +1,12 @@
 -- First in, first out.
-use Rattle.std.proofs.Common.{◌≡◌, ℕ, zero, suc, ◌+◌, ◌-◌, Bool, true, false, List, [], ◌∷◌, ◌++◌, length, take, drop}
-use Rattle.std.proofs.Common.{filter, Some, slice_get, if◌then◌else◌, refl, sym, ap, ◌∙◌, arith}
-use Rattle.std.specs.Prelude.{◌==◌, filter_map}
-use Rattle.std.specs.List.{range_with_len}
-use Rattle.std.proofs.lemmas.List.{map-append, take-append-drop, length-take-le}
-use Rattle.std.proofs.lemmas.List.Elements.{filter-append}
-use Rattle.rdm_log.specs.declared.entry.Opening.{Opening}
-use Rattle.rdm_log.specs.declared.entry.Entry.{Entry}
-use Rattle.rdm_log.specs.declared.entry.Entry.TheVariants.{Finish, Answer}
-use Rattle.rdm_log.specs.log.Entries.{Accepted, Finished, finished_of, accepts, finishes}
-use Rattle.rdm_log.specs.log.Clients.{accepts_by, client_of_request, client_of_discovery, is_client_of, is_answer_to}
-use Rattle.rdm_log.specs.log.Clients.{answers_to}
-use Rattle.rdm_log.specs.log.Legal.{Legal}
-use Rattle.rdm_log.specs.promises.Headline.{numbers_accepted, numbers_finished, Begins, InOrder}
+use Rattle.rdm_log.proofs.Common.{◌≡◌, ℕ, zero, suc, ◌+◌, ◌-◌, Bool, true, false, List, [], ◌∷◌, ◌++◌, length, take}
+use Rattle.rdm_log.proofs.Common.{drop, filter, Some, slice_get, if◌then◌else◌, refl, sym, ap, ◌∙◌, arith, ◌==◌}
+use Rattle.rdm_log.proofs.Common.{range_with_len, map-append, take-append-drop, length-take-le, filter-append, Opening}
+use Rattle.rdm_log.proofs.Common.{Entry, Finish, Answer, Accepted, Finished, finished_of, accepts, finishes, accepts_by}
+use Rattle.rdm_log.proofs.Common.{client_of_request, client_of_discovery, is_client_of, is_answer_to, answers_to, Legal}
+use Rattle.rdm_log.proofs.Common.{numbers_accepted, Begins}
+use Rattle.std.specs.Prelude.{filter_map}
+use Rattle.rdm_log.specs.promises.Headline.{numbers_finished, InOrder}
 use Rattle.rdm_log.proofs.PromiseLemmas.Numbers.{range_parts, numbers_by_index}
 use Rattle.rdm_log.proofs.LogLemmas.LegalFacts.{LogFacts, legal_facts}
 use Rattle.rdm_log.proofs.LogLemmas.ClientLemmas.{client_of_accepted}

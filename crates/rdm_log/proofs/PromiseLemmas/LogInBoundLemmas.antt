@@ -1,18 +1,12 @@
 -- A log stays in bound, whatever calls are made.
-use Rattle.std.proofs.Common.{◌≡◌, List, [], ◌∷◌, ◌++◌, Some, None, sym, subst, append-nil, append_assoc, ◌∙◌}
-use Rattle.rdm_wire.specs.Lists.{EachAfter}
-use Rattle.rdm_wire.proofs.EachAfterLemmas.{EachAfter-push}
-use Rattle.rdm_log.specs.declared.entry.Entry.{Entry}
+use Rattle.rdm_log.proofs.Common.{◌≡◌, List, [], ◌∷◌, ◌++◌, Some, None, sym, subst, append-nil, append_assoc, ◌∙◌}
+use Rattle.rdm_log.proofs.Common.{EachAfter, EachAfter-push, Entry, Event, LogState, grown, with_entries}
+use Rattle.rdm_log.proofs.Common.{FaultNeedsClose, AnswersInBound, IsAnswered, Legal}
 use Rattle.rdm_log.specs.declared.entry.Entry.TheVariants as entries
-use Rattle.rdm_log.specs.declared.event.Event.{Event}
 use Rattle.rdm_log.specs.declared.event.Answer.{Answer}
-use Rattle.rdm_log.specs.log.LogState.{LogState, grown, with_entries}
-use Rattle.rdm_log.specs.promises.InBound.{FaultNeedsClose, AnswersInBound}
 use Rattle.rdm_log.specs.promises.LogInBound.{InBound}
-use Rattle.rdm_log.specs.promises.Explains.{IsAnswered}
 use Rattle.rdm_log.proofs.PromiseLemmas.EventsInBound.{event_in_bound}
 use Rattle.rdm_log.proofs.PromiseLemmas.Promises.{promised}
-use Rattle.rdm_log.specs.log.Legal.{Legal}
 use Rattle.rdm_log.specs.promises.Promised.{Promised}
 
 -- what is asked of an entry after these

@@ -1,14 +1,8 @@
 -- Nothing starts after a close.
-use Rattle.std.proofs.Common.{◌≡◌, true, List, [], ◌∷◌, ◌++◌, refl, sym, ◌∙◌, append_assoc}
-use Rattle.std.proofs.lemmas.Bool.{false≢true}
-use Rattle.rdm_wire.specs.Lists.{EachAfter}
-use Rattle.rdm_log.specs.declared.entry.Opening.{Opening}
+use Rattle.rdm_log.proofs.Common.{◌≡◌, true, List, [], ◌∷◌, ◌++◌, refl, sym, ◌∙◌, append_assoc, false≢true, EachAfter}
+use Rattle.rdm_log.proofs.Common.{Opening, Entry, Join, Accept, Ask, Send, Close, joins, accepts, asks, sends}
+use Rattle.rdm_log.proofs.Common.{closed_after, is_closed, MayFollow, Legal}
 use Rattle.rdm_log.specs.declared.entry.Owner.TheVariants as owners
-use Rattle.rdm_log.specs.declared.entry.Entry.{Entry}
-use Rattle.rdm_log.specs.declared.entry.Entry.TheVariants.{Join, Accept, Ask, Send, Close}
-use Rattle.rdm_log.specs.log.Entries.{joins, accepts, asks, sends}
-use Rattle.rdm_log.specs.log.History.{closed_after, is_closed}
-use Rattle.rdm_log.specs.log.Legal.{MayFollow, Legal}
 use Rattle.rdm_log.specs.promises.Headline.{NothingStarts, NothingAfterClose}
 use Rattle.rdm_log.proofs.LogLemmas.PushLemmas.{joins-append, accepts-append, asks-append, sends-append, is_closed-push}
 use Rattle.rdm_log.proofs.LogLemmas.RefusalLemmas.{join_passes, submit_passes, ask_passes}

@@ -1,9 +1,8 @@
 -- Numbers that rise by one.
-use Rattle.std.proofs.Common.{◌≡◌, ℕ, zero, suc, ◌+◌, ◌-◌, ◌<◌, ◌≤◌, true, false, List, [], ◌∷◌, ◌++◌, length, map}
-use Rattle.std.proofs.Common.{filter, Some, slice_get, refl, ap, add-zero, inl, inr, arith}
-use Rattle.std.specs.Prelude.{◌⊎◌, ◌==◌}
-use Rattle.std.specs.List.{range_with_len}
-use Rattle.std.proofs.lemmas.Bool.{cases_Bool, eqb-true, eqb-false}
+use Rattle.rdm_log.proofs.Common.{◌≡◌, ℕ, zero, suc, ◌+◌, ◌-◌, ◌<◌, ◌≤◌, true, false, List, [], ◌∷◌, ◌++◌, length, map}
+use Rattle.rdm_log.proofs.Common.{filter, Some, slice_get, refl, ap, add-zero, inl, inr, arith, ◌⊎◌, ◌==◌}
+use Rattle.rdm_log.proofs.Common.{range_with_len, cases_Bool, eqb-true}
+use Rattle.std.proofs.lemmas.Bool.{eqb-false}
 
 -- the first m of n, and the rest
 pub range_parts : (a m n : ℕ) → m ≤ n → range_with_len a n ≡ range_with_len a m ++ range_with_len (a + m) (n - m)

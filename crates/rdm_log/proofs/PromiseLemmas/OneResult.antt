@@ -1,16 +1,9 @@
 -- Each accepted request has exactly one result.
-use Rattle.std.proofs.Common.{◌≡◌, ℕ, ◌+◌, ◌-◌, ◌<◌, ◌≤◌, true, false, List, length, sym, ap, ◌∙◌, arith, inl, inr}
-use Rattle.std.proofs.Common.{length-drop}
-use Rattle.std.specs.Prelude.{◌⊎◌}
-use Rattle.std.specs.List.{Contains, range_with_len}
-use Rattle.std.proofs.lemmas.Bool.{cases_lt}
+use Rattle.rdm_log.proofs.Common.{◌≡◌, ℕ, ◌+◌, ◌-◌, ◌<◌, ◌≤◌, true, false, List, length, sym, ap, ◌∙◌, arith, inl, inr}
+use Rattle.rdm_log.proofs.Common.{length-drop, ◌⊎◌, Contains, range_with_len, cases_lt, Opening, Entry, accepts}
+use Rattle.rdm_log.proofs.Common.{finishes, awaited, is_closed, Legal, numbers_accepted}
 use Rattle.std.proofs.lemmas.List.FromFn.{length-range_with_len, get_or-range_with_len}
-use Rattle.rdm_log.specs.declared.entry.Opening.{Opening}
-use Rattle.rdm_log.specs.declared.entry.Entry.{Entry}
-use Rattle.rdm_log.specs.log.Entries.{accepts, finishes}
-use Rattle.rdm_log.specs.log.History.{awaited, is_closed}
-use Rattle.rdm_log.specs.log.Legal.{Legal}
-use Rattle.rdm_log.specs.promises.Headline.{numbers_accepted, result_count, OneResult}
+use Rattle.rdm_log.specs.promises.Headline.{result_count, OneResult}
 use Rattle.rdm_log.proofs.PromiseLemmas.Numbers.{count_outside, count_within}
 use Rattle.rdm_log.proofs.LogLemmas.LegalFacts.{LogFacts, legal_facts}
 use Rattle.rdm_log.proofs.PromiseLemmas.InOrder.{accepted_in_order, finished_in_order}

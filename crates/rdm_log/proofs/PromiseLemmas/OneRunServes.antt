@@ -1,26 +1,14 @@
 -- A discovery that a run serves is answered by no other run.
-use Rattle.std.proofs.Common.{◌≡◌, ℕ, ◌+◌, ◌-◌, ◌≤◌, ◌<◌, Bool, true, false, cond, List, [], ◌∷◌, ◌++◌, length, take}
-use Rattle.std.proofs.Common.{drop, Option, Some, None, slice_get, refl, sym, ap, ◌∙◌, inl, inr, arith, length-append}
-use Rattle.std.proofs.Common.{length-drop}
-use Rattle.std.specs.Prelude.{◌⊎◌, ◌==◌}
-use Rattle.std.specs.List.{Contains, list_any, before_first, position_or_len}
-use Rattle.std.proofs.lemmas.Bool.{cases_Bool, false≢true, eqb-true, eq-eqb}
-use Rattle.std.proofs.lemmas.Option.{none-some, slice_get-get_or, slice_get_within}
-use Rattle.std.proofs.lemmas.List.{take-append-drop}
-use Rattle.arrayvec.specs.ArrayVec.{ArrayVec}
-use Rattle.rdm_wire.specs.Lists.{EachAfter}
-use Rattle.rdm_agent.specs.declared.fault.AgentFault.{AgentFault}
+use Rattle.rdm_log.proofs.Common.{◌≡◌, ℕ, ◌+◌, ◌-◌, ◌≤◌, ◌<◌, Bool, true, false, cond, List, [], ◌∷◌, ◌++◌, length}
+use Rattle.rdm_log.proofs.Common.{take, drop, Option, Some, None, slice_get, refl, sym, ap, ◌∙◌, inl, inr, arith}
+use Rattle.rdm_log.proofs.Common.{length-append, length-drop, ◌⊎◌, ◌==◌, Contains, list_any, before_first}
+use Rattle.rdm_log.proofs.Common.{position_or_len, cases_Bool, false≢true, eqb-true, eq-eqb, none-some}
+use Rattle.rdm_log.proofs.Common.{slice_get-get_or, slice_get_within, take-append-drop, ArrayVec, EachAfter, AgentFault}
+use Rattle.rdm_log.proofs.Common.{Opening, Entry, Send, Answer, AskedDiscovery, Answered, answered_of, asks, answers}
+use Rattle.rdm_log.proofs.Common.{unanswered, sends_run, has_begun, entries_before_run, last_run, asked_before}
+use Rattle.rdm_log.proofs.Common.{unserved, served, open_run, MayBegin, MayAnswer, MayFollow}
 use Rattle.rdm_log.specs.declared.entry.Owner.TheVariants as owners
-use Rattle.rdm_log.specs.declared.entry.Opening.{Opening}
-use Rattle.rdm_log.specs.declared.entry.Entry.{Entry}
-use Rattle.rdm_log.specs.declared.entry.Entry.TheVariants.{Send, Answer}
-use Rattle.rdm_log.specs.log.Entries.{AskedDiscovery, Answered, answered_of, asks, answers}
-use Rattle.rdm_log.specs.log.History.{unanswered}
-use Rattle.rdm_log.specs.log.Runs.{sends_run, has_begun, entries_before_run, last_run, asked_before, unserved, served}
-use Rattle.rdm_log.specs.log.Runs.{open_run}
-use Rattle.rdm_log.specs.log.MaySend.{MayBegin}
-use Rattle.rdm_log.specs.log.MayAnswer.{MayAnswer, MayAnswerUnserved}
-use Rattle.rdm_log.specs.log.Legal.{MayFollow}
+use Rattle.rdm_log.specs.log.MayAnswer.{MayAnswerUnserved}
 use Rattle.rdm_log.proofs.LogLemmas.Grows.{front, pushed}
 use Rattle.rdm_log.proofs.LogLemmas.Indices.{slice_get-drop, slice_get-push, IsPushed}
 use Rattle.rdm_log.proofs.LogLemmas.PushLemmas.{asks-append, sends_same, answered_same, answered_more}

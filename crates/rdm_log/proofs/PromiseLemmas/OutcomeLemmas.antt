@@ -1,24 +1,14 @@
 -- What a log has reported doesn't change as it grows.
-use Rattle.std.proofs.Common.{◌≡◌, ℕ, zero, suc, ◌+◌, ◌≤◌, ◌<◌, Bool, true, false, List, [], ◌∷◌, ◌++◌, length, drop}
-use Rattle.std.proofs.Common.{fold, Option, Some, None, slice_get, refl, sym, ap, ◌∙◌, inl, inr, arith, filter_map}
-use Rattle.std.proofs.Common.{if◌then◌else◌}
-use Rattle.std.specs.Prelude.{◌⊎◌, ◌==◌, ◌||◌, option_and_then}
-use Rattle.std.specs.List.{AllByRecursion, list_any}
-use Rattle.std.proofs.lemmas.Bool.{false≢true, eq-eqb}
-use Rattle.std.proofs.lemmas.Option.{none-some, same_Some}
-use Rattle.std.proofs.lemmas.List.{drop-append-le}
-use Rattle.std.proofs.lemmas.List.Elements.{recursion_from_All, All-drop, filter_passes}
-use Rattle.rdm_wire.specs.Lists.{EachAfter}
-use Rattle.rdm_agent.specs.declared.fault.AgentFault.{AgentFault}
-use Rattle.rdm_log.specs.declared.entry.Opening.{Opening}
-use Rattle.rdm_log.specs.declared.entry.Entry.{Entry}
-use Rattle.rdm_log.specs.declared.entry.Entry.TheVariants.{Finish, Answer}
-use Rattle.rdm_log.specs.log.Entries.{Answered, answered_of, answers}
-use Rattle.rdm_log.specs.log.Clients.{is_answer_to, answers_to, collects_by, uncollected}
-use Rattle.rdm_log.specs.log.Runs.{is_answered, last_run_without_fault, if_without_fault, run_exchanges, known_devices}
-use Rattle.rdm_log.specs.log.Runs.{devices_of}
-use Rattle.rdm_log.specs.log.Legal.{MayFollow}
-use Rattle.rdm_log.specs.promises.Outcomes.{outcome_of, OutcomeValue, kind_of_answer, oldest_kind}
+use Rattle.rdm_log.proofs.Common.{◌≡◌, ℕ, zero, suc, ◌+◌, ◌≤◌, ◌<◌, Bool, true, false, List, [], ◌∷◌, ◌++◌, length}
+use Rattle.rdm_log.proofs.Common.{drop, fold, Option, Some, None, slice_get, refl, sym, ap, ◌∙◌, inl, inr, arith}
+use Rattle.rdm_log.proofs.Common.{filter_map, if◌then◌else◌, ◌⊎◌, ◌==◌, ◌||◌, option_and_then, AllByRecursion, list_any}
+use Rattle.rdm_log.proofs.Common.{false≢true, eq-eqb, none-some, same_Some, drop-append-le, recursion_from_All}
+use Rattle.rdm_log.proofs.Common.{filter_passes, EachAfter, AgentFault, Opening, Entry, Finish, Answer, Answered}
+use Rattle.rdm_log.proofs.Common.{answered_of, answers, is_answer_to, answers_to, collects_by, uncollected, is_answered}
+use Rattle.rdm_log.proofs.Common.{last_run_without_fault, if_without_fault, run_exchanges, known_devices, devices_of}
+use Rattle.rdm_log.proofs.Common.{MayFollow, outcome_of, OutcomeValue}
+use Rattle.std.proofs.lemmas.List.Elements.{All-drop}
+use Rattle.rdm_log.specs.promises.Outcomes.{kind_of_answer, oldest_kind}
 use Rattle.rdm_log.proofs.LogLemmas.Indices.{slice_get-drop, filter_map_has}
 use Rattle.rdm_log.proofs.LogLemmas.LegalFacts.{legal_facts}
 use Rattle.rdm_log.proofs.LogLemmas.RunFacts.{open_is}

@@ -1,12 +1,13 @@
 -- Each result is the joined answer of the request's own exchanges.
-use Rattle.std.proofs.Common.{◌≡◌, ℕ, ◌+◌, ◌<◌, ◌≤◌, Bool, true, false, List, [], ◌∷◌, ◌++◌, length, take, map, Option}
-use Rattle.std.proofs.Common.{Some, None, Result, Ok, Err, slice_get, if◌then◌else◌, refl, sym, ap, ◌∙◌, inl, inr}
-use Rattle.std.proofs.Common.{arith, append-nil, append_assoc, length-append}
-use Rattle.std.specs.Prelude.{◌≢◌, ◌&&◌, not, ◌==◌, option_map}
-use Rattle.std.proofs.lemmas.Bool.{false≢true}
-use Rattle.std.proofs.lemmas.Option.{none-some, same_Some, slice_get-map}
-use Rattle.std.proofs.lemmas.List.{length_push}
-use Rattle.rdm_wire.specs.Lists.{EachAfter}
+use Rattle.rdm_log.proofs.Common.{◌≡◌, ℕ, ◌+◌, ◌<◌, ◌≤◌, Bool, true, false, List, [], ◌∷◌, ◌++◌, length, take, map}
+use Rattle.rdm_log.proofs.Common.{Option, Some, None, slice_get, if◌then◌else◌, refl, sym, ap, ◌∙◌, inl, inr, arith}
+use Rattle.rdm_log.proofs.Common.{append-nil, append_assoc, length-append, ◌≢◌, ◌&&◌, ◌==◌, option_map, false≢true}
+use Rattle.rdm_log.proofs.Common.{none-some, same_Some, slice_get-map, length_push, EachAfter, LineEvent, Reply, Status}
+use Rattle.rdm_log.proofs.Common.{Completed, FailedToSend, Joined, Opening, Entry, Finish, Finished, Traded, finishes}
+use Rattle.rdm_log.proofs.Common.{verdict_on, of_request, verdicts, result, IsClosing, FitsResult, MayFinish, MayFollow}
+use Rattle.rdm_log.proofs.Common.{Legal}
+use Rattle.std.proofs.Common.{Result, Ok, Err}
+use Rattle.std.specs.Prelude.{not}
 use Rattle.rdm_wire.specs.declared.request.TheConstants.{QUEUED_MESSAGE}
 use Rattle.rdm_join.specs.declared.verdict.TheConstants.{ALL_SUB_DEVICES}
 use Rattle.rdm_wire.specs.Responses.{decoded, code_of_class}
@@ -16,23 +17,16 @@ use Rattle.rdm_wire.specs.declared.response.PacketFault.TheVariants as faults
 use Rattle.rdm_wire.specs.declared.response.AckType.{AckType}
 use Rattle.rdm_wire.specs.declared.response.AckType.TheVariants.{Ack, Timer, Nack, Overflow}
 use Rattle.rdm_join.specs.declared.verdict.Sent.{Sent}
-use Rattle.rdm_join.specs.declared.event.LineEvent.{LineEvent}
-use Rattle.rdm_join.specs.declared.event.LineEvent.TheVariants.{Reply, Failed}
+use Rattle.rdm_join.specs.declared.event.LineEvent.TheVariants.{Failed}
 use Rattle.rdm_join.specs.declared.verdict.Judged.{Judged}
 use Rattle.rdm_join.specs.declared.verdict.Judged.TheVariants.{Whole, Part, Ended}
-use Rattle.rdm_join.specs.declared.status.Status.{Status}
-use Rattle.rdm_join.specs.declared.status.Status.TheVariants.{Completed, FailedToSend, NoMemory}
+use Rattle.rdm_join.specs.declared.status.Status.TheVariants.{NoMemory}
 use Rattle.rdm_join.specs.declared.status.Status.TheVariants as statuses
 use Rattle.rdm_join.specs.Verdict.{answers_class, verdict_of_type, verdict_of_packet, verdict_of_bytes, verdict}
 use Rattle.rdm_join.specs.Verdict.{sent_by}
-use Rattle.rdm_join.specs.Result.{Joined, decides, decides_option, IsResult}
+use Rattle.rdm_join.specs.Result.{decides, decides_option, IsResult}
 use Rattle.rdm_join.proofs.Determined.{meets, only}
-use Rattle.rdm_log.specs.declared.entry.Opening.{Opening}
-use Rattle.rdm_log.specs.declared.entry.Entry.{Entry}
-use Rattle.rdm_log.specs.declared.entry.Entry.TheVariants.{Finish}
-use Rattle.rdm_log.specs.log.Entries.{Finished, Traded, finishes, verdict_on, of_request, verdicts, result}
-use Rattle.rdm_log.specs.log.MayFinish.{FitsJoined, IsClosing, FitsResult, MayFinish}
-use Rattle.rdm_log.specs.log.Legal.{MayFollow, Legal}
+use Rattle.rdm_log.specs.log.MayFinish.{FitsJoined}
 use Rattle.rdm_log.proofs.LogLemmas.Grows.{front}
 use Rattle.rdm_log.proofs.LogLemmas.PushLemmas.{finishes-append, finishes_more, sends_same, cames_same}
 use Rattle.rdm_log.proofs.LogLemmas.ExchangeLemmas.{result_same}

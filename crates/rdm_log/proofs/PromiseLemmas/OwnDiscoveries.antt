@@ -1,31 +1,18 @@
 -- A client is answered what it asked for, and refused only if it has as many discoveries as it may.
-use Rattle.std.proofs.Common.{◌≡◌, ℕ, ◌-◌, ◌≤◌, Bool, true, false, List, [], ◌∷◌, map, Option, Some, None, slice_get}
-use Rattle.std.proofs.Common.{filter_map, if◌then◌else◌, refl, sym, ap, ◌∙◌, inl, inr, arith, zero, suc, ◌++◌}
-use Rattle.std.specs.Prelude.{◌⊎◌, ◌||◌, option_map, nat_le, ◌==◌}
-use Rattle.std.specs.List.{Contains, cons_option, list_any}
-use Rattle.std.proofs.lemmas.Bool.{eq-eqb, le-leb, leb-false, leb-true, lt-leb, or_cases, or_left, or_right}
-use Rattle.std.proofs.lemmas.List.Folds.{list_any_at}
-use Rattle.rdm_wire.specs.Lists.{EachAfter}
-use Rattle.std.proofs.lemmas.Option.{get_or_from_slice_get, none-some, same_Some, slice_get-get_or, slice_get_within}
-use Rattle.rdm_agent.specs.declared.kind.Kind.{Kind}
-use Rattle.rdm_agent.specs.declared.fault.AgentFault.{AgentFault}
-use Rattle.rdm_log.specs.declared.entry.ClientId.{ClientId}
-use Rattle.rdm_log.specs.declared.entry.Opening.{Opening}
-use Rattle.rdm_log.specs.declared.entry.Entry.{Entry}
-use Rattle.rdm_log.specs.declared.entry.Entry.TheVariants.{Refuse, Ask, Finish, Answer}
+use Rattle.rdm_log.proofs.Common.{◌≡◌, ℕ, ◌-◌, ◌≤◌, Bool, true, false, List, [], ◌∷◌, map, Option, Some, None}
+use Rattle.rdm_log.proofs.Common.{slice_get, filter_map, if◌then◌else◌, refl, sym, ap, ◌∙◌, inl, inr, arith, zero, suc}
+use Rattle.rdm_log.proofs.Common.{◌++◌, ◌⊎◌, ◌||◌, option_map, nat_le, ◌==◌, Contains, cons_option, list_any, eq-eqb}
+use Rattle.rdm_log.proofs.Common.{le-leb, leb-false, leb-true, lt-leb, or_cases, or_left, or_right, list_any_at}
+use Rattle.rdm_log.proofs.Common.{EachAfter, get_or_from_slice_get, none-some, same_Some, slice_get-get_or}
+use Rattle.rdm_log.proofs.Common.{slice_get_within, Kind, AgentFault, ClientId, Opening, Entry, Refuse, Ask, Finish}
+use Rattle.rdm_log.proofs.Common.{Answer, AskFault, is_closed, next_client, next_ask, ask_fault, AskedDiscovery}
+use Rattle.rdm_log.proofs.Common.{Answered, asked_of, answered_of, asks, answers, answers_to, outstanding_discoveries}
+use Rattle.rdm_log.proofs.Common.{client_of_discovery, is_answer_to, is_answered, MayFollow, Legal, outcome_of}
+use Rattle.rdm_log.proofs.Common.{completion_of, RequestValue, HasMostDiscoveries}
 use Rattle.rdm_log.specs.declared.entry.Call.TheVariants as calls
-use Rattle.rdm_log.specs.declared.fault.AskFault.{AskFault}
 use Rattle.rdm_log.specs.declared.fault.AskFault.TheVariants as faults
-use Rattle.rdm_log.specs.log.History.{is_closed, next_client, next_ask}
-use Rattle.rdm_log.specs.log.Refusals.{ask_fault, number_of_ask_fault}
-use Rattle.rdm_log.specs.log.Entries.{AskedDiscovery, Answered, asked_of, answered_of, asks, answers}
-use Rattle.rdm_log.specs.log.Clients.{answers_to, outstanding_discoveries, client_of_discovery, is_answer_to}
-use Rattle.rdm_log.specs.log.Runs.{is_answered}
-use Rattle.rdm_log.specs.log.Legal.{MayFollow, Legal}
-use Rattle.rdm_log.specs.promises.Outcomes.{outcome_of, completion_of}
-use Rattle.rdm_log.specs.promises.Outcomes.OutcomeValue.{RequestValue}
-use Rattle.rdm_log.specs.promises.Discoveries.{HasMostDiscoveries, OwnDiscoveries, FullRefusesDiscoveries}
-use Rattle.rdm_log.specs.promises.Discoveries.{DiscoveriesPromised}
+use Rattle.rdm_log.specs.log.Refusals.{number_of_ask_fault}
+use Rattle.rdm_log.specs.promises.Discoveries.{OwnDiscoveries, FullRefusesDiscoveries, DiscoveriesPromised}
 use Rattle.rdm_log.proofs.LogLemmas.AskFacts.{AskFacts, ask_facts}
 use Rattle.rdm_log.proofs.LogLemmas.Indices.{filter_map_has}
 use Rattle.rdm_log.proofs.PromiseLemmas.StableResults.{contains_from_get, IsFinish, IsReply, answer_at, filter_has}

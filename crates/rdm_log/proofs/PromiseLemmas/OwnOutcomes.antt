@@ -1,27 +1,14 @@
 -- A client collects the joined answers of its own requests, and what the runs of its own discoveries found.
-use Rattle.std.proofs.Common.{◌≡◌, ℕ, suc, ◌-◌, ◌<◌, true, List, ◌∷◌, ◌++◌, length, map, take, drop, Option, Some, None}
-use Rattle.std.proofs.Common.{slice_get, sym, ap, ◌∙◌, inl, inr, arith}
-use Rattle.std.specs.Prelude.{◌⊎◌}
-use Rattle.std.proofs.lemmas.List.{length-map}
-use Rattle.std.proofs.lemmas.List.Elements.{Contains-append_left}
-use Rattle.std.proofs.lemmas.Option.{slice_get_within, slice_get-get_or, same_Some}
-use Rattle.rdm_wire.specs.Lists.{EachAfter}
-use Rattle.rdm_join.specs.Result.{Joined}
-use Rattle.rdm_log.specs.declared.entry.Opening.{Opening}
-use Rattle.rdm_log.specs.declared.entry.Entry.{Entry}
-use Rattle.rdm_log.specs.declared.entry.Entry.TheVariants.{Finish, Answer}
-use Rattle.rdm_log.specs.declared.outcome.Outcome.{Outcome}
+use Rattle.rdm_log.proofs.Common.{◌≡◌, ℕ, suc, ◌-◌, ◌<◌, true, List, ◌∷◌, ◌++◌, length, map, take, drop, Option, Some}
+use Rattle.rdm_log.proofs.Common.{None, slice_get, sym, ap, ◌∙◌, inl, inr, arith, ◌⊎◌, length-map, Contains-append_left}
+use Rattle.rdm_log.proofs.Common.{slice_get_within, slice_get-get_or, same_Some, EachAfter, Joined, Opening, Entry}
+use Rattle.rdm_log.proofs.Common.{Finish, Answer, Outcome, Accepted, AskedDiscovery, accepts, asks, result}
+use Rattle.rdm_log.proofs.Common.{answer_devices, client_of_request, client_of_discovery, is_answer_to, MayFollow}
+use Rattle.rdm_log.proofs.Common.{Legal, IsOldest, OutcomeValue, discovered, outcome_value, outcome_of, completion_of}
+use Rattle.rdm_log.proofs.Common.{RequestValue, DiscoveryValue, AnswersReportTheLine, IsOwnOutcome, ReportsTheLine}
 use Rattle.rdm_log.specs.declared.outcome.Outcome.TheVariants as outcomes
-use Rattle.rdm_log.specs.log.Entries.{Accepted, AskedDiscovery, accepts, asks, result}
-use Rattle.rdm_log.specs.log.Runs.{answer_devices}
-use Rattle.rdm_log.specs.log.Clients.{client_of_request, client_of_discovery, is_answer_to}
-use Rattle.rdm_log.specs.log.Legal.{MayFollow, Legal}
-use Rattle.rdm_log.specs.promises.Blocks.{IsOldest}
-use Rattle.rdm_log.specs.promises.Outcomes.{OutcomeValue, Discovered, completion_value, discovered, outcome_value}
-use Rattle.rdm_log.specs.promises.Outcomes.{outcome_of, completion_of, discovered_by}
-use Rattle.rdm_log.specs.promises.Outcomes.OutcomeValue.{RequestValue, DiscoveryValue}
-use Rattle.rdm_log.specs.promises.Discoveries.{AnswersReportTheLine}
-use Rattle.rdm_log.specs.promises.EventsHeadline.{IsOwnReport, IsOwnOutcome, ReportsTheLine}
+use Rattle.rdm_log.specs.promises.Outcomes.{Discovered, completion_value, discovered_by}
+use Rattle.rdm_log.specs.promises.EventsHeadline.{IsOwnReport}
 use Rattle.rdm_log.proofs.LogLemmas.Grows.{front}
 use Rattle.rdm_log.proofs.LogLemmas.LegalFacts.{legal_facts}
 use Rattle.rdm_log.proofs.LogLemmas.ClientLemmas.{client_stays, asker_stays}

@@ -1,22 +1,10 @@
 -- Each frame of a request carries that request.
-use Rattle.std.proofs.Common.{◌≡◌, ℕ, ◌+◌, ◌%◌, length, zero, suc, true, List, [], ◌∷◌, ◌++◌, Some, slice_get, map, zip}
-use Rattle.std.proofs.Common.{refl, sym, ◌∙◌}
-use Rattle.std.proofs.lemmas.Bool.{eqb-true, eq-eqb, false≢true}
-use Rattle.std.proofs.lemmas.Option.{none-some, same_Some}
-use Rattle.arrayvec.specs.ArrayVec.{ArrayVec}
-use Rattle.rdm_wire.specs.Lists.{EachAfter}
-use Rattle.rdm_wire.specs.declared.request.Request.{Request}
-use Rattle.rdm_join.specs.declared.event.LineEvent.{LineEvent}
-use Rattle.rdm_log.specs.declared.entry.ClientId.{ClientId}
+use Rattle.rdm_log.proofs.Common.{◌≡◌, ℕ, ◌+◌, ◌%◌, length, zero, suc, true, List, [], ◌∷◌, ◌++◌, Some, slice_get, map}
+use Rattle.rdm_log.proofs.Common.{zip, refl, sym, ◌∙◌, eqb-true, eq-eqb, false≢true, none-some, same_Some, ArrayVec}
+use Rattle.rdm_log.proofs.Common.{EachAfter, Request, LineEvent, ClientId, Opening, Entry, Accept, Send, Accepted}
+use Rattle.rdm_log.proofs.Common.{Sending, Traded, traded_of, accepts, sends, cames, finishes, traded, of_request}
+use Rattle.rdm_log.proofs.Common.{is_request, next_tn, MaySendRequest, MayFollow, Legal}
 use Rattle.rdm_log.specs.declared.entry.Owner.TheVariants as owners
-use Rattle.rdm_log.specs.declared.entry.Opening.{Opening}
-use Rattle.rdm_log.specs.declared.entry.Entry.{Entry}
-use Rattle.rdm_log.specs.declared.entry.Entry.TheVariants.{Accept, Send}
-use Rattle.rdm_log.specs.log.Entries.{Accepted, Sending, Traded, traded_of, accepts, sends, cames, finishes, traded}
-use Rattle.rdm_log.specs.log.Entries.{of_request, is_request}
-use Rattle.rdm_log.specs.log.History.{next_tn}
-use Rattle.rdm_log.specs.log.MaySend.{MaySendRequest}
-use Rattle.rdm_log.specs.log.Legal.{MayFollow, Legal}
 use Rattle.rdm_log.specs.promises.Headline.{CarriesRequest, OwnRequests}
 use Rattle.rdm_log.proofs.LogLemmas.Indices.{slice_get-append_left, each_index_push}
 use Rattle.rdm_log.proofs.LogLemmas.PushLemmas.{accepts_same, accepts_more, sends_same, sends_more}

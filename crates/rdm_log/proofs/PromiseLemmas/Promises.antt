@@ -1,8 +1,6 @@
 -- All that is promised of a legal log.
+use Rattle.rdm_log.proofs.Common.{Opening, Entry, Legal}
 use Rattle.std.specs.Prelude.{List}
-use Rattle.rdm_log.specs.declared.entry.Opening.{Opening}
-use Rattle.rdm_log.specs.declared.entry.Entry.{Entry}
-use Rattle.rdm_log.specs.log.Legal.{Legal}
 use Rattle.rdm_log.specs.promises.Promised.{LegalPromised}
 use Rattle.rdm_log.proofs.PromiseLemmas.OneResult.{one_result}
 use Rattle.rdm_log.proofs.PromiseLemmas.OwnRequests.{own_requests}

@@ -1,26 +1,15 @@
 -- After a Close and a later Deliver no reply is awaited.
-use Rattle.std.proofs.Common.{◌≡◌, ℕ, zero, suc, ◌<◌, Bool, true, false, List, [], ◌∷◌, ◌++◌, Some, None, slice_get}
-use Rattle.std.proofs.Common.{refl, sym, ◌∙◌, append_assoc, append-nil, inl, inr, arith}
-use Rattle.std.specs.Prelude.{◌⊎◌, Ok, Err}
-use Rattle.std.specs.List.{AllByRecursion}
-use Rattle.std.proofs.lemmas.Bool.{false≢true}
-use Rattle.std.proofs.lemmas.Option.{none-some, same_Some}
-use Rattle.rdm_join.specs.declared.event.LineEvent.{LineEvent}
-use Rattle.rdm_log.specs.declared.entry.Owner.{Owner}
+use Rattle.rdm_log.proofs.Common.{◌≡◌, ℕ, zero, suc, ◌<◌, Bool, true, false, List, [], ◌∷◌, ◌++◌, Some, None, slice_get}
+use Rattle.rdm_log.proofs.Common.{refl, sym, ◌∙◌, append_assoc, append-nil, inl, inr, arith, ◌⊎◌, Ok, Err}
+use Rattle.rdm_log.proofs.Common.{AllByRecursion, false≢true, none-some, same_Some, LineEvent, Owner, Entry, Came}
+use Rattle.rdm_log.proofs.Common.{Finish, Pause, Resume, Close, Event, awaits_after, awaited, is_closed, can_pause}
+use Rattle.rdm_log.proofs.Common.{can_resume, MaySend, LogState, join_refused, submit_refused, ask_refused, is_result}
+use Rattle.rdm_log.proofs.Common.{IsWithResults, SwitchAdds, CloseAddsWhere, Adds, IsAnswered, Explains}
 use Rattle.rdm_log.specs.declared.entry.Owner.TheVariants as owners
-use Rattle.rdm_log.specs.declared.entry.Entry.{Entry}
-use Rattle.rdm_log.specs.declared.entry.Entry.TheVariants.{Came, Finish, Pause, Resume, Close}
 use Rattle.rdm_log.specs.declared.entry.Entry.TheVariants as discovery
-use Rattle.rdm_log.specs.declared.event.Event.{Event}
 use Rattle.rdm_log.specs.declared.event.Event.TheVariants as events
 use Rattle.rdm_log.specs.declared.event.Answer.{Answer}
 use Rattle.rdm_log.specs.declared.event.Answer.TheVariants as answers
-use Rattle.rdm_log.specs.log.History.{awaits_after, awaited, is_closed, can_pause, can_resume}
-use Rattle.rdm_log.specs.log.MaySend.{MaySend}
-use Rattle.rdm_log.specs.log.LogState.{LogState}
-use Rattle.rdm_log.specs.promises.Blocks.{join_refused, submit_refused, ask_refused, is_result, IsWithResults}
-use Rattle.rdm_log.specs.promises.Blocks.{SwitchAdds, CloseAddsWhere}
-use Rattle.rdm_log.specs.promises.Explains.{Adds, IsAnswered, Explains}
 use Rattle.rdm_log.proofs.LogLemmas.PushLemmas.{awaited-push}
 use Rattle.rdm_log.proofs.PromiseLemmas.BlockLemmas.{join_ok, submit_ok, discover_ok, join_refusal, submit_refusal}
 use Rattle.rdm_log.proofs.PromiseLemmas.BlockLemmas.{discover_refusal}

@@ -1,19 +1,11 @@
 -- The numbers of the accepted requests rise, and so do those of the discoveries.
-use Rattle.std.proofs.Common.{◌≡◌, ℕ, zero, suc, ◌+◌, ◌<◌, ◌≤◌, List, [], ◌∷◌, length, Some, slice_get, refl, ap, arith}
-use Rattle.std.proofs.Common.{length-append}
-use Rattle.std.specs.Prelude.{Ok}
-use Rattle.std.proofs.lemmas.List.{length_push}
-use Rattle.std.proofs.lemmas.Option.{none-some, same_Some}
-use Rattle.rdm_log.specs.declared.entry.Entry.{Entry}
-use Rattle.rdm_log.specs.declared.entry.Entry.TheVariants.{Accept, Ask}
-use Rattle.rdm_log.specs.declared.event.Event.{Event}
+use Rattle.rdm_log.proofs.Common.{◌≡◌, ℕ, zero, suc, ◌+◌, ◌<◌, ◌≤◌, List, [], ◌∷◌, length, Some, slice_get, refl, ap}
+use Rattle.rdm_log.proofs.Common.{arith, length-append, Ok, length_push, none-some, same_Some, Entry, Accept, Ask}
+use Rattle.rdm_log.proofs.Common.{Event, accepts, asks, next_request, next_ask, LogState, grown, Adds, IsAnswered}
+use Rattle.rdm_log.proofs.Common.{Explains}
 use Rattle.rdm_log.specs.declared.event.Event.TheVariants as events
 use Rattle.rdm_log.specs.declared.event.Answer.{Answer}
 use Rattle.rdm_log.specs.declared.event.Answer.TheVariants as answers
-use Rattle.rdm_log.specs.log.Entries.{accepts, asks}
-use Rattle.rdm_log.specs.log.History.{next_request, next_ask}
-use Rattle.rdm_log.specs.log.LogState.{LogState, grown}
-use Rattle.rdm_log.specs.promises.Explains.{Adds, IsAnswered, Explains}
 use Rattle.rdm_log.proofs.LogLemmas.PushLemmas.{accepts-append, accepts_more, asks-append, asks_more}
 use Rattle.rdm_log.proofs.PromiseLemmas.BlockLemmas.{submit_ok, discover_ok}
 

@@ -1,20 +1,15 @@
 -- The devices that exchanges report: the acknowledged ones, each as its first acknowledgement says it.
-use Rattle.std.proofs.Common.{◌≡◌, ℕ, true, false, List, [], ◌∷◌, Some, None, filter_map, take, refl, sym, ap, ◌∙◌, inl}
-use Rattle.std.proofs.Common.{inr}
-use Rattle.std.specs.Prelude.{◌⊎◌, ◌==◌}
-use Rattle.std.specs.List.{AllByRecursion, cons_option}
-use Rattle.std.proofs.lemmas.Bool.{cases_Bool, false≢true, eqb-true}
-use Rattle.rdm_wire.specs.Uid.{has}
-use Rattle.rdm_wire.specs.Devices.{uids_of, device_with}
+use Rattle.rdm_log.proofs.Common.{◌≡◌, ℕ, true, false, List, [], ◌∷◌, Some, None, filter_map, take, refl, sym, ap, ◌∙◌}
+use Rattle.rdm_log.proofs.Common.{inl, inr, ◌⊎◌, ◌==◌, AllByRecursion, cons_option, cases_Bool, false≢true, eqb-true}
+use Rattle.rdm_log.proofs.Common.{has, uids_of, device_with, Device, Asked, Seen, Unmute, Branch, Mute, Failed, Silent}
+use Rattle.rdm_log.proofs.Common.{Acked, acked_in, devices_in, IsReport, reported_devices}
 use Rattle.rdm_wire.specs.Lists.{once}
-use Rattle.rdm_wire.specs.declared.device.Device.{Device}
 use Rattle.rdm_wire.specs.declared.uid_set.TheConstants.{MOST_DEVICES}
-use Rattle.rdm_wire.specs.Honest.{Asked, Heard, Seen}
-use Rattle.rdm_wire.specs.Honest.Asked.{Unmute, Branch, Mute, Other}
-use Rattle.rdm_wire.specs.Honest.Heard.{Failed, Silent, One, Acked, Noise}
-use Rattle.rdm_agent.specs.Run.{acked_uid, acked_device, acked_in, devices_in, reported, IsReport}
+use Rattle.rdm_wire.specs.Honest.{Heard}
+use Rattle.rdm_wire.specs.Honest.Asked.{Other}
+use Rattle.rdm_wire.specs.Honest.Heard.{One, Noise}
+use Rattle.rdm_agent.specs.Run.{acked_uid, acked_device, reported}
 use Rattle.rdm_agent.proofs.Sets.{each_member, has-set_of, has-once, has-take}
-use Rattle.rdm_log.specs.log.Runs.{reported_devices}
 
 -- a reported UID was acknowledged
 pub reported_acked : (x : List Seen) (u : ℕ) → has (reported x) u ≡ true → has (acked_in x) u ≡ true

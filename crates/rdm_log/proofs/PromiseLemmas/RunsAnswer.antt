@@ -1,29 +1,18 @@
 -- One run answers the discoveries that were asked for before it began, all alike.
-use Rattle.std.proofs.Common.{◌≡◌, ℕ, ◌+◌, Bool, true, false, List, [], ◌∷◌, ◌++◌, length, Option, Some, slice_get}
-use Rattle.std.proofs.Common.{refl, sym, ap, ◌∙◌, inl, inr, append_assoc, append-nil}
-use Rattle.std.specs.Prelude.{◌⊎◌, ◌≢◌, ◌==◌, ◌||◌, ◌-◌}
-use Rattle.std.specs.List.{AllByRecursion, Contains, list_any}
-use Rattle.std.proofs.lemmas.Bool.{cases_Bool, false≢true, eqb-true, eq-eqb}
-use Rattle.std.proofs.lemmas.Option.{slice_get-map, slice_get-get_or}
-use Rattle.std.proofs.lemmas.List.Folds.{list_any-append, list_any_at}
-use Rattle.rdm_wire.specs.Lists.{EachAfter}
-use Rattle.rdm_wire.specs.declared.device.Device.{Device}
-use Rattle.rdm_agent.specs.declared.fault.AgentFault.{AgentFault}
+use Rattle.rdm_log.proofs.Common.{◌≡◌, ℕ, ◌+◌, Bool, true, false, List, [], ◌∷◌, ◌++◌, length, Option, Some, slice_get}
+use Rattle.rdm_log.proofs.Common.{refl, sym, ap, ◌∙◌, inl, inr, append_assoc, append-nil, ◌⊎◌, ◌≢◌, ◌==◌, ◌||◌}
+use Rattle.rdm_log.proofs.Common.{AllByRecursion, Contains, list_any, cases_Bool, false≢true, eqb-true, eq-eqb}
+use Rattle.rdm_log.proofs.Common.{slice_get-map, slice_get-get_or, list_any-append, list_any_at, EachAfter, Device}
+use Rattle.rdm_log.proofs.Common.{AgentFault, Owner, Opening, Entry, Send, Came, Answer, AskedDiscovery, Answered}
+use Rattle.rdm_log.proofs.Common.{Sending, asks, answers, is_run, awaited, unanswered, has_begun, entries_before_run}
+use Rattle.rdm_log.proofs.Common.{is_answered, open_run, last_run, asked_before, unserved, served, run_exchanges}
+use Rattle.rdm_log.proofs.Common.{run_kind, answer_devices, has_answer, AllAnswered, MayAnswer, MayFollow, Legal}
+use Rattle.rdm_log.proofs.Common.{DiscoveryValue, numbers_asked}
+use Rattle.std.specs.Prelude.{◌-◌}
 use Rattle.rdm_agent.specs.declared.kind.Kind.TheVariants as kinds
-use Rattle.rdm_log.specs.declared.entry.Owner.{Owner}
 use Rattle.rdm_log.specs.declared.entry.Owner.TheVariants as owners
-use Rattle.rdm_log.specs.declared.entry.Opening.{Opening}
-use Rattle.rdm_log.specs.declared.entry.Entry.{Entry}
-use Rattle.rdm_log.specs.declared.entry.Entry.TheVariants.{Send, Came, Answer}
-use Rattle.rdm_log.specs.log.Entries.{AskedDiscovery, Answered, Sending, asks, answers, is_run}
-use Rattle.rdm_log.specs.log.History.{awaited, unanswered}
-use Rattle.rdm_log.specs.log.Runs.{has_begun, entries_before_run, is_answered, open_run, last_run, asked_before}
-use Rattle.rdm_log.specs.log.Runs.{unserved, served, run_exchanges, is_full_kind, run_kind, answer_devices}
-use Rattle.rdm_log.specs.log.Due.{has_answer, AllAnswered}
-use Rattle.rdm_log.specs.log.MayAnswer.{MayAnswer}
-use Rattle.rdm_log.specs.log.Legal.{MayFollow, Legal}
-use Rattle.rdm_log.specs.promises.Outcomes.OutcomeValue.{DiscoveryValue}
-use Rattle.rdm_log.specs.promises.Discoveries.{RunsAnswer, numbers_asked}
+use Rattle.rdm_log.specs.log.Runs.{is_full_kind}
+use Rattle.rdm_log.specs.promises.Discoveries.{RunsAnswer}
 use Rattle.rdm_log.proofs.LogLemmas.Grows.{front}
 use Rattle.rdm_log.proofs.LogLemmas.Indices.{all_at, slice_get-drop}
 use Rattle.rdm_log.proofs.LogLemmas.PushLemmas.{answered-append, answered_more, sends_same, cames_same}

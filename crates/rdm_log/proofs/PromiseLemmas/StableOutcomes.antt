@@ -1,21 +1,8 @@
 -- What no later entry changes: the outcomes of a client's answers.
-use Rattle.std.proofs.Common.{◌≡◌, ℕ, true, List, ◌++◌, Option, Some, slice_get, refl, ap, ◌∙◌, inl, inr}
-use Rattle.std.specs.Prelude.{◌⊎◌, ◌==◌}
-use Rattle.std.proofs.lemmas.Bool.{eq-eqb}
-use Rattle.std.proofs.lemmas.List.Folds.{list_any_at}
-use Rattle.std.specs.List.{Contains}
-use Rattle.rdm_wire.specs.Lists.{EachAfter}
-use Rattle.rdm_wire.specs.declared.device.Device.{Device}
-use Rattle.rdm_agent.specs.declared.fault.AgentFault.{AgentFault}
-use Rattle.rdm_log.specs.declared.entry.Opening.{Opening}
-use Rattle.rdm_log.specs.declared.entry.Entry.{Entry}
-use Rattle.rdm_log.specs.declared.entry.Entry.TheVariants.{Answer}
-use Rattle.rdm_log.specs.log.Entries.{Answered, answered_of, answers}
-use Rattle.rdm_log.specs.log.Runs.{is_answered, answer_devices}
-use Rattle.rdm_log.specs.log.Clients.{is_answer_to, uncollected}
-use Rattle.rdm_log.specs.log.Legal.{MayFollow}
-use Rattle.rdm_log.specs.promises.Outcomes.{outcome_of, completion_of}
-use Rattle.rdm_log.specs.promises.Outcomes.OutcomeValue.{RequestValue, DiscoveryValue}
+use Rattle.rdm_log.proofs.Common.{◌≡◌, ℕ, true, List, ◌++◌, Option, Some, slice_get, refl, ap, ◌∙◌, inl, inr, ◌⊎◌, ◌==◌}
+use Rattle.rdm_log.proofs.Common.{eq-eqb, list_any_at, Contains, EachAfter, Device, AgentFault, Opening, Entry, Answer}
+use Rattle.rdm_log.proofs.Common.{Answered, answered_of, answers, is_answered, answer_devices, is_answer_to}
+use Rattle.rdm_log.proofs.Common.{uncollected, MayFollow, outcome_of, completion_of, RequestValue, DiscoveryValue}
 use Rattle.rdm_log.proofs.LogLemmas.Grows.{front}
 use Rattle.rdm_log.proofs.LogLemmas.Indices.{filter_map_has}
 use Rattle.rdm_log.proofs.LogLemmas.LegalFacts.{legal_facts}

@@ -1,20 +1,11 @@
 -- What no later entry changes: the results of finished requests, and the outcomes of a client's answers.
-use Rattle.std.proofs.Common.{◌≡◌, ℕ, zero, suc, ◌+◌, ◌<◌, Bool, true, false, filter, inl, inr, Option, List, [], ◌∷◌}
-use Rattle.std.proofs.Common.{◌++◌, length, Some, None, slice_get, refl, sym, ap, ◌∙◌, arith}
-use Rattle.std.specs.Prelude.{◌≢◌, ◌⊎◌}
-use Rattle.std.proofs.lemmas.Bool.{cases_Bool, ne_eqb, false≢true, eqb-true}
-use Rattle.std.proofs.lemmas.Option.{slice_get_within, get_or_from_slice_get}
-use Rattle.std.specs.List.{Contains}
-use Rattle.rdm_wire.specs.Lists.{EachAfter}
-use Rattle.rdm_join.specs.declared.status.Status.{Status}
+use Rattle.rdm_log.proofs.Common.{◌≡◌, ℕ, zero, suc, ◌+◌, ◌<◌, Bool, true, false, filter, inl, inr, Option, List, []}
+use Rattle.rdm_log.proofs.Common.{◌∷◌, ◌++◌, length, Some, None, slice_get, refl, sym, ap, ◌∙◌, arith, ◌≢◌, ◌⊎◌}
+use Rattle.rdm_log.proofs.Common.{cases_Bool, ne_eqb, false≢true, eqb-true, slice_get_within, get_or_from_slice_get}
+use Rattle.rdm_log.proofs.Common.{Contains, EachAfter, Status, Opening, Entry, Send, Came, Finish, Answer, finished_of}
+use Rattle.rdm_log.proofs.Common.{sending_of, came_of, finishes, result, is_client_of, is_answer_to, answers_to}
+use Rattle.rdm_log.proofs.Common.{collects_by, uncollected, MayFollow, AgentFault}
 use Rattle.rdm_log.specs.declared.entry.Owner.TheVariants as owners
-use Rattle.rdm_log.specs.declared.entry.Opening.{Opening}
-use Rattle.rdm_log.specs.declared.entry.Entry.{Entry}
-use Rattle.rdm_log.specs.declared.entry.Entry.TheVariants.{Send, Came, Finish, Answer}
-use Rattle.rdm_log.specs.log.Entries.{finished_of, sending_of, came_of, finishes, result}
-use Rattle.rdm_log.specs.log.Clients.{is_client_of, is_answer_to, answers_to, collects_by, uncollected}
-use Rattle.rdm_log.specs.log.Legal.{MayFollow}
-use Rattle.rdm_agent.specs.declared.fault.AgentFault.{AgentFault}
 use Rattle.rdm_log.proofs.LogLemmas.Indices.{slice_get-drop, filter_map_has}
 use Rattle.rdm_log.proofs.LogLemmas.PushLemmas.{sends_same, cames_same}
 use Rattle.rdm_log.proofs.LogLemmas.ExchangeLemmas.{result_same, result_sent, result_came_other}

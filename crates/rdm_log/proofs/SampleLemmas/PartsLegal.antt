@@ -1,21 +1,15 @@
 -- A log whose request is answered in two parts is legal.
-use Rattle.std.proofs.Common.{◌≡◌, [], Some, refl, inl, arith, inr}
-use Rattle.std.proofs.lemmas.Bool.{false≢true}
-use Rattle.rdm_join.specs.declared.event.LineEvent.TheVariants.{Reply}
-use Rattle.rdm_log.specs.declared.entry.Entry.TheVariants.{Came, Finish}
-use Rattle.rdm_join.specs.declared.status.Status.TheVariants.{Completed}
-use Rattle.rdm_log.specs.log.Entries.{joins, accepts, sends, cames, finishes, collectors, traded, of_request, verdicts}
-use Rattle.rdm_log.specs.log.Entries.{result, asks, answers}
-use Rattle.rdm_log.specs.log.Runs.{has_begun, entries_before_run, last_run, run_exchanges}
-use Rattle.rdm_log.specs.log.History.{awaited, is_paused, is_closed}
-use Rattle.rdm_log.specs.log.Clients.{answers_to}
-use Rattle.rdm_log.specs.log.MaySend.{MaySendRequest}
-use Rattle.rdm_log.specs.log.Legal.{Legal}
-use Rattle.rdm_log.specs.samples.Sample.{sample_request, sample_frame, accepted_two}
-use Rattle.rdm_log.specs.samples.SampleParts.{wide_opening, second_frame, first_part, last_part, sent_part, came_part}
-use Rattle.rdm_log.specs.samples.SampleParts.{sent_again, came_again, joined_log, joined_parts}
+use Rattle.rdm_log.proofs.Common.{◌≡◌, [], Some, refl, inl, arith, inr, false≢true, Reply, Came, Finish, Completed}
+use Rattle.rdm_log.proofs.Common.{joins, accepts, sends, cames, finishes, collectors, traded, of_request, verdicts}
+use Rattle.rdm_log.proofs.Common.{result, asks, answers, has_begun, entries_before_run, last_run, run_exchanges}
+use Rattle.rdm_log.proofs.Common.{awaited, is_paused, is_closed, answers_to, MaySendRequest, Legal, sample_request}
+use Rattle.rdm_log.proofs.Common.{sample_frame, second_frame}
+use Rattle.rdm_log.specs.samples.Sample.{accepted_two}
+use Rattle.rdm_log.specs.samples.SampleParts.{wide_opening, first_part, last_part, sent_part, came_part, sent_again}
+use Rattle.rdm_log.specs.samples.SampleParts.{came_again, joined_log, joined_parts}
 use Rattle.rdm_log.proofs.LogLemmas.Grows.{empty, pushed}
 use Rattle.rdm_log.proofs.LogLemmas.KeepsLegal.{join_keeps, accept_keeps, send_keeps}
+use Rattle.rdm_log.proofs.SampleLemmas.SampleLegal.{sample_fits}
 
 pub two_accepted : Legal wide_opening accepted_two
 unfolding joins accepts finishes collectors is_closed answers_to asks answers sends has_begun entries_before_run
@@ -37,20 +31,7 @@ may_send_first = record {
   lowest = refl;
   number = refl;
   turn = inr refl;
-  packet = (
-    record {
-      dest = omega arith;
-      source = omega arith;
-      tn = omega arith;
-      port_or_type = omega arith;
-      count = omega arith;
-      sub_device = omega arith;
-      class = omega arith;
-      pid = omega arith;
-      param = omega arith;
-    },
-    refl,
-  );
+  packet = (sample_fits 0 (omega arith), refl);
 }
 
 pub may_send_again : MaySendRequest wide_opening came_part 0 (record { items = second_frame })
@@ -65,20 +46,7 @@ may_send_again = record {
   lowest = refl;
   number = refl;
   turn = inr refl;
-  packet = (
-    record {
-      dest = omega arith;
-      source = omega arith;
-      tn = omega arith;
-      port_or_type = omega arith;
-      count = omega arith;
-      sub_device = omega arith;
-      class = omega arith;
-      pid = omega arith;
-      param = omega arith;
-    },
-    refl,
-  );
+  packet = (sample_fits 1 (omega arith), refl);
 }
 
 part_came : Legal wide_opening came_part

@@ -1,41 +1,27 @@
 -- The sample logs with runs that end: which runs go on, which frames and answers may follow, and that they are legal.
-use Rattle.std.proofs.Common.{◌≡◌, ℕ, zero, suc, ◌<◌, ◌≤◌, List, [], ◌∷◌, ◌++◌, length, take, map, Some, None, refl}
-use Rattle.std.proofs.Common.{sym}
-use Rattle.std.proofs.Common.{ap, ◌∙◌, inl, inr, arith}
-use Rattle.std.specs.Prelude.{◌≢◌}
-use Rattle.std.specs.List.{AllByRecursion}
-use Rattle.std.proofs.lemmas.Bool.{false≢true}
-use Rattle.std.proofs.lemmas.Option.{none-some}
-use Rattle.rdm_wire.specs.Lists.{EachAfter}
+use Rattle.rdm_log.proofs.Common.{◌≡◌, ℕ, zero, suc, ◌<◌, ◌≤◌, List, [], ◌∷◌, ◌++◌, length, take, map, Some, None, refl}
+use Rattle.rdm_log.proofs.Common.{false, sym, ap, ◌∙◌, inl, inr, arith, ◌≢◌, AllByRecursion, false≢true, none-some}
+use Rattle.rdm_log.proofs.Common.{EachAfter, unmute_frame, Asked, Seen, Branch, Failed, sample_run, IsCorrupt}
+use Rattle.rdm_log.proofs.Common.{AgentState, Runs, start, next_of, fed_all, Full, Incremental, certified, Entry}
+use Rattle.rdm_log.proofs.Common.{Answer, joins, accepts, asks, sends, cames, finishes, answers, collectors, traded}
+use Rattle.rdm_log.proofs.Common.{of_request, verdicts, result, awaited, is_paused, is_closed, next_tn, unfinished}
+use Rattle.rdm_log.proofs.Common.{answers_to, has_begun, entries_before_run, last_run, run_exchanges, run_kind}
+use Rattle.rdm_log.proofs.Common.{known_at_run, open_run, run_frames, GoesOn, NothingDue, MayBegin, MaySendRequest}
+use Rattle.rdm_log.proofs.Common.{MaySendRun, MayFollow, Legal, sample_opening, sample_request, first_client, source}
+use Rattle.rdm_log.proofs.Common.{device, came_with}
 use Rattle.rdm_wire.specs.Uid.{IsDeviceSet}
-use Rattle.rdm_wire.specs.CommandFrames.{mute_frame, unmute_frame}
-use Rattle.rdm_wire.specs.Honest.{Asked, Seen}
-use Rattle.rdm_wire.specs.Honest.Asked.{Branch}
-use Rattle.rdm_wire.specs.Honest.Heard.{Failed}
-use Rattle.rdm_agent.specs.SampleRun.{sample_run}
-use Rattle.rdm_agent.specs.Cause.{IsCorrupt, AllReported}
-use Rattle.rdm_agent.specs.Machine.{AgentState, Runs, start, next_of, fed_all}
-use Rattle.rdm_agent.specs.declared.kind.Kind.TheVariants.{Full, Incremental}
+use Rattle.rdm_wire.specs.CommandFrames.{mute_frame}
+use Rattle.rdm_agent.specs.Cause.{AllReported}
+use Rattle.rdm_agent.specs.Machine.{fed}
 use Rattle.rdm_agent.proofs.CertificateEnds.{certificate_ends}
-use Rattle.rdm_agent.proofs.SampleCertificate.{certified}
-use Rattle.rdm_log.specs.declared.entry.Entry.{Entry}
-use Rattle.rdm_log.specs.declared.entry.Entry.TheVariants.{Answer}
-use Rattle.rdm_log.specs.log.Entries.{joins, accepts, asks, sends, cames, finishes, answers, collectors, traded}
-use Rattle.rdm_log.specs.log.Entries.{of_request, verdicts, result}
-use Rattle.rdm_log.specs.log.History.{awaited, is_paused, is_closed}
-use Rattle.rdm_log.specs.log.Clients.{answers_to}
-use Rattle.rdm_log.specs.log.Runs.{has_begun, entries_before_run, last_run, run_exchanges, run_kind, known_at_run}
-use Rattle.rdm_log.specs.log.Due.{GoesOn, NothingDue}
-use Rattle.rdm_log.specs.log.MaySend.{MaySendRequest, MaySendRun}
-use Rattle.rdm_log.specs.log.Legal.{MayFollow, Legal}
-use Rattle.rdm_log.specs.samples.Sample.{sample_opening, sample_request}
-use Rattle.rdm_log.specs.samples.SampleRuns.{first_client, source, device, device_reply, device_ack, tenth_frame}
-use Rattle.rdm_log.specs.samples.SampleRuns.{whole_branch, sent_for_run, came_with, waiting_log, run_log}
-use Rattle.rdm_log.specs.samples.SampleRuns.{answered_first, answered_both, request_sent}
+use Rattle.rdm_log.specs.log.MaySend.{IsRunFrame}
+use Rattle.rdm_log.specs.samples.SampleRuns.{device_reply, device_ack, tenth_frame, whole_branch, sent_for_run}
+use Rattle.rdm_log.specs.samples.SampleRuns.{waiting_log, run_log, answered_first, answered_both, request_sent}
 use Rattle.rdm_log.proofs.LogLemmas.Grows.{pushed, empty}
 use Rattle.rdm_log.proofs.LogLemmas.PushLemmas.{awaited-push}
 use Rattle.rdm_log.proofs.LogLemmas.KeepsLegal.{join_keeps, accept_keeps, ask_keeps, pause_keeps, resume_keeps}
 use Rattle.rdm_log.proofs.LogLemmas.KeepsLegal.{send_keeps, run_send_keeps}
+use Rattle.rdm_log.proofs.SampleLemmas.SampleLegal.{sample_fits}
 
 -- the first exchanges of the sample run: none failed, and none is a branch of one UID
 all_take : {X : Type 0} (P : X → Type 0) (xs : List X) (n : ℕ) → AllByRecursion P xs → AllByRecursion P (take n xs)
@@ -93,33 +79,36 @@ not_corrupt x many u c = among x c.before c.mutes many c.whole
 no_devices : IsDeviceSet []
 no_devices = record { devices = tt; ascending = tt }
 
+-- an agent's first exchanges lead it to some state
+runs_take : (a b : AgentState) (x : List Seen) (n : ℕ) → Runs a x b
+    → Runs a (take n x) (fed_all a (map (λ (e : Seen). e.heard) (take n x)))
+runs_take a b x zero runs = refl
+runs_take a b [] (suc n) runs = refl
+runs_take a b (e ∷ x) (suc n) runs = (runs.0, runs_take (fed a e.heard) b x n runs.1)
+
+-- the agent after this many exchanges of the sample run
+abbrev after : ℕ → AgentState
+after n = fed_all (start Full [] 96008) (map (λ (e : Seen). e.heard) (take n sample_run))
+
+sample_runs : Runs (start Full [] 96008) sample_run (after 10)
+sample_runs = (refl, (refl, (refl, (refl, (refl, (refl, (refl, (refl, (refl, (refl, refl))))))))))
+
 -- a full run during these exchanges goes on
-pub goes_on : (h : List Entry) (n : ℕ) (b : AgentState) (asked : Asked) → run_kind 1 h ≡ Full
-    → known_at_run sample_opening 1 h ≡ [] → run_exchanges 1 h ≡ take n sample_run
-    → Runs (start Full [] 96008) (take n sample_run) b → next_of b ≡ Some asked → AllReported (take n sample_run)
-    → length (take n sample_run) < 96008 → GoesOn sample_opening h 1
-goes_on h n b asked kind known same runs next reported within = record {
+pub goes_on : (h : List Entry) (n : ℕ) (asked : Asked) → run_kind 1 h ≡ Full
+    → known_at_run sample_opening 1 h ≡ [] → run_exchanges 1 h ≡ take n sample_run → next_of (after n) ≡ Some asked
+    → AllReported (take n sample_run) → length (take n sample_run) < 96008 → GoesOn sample_opening h 1
+goes_on h n asked kind known same next reported within = record {
   no_failure = rw same (all_take (λ e. e.heard ≢ Failed) sample_run n none_failed);
   not_corrupt = rw same (not_corrupt (take n sample_run) (all_take IsOfMany sample_run n of_many));
   all_reported = rw same reported;
   in_budget = rw same within;
   not_done = λ done. none-some asked
-      (sym (certificate_ends Full [] 96008 (take n sample_run) b no_devices runs _ (rw (kind, known, same) at done)).0
-      ∙ next);
+      (sym (certificate_ends Full [] 96008 (take n sample_run) (after n) no_devices runs _
+      (rw (kind, known, same) at done)).0 ∙ next);
 }
-
--- a frame of the run and its reply
-run_step : (h : List Entry) (frame bytes : List ℕ) → Legal sample_opening h
-    → MaySendRun sample_opening h 1 (record { items = frame })
-    → NothingDue sample_opening ((h ++ sent_for_run 1 frame ∷ []) ++ came_with bytes ∷ [])
-    → Legal sample_opening ((h ++ sent_for_run 1 frame ∷ []) ++ came_with bytes ∷ [])
-run_step h frame bytes legal may due =
-    let sent = run_send_keeps sample_opening h 1 (record { items = frame }) legal may in
-    record {
-      each = pushed sample_opening (h ++ sent_for_run 1 frame ∷ []) (came_with bytes) sent.each
-          (sent.settled, awaited-push h (sent_for_run 1 frame));
-      settled = due;
-    }
+  where
+    runs : Runs (start Full [] 96008) (take n sample_run) (after n)
+    runs = runs_take (start Full [] 96008) (after 10) sample_run n sample_runs
 
 waiting : Legal sample_opening waiting_log
 unfolding accepts asks sends cames finishes answers collectors traded of_request verdicts result awaited is_paused
@@ -132,355 +121,145 @@ waiting =
     (pause_keeps sample_opening _ (join_keeps sample_opening [] first_client 1 (empty sample_opening) refl refl) refl)
     refl refl) refl refl) refl refl) refl
 
-may_send_0 : MaySendRun sample_opening (run_log 0) 1 (record { items = unmute_frame source 0 })
-unfolding accepts asks sends cames finishes answers collectors traded of_request verdicts result awaited is_paused
-    is_closed answers_to joins has_begun entries_before_run last_run run_exchanges
-may_send_0 = record {
-  not_awaited = refl;
-  not_closed = refl;
-  turn = inl (record {
-    not_paused = refl;
-    no_run = refl;
-    no_request = refl;
-    asked = (λ none. cc);
-    number = refl;
-    from_one = omega arith;
-  });
-  in_budget = omega arith;
-  packet = record { unmute = λ early. refl; search = λ late. absurd (omega (arith, late)) };
+-- the frames of the run, after this many others
+unmutes : (n : ℕ) → n < 3 → IsRunFrame source n n (unmute_frame source n)
+unmutes n few = record { unmute = λ early. refl; search = λ late. absurd (omega (arith, few, late)) }
+
+branches : (n : ℕ) → 3 ≤ n → IsRunFrame source n n (whole_branch n)
+branches n many = record {
+  unmute = λ early. absurd (omega (arith, many, early));
+  search = λ late. inl
+      (record { lo = 0; hi = 0xffffffffffff; ordered = omega arith; in_range = omega arith; frame_is = refl });
 }
 
-may_send_1 : MaySendRun sample_opening (run_log 1) 1 (record { items = unmute_frame source 1 })
-unfolding accepts asks sends cames finishes answers collectors traded of_request verdicts result awaited is_paused
-    is_closed answers_to joins has_begun entries_before_run last_run run_exchanges
-may_send_1 = record {
-  not_awaited = refl;
-  not_closed = refl;
-  turn = inr refl;
-  in_budget = omega arith;
-  packet = record { unmute = λ early. refl; search = λ late. absurd (omega (arith, late)) };
+mutes : (n : ℕ) → 3 ≤ n → IsRunFrame source n n (mute_frame device source n)
+mutes n many = record {
+  unmute = λ early. absurd (omega (arith, many, early));
+  search = λ late. inr
+      (record { uid = device; device = record { in_range = omega arith; own = refl }; frame_is = refl });
 }
 
-may_send_2 : MaySendRun sample_opening (run_log 2) 1 (record { items = unmute_frame source 2 })
-unfolding accepts asks sends cames finishes answers collectors traded of_request verdicts result awaited is_paused
-    is_closed answers_to joins has_begun entries_before_run last_run run_exchanges
-may_send_2 = record {
-  not_awaited = refl;
-  not_closed = refl;
-  turn = inr refl;
-  in_budget = omega arith;
-  packet = record { unmute = λ early. refl; search = λ late. absurd (omega (arith, late)) };
+-- the run begins
+pub begins : (h : List Entry) → awaited h ≡ false → is_closed sample_opening h ≡ false → MayBegin sample_opening h 1
+    → run_frames 1 h ≡ 0 → next_tn sample_opening h ≡ 0
+    → MaySendRun sample_opening h 1 (record { items = unmute_frame source 0 })
+begins h not_awaited not_closed may frames number = record {
+  not_awaited = not_awaited;
+  not_closed = not_closed;
+  turn = inl may;
+  in_budget = rw frames (omega arith);
+  packet = rw (frames, number) (unmutes 0 (omega arith));
 }
 
-may_send_3 : MaySendRun sample_opening (run_log 3) 1 (record { items = whole_branch 3 })
-unfolding accepts asks sends cames finishes answers collectors traded of_request verdicts result awaited is_paused
-    is_closed answers_to joins has_begun entries_before_run last_run run_exchanges
-may_send_3 = record {
-  not_awaited = refl;
-  not_closed = refl;
-  turn = inr refl;
-  in_budget = omega arith;
-  packet = record {
-    unmute = λ early. absurd (omega (arith, early));
-    search = λ late. inl (record {
-      lo = 0;
-      hi = 0xffffffffffff;
-      ordered = omega arith;
-      in_range = omega arith;
-      frame_is = refl;
-    });
+-- a log in which the run is open and has had this many exchanges, and nothing is decided
+record IsAmid (h : List Entry) (n : ℕ) : Type 0 where
+  not_awaited : awaited h ≡ false
+  not_closed : is_closed sample_opening h ≡ false
+  run : open_run h ≡ Some 1
+  frames : run_frames 1 h ≡ n
+  number : next_tn sample_opening h ≡ n
+  undecided : AllByRecursion (λ a. result a.number h ≡ None) (unfinished h)
+  unanswered : answers h ≡ []
+  goes_on : GoesOn sample_opening h 1
+
+is_amid : (h : List Entry) (n : ℕ) (asked : Asked) → awaited h ≡ false → is_closed sample_opening h ≡ false
+    → open_run h ≡ Some 1 → run_frames 1 h ≡ n → next_tn sample_opening h ≡ n
+    → AllByRecursion (λ a. result a.number h ≡ None) (unfinished h) → answers h ≡ [] → run_kind 1 h ≡ Full
+    → known_at_run sample_opening 1 h ≡ [] → run_exchanges 1 h ≡ take n sample_run → next_of (after n) ≡ Some asked
+    → AllReported (take n sample_run) → length (take n sample_run) < 96008 → IsAmid h n
+is_amid h n asked came not_closed run frames number undecided none kind known same next reported within = record {
+  not_awaited = came;
+  not_closed = not_closed;
+  run = run;
+  frames = frames;
+  number = number;
+  undecided = undecided;
+  unanswered = none;
+  goes_on = goes_on h n asked kind known same next reported within;
+}
+
+nothing_due : (h : List Entry) (n : ℕ) → IsAmid h n → NothingDue sample_opening h
+nothing_due h n amid = record {
+  results_open = amid.undecided;
+  runs_answered = rw amid.unanswered tt;
+  run_goes_on = rw amid.run amid.goes_on;
+  all_closed = λ closed idle. absurd (false≢true (sym amid.not_closed ∙ closed));
+}
+
+-- a further frame of the run
+may_send : (h : List Entry) (n : ℕ) (frame : List ℕ) → n < 96008 → IsAmid h n → IsRunFrame source n n frame
+    → MaySendRun sample_opening h 1 (record { items = frame })
+may_send h n frame few amid packet = record {
+  not_awaited = amid.not_awaited;
+  not_closed = amid.not_closed;
+  turn = inr amid.run;
+  in_budget = rw amid.frames few;
+  packet = rw (amid.frames, amid.number) packet;
+}
+
+-- a legal log amid the run
+record HasReached (h : List Entry) (n : ℕ) : Type 0 where
+  legal : Legal sample_opening h
+  amid : IsAmid h n
+
+-- a frame of the run and its reply
+reach : (h : List Entry) (n : ℕ) (frame bytes : List ℕ) → Legal sample_opening h
+    → MaySendRun sample_opening h 1 (record { items = frame })
+    → IsAmid ((h ++ sent_for_run 1 frame ∷ []) ++ came_with bytes ∷ []) n
+    → HasReached ((h ++ sent_for_run 1 frame ∷ []) ++ came_with bytes ∷ []) n
+reach h n frame bytes legal may amid = record {
+  legal = record {
+    each = pushed sample_opening (h ++ sent_for_run 1 frame ∷ []) (came_with bytes) sent.each
+        (sent.settled, awaited-push h (sent_for_run 1 frame));
+    settled = nothing_due _ n amid;
   };
+  amid = amid;
 }
+  where
+    sent : Legal sample_opening (h ++ sent_for_run 1 frame ∷ [])
+    sent = run_send_keeps sample_opening h 1 (record { items = frame }) legal may
 
-may_send_4 : MaySendRun sample_opening (run_log 4) 1 (record { items = mute_frame device source 4 })
+further : (h : List Entry) (n : ℕ) (frame bytes : List ℕ) → HasReached h n → n < 96008
+    → IsRunFrame source n n frame → IsAmid ((h ++ sent_for_run 1 frame ∷ []) ++ came_with bytes ∷ []) (suc n)
+    → HasReached ((h ++ sent_for_run 1 frame ∷ []) ++ came_with bytes ∷ []) (suc n)
+further h n frame bytes before few packet amid =
+    reach h (suc n) frame bytes before.legal (may_send h n frame few before.amid packet) amid
+
+may_begin : MaySendRun sample_opening (run_log 0) 1 (record { items = unmute_frame source 0 })
 unfolding accepts asks sends cames finishes answers collectors traded of_request verdicts result awaited is_paused
     is_closed answers_to joins has_begun entries_before_run last_run run_exchanges
-may_send_4 = record {
-  not_awaited = refl;
-  not_closed = refl;
-  turn = inr refl;
-  in_budget = omega arith;
-  packet = record {
-    unmute = λ early. absurd (omega (arith, early));
-    search = λ late. inr (record {
-      uid = device;
-      device = record { in_range = omega arith; own = refl };
-      frame_is = refl;
-    });
-  };
-}
+may_begin = begins _ refl refl (record {
+  not_paused = refl;
+  no_run = refl;
+  no_request = refl;
+  asked = (λ none. cc);
+  number = refl;
+  from_one = omega arith;
+}) refl refl
 
-may_send_5 : MaySendRun sample_opening (run_log 5) 1 (record { items = whole_branch 5 })
+-- its first nine exchanges
+reached : HasReached (run_log 9) 9
 unfolding accepts asks sends cames finishes answers collectors traded of_request verdicts result awaited is_paused
     is_closed answers_to joins has_begun entries_before_run last_run run_exchanges
-may_send_5 = record {
-  not_awaited = refl;
-  not_closed = refl;
-  turn = inr refl;
-  in_budget = omega arith;
-  packet = record {
-    unmute = λ early. absurd (omega (arith, early));
-    search = λ late. inl (record {
-      lo = 0;
-      hi = 0xffffffffffff;
-      ordered = omega arith;
-      in_range = omega arith;
-      frame_is = refl;
-    });
-  };
-}
-
-may_send_6 : MaySendRun sample_opening (run_log 6) 1 (record { items = whole_branch 6 })
-unfolding accepts asks sends cames finishes answers collectors traded of_request verdicts result awaited is_paused
-    is_closed answers_to joins has_begun entries_before_run last_run run_exchanges
-may_send_6 = record {
-  not_awaited = refl;
-  not_closed = refl;
-  turn = inr refl;
-  in_budget = omega arith;
-  packet = record {
-    unmute = λ early. absurd (omega (arith, early));
-    search = λ late. inl (record {
-      lo = 0;
-      hi = 0xffffffffffff;
-      ordered = omega arith;
-      in_range = omega arith;
-      frame_is = refl;
-    });
-  };
-}
-
-may_send_7 : MaySendRun sample_opening (run_log 7) 1 (record { items = whole_branch 7 })
-unfolding accepts asks sends cames finishes answers collectors traded of_request verdicts result awaited is_paused
-    is_closed answers_to joins has_begun entries_before_run last_run run_exchanges
-may_send_7 = record {
-  not_awaited = refl;
-  not_closed = refl;
-  turn = inr refl;
-  in_budget = omega arith;
-  packet = record {
-    unmute = λ early. absurd (omega (arith, early));
-    search = λ late. inl (record {
-      lo = 0;
-      hi = 0xffffffffffff;
-      ordered = omega arith;
-      in_range = omega arith;
-      frame_is = refl;
-    });
-  };
-}
-
-may_send_8 : MaySendRun sample_opening (run_log 8) 1 (record { items = whole_branch 8 })
-unfolding accepts asks sends cames finishes answers collectors traded of_request verdicts result awaited is_paused
-    is_closed answers_to joins has_begun entries_before_run last_run run_exchanges
-may_send_8 = record {
-  not_awaited = refl;
-  not_closed = refl;
-  turn = inr refl;
-  in_budget = omega arith;
-  packet = record {
-    unmute = λ early. absurd (omega (arith, early));
-    search = λ late. inl (record {
-      lo = 0;
-      hi = 0xffffffffffff;
-      ordered = omega arith;
-      in_range = omega arith;
-      frame_is = refl;
-    });
-  };
-}
-
-may_send_9 : MaySendRun sample_opening (run_log 9) 1 (record { items = whole_branch 9 })
-unfolding accepts asks sends cames finishes answers collectors traded of_request verdicts result awaited is_paused
-    is_closed answers_to joins has_begun entries_before_run last_run run_exchanges
-may_send_9 = record {
-  not_awaited = refl;
-  not_closed = refl;
-  turn = inr refl;
-  in_budget = omega arith;
-  packet = record {
-    unmute = λ early. absurd (omega (arith, early));
-    search = λ late. inl (record {
-      lo = 0;
-      hi = 0xffffffffffff;
-      ordered = omega arith;
-      in_range = omega arith;
-      frame_is = refl;
-    });
-  };
-}
-
-goes_on_1 : GoesOn sample_opening (run_log 1) 1
-unfolding accepts asks sends cames finishes answers collectors traded of_request verdicts result awaited is_paused
-    is_closed answers_to joins has_begun entries_before_run last_run run_exchanges
-goes_on_1 = goes_on (run_log 1) 1 (fed_all (start Full [] 96008) (map (λ (e : Seen). e.heard) (take 1 sample_run))) _
-    refl refl refl (refl, refl) refl (omega arith) (omega arith)
-
-due_1 : NothingDue sample_opening (run_log 1)
-unfolding accepts asks sends cames finishes answers collectors traded of_request verdicts result awaited is_paused
-    is_closed answers_to joins has_begun entries_before_run last_run run_exchanges
-due_1 = record {
-  results_open = (refl, tt);
-  runs_answered = tt;
-  run_goes_on = goes_on_1;
-  all_closed = λ closed idle. absurd (false≢true closed);
-}
-
-goes_on_2 : GoesOn sample_opening (run_log 2) 1
-unfolding accepts asks sends cames finishes answers collectors traded of_request verdicts result awaited is_paused
-    is_closed answers_to joins has_begun entries_before_run last_run run_exchanges
-goes_on_2 = goes_on (run_log 2) 2 (fed_all (start Full [] 96008) (map (λ (e : Seen). e.heard) (take 2 sample_run))) _
-    refl refl refl (refl, (refl, refl)) refl (omega arith) (omega arith)
-
-due_2 : NothingDue sample_opening (run_log 2)
-unfolding accepts asks sends cames finishes answers collectors traded of_request verdicts result awaited is_paused
-    is_closed answers_to joins has_begun entries_before_run last_run run_exchanges
-due_2 = record {
-  results_open = (refl, tt);
-  runs_answered = tt;
-  run_goes_on = goes_on_2;
-  all_closed = λ closed idle. absurd (false≢true closed);
-}
-
-goes_on_3 : GoesOn sample_opening (run_log 3) 1
-unfolding accepts asks sends cames finishes answers collectors traded of_request verdicts result awaited is_paused
-    is_closed answers_to joins has_begun entries_before_run last_run run_exchanges
-goes_on_3 = goes_on (run_log 3) 3 (fed_all (start Full [] 96008) (map (λ (e : Seen). e.heard) (take 3 sample_run))) _
-    refl refl refl (refl, (refl, (refl, refl))) refl (omega arith) (omega arith)
-
-due_3 : NothingDue sample_opening (run_log 3)
-unfolding accepts asks sends cames finishes answers collectors traded of_request verdicts result awaited is_paused
-    is_closed answers_to joins has_begun entries_before_run last_run run_exchanges
-due_3 = record {
-  results_open = (refl, tt);
-  runs_answered = tt;
-  run_goes_on = goes_on_3;
-  all_closed = λ closed idle. absurd (false≢true closed);
-}
-
-goes_on_4 : GoesOn sample_opening (run_log 4) 1
-unfolding accepts asks sends cames finishes answers collectors traded of_request verdicts result awaited is_paused
-    is_closed answers_to joins has_begun entries_before_run last_run run_exchanges
-goes_on_4 = goes_on (run_log 4) 4 (fed_all (start Full [] 96008) (map (λ (e : Seen). e.heard) (take 4 sample_run))) _
-    refl refl refl (refl, (refl, (refl, (refl, refl)))) refl (omega arith) (omega arith)
-
-due_4 : NothingDue sample_opening (run_log 4)
-unfolding accepts asks sends cames finishes answers collectors traded of_request verdicts result awaited is_paused
-    is_closed answers_to joins has_begun entries_before_run last_run run_exchanges
-due_4 = record {
-  results_open = (refl, tt);
-  runs_answered = tt;
-  run_goes_on = goes_on_4;
-  all_closed = λ closed idle. absurd (false≢true closed);
-}
-
-goes_on_5 : GoesOn sample_opening (run_log 5) 1
-unfolding accepts asks sends cames finishes answers collectors traded of_request verdicts result awaited is_paused
-    is_closed answers_to joins has_begun entries_before_run last_run run_exchanges
-goes_on_5 = goes_on (run_log 5) 5 (fed_all (start Full [] 96008) (map (λ (e : Seen). e.heard) (take 5 sample_run))) _
-    refl refl refl (refl, (refl, (refl, (refl, (refl, refl))))) refl (omega arith) (omega arith)
-
-due_5 : NothingDue sample_opening (run_log 5)
-unfolding accepts asks sends cames finishes answers collectors traded of_request verdicts result awaited is_paused
-    is_closed answers_to joins has_begun entries_before_run last_run run_exchanges
-due_5 = record {
-  results_open = (refl, tt);
-  runs_answered = tt;
-  run_goes_on = goes_on_5;
-  all_closed = λ closed idle. absurd (false≢true closed);
-}
-
-goes_on_6 : GoesOn sample_opening (run_log 6) 1
-unfolding accepts asks sends cames finishes answers collectors traded of_request verdicts result awaited is_paused
-    is_closed answers_to joins has_begun entries_before_run last_run run_exchanges
-goes_on_6 = goes_on (run_log 6) 6 (fed_all (start Full [] 96008) (map (λ (e : Seen). e.heard) (take 6 sample_run))) _
-    refl refl refl (refl, (refl, (refl, (refl, (refl, (refl, refl)))))) refl (omega arith) (omega arith)
-
-due_6 : NothingDue sample_opening (run_log 6)
-unfolding accepts asks sends cames finishes answers collectors traded of_request verdicts result awaited is_paused
-    is_closed answers_to joins has_begun entries_before_run last_run run_exchanges
-due_6 = record {
-  results_open = (refl, tt);
-  runs_answered = tt;
-  run_goes_on = goes_on_6;
-  all_closed = λ closed idle. absurd (false≢true closed);
-}
-
-goes_on_7 : GoesOn sample_opening (run_log 7) 1
-unfolding accepts asks sends cames finishes answers collectors traded of_request verdicts result awaited is_paused
-    is_closed answers_to joins has_begun entries_before_run last_run run_exchanges
-goes_on_7 = goes_on (run_log 7) 7 (fed_all (start Full [] 96008) (map (λ (e : Seen). e.heard) (take 7 sample_run))) _
-    refl refl refl (refl, (refl, (refl, (refl, (refl, (refl, (refl, refl))))))) refl (omega arith) (omega arith)
-
-due_7 : NothingDue sample_opening (run_log 7)
-unfolding accepts asks sends cames finishes answers collectors traded of_request verdicts result awaited is_paused
-    is_closed answers_to joins has_begun entries_before_run last_run run_exchanges
-due_7 = record {
-  results_open = (refl, tt);
-  runs_answered = tt;
-  run_goes_on = goes_on_7;
-  all_closed = λ closed idle. absurd (false≢true closed);
-}
-
-goes_on_8 : GoesOn sample_opening (run_log 8) 1
-unfolding accepts asks sends cames finishes answers collectors traded of_request verdicts result awaited is_paused
-    is_closed answers_to joins has_begun entries_before_run last_run run_exchanges
-goes_on_8 = goes_on (run_log 8) 8 (fed_all (start Full [] 96008) (map (λ (e : Seen). e.heard) (take 8 sample_run))) _
-    refl refl refl (refl, (refl, (refl, (refl, (refl, (refl, (refl, (refl, refl)))))))) refl (omega arith) (omega arith)
-
-due_8 : NothingDue sample_opening (run_log 8)
-unfolding accepts asks sends cames finishes answers collectors traded of_request verdicts result awaited is_paused
-    is_closed answers_to joins has_begun entries_before_run last_run run_exchanges
-due_8 = record {
-  results_open = (refl, tt);
-  runs_answered = tt;
-  run_goes_on = goes_on_8;
-  all_closed = λ closed idle. absurd (false≢true closed);
-}
-
-pub goes_on_9 : GoesOn sample_opening (run_log 9) 1
-unfolding accepts asks sends cames finishes answers collectors traded of_request verdicts result awaited is_paused
-    is_closed answers_to joins has_begun entries_before_run last_run run_exchanges
-goes_on_9 = goes_on (run_log 9) 9 (fed_all (start Full [] 96008) (map (λ (e : Seen). e.heard) (take 9 sample_run))) _
-    refl refl refl (refl, (refl, (refl, (refl, (refl, (refl, (refl, (refl, (refl, refl))))))))) refl (omega arith)
-    (omega arith)
-
-due_9 : NothingDue sample_opening (run_log 9)
-unfolding accepts asks sends cames finishes answers collectors traded of_request verdicts result awaited is_paused
-    is_closed answers_to joins has_begun entries_before_run last_run run_exchanges
-due_9 = record {
-  results_open = (refl, tt);
-  runs_answered = tt;
-  run_goes_on = goes_on_9;
-  all_closed = λ closed idle. absurd (false≢true closed);
-}
-
-legal_1 : Legal sample_opening (run_log 1)
-legal_1 = run_step (run_log 0) (unmute_frame source 0) ([]) waiting may_send_0 due_1
-
-legal_2 : Legal sample_opening (run_log 2)
-legal_2 = run_step (run_log 1) (unmute_frame source 1) ([]) legal_1 may_send_1 due_2
-
-legal_3 : Legal sample_opening (run_log 3)
-legal_3 = run_step (run_log 2) (unmute_frame source 2) ([]) legal_2 may_send_2 due_3
-
-legal_4 : Legal sample_opening (run_log 4)
-legal_4 = run_step (run_log 3) (whole_branch 3) (device_reply) legal_3 may_send_3 due_4
-
-legal_5 : Legal sample_opening (run_log 5)
-legal_5 = run_step (run_log 4) (mute_frame device source 4) (device_ack) legal_4 may_send_4 due_5
-
-legal_6 : Legal sample_opening (run_log 6)
-legal_6 = run_step (run_log 5) (whole_branch 5) ([]) legal_5 may_send_5 due_6
-
-legal_7 : Legal sample_opening (run_log 7)
-legal_7 = run_step (run_log 6) (whole_branch 6) ([]) legal_6 may_send_6 due_7
-
-legal_8 : Legal sample_opening (run_log 8)
-legal_8 = run_step (run_log 7) (whole_branch 7) ([]) legal_7 may_send_7 due_8
-
-legal_9 : Legal sample_opening (run_log 9)
-legal_9 = run_step (run_log 8) (whole_branch 8) ([]) legal_8 may_send_8 due_9
+reached =
+    let one : HasReached (run_log 1) 1 = reach (run_log 0) 1 _ [] waiting may_begin
+    (is_amid _ 1 _ refl refl refl refl refl (refl, tt) refl refl refl refl refl (omega arith) (omega arith)) in
+    let two : HasReached (run_log 2) 2 = further _ 1 _ [] one (omega arith) (unmutes 1 (omega arith))
+    (is_amid _ 2 _ refl refl refl refl refl (refl, tt) refl refl refl refl refl (omega arith) (omega arith)) in
+    let three : HasReached (run_log 3) 3 = further _ 2 _ [] two (omega arith) (unmutes 2 (omega arith))
+    (is_amid _ 3 _ refl refl refl refl refl (refl, tt) refl refl refl refl refl (omega arith) (omega arith)) in
+    let four : HasReached (run_log 4) 4 = further _ 3 _ device_reply three (omega arith) (branches 3 (omega arith))
+    (is_amid _ 4 _ refl refl refl refl refl (refl, tt) refl refl refl refl refl (omega arith) (omega arith)) in
+    let five : HasReached (run_log 5) 5 = further _ 4 _ device_ack four (omega arith) (mutes 4 (omega arith))
+    (is_amid _ 5 _ refl refl refl refl refl (refl, tt) refl refl refl refl refl (omega arith) (omega arith)) in
+    let six : HasReached (run_log 6) 6 = further _ 5 _ [] five (omega arith) (branches 5 (omega arith))
+    (is_amid _ 6 _ refl refl refl refl refl (refl, tt) refl refl refl refl refl (omega arith) (omega arith)) in
+    let seven : HasReached (run_log 7) 7 = further _ 6 _ [] six (omega arith) (branches 6 (omega arith))
+    (is_amid _ 7 _ refl refl refl refl refl (refl, tt) refl refl refl refl refl (omega arith) (omega arith)) in
+    let eight : HasReached (run_log 8) 8 = further _ 7 _ [] seven (omega arith) (branches 7 (omega arith))
+    (is_amid _ 8 _ refl refl refl refl refl (refl, tt) refl refl refl refl refl (omega arith) (omega arith)) in
+    further _ 8 _ [] eight (omega arith) (branches 8 (omega arith))
+    (is_amid _ 9 _ refl refl refl refl refl (refl, tt) refl refl refl refl refl (omega arith) (omega arith))
 
 -- the tenth exchange ends it, and both discoveries are answered
 pub not_zero : (r : ℕ) → 1 ≤ r → r ≡ 0 → ⊥
@@ -488,9 +267,13 @@ not_zero r from none = omega (arith, none)
 
 tenth_came : EachAfter (MayFollow sample_opening) (run_log 10)
 tenth_came =
-    let sent = run_send_keeps sample_opening (run_log 9) 1 (record { items = whole_branch 9 }) legal_9 may_send_9 in
+    let sent = run_send_keeps sample_opening (run_log 9) 1 (record { items = whole_branch 9 }) reached.legal
+    (may_send _ 9 _ (omega arith) reached.amid (branches 9 (omega arith))) in
     pushed sample_opening (run_log 9 ++ sent_for_run 1 (whole_branch 9) ∷ []) (came_with []) sent.each
     (sent.settled, awaited-push (run_log 9) (sent_for_run 1 (whole_branch 9)))
+
+pub goes_on_9 : GoesOn sample_opening (run_log 9) 1
+goes_on_9 = reached.amid.goes_on
 
 pub may_answer_first : MayFollow sample_opening (run_log 10) (Answer 0 1 None)
 unfolding accepts asks sends cames finishes answers collectors traded of_request verdicts result awaited is_paused
@@ -540,20 +323,7 @@ may_send_request = record {
   lowest = refl;
   number = refl;
   turn = inr refl;
-  packet = (
-    record {
-      dest = omega arith;
-      source = omega arith;
-      tn = omega arith;
-      port_or_type = omega arith;
-      count = omega arith;
-      sub_device = omega arith;
-      class = omega arith;
-      pid = omega arith;
-      param = omega arith;
-    },
-    refl,
-  );
+  packet = (sample_fits 10 (omega arith), refl);
 }
 
 pub found : Legal sample_opening request_sent

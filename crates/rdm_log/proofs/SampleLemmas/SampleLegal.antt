@@ -1,19 +1,15 @@
 -- The sample log is legal.
-use Rattle.std.proofs.Common.{◌≡◌, true, false, List, [], ◌∷◌, refl, sym, inl, true≢false, arith, inr}
-use Rattle.std.specs.Prelude.{◌≢◌}
-use Rattle.rdm_log.specs.declared.entry.Entry.TheVariants.{Join, Accept, Send, Came, Finish, Collect, Close}
+use Rattle.rdm_log.proofs.Common.{◌≡◌, ℕ, ◌<◌, true, false, List, [], ◌∷◌, refl, sym, inl, true≢false, arith, inr, ◌≢◌}
+use Rattle.rdm_log.proofs.Common.{Join, Accept, Send, Came, Finish, Collect, Close, Reply, Timeout, joins, accepts}
+use Rattle.rdm_log.proofs.Common.{sends, cames, finishes, collectors, traded, of_request, verdicts, result, asks}
+use Rattle.rdm_log.proofs.Common.{answers, has_begun, entries_before_run, last_run, run_exchanges, awaited, is_paused}
+use Rattle.rdm_log.proofs.Common.{is_closed, answers_to, NothingDue, MayFollow, Legal, sample_opening, sample_request}
+use Rattle.rdm_log.proofs.Common.{sample_frame, join_only, accepted_one, sent_one, finished_one, collected_one}
+use Rattle.rdm_log.proofs.Common.{closed_log}
+use Rattle.rdm_wire.specs.Packet.{Fits}
+use Rattle.rdm_wire.specs.CommandFrames.{request_fields}
 use Rattle.rdm_log.specs.declared.entry.Owner.TheVariants as owners
-use Rattle.rdm_join.specs.declared.event.LineEvent.TheVariants.{Reply}
-use Rattle.rdm_join.specs.declared.status.Status.TheVariants.{Timeout}
-use Rattle.rdm_log.specs.log.Entries.{joins, accepts, sends, cames, finishes, collectors, traded, of_request, verdicts}
-use Rattle.rdm_log.specs.log.Entries.{result, asks, answers}
-use Rattle.rdm_log.specs.log.Runs.{has_begun, entries_before_run, last_run, run_exchanges}
-use Rattle.rdm_log.specs.log.History.{awaited, is_paused, is_closed}
-use Rattle.rdm_log.specs.log.Clients.{answers_to}
-use Rattle.rdm_log.specs.log.Due.{NothingDue}
-use Rattle.rdm_log.specs.log.Legal.{MayFollow, Legal}
-use Rattle.rdm_log.specs.samples.Sample.{sample_opening, sample_request, sample_frame, join_only, accepted_one}
-use Rattle.rdm_log.specs.samples.Sample.{sent_one, came_one, finished_one, collected_one, closed_log}
+use Rattle.rdm_log.specs.samples.Sample.{came_one}
 use Rattle.rdm_log.proofs.LogLemmas.Grows.{pushed, empty}
 
 no_close : {A : Type 0} → false ≡ true → A
@@ -21,6 +17,20 @@ no_close h = absurd (true≢false (sym h))
 
 pub some_list : {X : Type 0} (x : X) (xs : List X) → x ∷ xs ≢ []
 some_list x xs h = cc
+
+-- the fields of the sample request, whatever its transaction number
+pub sample_fits : (tn : ℕ) → tn < 256 → Fits (request_fields sample_request 0x7a7000000100 tn)
+sample_fits tn small = record {
+  dest = omega arith;
+  source = omega arith;
+  tn = omega (arith, small);
+  port_or_type = omega arith;
+  count = omega arith;
+  sub_device = omega arith;
+  class = omega arith;
+  pid = omega arith;
+  param = omega arith;
+}
 
 due_join : NothingDue sample_opening join_only
 unfolding accepts finishes is_closed asks answers sends has_begun entries_before_run last_run run_exchanges
@@ -71,20 +81,7 @@ may_send = (
     lowest = refl;
     number = refl;
     turn = inr refl;
-    packet = (
-      record {
-        dest = omega arith;
-        source = omega arith;
-        tn = omega arith;
-        port_or_type = omega arith;
-        count = omega arith;
-        sub_device = omega arith;
-        class = omega arith;
-        pid = omega arith;
-        param = omega arith;
-      },
-      refl,
-    );
+    packet = (sample_fits 0 (omega arith), refl);
   },
 )
 

@@ -1,6 +1,5 @@
-use Rattle.std.proofs.Common.{Some, refl, sym, ap, ◌∙◌}
+use Rattle.rdm_agent.proofs.Common.{Some, refl, sym, ap, ◌∙◌, next_op}
 use Rattle.rdm_agent.proofs.Carried.{op_asks}
-use Rattle.rdm_agent.specs.Calls.{next_op}
 use Rattle.rdm_agent.proofs.CallLemmas.{hears-has_run, next_asked}
 use Rattle.rdm_agent.proofs.laws.frames_carry_operations.Goals as goal
 

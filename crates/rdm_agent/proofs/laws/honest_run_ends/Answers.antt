@@ -1,4 +1,4 @@
-use Rattle.rdm_agent.specs.declared.search.Search.TheVariants.{Quick}
+use Rattle.rdm_agent.proofs.Common.{Quick}
 use Rattle.rdm_agent.proofs.BoundRuns.{ends_in_bound, ends_in_bound_by}
 use Rattle.rdm_agent.proofs.laws.honest_run_ends.Goals as goal
 

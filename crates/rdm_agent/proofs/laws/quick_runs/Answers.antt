@@ -1,6 +1,5 @@
-use Rattle.std.proofs.Common.{refl}
+use Rattle.rdm_agent.proofs.Common.{refl, choose}
 use Rattle.rdm_agent.proofs.SampleLines.{swept_honest}
-use Rattle.rdm_agent.specs.Machine.{choose}
 use Rattle.rdm_agent.proofs.laws.quick_runs.Goals as goal
 
 pub returns : goal.returns

@@ -1,7 +1,4 @@
-use Rattle.std.proofs.Common.{◌≡◌, sym, subst}
-use Rattle.rdm_agent.specs.Machine.{AgentState}
-use Rattle.rdm_agent.specs.Calls.{next_op, HasRunBy, RunSoFar}
-use Rattle.rdm_agent.specs.declared.op.Op.TheVariants.{End}
+use Rattle.rdm_agent.proofs.Common.{◌≡◌, sym, subst, AgentState, next_op, HasRunBy, RunSoFar, End}
 use Rattle.rdm_agent.specs.contracts.agent.Agent.{the_view}
 use Rattle.rdm_agent.proofs.CallLemmas.{end-certified, end-finds_all, end-finds_each, end-finds_staying, end-caused}
 use Rattle.rdm_agent.proofs.CallLemmas.{found-present, found-no_stranger}

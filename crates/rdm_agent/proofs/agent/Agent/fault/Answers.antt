@@ -1,5 +1,4 @@
-use Rattle.std.proofs.Common.{ap, ◌∙◌}
-use Rattle.rdm_agent.specs.Machine.{AgentState, fault_of}
+use Rattle.rdm_agent.proofs.Common.{ap, ◌∙◌, AgentState, fault_of}
 use Rattle.rdm_agent.proofs.CallLemmas.{fault-certified, fault-caused}
 use Rattle.rdm_agent.proofs.agent.Agent.fault.Goals as goal
 

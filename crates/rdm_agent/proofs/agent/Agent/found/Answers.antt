@@ -1,5 +1,4 @@
-use Rattle.std.proofs.Common.{◌≡◌, ap}
-use Rattle.rdm_agent.specs.Machine.{AgentState}
+use Rattle.rdm_agent.proofs.Common.{◌≡◌, ap, AgentState}
 use Rattle.rdm_agent.proofs.CallLemmas.{found-report}
 use Rattle.rdm_agent.proofs.agent.Agent.found.Goals as goal
 

@@ -1,5 +1,4 @@
-use Rattle.std.proofs.Common.{◌≡◌, ap, sym, ◌∙◌}
-use Rattle.rdm_agent.specs.Machine.{AgentState}
+use Rattle.rdm_agent.proofs.Common.{◌≡◌, ap, sym, ◌∙◌, AgentState}
 use Rattle.rdm_agent.proofs.CallLemmas.{frames-counted}
 use Rattle.rdm_agent.proofs.BoundCalls.{frames-in_bound, frames-ended}
 use Rattle.rdm_agent.proofs.agent.Agent.frames.Goals as goal

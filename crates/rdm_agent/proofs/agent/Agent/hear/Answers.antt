@@ -1,7 +1,4 @@
-use Rattle.std.proofs.Common.{ap, ◌∙◌}
-use Rattle.rdm_agent.specs.Machine.{AgentState, fed}
-use Rattle.rdm_agent.specs.Run.{heard_by, seen_op}
-use Rattle.rdm_agent.specs.Calls.{next_op}
+use Rattle.rdm_agent.proofs.Common.{ap, ◌∙◌, AgentState, fed, heard_by, seen_op, next_op}
 use Rattle.rdm_agent.specs.Bound.{with_exchange}
 use Rattle.rdm_agent.proofs.CallLemmas.{feed-stands}
 use Rattle.rdm_agent.proofs.BoundCalls.{stays_in_bound}

@@ -1,5 +1,4 @@
-use Rattle.std.proofs.Common.{◌≡◌, ◌∙◌, rules}
-use Rattle.rdm_agent.specs.Calls.{next_op}
+use Rattle.rdm_agent.proofs.Common.{◌≡◌, ◌∙◌, rules, next_op}
 use Rattle.rdm_agent.proofs.CallLemmas.{next-in_order, next-in_budget, next-failed}
 use Rattle.rdm_agent.proofs.BoundCalls.{next-in_bound}
 use Rattle.rdm_agent.proofs.agent.Agent.next.Goals as goal

@@ -1,5 +1,4 @@
-use Rattle.std.proofs.Common.{◌∙◌, sym, ap}
-use Rattle.rdm_agent.specs.OpFrames.{op_frame}
+use Rattle.rdm_agent.proofs.Common.{◌∙◌, sym, ap, op_frame}
 use Rattle.rdm_agent.proofs.Carried.{frame_asks}
 use Rattle.rdm_agent.proofs.op.Op.frame.Goals as goal
 

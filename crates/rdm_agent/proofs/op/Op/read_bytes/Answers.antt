@@ -1,5 +1,4 @@
-use Rattle.std.proofs.Common.{ap}
-use Rattle.rdm_agent.specs.Machine.{fed}
+use Rattle.rdm_agent.proofs.Common.{ap, fed}
 use Rattle.rdm_agent.proofs.Carried.{mute_carried, branch_carried, branch_acks}
 use Rattle.rdm_agent.proofs.op.Op.read_bytes.Goals as goal
 

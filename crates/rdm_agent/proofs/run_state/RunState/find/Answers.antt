@@ -1,13 +1,7 @@
-use Rattle.std.proofs.Common.{◌≡◌, ◌+◌, ◌<◌, ◌≤◌, Bool, true, false, length, refl, sym, true≢false, arith}
-use Rattle.std.proofs.lemmas.Bool.{lt-ltb}
-use Rattle.std.proofs.lemmas.List.{length-map}
-use Rattle.rdm_wire.specs.Uid.{has, IsDeviceSet}
-use Rattle.rdm_wire.specs.Devices.{uids_of, with_device}
-use Rattle.rdm_wire.specs.declared.device.Device.{Device}
-use Rattle.rdm_wire.specs.declared.uid_set.TheConstants.{MOST_DEVICES}
+use Rattle.rdm_agent.proofs.Common.{◌≡◌, ◌+◌, ◌<◌, ◌≤◌, Bool, true, false, length, refl, sym, true≢false, arith, lt-ltb}
+use Rattle.rdm_agent.proofs.Common.{length-map, has, IsDeviceSet, uids_of, with_device, Device, MOST_DEVICES}
+use Rattle.rdm_agent.proofs.Common.{AgentState, Phase, to_found, found_uids, state_of, seen_phase}
 use Rattle.rdm_wire.proofs.DeviceLemmas.{with_device-present}
-use Rattle.rdm_agent.specs.Machine.{AgentState, Phase, to_found, found_uids}
-use Rattle.rdm_agent.specs.body.AgentFields.{state_of, seen_phase}
 use Rattle.rdm_agent.proofs.run_state.RunState.find.Goals as goal
 
 -- a device that is found, where there is room for it

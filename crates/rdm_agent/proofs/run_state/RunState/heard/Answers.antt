@@ -1,5 +1,4 @@
-use Rattle.std.proofs.Common.{◌∙◌, sym}
-use Rattle.rdm_agent.specs.body.AgentFields.{state_of}
+use Rattle.rdm_agent.proofs.Common.{◌∙◌, sym, state_of}
 use Rattle.rdm_agent.specs.declared.phase.Phase.TheVariants.{MutingKnown, MutingRead, Searching, MutingSwept, Sweeping}
 use Rattle.rdm_agent.proofs.FedLemmas.{fed-mute, fed-branch}
 use Rattle.rdm_agent.proofs.run_state.RunState.heard.Goals as goal

@@ -1,10 +1,6 @@
-use Rattle.std.proofs.Common.{List, sym, subst, arith}
-use Rattle.rdm_wire.specs.Span.{Span}
-use Rattle.rdm_agent.specs.Machine.{first_phase}
+use Rattle.rdm_agent.proofs.Common.{List, sym, subst, arith, Span, first_phase, Search, Steady, Quick}
 use Rattle.rdm_agent.specs.body.Sound.{IsSound}
 use Rattle.rdm_agent.specs.body.AgentFields.{phase_of}
-use Rattle.rdm_agent.specs.declared.search.Search.{Search}
-use Rattle.rdm_agent.specs.declared.search.Search.TheVariants.{Steady, Quick}
 use Rattle.rdm_agent.proofs.Stacks.{IsStack-whole}
 use Rattle.rdm_agent.proofs.run_state.RunState.next_known.Goals as goal
 

@@ -1,8 +1,5 @@
-use Rattle.std.proofs.Common.{◌≡◌, ◌+◌, length, refl, ap, ◌∙◌}
-use Rattle.rdm_wire.specs.declared.device.Device.{Device}
-use Rattle.rdm_agent.specs.Machine.{Phase, AgentState, to_found, counted, sweep_on, believed_found}
-use Rattle.rdm_agent.specs.Run.{device_from}
-use Rattle.rdm_agent.specs.body.AgentFields.{state_of, seen_phase}
+use Rattle.rdm_agent.proofs.Common.{◌≡◌, ◌+◌, length, refl, ap, ◌∙◌, Device, Phase, AgentState, to_found, counted}
+use Rattle.rdm_agent.proofs.Common.{sweep_on, believed_found, device_from, state_of, seen_phase}
 use Rattle.rdm_agent.proofs.run_state.RunState.swept_muted.Goals as goal
 
 pub returns-in-Some-clause-state : goal.returns-in-Some-clause-state

@@ -1,9 +1,6 @@
-use Rattle.std.proofs.Common.{sym}
-use Rattle.std.proofs.lemmas.Bool.{false≢true}
-use Rattle.rdm_log.specs.log.Entries.{joins, accepts, sends, finishes, collectors, asks, answers}
-use Rattle.rdm_log.specs.log.Runs.{has_begun, entries_before_run, last_run, run_exchanges}
-use Rattle.rdm_log.specs.log.History.{awaited, is_paused, is_closed}
-use Rattle.rdm_log.specs.log.Clients.{answers_to}
+use Rattle.rdm_log.proofs.Common.{sym, false≢true, joins, accepts, sends, finishes, collectors, asks, answers}
+use Rattle.rdm_log.proofs.Common.{has_begun, entries_before_run, last_run, run_exchanges, awaited, is_paused, is_closed}
+use Rattle.rdm_log.proofs.Common.{answers_to}
 use Rattle.rdm_log.proofs.SampleLemmas.SampleLegal.{may_send}
 use Rattle.rdm_log.proofs.laws.broken.wrong_after_a_close.Goals as goal
 

@@ -1,9 +1,6 @@
-use Rattle.std.proofs.Common.{sym, inl, inr}
-use Rattle.std.proofs.lemmas.Bool.{false≢true}
-use Rattle.rdm_log.specs.log.Entries.{accepts, sends, cames, finishes, traded, of_request, verdicts, result, asks}
-use Rattle.rdm_log.specs.log.Entries.{answers}
-use Rattle.rdm_log.specs.log.Runs.{has_begun, entries_before_run, last_run, run_exchanges}
-use Rattle.rdm_log.specs.log.History.{awaited, is_closed}
+use Rattle.rdm_log.proofs.Common.{sym, inl, inr, false≢true, accepts, sends, cames, finishes, traded, of_request}
+use Rattle.rdm_log.proofs.Common.{verdicts, result, asks, answers, has_begun, entries_before_run, last_run}
+use Rattle.rdm_log.proofs.Common.{run_exchanges, awaited, is_closed}
 use Rattle.rdm_log.proofs.laws.broken.wrong_answers.Goals as goal
 
 pub returns : goal.returns

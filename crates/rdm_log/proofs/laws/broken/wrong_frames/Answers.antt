@@ -1,13 +1,7 @@
-use Rattle.std.proofs.Common.{◌≡◌, ℕ, List, sym, ap, arith, get_or}
-use Rattle.std.proofs.lemmas.Option.{same_Some}
-use Rattle.std.proofs.lemmas.Bool.{false≢true}
-use Rattle.rdm_log.specs.log.Entries.{Accepted, joins, accepts, sends, cames, finishes, collectors, traded, of_request}
-use Rattle.rdm_log.specs.log.Entries.{verdicts, result, asks, answers}
-use Rattle.rdm_log.specs.log.Runs.{has_begun, entries_before_run, last_run, run_exchanges}
-use Rattle.rdm_log.specs.log.History.{awaited, is_paused, is_closed}
-use Rattle.rdm_log.specs.log.Clients.{answers_to}
-use Rattle.rdm_log.specs.samples.Sample.{sample_request, sample_frame}
-use Rattle.rdm_log.specs.samples.SampleParts.{second_frame}
+use Rattle.rdm_log.proofs.Common.{◌≡◌, ℕ, List, sym, ap, arith, get_or, same_Some, false≢true, Accepted, joins, accepts}
+use Rattle.rdm_log.proofs.Common.{sends, cames, finishes, collectors, traded, of_request, verdicts, result, asks}
+use Rattle.rdm_log.proofs.Common.{answers, has_begun, entries_before_run, last_run, run_exchanges, awaited, is_paused}
+use Rattle.rdm_log.proofs.Common.{is_closed, answers_to, sample_request, sample_frame, second_frame}
 use Rattle.rdm_log.proofs.SampleLemmas.PartsLegal.{may_send_again}
 use Rattle.rdm_log.proofs.laws.broken.wrong_frames.Goals as goal
 

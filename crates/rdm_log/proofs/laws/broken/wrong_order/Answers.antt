@@ -1,10 +1,6 @@
-use Rattle.std.proofs.Common.{◌≡◌, refl, ap, arith}
-use Rattle.std.proofs.lemmas.Option.{same_Some}
-use Rattle.rdm_log.specs.log.Entries.{Accepted, joins, accepts, sends, cames, finishes, traded, of_request, verdicts}
-use Rattle.rdm_log.specs.log.Entries.{result, asks, answers}
-use Rattle.rdm_log.specs.log.Runs.{has_begun, entries_before_run, last_run, run_exchanges}
-use Rattle.rdm_log.specs.log.History.{awaited, is_closed}
-use Rattle.rdm_log.specs.samples.Sample.{sample_request}
+use Rattle.rdm_log.proofs.Common.{◌≡◌, refl, ap, arith, same_Some, Accepted, joins, accepts, sends, cames, finishes}
+use Rattle.rdm_log.proofs.Common.{traded, of_request, verdicts, result, asks, answers, has_begun, entries_before_run}
+use Rattle.rdm_log.proofs.Common.{last_run, run_exchanges, awaited, is_closed, sample_request}
 use Rattle.rdm_log.proofs.laws.broken.wrong_order.Goals as goal
 
 pub returns : goal.returns

@@ -1,11 +1,6 @@
-use Rattle.std.proofs.Common.{refl, inl, inr, arith}
-use Rattle.std.proofs.lemmas.Bool.{false≢true}
-use Rattle.rdm_log.specs.log.Entries.{joins, accepts, sends, cames, finishes, collectors, traded, of_request, verdicts}
-use Rattle.rdm_log.specs.log.Entries.{result, asks, answers}
-use Rattle.rdm_log.specs.log.Runs.{has_begun, entries_before_run, last_run, run_exchanges}
-use Rattle.rdm_log.specs.log.History.{awaited, is_paused, is_closed}
-use Rattle.rdm_log.specs.log.Clients.{answers_to}
-use Rattle.rdm_log.specs.samples.Sample.{sample_request}
+use Rattle.rdm_log.proofs.Common.{refl, inl, inr, arith, false≢true, joins, accepts, sends, cames, finishes, collectors}
+use Rattle.rdm_log.proofs.Common.{traded, of_request, verdicts, result, asks, answers, has_begun, entries_before_run}
+use Rattle.rdm_log.proofs.Common.{last_run, run_exchanges, awaited, is_paused, is_closed, answers_to, sample_request}
 use Rattle.rdm_log.proofs.laws.broken.wrong_parts.Goals as goal
 
 pub returns : goal.returns

@@ -1,9 +1,6 @@
-use Rattle.std.proofs.Common.{refl}
-use Rattle.std.proofs.lemmas.Option.{none-some}
-use Rattle.rdm_log.specs.log.Entries.{accepts, sends, cames, finishes, traded, of_request, verdicts, result, asks}
-use Rattle.rdm_log.specs.log.Entries.{answers}
-use Rattle.rdm_log.specs.log.Runs.{has_begun, entries_before_run, last_run, run_exchanges}
-use Rattle.rdm_log.specs.log.History.{awaited, is_closed}
+use Rattle.rdm_log.proofs.Common.{refl, none-some, accepts, sends, cames, finishes, traded, of_request, verdicts}
+use Rattle.rdm_log.proofs.Common.{result, asks, answers, has_begun, entries_before_run, last_run, run_exchanges}
+use Rattle.rdm_log.proofs.Common.{awaited, is_closed}
 use Rattle.rdm_log.proofs.laws.broken.wrong_results.Goals as goal
 
 pub returns : goal.returns

@@ -1,18 +1,12 @@
-use Rattle.std.proofs.Common.{[], ◌∷◌, Some, refl}
-use Rattle.rdm_log.specs.log.Entries.{joins, accepts, sends, cames, finishes, collectors, traded, of_request, verdicts}
-use Rattle.rdm_log.specs.log.Entries.{result, asks, answers}
-use Rattle.rdm_log.specs.log.Runs.{has_begun, entries_before_run, last_run, run_exchanges}
-use Rattle.rdm_log.specs.log.History.{awaited, is_paused, is_closed}
-use Rattle.rdm_log.specs.log.Clients.{answers_to}
-use Rattle.rdm_wire.specs.CommandFrames.{unmute_frame}
+use Rattle.rdm_log.proofs.Common.{[], ◌∷◌, Some, refl, joins, accepts, sends, cames, finishes, collectors, traded}
+use Rattle.rdm_log.proofs.Common.{of_request, verdicts, result, asks, answers, has_begun, entries_before_run, last_run}
+use Rattle.rdm_log.proofs.Common.{run_exchanges, awaited, is_paused, is_closed, answers_to, unmute_frame, Full}
+use Rattle.rdm_log.proofs.Common.{Incremental, LineFailed, Aborted, Join, Ask, Send, Came, Answer, Collect, Close}
+use Rattle.rdm_log.proofs.Common.{join_only, logged_with, first_client, source, asked_one, begun_run, asked_during}
+use Rattle.rdm_log.proofs.Common.{answered_failed, aborted_log}
 use Rattle.rdm_join.specs.declared.event.LineEvent.TheVariants.{Failed}
-use Rattle.rdm_agent.specs.declared.kind.Kind.TheVariants.{Full, Incremental}
-use Rattle.rdm_agent.specs.declared.fault.AgentFault.TheVariants.{LineFailed, Aborted}
 use Rattle.rdm_log.specs.declared.entry.Owner.TheVariants as owners
-use Rattle.rdm_log.specs.declared.entry.Entry.TheVariants.{Join, Ask, Send, Came, Answer, Collect, Close}
-use Rattle.rdm_log.specs.samples.Sample.{join_only, logged_with}
-use Rattle.rdm_log.specs.samples.SampleRuns.{first_client, source, asked_one, begun_run, asked_during, answered_failed}
-use Rattle.rdm_log.specs.samples.SampleRuns.{aborted_log, collected_failed}
+use Rattle.rdm_log.specs.samples.SampleRuns.{collected_failed}
 use Rattle.rdm_log.proofs.SampleLemmas.FailedRuns.{may_begin}
 use Rattle.rdm_log.proofs.laws.explained.failing_run_is_explained.Goals as goal
 

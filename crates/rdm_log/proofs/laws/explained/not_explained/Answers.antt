@@ -1,16 +1,8 @@
-use Rattle.std.proofs.Common.{◌≡◌, [], ◌∷◌, sym, ap, ◌∙◌}
-use Rattle.std.proofs.lemmas.Bool.{false≢true}
-use Rattle.std.proofs.lemmas.List.{append_cancel_left}
-use Rattle.rdm_log.specs.log.Entries.{joins, accepts, sends, finishes, collectors, asks, answers}
-use Rattle.rdm_log.specs.log.Runs.{has_begun, entries_before_run, last_run, run_exchanges}
-use Rattle.rdm_log.specs.log.History.{awaited, is_paused, is_closed}
-use Rattle.rdm_log.specs.log.Clients.{answers_to}
+use Rattle.rdm_log.proofs.Common.{◌≡◌, [], ◌∷◌, sym, ap, ◌∙◌, false≢true, append_cancel_left, joins, accepts, sends}
+use Rattle.rdm_log.proofs.Common.{finishes, collectors, asks, answers, has_begun, entries_before_run, last_run}
+use Rattle.rdm_log.proofs.Common.{run_exchanges, awaited, is_paused, is_closed, answers_to, Collect, unmute_frame}
+use Rattle.rdm_log.proofs.Common.{sample_frame, source, first_client, aborted_log, LogState}
 use Rattle.rdm_log.specs.declared.entry.Owner.TheVariants as owners
-use Rattle.rdm_log.specs.declared.entry.Entry.TheVariants.{Collect}
-use Rattle.rdm_wire.specs.CommandFrames.{unmute_frame}
-use Rattle.rdm_log.specs.samples.Sample.{sample_frame}
-use Rattle.rdm_log.specs.samples.SampleRuns.{source, first_client, aborted_log}
-use Rattle.rdm_log.specs.log.LogState.{LogState}
 use Rattle.rdm_log.proofs.SampleLemmas.SampleLegal.{may_send}
 use Rattle.rdm_log.proofs.SampleLemmas.FailedRuns.{may_begin}
 use Rattle.rdm_log.proofs.laws.explained.not_explained.Goals as goal

@@ -1,15 +1,9 @@
-use Rattle.std.proofs.Common.{[], ◌∷◌, refl}
-use Rattle.rdm_log.specs.log.Entries.{joins, accepts, sends, cames, finishes, collectors, traded, of_request, verdicts}
-use Rattle.rdm_log.specs.log.Entries.{result, asks, answers}
-use Rattle.rdm_log.specs.log.Runs.{has_begun, entries_before_run, last_run, run_exchanges}
-use Rattle.rdm_log.specs.log.History.{awaited, is_paused, is_closed}
-use Rattle.rdm_log.specs.log.Clients.{answers_to}
+use Rattle.rdm_log.proofs.Common.{[], ◌∷◌, refl, joins, accepts, sends, cames, finishes, collectors, traded, of_request}
+use Rattle.rdm_log.proofs.Common.{verdicts, result, asks, answers, has_begun, entries_before_run, last_run}
+use Rattle.rdm_log.proofs.Common.{run_exchanges, awaited, is_paused, is_closed, answers_to, Join, Accept, Send, Came}
+use Rattle.rdm_log.proofs.Common.{Finish, Collect, Close, Reply, Timeout, sample_request, sample_frame, join_only}
+use Rattle.rdm_log.proofs.Common.{accepted_one, sent_one, finished_one, collected_one, closed_log, logged_with}
 use Rattle.rdm_log.specs.declared.entry.Owner.TheVariants as owners
-use Rattle.rdm_log.specs.declared.entry.Entry.TheVariants.{Join, Accept, Send, Came, Finish, Collect, Close}
-use Rattle.rdm_join.specs.declared.event.LineEvent.TheVariants.{Reply}
-use Rattle.rdm_join.specs.declared.status.Status.TheVariants.{Timeout}
-use Rattle.rdm_log.specs.samples.Sample.{sample_request, sample_frame, join_only, accepted_one, sent_one, finished_one}
-use Rattle.rdm_log.specs.samples.Sample.{collected_one, closed_log, logged_with}
 use Rattle.rdm_log.proofs.SampleLemmas.SampleLegal.{may_send}
 use Rattle.rdm_log.proofs.laws.explained.sample_is_explained.Goals as goal
 

@@ -1,20 +1,12 @@
-use Rattle.std.proofs.Common.{◌≡◌, ℕ, List, [], ◌∷◌, ◌++◌, replicate, Some, refl, sym, ap, ◌∙◌, inr, arith}
-use Rattle.std.proofs.lemmas.Bool.{false≢true}
-use Rattle.std.proofs.lemmas.List.{append_cancel_left}
-use Rattle.rdm_wire.specs.Honest.{Seen, HonestTrace}
-use Rattle.rdm_wire.specs.Honest.Asked.{Unmute, Mute}
-use Rattle.rdm_wire.specs.Honest.Heard.{Silent}
+use Rattle.rdm_log.proofs.Common.{◌≡◌, ℕ, List, [], ◌∷◌, ◌++◌, replicate, Some, refl, sym, ap, ◌∙◌, inr, arith}
+use Rattle.rdm_log.proofs.Common.{false≢true, append_cancel_left, Seen, HonestTrace, Unmute, Mute, Silent, Exhausted}
+use Rattle.rdm_log.proofs.Common.{Answer, joins, accepts, asks, sends, cames, finishes, answers, traded, awaited}
+use Rattle.rdm_log.proofs.Common.{is_paused, is_closed, has_begun, entries_before_run, last_run, run_exchanges}
+use Rattle.rdm_log.proofs.Common.{LogState, IsCalmRun, came_with}
 use Rattle.rdm_agent.specs.Bound.{IsCalm}
 use Rattle.rdm_agent.specs.SampleRun.{sample_uid, exchange, all_branch}
-use Rattle.rdm_agent.specs.declared.fault.AgentFault.TheVariants.{Exhausted}
 use Rattle.rdm_agent.proofs.SampleHonest.{Goes, none_muted, line, counts, unmutes, silent}
-use Rattle.rdm_log.specs.declared.entry.Entry.TheVariants.{Answer}
-use Rattle.rdm_log.specs.log.Entries.{joins, accepts, asks, sends, cames, finishes, answers, traded}
-use Rattle.rdm_log.specs.log.History.{awaited, is_paused, is_closed}
-use Rattle.rdm_log.specs.log.Runs.{has_begun, entries_before_run, last_run, run_exchanges}
-use Rattle.rdm_log.specs.log.LogState.{LogState}
-use Rattle.rdm_log.specs.promises.InBound.{IsCalmRun}
-use Rattle.rdm_log.specs.samples.SampleRuns.{came_with, wasted_with, wasted_sent, wasted_run}
+use Rattle.rdm_log.specs.samples.SampleRuns.{wasted_with, wasted_sent, wasted_run}
 use Rattle.rdm_log.proofs.laws.explained.wasted_run_is_not_explained.Goals as goal
 
 -- the run's exchanges: four branches, after three unmutes and a mute that nobody answers

@@ -1,8 +1,5 @@
-use Rattle.std.proofs.Common.{refl}
-use Rattle.rdm_log.specs.log.Entries.{joins, accepts, finishes, collectors, asks, answers, sends}
-use Rattle.rdm_log.specs.log.Runs.{has_begun, entries_before_run, last_run, run_exchanges}
-use Rattle.rdm_log.specs.log.History.{is_closed}
-use Rattle.rdm_log.specs.log.Clients.{answers_to}
+use Rattle.rdm_log.proofs.Common.{refl, joins, accepts, finishes, collectors, asks, answers, sends, has_begun}
+use Rattle.rdm_log.proofs.Common.{entries_before_run, last_run, run_exchanges, is_closed, answers_to}
 use Rattle.rdm_log.proofs.laws.logs.faults_in_order.Goals as goal
 
 pub returns : goal.returns

@@ -1,7 +1,5 @@
-use Rattle.std.proofs.Common.{refl}
-use Rattle.rdm_log.specs.log.Entries.{accepts, finishes, collectors, asks, answers, sends}
-use Rattle.rdm_log.specs.log.Runs.{has_begun, entries_before_run, last_run, run_exchanges}
-use Rattle.rdm_log.specs.log.History.{awaited, is_closed}
+use Rattle.rdm_log.proofs.Common.{refl, accepts, finishes, collectors, asks, answers, sends, has_begun}
+use Rattle.rdm_log.proofs.Common.{entries_before_run, last_run, run_exchanges, awaited, is_closed}
 use Rattle.rdm_log.proofs.laws.logs.rooms.Goals as goal
 
 pub returns : goal.returns

@@ -1,9 +1,6 @@
-use Rattle.std.proofs.Common.{refl}
-use Rattle.rdm_log.specs.log.Entries.{joins, accepts, asks, sends, cames, finishes, answers, collectors, traded}
-use Rattle.rdm_log.specs.log.Entries.{of_request, verdicts, result}
-use Rattle.rdm_log.specs.log.History.{awaited, is_paused, is_closed}
-use Rattle.rdm_log.specs.log.Clients.{answers_to}
-use Rattle.rdm_log.specs.log.Runs.{has_begun, entries_before_run, last_run, run_exchanges}
+use Rattle.rdm_log.proofs.Common.{refl, joins, accepts, asks, sends, cames, finishes, answers, collectors, traded}
+use Rattle.rdm_log.proofs.Common.{of_request, verdicts, result, awaited, is_paused, is_closed, answers_to, has_begun}
+use Rattle.rdm_log.proofs.Common.{entries_before_run, last_run, run_exchanges}
 use Rattle.rdm_log.proofs.laws.runs.runs_are_seen.Goals as goal
 
 pub returns : goal.returns

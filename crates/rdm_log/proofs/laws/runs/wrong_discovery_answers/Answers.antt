@@ -1,14 +1,9 @@
-use Rattle.std.proofs.Common.{ℕ, ◌≤◌, refl, arith}
-use Rattle.std.specs.Prelude.{◌≢◌}
-use Rattle.std.proofs.lemmas.Bool.{false≢true}
+use Rattle.rdm_log.proofs.Common.{ℕ, ◌≤◌, refl, arith, ◌≢◌, false≢true, certified, joins, accepts, asks, sends, cames}
+use Rattle.rdm_log.proofs.Common.{finishes, answers, collectors, traded, of_request, verdicts, result, awaited}
+use Rattle.rdm_log.proofs.Common.{is_paused, is_closed, answers_to, has_begun, entries_before_run, last_run}
+use Rattle.rdm_log.proofs.Common.{run_exchanges}
 use Rattle.rdm_log.proofs.SampleLemmas.RunsLegal.{may_answer_first, goes_on_9}
 use Rattle.rdm_log.proofs.SampleLemmas.FailedRuns.{may_abort}
-use Rattle.rdm_agent.proofs.SampleCertificate.{certified}
-use Rattle.rdm_log.specs.log.Entries.{joins, accepts, asks, sends, cames, finishes, answers, collectors, traded}
-use Rattle.rdm_log.specs.log.Entries.{of_request, verdicts, result}
-use Rattle.rdm_log.specs.log.History.{awaited, is_paused, is_closed}
-use Rattle.rdm_log.specs.log.Clients.{answers_to}
-use Rattle.rdm_log.specs.log.Runs.{has_begun, entries_before_run, last_run, run_exchanges}
 use Rattle.rdm_log.proofs.laws.runs.wrong_discovery_answers.Goals as goal
 
 -- one isn't zero

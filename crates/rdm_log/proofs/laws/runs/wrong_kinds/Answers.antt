@@ -1,16 +1,9 @@
-use Rattle.std.proofs.Common.{ℕ, ◌≤◌, take, drop, refl, inl, inr, arith}
-use Rattle.std.specs.Prelude.{◌≢◌}
-use Rattle.std.proofs.lemmas.Bool.{false≢true}
-use Rattle.rdm_wire.specs.Honest.Asked.{Mute}
-use Rattle.rdm_wire.specs.Honest.Heard.{Acked}
+use Rattle.rdm_log.proofs.Common.{ℕ, ◌≤◌, take, drop, refl, inl, inr, arith, ◌≢◌, false≢true, Mute, Acked, device, Full}
+use Rattle.rdm_log.proofs.Common.{joins, accepts, asks, sends, cames, finishes, answers, collectors, traded, of_request}
+use Rattle.rdm_log.proofs.Common.{verdicts, result, awaited, is_paused, is_closed, answers_to, has_begun}
+use Rattle.rdm_log.proofs.Common.{entries_before_run, last_run, run_exchanges}
 use Rattle.rdm_agent.specs.SampleRun.{sample_ack}
-use Rattle.rdm_log.specs.samples.SampleRuns.{device, known_traffic, second_run}
-use Rattle.rdm_agent.specs.declared.kind.Kind.TheVariants.{Full}
-use Rattle.rdm_log.specs.log.Entries.{joins, accepts, asks, sends, cames, finishes, answers, collectors, traded}
-use Rattle.rdm_log.specs.log.Entries.{of_request, verdicts, result}
-use Rattle.rdm_log.specs.log.History.{awaited, is_paused, is_closed}
-use Rattle.rdm_log.specs.log.Clients.{answers_to}
-use Rattle.rdm_log.specs.log.Runs.{has_begun, entries_before_run, last_run, run_exchanges}
+use Rattle.rdm_log.specs.samples.SampleRuns.{known_traffic, second_run}
 use Rattle.rdm_log.proofs.laws.runs.wrong_kinds.Goals as goal
 
 -- two isn't zero

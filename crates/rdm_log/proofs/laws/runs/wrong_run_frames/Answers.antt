@@ -1,11 +1,7 @@
-use Rattle.std.proofs.Common.{◌≡◌, ℕ, List, refl, sym, ap, inl, inr, get_or, arith}
-use Rattle.std.proofs.lemmas.Bool.{false≢true}
-use Rattle.std.proofs.lemmas.Option.{none-some}
-use Rattle.rdm_log.specs.log.Entries.{joins, accepts, asks, sends, cames, finishes, answers, collectors, traded}
-use Rattle.rdm_log.specs.log.Entries.{of_request, verdicts, result}
-use Rattle.rdm_log.specs.log.History.{awaited, is_paused, is_closed}
-use Rattle.rdm_log.specs.log.Clients.{answers_to}
-use Rattle.rdm_log.specs.log.Runs.{has_begun, entries_before_run, last_run, run_exchanges}
+use Rattle.rdm_log.proofs.Common.{◌≡◌, ℕ, List, refl, sym, ap, inl, inr, get_or, arith, false≢true, none-some, joins}
+use Rattle.rdm_log.proofs.Common.{accepts, asks, sends, cames, finishes, answers, collectors, traded, of_request}
+use Rattle.rdm_log.proofs.Common.{verdicts, result, awaited, is_paused, is_closed, answers_to, has_begun}
+use Rattle.rdm_log.proofs.Common.{entries_before_run, last_run, run_exchanges}
 use Rattle.rdm_log.proofs.laws.runs.wrong_run_frames.Goals as goal
 
 -- how long a frame says it is, and which PID it has
