@@ -1,31 +1,31 @@
 //! How a run goes on after a reply.
-ghost use Rattle.std.specs.Prelude.{◌≡◌, ◌<◌, ◌≤◌, ◌^◌, ◌+◌, ◌-◌, ◌⊎◌, ℕ, List, Some, [], true, false};
+ghost use Rattle.std.specs.Prelude.{◌≡◌, ◌<◌, ◌-◌, ◌⊎◌, ℕ, List, Some, [], true, false};
 ghost use Rattle.std.specs.Prelude.{if◌then◌else◌, nat_lt};
 ghost use Rattle.std.specs.List.{AllByRecursion};
 ghost use Rattle.rdm_wire.specs.Span.{Span, whole};
 ghost use Rattle.rdm_wire.specs.Uid.{is_broadcast, IsDevice, IsDeviceSet};
 ghost use Rattle.rdm_wire.specs.Devices.{uids_of};
 ghost use Rattle.rdm_agent.specs.Machine.{fed, wanted, to_found, split, search_from, search_below, is_new};
-ghost use Rattle.rdm_agent.specs.Machine.{known_heard, branch_heard, mute_heard, first_phase, sweep_heard, swept_heard};
-ghost use Rattle.rdm_agent.specs.Machine.{sweep_on, sweep_silent, sweep_apart, is_wanted};
+ghost use Rattle.rdm_agent.specs.Machine.{known_heard, branch_heard, mute_heard, first_phase};
 ghost use Rattle.rdm_agent.specs.Machine.Phase.{Unmuting as unmuting, Searching as searching};
 ghost use Rattle.rdm_agent.specs.Certificate.{known_of};
 ghost use Rattle.rdm_agent.specs.Run.{heard_by, heard_of_mute, heard_of_branch, device_from};
 ghost use Rattle.rdm_agent.specs.Calls.{fits, op_of};
-ghost use Rattle.rdm_agent.specs.body.Sound.{IsSound, IsFresh, IsStack, IsSmall};
+ghost use Rattle.rdm_agent.specs.body.Sound.{IsSound, IsFresh, IsStack};
 ghost use Rattle.rdm_agent.specs.declared.fault.AgentFault.TheVariants.{TooMany};
 ghost use Rattle.rdm_agent.specs.body.AgentFields.{seen_phase, phase_of, Steps};
 
-use crate::belief::{Belief, Part};
+mod sweeping;
+
 use crate::fault::AgentFault;
 use crate::kind::Kind;
 use crate::known::KnownLeft;
-use crate::limits::{SWEEP_FRAMES, TRIES};
+use crate::limits::TRIES;
 use crate::op::OpReply;
 use crate::phase::Phase;
 use crate::ranges::RangesBelow;
 use crate::search::Search;
-use crate::sweep::{Sweep, is_whole};
+use crate::sweep::Sweep;
 use rdm_wire::{BranchReply, Device, DeviceSet, MuteAck, SetFull, Uid, UidRange, UidSet};
 
 /// What a run has found, and what it still has to search.
@@ -244,68 +244,6 @@ impl RunState {
         }
     }
 
-    // After a branch of a sweep.
-    fn swept(&mut self, sweep: Sweep, reply: BranchReply) -> Phase
-        requires made { sweep.made < 2 ^ 20 }
-        requires silences { sweep.silences < TRIES }
-        requires small { IsSmall sweep.belief }
-        requires fresh { self.old.below ≡ [] }
-        ensures state { Steps (λ a. sweep_heard a sweep (heard_of_branch reply))
-            (Phase.Sweeping sweep) self.old result self.new }
-        ensures sound { IsSound (seen_phase result self.new) }
-        ensures fresh { self.new.below ≡ [] }
-    {
-        let found = self.found.len();
-        let counted = sweep.counted();
-        match reply {
-            BranchReply::Silent => sweep_silent(counted, found),
-            BranchReply::One(uid) if self.is_wanted(uid, &sweep) => Phase::MutingSwept {
-                uid,
-                tries: 0,
-                sweep: counted,
-            },
-            BranchReply::One(_) | BranchReply::Collision => sweep_apart(counted, found),
-        }
-    }
-
-    // After the mute of a UID that a sweep's branch spelt.
-    fn swept_muted(&mut self, uid: Uid, tries: u8, sweep: Sweep, ack: Option<MuteAck>) -> Phase
-        requires device { IsDevice uid }
-        requires tries { tries < TRIES }
-        requires made { sweep.made ≤ 2 ^ 20 + tries }
-        requires silences { sweep.silences < TRIES }
-        requires small { IsSmall sweep.belief }
-        requires fresh { self.old.below ≡ [] }
-        ensures state { Steps (λ a. swept_heard a uid tries sweep (heard_of_mute ack))
-            (Phase.MutingSwept uid tries sweep) self.old result self.new }
-        ensures sound { IsSound (seen_phase result self.new) }
-        ensures fresh { self.new.below ≡ [] }
-    {
-        let found = self.found.len();
-        let counted = sweep.counted();
-        if let Some(ack) = ack {
-            let belief = sweep.belief.found(sweep.question);
-            let onward = sweep_on(counted, 0, found + 1, belief);
-            return self.find(device_from(uid, ack), onward);
-        }
-        match tries + 1 {
-            TRIES => sweep_apart(counted.suspecting(uid), found),
-            tries => Phase::MutingSwept {
-                uid,
-                tries,
-                sweep: counted,
-            },
-        }
-    }
-
-    // Whether a UID that a sweep's branch spelt is muted.
-    fn is_wanted(&self, uid: Uid, sweep: &Sweep) -> bool
-        ensures wanted { result ≡ is_wanted (uids_of self.now.found) sweep.now uid }
-    {
-        let asked = sweep.question.range;
-        self.is_new(uid, asked) && !(sweep.belief.suspect == Some(uid) && asked.lo != asked.hi)
-    }
-
     // Whether a UID may be that of a device of the range that wasn't found yet.
     fn is_new(&self, uid: Uid, top: UidRange) -> bool
         ensures { result ≡ is_new (uids_of self.now.found) top uid }
@@ -324,56 +262,6 @@ fn searching_all(silences: u8) -> Phase
         top: UidRange::whole(),
         silences,
     }
-}
-
-// A sweep that has found this many devices goes on with this belief, after this many silences in a row of the range
-// that it asked. At its limit the steady search begins.
-fn sweep_on(sweep: Sweep, silences: u8, found: usize, belief: Belief) -> Phase
-    requires found { found ≤ 1025 }
-    requires silences { silences < TRIES }
-    requires small { IsSmall belief }
-    ensures phase { (known : List ℕ) → phase_of result known [] ≡ sweep_on sweep silences found belief }
-    ensures sound { (known : List ℕ) → IsSound (phase_of result known []) }
-{
-    let asked = sweep.question.range;
-    if sweep.made < SWEEP_FRAMES * (found + 2) {
-        return Phase::Sweeping {
-            sweep: Sweep::choose(sweep.made, silences, asked, belief),
-        };
-    }
-    searching_all(if is_whole(asked) { silences } else { 0 })
-}
-
-// What a sweep asked was silent. Five silences in a row of all UIDs end the run.
-fn sweep_silent(sweep: Sweep, found: usize) -> Phase
-    requires found { found ≤ 1025 }
-    requires silences { sweep.silences < TRIES }
-    requires small { IsSmall sweep.belief }
-    ensures phase { (known : List ℕ) → phase_of result known [] ≡ sweep_silent sweep found }
-    ensures sound { (known : List ℕ) → IsSound (phase_of result known []) }
-{
-    match sweep.silences + 1 {
-        TRIES => Phase::Ended(None),
-        silences => sweep_on(sweep, silences, found, sweep.belief.silent(sweep.question)),
-    }
-}
-
-// What a sweep asked collided. One UID that was asked alone is corrupt. If all UIDs collide after a pass that found
-// nothing, the steady search begins.
-fn sweep_apart(sweep: Sweep, found: usize) -> Phase
-    requires found { found ≤ 1025 }
-    requires small { IsSmall sweep.belief }
-    ensures phase { (known : List ℕ) → phase_of result known [] ≡ sweep_apart sweep found }
-    ensures sound { (known : List ℕ) → IsSound (phase_of result known []) }
-{
-    let asked = sweep.question;
-    if asked.range.lo == asked.range.hi {
-        return Phase::Ended(Some(AgentFault::Corrupt(asked.range.lo)));
-    }
-    if asked.part == Part::Whole && sweep.belief.found_nothing {
-        return searching_all(0);
-    }
-    sweep_on(sweep, 0, found, sweep.belief.apart(asked))
 }
 
 // The device with the data of the acknowledgement of its mute.

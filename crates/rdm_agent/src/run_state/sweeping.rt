@@ -1,0 +1,136 @@
+//! How a sweep goes on after a reply.
+ghost use Rattle.std.specs.Prelude.{◌≡◌, ◌<◌, ◌≤◌, ◌^◌, ◌+◌, ℕ, List, []};
+ghost use Rattle.rdm_wire.specs.Uid.{IsDevice};
+ghost use Rattle.rdm_wire.specs.Devices.{uids_of};
+ghost use Rattle.rdm_agent.specs.Machine.{sweep_heard, swept_heard, sweep_on, sweep_silent, sweep_apart, is_wanted};
+ghost use Rattle.rdm_agent.specs.Run.{heard_of_mute, heard_of_branch};
+ghost use Rattle.rdm_agent.specs.body.Sound.{IsSound, IsSmall};
+ghost use Rattle.rdm_agent.specs.body.AgentFields.{seen_phase, phase_of, Steps};
+
+use crate::belief::{Belief, Part};
+use crate::fault::AgentFault;
+use crate::limits::{SWEEP_FRAMES, TRIES};
+use crate::phase::Phase;
+use crate::run_state::{RunState, device_from, searching_all};
+use crate::sweep::{Sweep, is_whole};
+use rdm_wire::{BranchReply, MuteAck, Uid};
+
+impl RunState {
+    // After a branch of a sweep.
+    pub(super) fn swept(&mut self, sweep: Sweep, reply: BranchReply) -> Phase
+        requires made { sweep.made < 2 ^ 20 }
+        requires silences { sweep.silences < TRIES }
+        requires small { IsSmall sweep.belief }
+        requires fresh { self.old.below ≡ [] }
+        ensures state { Steps (λ a. sweep_heard a sweep (heard_of_branch reply))
+            (Phase.Sweeping sweep) self.old result self.new }
+        ensures sound { IsSound (seen_phase result self.new) }
+        ensures fresh { self.new.below ≡ [] }
+    {
+        let found = self.found.len();
+        let counted = sweep.counted();
+        match reply {
+            BranchReply::Silent => sweep_silent(counted, found),
+            BranchReply::One(uid) if self.is_wanted(uid, &sweep) => Phase::MutingSwept {
+                uid,
+                tries: 0,
+                sweep: counted,
+            },
+            BranchReply::One(_) | BranchReply::Collision => sweep_apart(counted, found),
+        }
+    }
+
+    // After the mute of a UID that a sweep's branch spelt.
+    pub(super) fn swept_muted(
+        &mut self,
+        uid: Uid,
+        tries: u8,
+        sweep: Sweep,
+        ack: Option<MuteAck>,
+    ) -> Phase
+        requires device { IsDevice uid }
+        requires tries { tries < TRIES }
+        requires made { sweep.made ≤ 2 ^ 20 + tries }
+        requires silences { sweep.silences < TRIES }
+        requires small { IsSmall sweep.belief }
+        requires fresh { self.old.below ≡ [] }
+        ensures state { Steps (λ a. swept_heard a uid tries sweep (heard_of_mute ack))
+            (Phase.MutingSwept uid tries sweep) self.old result self.new }
+        ensures sound { IsSound (seen_phase result self.new) }
+        ensures fresh { self.new.below ≡ [] }
+    {
+        let found = self.found.len();
+        let counted = sweep.counted();
+        if let Some(ack) = ack {
+            let belief = sweep.belief.found(sweep.question);
+            let onward = sweep_on(counted, 0, found + 1, belief);
+            return self.find(device_from(uid, ack), onward);
+        }
+        match tries + 1 {
+            TRIES => sweep_apart(counted.suspecting(uid), found),
+            tries => Phase::MutingSwept {
+                uid,
+                tries,
+                sweep: counted,
+            },
+        }
+    }
+
+    // Whether a UID that a sweep's branch spelt is muted.
+    fn is_wanted(&self, uid: Uid, sweep: &Sweep) -> bool
+        ensures wanted { result ≡ is_wanted (uids_of self.now.found) sweep.now uid }
+    {
+        let asked = sweep.question.range;
+        self.is_new(uid, asked) && !(sweep.belief.suspect == Some(uid) && asked.lo != asked.hi)
+    }
+}
+
+// A sweep that has found this many devices goes on with this belief, after this many silences in a row of the range
+// that it asked. At its limit the steady search begins.
+fn sweep_on(sweep: Sweep, silences: u8, found: usize, belief: Belief) -> Phase
+    requires found { found ≤ 1025 }
+    requires silences { silences < TRIES }
+    requires small { IsSmall belief }
+    ensures phase { (known : List ℕ) → phase_of result known [] ≡ sweep_on sweep silences found belief }
+    ensures sound { (known : List ℕ) → IsSound (phase_of result known []) }
+{
+    let asked = sweep.question.range;
+    if sweep.made < SWEEP_FRAMES * (found + 2) {
+        return Phase::Sweeping {
+            sweep: Sweep::choose(sweep.made, silences, asked, belief),
+        };
+    }
+    searching_all(if is_whole(asked) { silences } else { 0 })
+}
+
+// What a sweep asked was silent. Five silences in a row of all UIDs end the run.
+fn sweep_silent(sweep: Sweep, found: usize) -> Phase
+    requires found { found ≤ 1025 }
+    requires silences { sweep.silences < TRIES }
+    requires small { IsSmall sweep.belief }
+    ensures phase { (known : List ℕ) → phase_of result known [] ≡ sweep_silent sweep found }
+    ensures sound { (known : List ℕ) → IsSound (phase_of result known []) }
+{
+    match sweep.silences + 1 {
+        TRIES => Phase::Ended(None),
+        silences => sweep_on(sweep, silences, found, sweep.belief.silent(sweep.question)),
+    }
+}
+
+// What a sweep asked collided. One UID that was asked alone is corrupt. If all UIDs collide after a pass that found
+// nothing, the steady search begins.
+fn sweep_apart(sweep: Sweep, found: usize) -> Phase
+    requires found { found ≤ 1025 }
+    requires small { IsSmall sweep.belief }
+    ensures phase { (known : List ℕ) → phase_of result known [] ≡ sweep_apart sweep found }
+    ensures sound { (known : List ℕ) → IsSound (phase_of result known []) }
+{
+    let asked = sweep.question;
+    if asked.range.lo == asked.range.hi {
+        return Phase::Ended(Some(AgentFault::Corrupt(asked.range.lo)));
+    }
+    if asked.part == Part::Whole && sweep.belief.found_nothing {
+        return searching_all(0);
+    }
+    sweep_on(sweep, 0, found, sweep.belief.apart(asked))
+}
