@@ -1,12 +1,12 @@
 -- The sample logs whose run fails or is aborted.
-use Rattle.rdm_log.proofs.Common.{◌≡◌, true, false, List, [], Some, refl, arith, slice_get, ◌==◌, list_any}
-use Rattle.rdm_log.proofs.Common.{false≢true, unmute_frame, Unmute, FailedToSend}
-use Rattle.rdm_log.proofs.Common.{Kind, Full, Incremental, LineFailed, Aborted, Entry, Came, Finish, Answer}
-use Rattle.rdm_log.proofs.Common.{Close, joins, accepts, asks, sends, cames, finishes, answers, collectors, traded}
-use Rattle.rdm_log.proofs.Common.{of_request, verdicts, result, awaited, is_paused, is_closed, unfinished, unanswered}
-use Rattle.rdm_log.proofs.Common.{answers_to, has_begun, entries_before_run, last_run, run_exchanges, served, unserved}
-use Rattle.rdm_log.proofs.Common.{GoesOn, MaySendRun, MayFollow, Legal, sample_opening, sample_request, first_client}
-use Rattle.rdm_log.proofs.Common.{source, asked_one, begun_run, asked_during, answered_failed, aborted_log}
+use Rattle.rdm_log.proofs.Common.{◌≡◌, true, false, List, [], Some, refl, arith, slice_get, ◌==◌, list_any, false≢true}
+use Rattle.rdm_log.proofs.Common.{unmute_frame, Unmute, FailedToSend, Kind, Full, Incremental, LineFailed, Aborted}
+use Rattle.rdm_log.proofs.Common.{Entry, Came, Finish, Answer, Close, joins, accepts, asks, sends, cames, finishes}
+use Rattle.rdm_log.proofs.Common.{answers, collectors, traded, of_request, verdicts, result, awaited, is_paused}
+use Rattle.rdm_log.proofs.Common.{is_closed, unfinished, unanswered, answers_to, has_begun, entries_before_run}
+use Rattle.rdm_log.proofs.Common.{last_run, run_exchanges, served, unserved, GoesOn, MaySendRun, MayFollow, Legal}
+use Rattle.rdm_log.proofs.Common.{sample_opening, sample_request, first_client, source, asked_one, begun_run}
+use Rattle.rdm_log.proofs.Common.{asked_during, answered_failed, aborted_log}
 use Rattle.rdm_join.specs.declared.event.LineEvent.TheVariants as came
 use Rattle.rdm_log.specs.samples.SampleRuns.{failed_run, closed_failed, closed_run, closed_amid, aborted_first}
 use Rattle.rdm_log.specs.samples.SampleRuns.{then_unsent}

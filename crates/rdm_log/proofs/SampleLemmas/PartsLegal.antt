@@ -1,15 +1,15 @@
 -- A log whose request is answered in two parts is legal.
-use Rattle.rdm_log.proofs.Common.{◌≡◌, [], Some, refl, inl, arith, inr, false≢true, Reply, Came, Finish, Completed}
-use Rattle.rdm_log.proofs.Common.{joins, accepts, sends, cames, finishes, collectors, traded, of_request, verdicts}
-use Rattle.rdm_log.proofs.Common.{result, asks, answers, has_begun, entries_before_run, last_run, run_exchanges}
-use Rattle.rdm_log.proofs.Common.{awaited, is_paused, is_closed, answers_to, MaySendRequest, Legal, sample_request}
-use Rattle.rdm_log.proofs.Common.{sample_frame, second_frame}
+use Rattle.rdm_log.proofs.Common.{◌≡◌, [], Some, refl, inl, arith, false≢true, Reply, Came, Finish, Completed, joins}
+use Rattle.rdm_log.proofs.Common.{accepts, sends, cames, finishes, collectors, traded, of_request, verdicts, result}
+use Rattle.rdm_log.proofs.Common.{asks, answers, has_begun, entries_before_run, last_run, run_exchanges, awaited}
+use Rattle.rdm_log.proofs.Common.{is_paused, is_closed, answers_to, MaySendRequest, Legal, sample_request, sample_frame}
+use Rattle.rdm_log.proofs.Common.{second_frame}
 use Rattle.rdm_log.specs.samples.Sample.{accepted_two}
 use Rattle.rdm_log.specs.samples.SampleParts.{wide_opening, first_part, last_part, sent_part, came_part, sent_again}
 use Rattle.rdm_log.specs.samples.SampleParts.{came_again, joined_log, joined_parts}
 use Rattle.rdm_log.proofs.LogLemmas.Grows.{empty, pushed}
 use Rattle.rdm_log.proofs.LogLemmas.KeepsLegal.{join_keeps, accept_keeps, send_keeps}
-use Rattle.rdm_log.proofs.SampleLemmas.SampleLegal.{sample_fits}
+use Rattle.rdm_log.proofs.SampleLemmas.SampleLegal.{sample_fits, may_send_oldest}
 
 pub two_accepted : Legal wide_opening accepted_two
 unfolding joins accepts finishes collectors is_closed answers_to asks answers sends has_begun entries_before_run
@@ -22,32 +22,14 @@ two_accepted =
 pub may_send_first : MaySendRequest wide_opening accepted_two 0 (record { items = sample_frame })
 unfolding accepts finishes sends awaited is_paused is_closed asks answers has_begun entries_before_run last_run
     run_exchanges
-may_send_first = record {
-  not_awaited = refl;
-  not_closed = refl;
-  not_paused = refl;
-  no_run = refl;
-  accepted = record { client = 0; number = 0; request = sample_request };
-  lowest = refl;
-  number = refl;
-  turn = inr refl;
-  packet = (sample_fits 0 (omega arith), refl);
-}
+may_send_first =
+    may_send_oldest wide_opening _ _ refl refl refl refl refl refl refl (sample_fits 0 (omega arith), refl)
 
 pub may_send_again : MaySendRequest wide_opening came_part 0 (record { items = second_frame })
 unfolding accepts finishes sends awaited is_paused is_closed asks answers has_begun entries_before_run last_run
     run_exchanges
-may_send_again = record {
-  not_awaited = refl;
-  not_closed = refl;
-  not_paused = refl;
-  no_run = refl;
-  accepted = record { client = 0; number = 0; request = sample_request };
-  lowest = refl;
-  number = refl;
-  turn = inr refl;
-  packet = (sample_fits 1 (omega arith), refl);
-}
+may_send_again =
+    may_send_oldest wide_opening _ _ refl refl refl refl refl refl refl (sample_fits 1 (omega arith), refl)
 
 part_came : Legal wide_opening came_part
 unfolding accepts finishes sends cames traded of_request verdicts result awaited is_closed asks answers has_begun

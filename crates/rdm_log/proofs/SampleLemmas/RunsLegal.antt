@@ -21,7 +21,7 @@ use Rattle.rdm_log.proofs.LogLemmas.Grows.{pushed, empty}
 use Rattle.rdm_log.proofs.LogLemmas.PushLemmas.{awaited-push}
 use Rattle.rdm_log.proofs.LogLemmas.KeepsLegal.{join_keeps, accept_keeps, ask_keeps, pause_keeps, resume_keeps}
 use Rattle.rdm_log.proofs.LogLemmas.KeepsLegal.{send_keeps, run_send_keeps}
-use Rattle.rdm_log.proofs.SampleLemmas.SampleLegal.{sample_fits}
+use Rattle.rdm_log.proofs.SampleLemmas.SampleLegal.{sample_fits, may_send_oldest}
 
 -- the first exchanges of the sample run: none failed, and none is a branch of one UID
 all_take : {X : Type 0} (P : X → Type 0) (xs : List X) (n : ℕ) → AllByRecursion P xs → AllByRecursion P (take n xs)
@@ -314,17 +314,8 @@ both_answered = record {
 may_send_request : MaySendRequest sample_opening answered_both 0 (record { items = tenth_frame })
 unfolding accepts asks sends cames finishes answers collectors traded of_request verdicts result awaited is_paused
     is_closed answers_to joins has_begun entries_before_run last_run run_exchanges
-may_send_request = record {
-  not_awaited = refl;
-  not_closed = refl;
-  not_paused = refl;
-  no_run = refl;
-  accepted = record { client = 0; number = 0; request = sample_request };
-  lowest = refl;
-  number = refl;
-  turn = inr refl;
-  packet = (sample_fits 10 (omega arith), refl);
-}
+may_send_request =
+    may_send_oldest sample_opening _ _ refl refl refl refl refl refl refl (sample_fits 10 (omega arith), refl)
 
 pub found : Legal sample_opening request_sent
 found = send_keeps sample_opening answered_both 0 (record { items = tenth_frame }) both_answered may_send_request

@@ -5,8 +5,9 @@ use Rattle.rdm_log.proofs.Common.{sends, cames, finishes, collectors, traded, of
 use Rattle.rdm_log.proofs.Common.{answers, has_begun, entries_before_run, last_run, run_exchanges, awaited, is_paused}
 use Rattle.rdm_log.proofs.Common.{is_closed, answers_to, NothingDue, MayFollow, Legal, sample_opening, sample_request}
 use Rattle.rdm_log.proofs.Common.{sample_frame, join_only, accepted_one, sent_one, finished_one, collected_one}
-use Rattle.rdm_log.proofs.Common.{closed_log}
-use Rattle.rdm_wire.specs.Packet.{Fits}
+use Rattle.rdm_log.proofs.Common.{closed_log, None, Some, slice_get, Opening, Entry, open_run, unfinished, unserved}
+use Rattle.rdm_log.proofs.Common.{next_tn, MaySendRequest}
+use Rattle.rdm_wire.specs.Packet.{Fits, Packet}
 use Rattle.rdm_wire.specs.CommandFrames.{request_fields}
 use Rattle.rdm_log.specs.declared.entry.Owner.TheVariants as owners
 use Rattle.rdm_log.specs.samples.Sample.{came_one}
@@ -30,6 +31,25 @@ sample_fits tn small = record {
   class = omega arith;
   pid = omega arith;
   param = omega arith;
+}
+
+-- the sample request, of client 0, may be sent: it is the oldest, and no discovery waits
+pub may_send_oldest : (o : Opening) (h : List Entry) (frame : List ℕ) → awaited h ≡ false → is_closed o h ≡ false
+    → is_paused o h ≡ false → open_run h ≡ None
+    → slice_get (unfinished h) 0 ≡ Some (record { client = 0; number = 0; request = sample_request })
+    → unserved h ≡ [] → o.source ≡ 0x7a7000000100
+    → Packet (request_fields sample_request 0x7a7000000100 (next_tn o h)) frame
+    → MaySendRequest o h 0 (record { items = frame })
+may_send_oldest o h frame not_awaited not_closed not_paused no_run lowest none source packet = record {
+  not_awaited = not_awaited;
+  not_closed = not_closed;
+  not_paused = not_paused;
+  no_run = no_run;
+  accepted = record { client = 0; number = 0; request = sample_request };
+  lowest = lowest;
+  number = refl;
+  turn = inr none;
+  packet = rw source packet;
 }
 
 due_join : NothingDue sample_opening join_only
@@ -72,17 +92,7 @@ unfolding accepts finishes sends awaited is_paused is_closed asks answers has_be
     run_exchanges
 may_send = (
   due_accept,
-  record {
-    not_awaited = refl;
-    not_closed = refl;
-    not_paused = refl;
-    no_run = refl;
-    accepted = record { client = 0; number = 0; request = sample_request };
-    lowest = refl;
-    number = refl;
-    turn = inr refl;
-    packet = (sample_fits 0 (omega arith), refl);
-  },
+  may_send_oldest sample_opening _ _ refl refl refl refl refl refl refl (sample_fits 0 (omega arith), refl),
 )
 
 may_come : MayFollow sample_opening sent_one (Came (Reply (record { items = [] })))

@@ -1,31 +1,13 @@
 -- A queue stands amid a block that grows by a close or a reply.
-use Rattle.std.proofs.Common.{◌≡◌, true, false, List, [], ◌∷◌, ◌++◌, Option, Some, None, refl, sym, ◌∙◌, subst, arith}
-use Rattle.std.specs.Prelude.{◌≢◌, ◌⊎◌}
-use Rattle.std.proofs.Common.{ℕ, inl, inr}
-use Rattle.std.proofs.lemmas.Bool.{false≢true}
-use Rattle.std.proofs.lemmas.Option.{none-some}
-use Rattle.rdm_join.specs.declared.event.LineEvent.{LineEvent}
-use Rattle.rdm_join.specs.declared.verdict.Judged.{Judged}
-use Rattle.rdm_join.specs.declared.verdict.Sent.{Sent}
-use Rattle.rdm_join.specs.Verdict.{verdict}
-use Rattle.rdm_join.specs.Result.{Joined, result_of}
-use Rattle.rdm_join.specs.JoinerStanding.{JoinerStanding}
-use Rattle.rdm_join.specs.body.Standing.{StandsAt}
-use Rattle.rdm_agent.specs.Calls.{next_op}
-use Rattle.rdm_agent.specs.declared.op.Op.TheVariants.{End}
-use Rattle.rdm_log.specs.declared.entry.Opening.{Opening}
-use Rattle.rdm_log.specs.declared.entry.Entry.{Entry}
-use Rattle.rdm_log.specs.declared.entry.Entry.TheVariants.{Came, Close}
-use Rattle.rdm_queue.specs.declared.pending.Awaited.{Awaited}
+use Rattle.rdm_queue.proofs.Common.{◌≡◌, true, false, List, [], ◌∷◌, ◌++◌, Option, Some, None, refl, sym, ◌∙◌, subst}
+use Rattle.rdm_queue.proofs.Common.{arith, ◌≢◌, ◌⊎◌, ℕ, inl, inr, false≢true, none-some, LineEvent, Judged, Sent}
+use Rattle.rdm_queue.proofs.Common.{verdict, Joined, result_of, JoinerStanding, StandsAt, next_op, End, Opening, Entry}
+use Rattle.rdm_queue.proofs.Common.{Came, Close, Awaited, sends, verdicts, result, awaited, is_closed, QueueState}
+use Rattle.rdm_queue.proofs.Common.{StandingAt, hears_run, AwaitsRequest, IsPending, oldest_number, Agrees, StandsAfter}
+use Rattle.rdm_queue.proofs.Common.{StandsAmid, pushed, joins_same, is_paused-push, is_closed-push, LogFacts, IsAwaited}
+use Rattle.rdm_queue.proofs.Common.{IsRunAwaited, legal_facts, unfinished_number}
 use Rattle.rdm_queue.specs.declared.pending.Awaited.TheVariants as awaiting
-use Rattle.rdm_log.specs.log.Entries.{sends, verdicts, result}
-use Rattle.rdm_log.specs.log.History.{awaited, is_closed}
-use Rattle.rdm_queue.specs.body.State.{QueueState, StandingAt, Hears, HearsRequest}
-use Rattle.rdm_queue.specs.body.Sending.{hears_run}
-use Rattle.rdm_queue.specs.body.Agrees.{AwaitsRequest, IsPending, oldest_number, Agrees, StandsAfter, StandsAmid}
-use Rattle.rdm_log.proofs.LogLemmas.Grows.{pushed}
-use Rattle.rdm_log.proofs.LogLemmas.PushLemmas.{joins_same, is_paused-push, is_closed-push}
-use Rattle.rdm_log.proofs.LogLemmas.LegalFacts.{LogFacts, IsAwaited, IsRunAwaited, legal_facts, unfinished_number}
+use Rattle.rdm_queue.specs.body.State.{Hears, HearsRequest}
 use Rattle.rdm_queue.proofs.BodyLemmas.AgreesSame.{same_work, stands_same}
 use Rattle.rdm_queue.proofs.BodyLemmas.AgreesWork.{stands_came, last_owner}
 use Rattle.rdm_queue.proofs.BodyLemmas.AgreesRuns.{stands_run_came}

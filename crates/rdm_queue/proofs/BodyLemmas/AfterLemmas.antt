@@ -1,64 +1,40 @@
 -- A queue stands after a log that grows by what each call adds: the calls that finish nothing.
-use Rattle.std.proofs.Common.{◌≡◌, ℕ, suc, Bool, true, false, not, List, [], ◌∷◌, ◌++◌, length, filter, map, sum}
-use Rattle.std.proofs.Common.{length-append, Option, Some, None, refl, sym, ap, ◌∙◌, append_assoc, arith, filter_map}
-use Rattle.std.specs.Prelude.{◌≢◌, ◌==◌, option_map, option_and_then, is_some, slice_get, if◌then◌else◌}
-use Rattle.std.specs.List.{AllByRecursion}
-use Rattle.std.proofs.lemmas.Bool.{false≢true}
-use Rattle.std.proofs.lemmas.List.{map-append}
-use Rattle.std.proofs.lemmas.List.Sums.{sum_by-append}
-use Rattle.std.proofs.lemmas.Option.{none-some}
-use Rattle.rdm_agent.specs.declared.kind.Kind.{Kind}
-use Rattle.arrayvec.specs.ArrayVec.{ArrayVec}
-use Rattle.rdm_wire.specs.declared.request.Request.{Request}
+use Rattle.rdm_queue.proofs.Common.{◌≡◌, ℕ, suc, Bool, true, false, not, List, [], ◌∷◌, ◌++◌, length, filter, map, sum}
+use Rattle.rdm_queue.proofs.Common.{length-append, Option, Some, None, refl, sym, ap, ◌∙◌, append_assoc, arith}
+use Rattle.rdm_queue.proofs.Common.{filter_map, ◌≢◌, ◌==◌, option_map, option_and_then, is_some, slice_get}
+use Rattle.rdm_queue.proofs.Common.{if◌then◌else◌, AllByRecursion, false≢true, map-append, sum_by-append, none-some}
+use Rattle.rdm_queue.proofs.Common.{Kind, ArrayVec, Request, Sent, sent_by, Setup, ClientId, Owner, Opening, Entry}
+use Rattle.rdm_queue.proofs.Common.{Join, Accept, Send, Finish, Collect, Pause, Resume, JoinFault, SubmitFault}
+use Rattle.rdm_queue.proofs.Common.{AskFault, Awaited, MayFollow, Accepted, joins, accepts, asks, sends, cames}
+use Rattle.rdm_queue.proofs.Common.{finishes, answers, collectors, traded, of_request, verdicts, last_run, awaited}
+use Rattle.rdm_queue.proofs.Common.{is_paused, is_closed, is_answer_to, answers_to, uncollected, join_fault, MaySend}
+use Rattle.rdm_queue.proofs.Common.{Legal, OutcomeValue, outcome_value, outcome_of, oldest_kind, RefusesJoin}
+use Rattle.rdm_queue.proofs.Common.{join_refused, submit_refused, ask_refused, Outcome, opened, QueueState, first_state}
+use Rattle.rdm_queue.proofs.Common.{first_join_fault, first_submit_fault, first_ask_fault, outstanding}
+use Rattle.rdm_queue.proofs.Common.{outstanding_asks, is_discovery, owed_to, joins_client, accepts_request}
+use Rattle.rdm_queue.proofs.Common.{asks_discovery, collects_oldest, first_kind, kind_of_value, sent_for, IsPending}
+use Rattle.rdm_queue.proofs.Common.{Agrees, StandsAfter, empty, LogFacts, legal_facts, ClientFacts, client_facts}
+use Rattle.rdm_queue.proofs.Common.{AskFacts, ask_facts, joins_same, is_paused-push, is_closed-push, answers_passed}
 use Rattle.rdm_wire.specs.declared.request.ReqClass.{ReqClass}
 use Rattle.rdm_wire.specs.declared.request.ReqClass.TheVariants as requests
 use Rattle.rdm_wire.specs.Packet.{Fields, Packet}
 use Rattle.rdm_wire.specs.CommandFrames.{request_fields, code_of_request_class}
 use Rattle.rdm_wire.proofs.PacketLemmas.{fields_at-packet}
-use Rattle.rdm_join.specs.declared.verdict.Sent.{Sent}
-use Rattle.rdm_join.specs.Verdict.{sent_by}
-use Rattle.rdm_log.specs.declared.config.Setup.{Setup}
-use Rattle.rdm_log.specs.declared.entry.ClientId.{ClientId}
 use Rattle.rdm_log.specs.declared.entry.Call.TheVariants as calls
-use Rattle.rdm_log.specs.declared.entry.Owner.{Owner}
-use Rattle.rdm_log.specs.declared.entry.Opening.{Opening}
-use Rattle.rdm_log.specs.declared.entry.Entry.{Entry}
-use Rattle.rdm_log.specs.declared.entry.Entry.TheVariants.{Join, Refuse, Accept, Send, Finish, Collect, Pause, Resume}
+use Rattle.rdm_log.specs.declared.entry.Entry.TheVariants.{Refuse}
 use Rattle.rdm_log.specs.declared.entry.Entry.TheVariants as discovery
-use Rattle.rdm_log.specs.declared.fault.JoinFault.{JoinFault}
-use Rattle.rdm_log.specs.declared.fault.SubmitFault.{SubmitFault}
-use Rattle.rdm_log.specs.declared.fault.AskFault.{AskFault}
-use Rattle.rdm_queue.specs.declared.pending.Awaited.{Awaited}
 use Rattle.rdm_queue.specs.declared.pending.Awaited.TheVariants as awaiting
-use Rattle.rdm_log.specs.log.Legal.{MayFollow}
-use Rattle.rdm_log.specs.log.Entries.{Accepted, finished_of, answered_of, joins, accepts, asks, sends, cames, finishes}
-use Rattle.rdm_log.specs.log.Entries.{answers, collectors, traded, of_request, verdicts}
-use Rattle.rdm_log.specs.log.Runs.{last_run}
-use Rattle.rdm_log.specs.log.History.{awaited, is_paused, is_closed, can_pause, can_resume}
-use Rattle.rdm_log.specs.log.Clients.{is_answer_to, answers_to, uncollected, outstanding_requests}
-use Rattle.rdm_log.specs.log.Clients.{outstanding_discoveries}
-use Rattle.rdm_log.specs.log.Refusals.{join_fault, submit_fault, ask_fault, IsRefused, number_of_join_fault}
-use Rattle.rdm_log.specs.log.Refusals.{number_of_submit_fault, number_of_ask_fault}
-use Rattle.rdm_log.specs.log.MaySend.{MaySend}
-use Rattle.rdm_log.specs.log.Legal.{Legal}
-use Rattle.rdm_log.specs.promises.Outcomes.{OutcomeValue, outcome_value, outcome_of, oldest_kind, kind_of_answer}
-use Rattle.rdm_log.specs.promises.Blocks.{RefusesJoin, join_refused, submit_refused, ask_refused, IsOldest}
-use Rattle.rdm_log.specs.declared.outcome.Outcome.{Outcome}
-use Rattle.rdm_log.specs.log.LogState.{opened}
-use Rattle.rdm_queue.specs.body.State.{QueueState, first_state, first_join_fault, first_submit_fault, first_ask_fault}
-use Rattle.rdm_queue.specs.body.State.{outstanding, outstanding_asks, is_discovery, owed_to, joins_client}
-use Rattle.rdm_queue.specs.body.State.{accepts_request, asks_discovery, collects_oldest, first_kind, kind_of_value}
-use Rattle.rdm_queue.specs.body.Sending.{sent_for}
-use Rattle.rdm_queue.specs.body.Agrees.{IsPending, Agrees, StandsAfter}
-use Rattle.rdm_log.proofs.LogLemmas.Grows.{empty}
-use Rattle.rdm_log.proofs.LogLemmas.LegalFacts.{LogFacts, legal_facts}
-use Rattle.rdm_log.proofs.LogLemmas.ClientFacts.{ClientFacts, client_facts, outstanding_parts}
-use Rattle.rdm_log.proofs.LogLemmas.ClientFacts.{outstanding_discovery_parts}
-use Rattle.rdm_log.proofs.LogLemmas.AskFacts.{AskFacts, ask_facts}
-use Rattle.rdm_log.proofs.LogLemmas.PushLemmas.{joins_same, joins_more, is_paused-push, is_closed-push}
+use Rattle.rdm_log.specs.log.Entries.{finished_of, answered_of}
+use Rattle.rdm_log.specs.log.History.{can_pause, can_resume}
+use Rattle.rdm_log.specs.log.Clients.{outstanding_requests, outstanding_discoveries}
+use Rattle.rdm_log.specs.log.Refusals.{submit_fault, ask_fault, IsRefused, number_of_join_fault, number_of_submit_fault}
+use Rattle.rdm_log.specs.log.Refusals.{number_of_ask_fault}
+use Rattle.rdm_log.specs.promises.Outcomes.{kind_of_answer}
+use Rattle.rdm_log.specs.promises.Blocks.{IsOldest}
+use Rattle.rdm_log.proofs.LogLemmas.ClientFacts.{outstanding_parts, outstanding_discovery_parts}
+use Rattle.rdm_log.proofs.LogLemmas.PushLemmas.{joins_more}
 use Rattle.rdm_log.proofs.LogLemmas.KeepsLegal.{join_keeps, refuse_keeps, collect_keeps, pause_keeps, resume_keeps}
 use Rattle.rdm_log.proofs.LogLemmas.KeepsLegal.{accept_keeps, ask_keeps}
-use Rattle.rdm_log.proofs.PromiseLemmas.OutcomeLemmas.{answers_passed}
 use Rattle.rdm_queue.proofs.BodyLemmas.InvariantLemmas.{none_owed_more}
 use Rattle.rdm_queue.proofs.BodyLemmas.AgreesSame.{SameWork, same_work, stands_same}
 use Rattle.rdm_queue.proofs.BodyLemmas.AgreesWork.{stands_accept, stands_ask, stands_collect}

@@ -1,69 +1,42 @@
 -- A queue follows the log through the frames, replies and answers of a run.
-use Rattle.std.proofs.Common.{◌≡◌, ℕ, ◌+◌, ◌≤◌, ◌<◌, ◌%◌, Bool, true, false, List, [], ◌∷◌, ◌++◌, length, drop, Option}
-use Rattle.std.proofs.Common.{Some, None, slice_get, refl, sym, ap, ◌∙◌, subst, inl, inr, length-append, arith}
-use Rattle.std.specs.Prelude.{◌⊎◌, ◌≢◌, ◌||◌}
-use Rattle.std.specs.List.{list_any}
-use Rattle.std.proofs.lemmas.Bool.{cases_Bool, eq-eqb, false≢true}
-use Rattle.std.proofs.lemmas.List.{length-set, length-drop}
-use Rattle.std.proofs.lemmas.List.Folds.{list_any-append}
-use Rattle.arrayvec.specs.ArrayVec.{ArrayVec}
-use Rattle.rdm_wire.specs.Lists.{EachAfter}
-use Rattle.rdm_join.specs.declared.event.LineEvent.{LineEvent}
-use Rattle.rdm_agent.specs.declared.kind.Kind.{Kind}
+use Rattle.rdm_queue.proofs.Common.{◌≡◌, ℕ, ◌+◌, ◌≤◌, ◌<◌, ◌%◌, Bool, true, false, List, [], ◌∷◌, ◌++◌, length, drop}
+use Rattle.rdm_queue.proofs.Common.{Option, Some, None, slice_get, refl, sym, ap, ◌∙◌, subst, inl, inr, length-append}
+use Rattle.rdm_queue.proofs.Common.{arith, ◌⊎◌, ◌≢◌, ◌||◌, list_any, cases_Bool, eq-eqb, false≢true, length-set}
+use Rattle.rdm_queue.proofs.Common.{length-drop, list_any-append, ArrayVec, EachAfter, LineEvent, Kind, Opening, Entry}
+use Rattle.rdm_queue.proofs.Common.{Send, Came, AskedDiscovery, Sending, asks, sends, cames, answers, is_request}
+use Rattle.rdm_queue.proofs.Common.{unanswered, last_run, MayFollow, QueueState, RunState, IsNotRunning, RunIs}
+use Rattle.rdm_queue.proofs.Common.{oldest_number, Agrees, joins_same, accepts_same, asks_same, answered_same}
+use Rattle.rdm_queue.proofs.Common.{sends_same, sends_more, cames_same, finishes_same, collectors_same, awaited-push}
+use Rattle.rdm_queue.proofs.Common.{is_paused-push, is_closed-push, unfinished_same, IsUnanswered, verdicts_same}
+use Rattle.rdm_queue.proofs.Common.{verdicts_sent, LogFacts, AskFacts, ClientFacts, last_run_same, last_run_sent}
+use Rattle.rdm_queue.proofs.Common.{outcomes_step, Device, asked_by, next_op, HasRunBy, AgentState, op_frame, End}
+use Rattle.rdm_queue.proofs.Common.{AgentFault, aborted_ends, Answer, has_begun, is_answered, run_exchanges, run_kind}
+use Rattle.rdm_queue.proofs.Common.{known_at_run, devices_run, run_devices, answer_devices, begun, hears_run, answer_of}
+use Rattle.rdm_queue.proofs.Common.{answer_value, answers_oldest, devices_after, devices_run_after, AwaitsRun}
+use Rattle.rdm_queue.proofs.Common.{IsRunning, IsPending, answered_more, unanswered_index, last_begun, served_stays}
+use Rattle.rdm_queue.proofs.Common.{entries_before_run_stays, some_at, asked_stays, all_unserved}
 use Rattle.rdm_log.specs.declared.entry.Owner.TheVariants as owners
-use Rattle.rdm_log.specs.declared.entry.Opening.{Opening}
-use Rattle.rdm_log.specs.declared.entry.Entry.{Entry}
-use Rattle.rdm_log.specs.declared.entry.Entry.TheVariants.{Send, Came}
 use Rattle.rdm_queue.specs.declared.pending.Awaited.TheVariants as awaiting
-use Rattle.rdm_log.specs.log.Entries.{AskedDiscovery, Sending, asks, sends, cames, answers, is_request}
-use Rattle.rdm_log.specs.log.History.{unanswered}
-use Rattle.rdm_log.specs.log.Runs.{last_run}
-use Rattle.rdm_log.specs.log.Legal.{MayFollow}
-use Rattle.rdm_queue.specs.body.State.{QueueState, RunState}
-use Rattle.rdm_queue.specs.body.Agrees.{IsNotRunning, RunIs, oldest_number, Agrees}
-use Rattle.rdm_log.proofs.LogLemmas.PushLemmas.{joins_same, accepts_same, asks_same, answered_same, sends_same}
-use Rattle.rdm_log.proofs.LogLemmas.PushLemmas.{sends_more, cames_same, finishes_same, collectors_same, awaited-push}
-use Rattle.rdm_log.proofs.LogLemmas.PushLemmas.{is_paused-push, is_closed-push, unfinished_same}
-use Rattle.rdm_log.proofs.LogLemmas.ExchangeLemmas.{IsUnanswered, verdicts_same, verdicts_sent, verdicts_came_other}
-use Rattle.rdm_log.proofs.LogLemmas.LegalFacts.{LogFacts}
-use Rattle.rdm_log.proofs.LogLemmas.AskFacts.{AskFacts}
-use Rattle.rdm_log.proofs.LogLemmas.ClientFacts.{ClientFacts}
-use Rattle.rdm_log.proofs.LogLemmas.RunLemmas.{last_run_same, last_run_sent}
-use Rattle.rdm_log.proofs.PromiseLemmas.OutcomeLemmas.{outcomes_step}
+use Rattle.rdm_log.proofs.LogLemmas.ExchangeLemmas.{verdicts_came_other}
 use Rattle.rdm_queue.proofs.BodyLemmas.AgreesSame.{AgreesOnLine, traded}
 use Rattle.std.proofs.lemmas.List.Sums.{fold_push}
 use Rattle.rdm_wire.specs.Devices.{uids_of}
-use Rattle.rdm_wire.specs.declared.device.Device.{Device}
 use Rattle.rdm_wire.specs.Frames.{asked_in, heard_in}
 use Rattle.rdm_wire.specs.Honest.{Seen}
 use Rattle.rdm_join.specs.Exchange.{bytes_heard}
-use Rattle.rdm_agent.specs.Run.{asked_by}
-use Rattle.rdm_agent.specs.Calls.{next_op, HasRunBy}
 use Rattle.rdm_agent.specs.declared.search.Search.{Search}
-use Rattle.rdm_agent.specs.Machine.{AgentState, fed}
-use Rattle.rdm_agent.specs.OpFrames.{op_frame}
-use Rattle.rdm_agent.specs.declared.op.Op.TheVariants.{End}
-use Rattle.rdm_agent.specs.declared.fault.AgentFault.{AgentFault}
-use Rattle.rdm_agent.proofs.CallLemmas.{next_asked, hears-has_run, aborted_ends}
-use Rattle.rdm_log.specs.declared.entry.Entry.TheVariants.{Answer}
+use Rattle.rdm_agent.specs.Machine.{fed}
+use Rattle.rdm_agent.proofs.CallLemmas.{next_asked, hears-has_run}
 use Rattle.rdm_log.specs.log.Clients.{client_of_discovery}
-use Rattle.rdm_log.specs.log.Runs.{has_begun, is_answered, run_exchanges, run_kind, known_at_run, known_devices}
-use Rattle.rdm_log.specs.log.Runs.{last_run_without_fault, if_without_fault, devices_of, devices_run, run_devices}
-use Rattle.rdm_log.specs.log.Runs.{answer_devices}
-use Rattle.rdm_queue.specs.body.Sending.{begun, kind_of, hears_run}
-use Rattle.rdm_queue.specs.body.Sending.{sends_run as gives_run}
-use Rattle.rdm_queue.specs.body.Ending.{answer_of, answer_value, answers_oldest, devices_after, devices_run_after}
-use Rattle.rdm_queue.specs.body.Agrees.{AwaitsRun, IsRunning, IsPending}
-use Rattle.rdm_log.proofs.LogLemmas.PushLemmas.{answered_more, unanswered_answer}
-use Rattle.rdm_log.proofs.LogLemmas.AskFacts.{unanswered_index}
+use Rattle.rdm_log.specs.log.Runs.{known_devices, last_run_without_fault, if_without_fault, devices_of}
+use Rattle.rdm_queue.specs.body.Sending.{kind_of, sends_run as gives_run}
+use Rattle.rdm_log.proofs.LogLemmas.PushLemmas.{unanswered_answer}
 use Rattle.rdm_log.proofs.LogLemmas.ClientLemmas.{answers_answer_own, answers_answer_other, client_of_unanswered}
-use Rattle.rdm_log.proofs.LogLemmas.RunLemmas.{last_begun, served_stays, entries_before_run_stays, no_exchanges}
-use Rattle.rdm_log.proofs.LogLemmas.RunLemmas.{run_exchanges_sent, run_exchanges_came_own, run_exchanges_same}
+use Rattle.rdm_log.proofs.LogLemmas.RunLemmas.{no_exchanges, run_exchanges_sent, run_exchanges_came_own}
+use Rattle.rdm_log.proofs.LogLemmas.RunLemmas.{run_exchanges_same}
 use Rattle.rdm_log.proofs.LogLemmas.RunFacts.{RunFacts, never_named}
-use Rattle.rdm_log.proofs.PromiseLemmas.OutcomeLemmas.{some_at}
 use Rattle.rdm_queue.proofs.BodyLemmas.AgreesWork.{unanswered_of, count_more, owed_more}
-use Rattle.rdm_log.proofs.LogLemmas.RunningLemmas.{asked_stays}
-use Rattle.rdm_log.proofs.LogLemmas.BegunLemmas.{before_begun, begins_now, all_unserved}
+use Rattle.rdm_log.proofs.LogLemmas.BegunLemmas.{before_begun, begins_now}
 
 -- an agent that asks for more wasn't stopped
 pub not_stopped : {search : Search} (kind : Kind) (known : List ℕ) (budget : ℕ) (aborted : Bool) (x : List Seen)

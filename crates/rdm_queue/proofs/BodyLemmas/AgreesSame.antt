@@ -1,32 +1,20 @@
 -- What an entry leaves of a queue's agreement with its log: all, what is about the line, or all else.
-use Rattle.std.proofs.Common.{◌≡◌, ℕ, ◌+◌, Bool, true, false, List, [], ◌∷◌, ◌++◌, length, Option, Some, None, refl}
-use Rattle.std.proofs.Common.{sym, ap, ◌∙◌, inl}
-use Rattle.std.proofs.lemmas.Bool.{false≢true}
-use Rattle.rdm_wire.specs.Lists.{EachAfter}
-use Rattle.rdm_log.specs.declared.entry.Opening.{Opening}
-use Rattle.rdm_log.specs.declared.entry.Entry.{Entry}
-use Rattle.rdm_log.specs.declared.entry.Entry.TheVariants.{Send, Came}
-use Rattle.rdm_queue.specs.declared.pending.Awaited.{Awaited}
+use Rattle.rdm_queue.proofs.Common.{◌≡◌, ℕ, ◌+◌, Bool, true, false, List, [], ◌∷◌, ◌++◌, length, Option, Some, None}
+use Rattle.rdm_queue.proofs.Common.{refl, sym, ap, ◌∙◌, inl, false≢true, EachAfter, Opening, Entry, Send, Came, Awaited}
+use Rattle.rdm_queue.proofs.Common.{Sending, joins, accepts, asks, sends, cames, finishes, answers, collectors}
+use Rattle.rdm_queue.proofs.Common.{verdicts, awaited, is_paused, is_closed, next_tn, was_sent, answers_to, devices_run}
+use Rattle.rdm_queue.proofs.Common.{MayFollow, OutcomeValue, QueueState, owed_to, IsStanding, IsLast, IsPending, RunIs}
+use Rattle.rdm_queue.proofs.Common.{oldest_number, Agrees, joins_same, accepts_same, asks_same, answered_same}
+use Rattle.rdm_queue.proofs.Common.{sends_same, cames_same, finishes_same, collectors_same, awaited-push}
+use Rattle.rdm_queue.proofs.Common.{is_paused-push, is_closed-push, unfinished_same, verdicts_same, answers_same}
+use Rattle.rdm_queue.proofs.Common.{outcomes_step, known_step, SameRunning, same_running}
 use Rattle.rdm_queue.specs.declared.pending.Awaited.TheVariants as awaiting
-use Rattle.rdm_log.specs.log.Entries.{Sending, joins, accepts, asks, sends, cames, finishes, answers, collectors}
-use Rattle.rdm_log.specs.log.Entries.{join_of, sending_of, came_of, collector_of, verdicts}
-use Rattle.rdm_log.specs.log.History.{awaits_after, paused_after, closed_after, awaited, is_paused, is_closed, places}
-use Rattle.rdm_log.specs.log.History.{next_tn, was_sent}
-use Rattle.rdm_log.specs.log.Clients.{answers_to}
-use Rattle.rdm_log.specs.log.Runs.{next_run, devices_run}
-use Rattle.rdm_log.specs.log.Legal.{MayFollow}
-use Rattle.rdm_log.specs.promises.Outcomes.{OutcomeValue}
-use Rattle.rdm_queue.specs.body.State.{QueueState, owed_to, IsStanding}
+use Rattle.rdm_log.specs.log.Entries.{join_of, sending_of, came_of, collector_of}
+use Rattle.rdm_log.specs.log.History.{awaits_after, paused_after, closed_after, places}
+use Rattle.rdm_log.specs.log.Runs.{next_run}
 use Rattle.rdm_queue.specs.body.State.{uncollected as uncollected_by}
-use Rattle.rdm_queue.specs.body.Agrees.{IsLast, IsPending, RunIs, oldest_number, Agrees}
-use Rattle.rdm_log.proofs.LogLemmas.PushLemmas.{SameRequests, same_after, joins_same, accepts_same, asks_same}
-use Rattle.rdm_log.proofs.LogLemmas.PushLemmas.{answered_same, sends_same, cames_same, finishes_same, collectors_same}
-use Rattle.rdm_log.proofs.LogLemmas.PushLemmas.{awaited-push, is_paused-push, is_closed-push, unfinished_same}
-use Rattle.rdm_log.proofs.LogLemmas.ExchangeLemmas.{verdicts_same}
+use Rattle.rdm_log.proofs.LogLemmas.PushLemmas.{SameRequests, same_after}
 use Rattle.rdm_log.proofs.LogLemmas.ClientLemmas.{brings_work, ends_work, no_accept, no_ask, no_finish, no_reply}
-use Rattle.rdm_log.proofs.LogLemmas.ClientLemmas.{answers_same}
-use Rattle.rdm_log.proofs.PromiseLemmas.OutcomeLemmas.{outcomes_step, known_step}
-use Rattle.rdm_log.proofs.LogLemmas.RunningLemmas.{SameRunning, same_running}
 use Rattle.rdm_queue.proofs.BodyLemmas.RunningLemmas.{run_same}
 
 -- nothing of the work, its answers and their collects is different

@@ -1,59 +1,38 @@
 -- A queue follows the log, entry by entry.
-use Rattle.std.proofs.Common.{◌≡◌, ℕ, ◌+◌, ◌≤◌, ◌<◌, ◌%◌, Bool, true, false, List, [], ◌∷◌, ◌++◌, length, drop, filter}
-use Rattle.std.proofs.Common.{get_or, Option, Some, None, slice_get, refl, sym, ap, ◌∙◌, inl, inr, zero}
-use Rattle.std.proofs.Common.{suc, length-append, append-nil, arith, filter_map, if◌then◌else◌}
-use Rattle.std.specs.Prelude.{◌⊎◌, ◌==◌, ◌||◌}
-use Rattle.std.specs.List.{list_any}
-use Rattle.std.proofs.lemmas.Bool.{cases_Bool, cases_eq, cases_lt, ne_eqb, eq-eqb, false≢true}
-use Rattle.std.proofs.lemmas.List.{same_from_push, length-set, length-drop, drop-drop, get_or-set_same}
-use Rattle.std.proofs.lemmas.List.{get_or-set_other, get_or_past}
-use Rattle.std.proofs.lemmas.List.Folds.{list_any-append}
-use Rattle.std.proofs.lemmas.List.Elements.{filter-append, filter_map-append}
-use Rattle.arrayvec.specs.ArrayVec.{ArrayVec}
-use Rattle.rdm_wire.specs.Lists.{EachAfter}
-use Rattle.rdm_wire.specs.declared.request.Request.{Request}
-use Rattle.rdm_join.specs.declared.event.LineEvent.{LineEvent}
-use Rattle.rdm_join.specs.declared.verdict.Sent.{Sent}
-use Rattle.rdm_join.specs.Verdict.{verdict, sent_by}
-use Rattle.rdm_join.specs.Result.{Joined}
-use Rattle.rdm_join.specs.JoinerStanding.{JoinerStanding}
-use Rattle.rdm_agent.specs.declared.kind.Kind.{Kind}
-use Rattle.rdm_log.specs.declared.entry.ClientId.{ClientId}
+use Rattle.rdm_queue.proofs.Common.{◌≡◌, ℕ, ◌+◌, ◌≤◌, ◌<◌, ◌%◌, Bool, true, false, List, [], ◌∷◌, ◌++◌, length, drop}
+use Rattle.rdm_queue.proofs.Common.{filter, get_or, Option, Some, None, slice_get, refl, sym, ap, ◌∙◌, inl, inr, zero}
+use Rattle.rdm_queue.proofs.Common.{suc, length-append, append-nil, arith, filter_map, if◌then◌else◌, ◌⊎◌, ◌==◌, ◌||◌}
+use Rattle.rdm_queue.proofs.Common.{list_any, cases_Bool, cases_eq, cases_lt, ne_eqb, eq-eqb, false≢true, length-set}
+use Rattle.rdm_queue.proofs.Common.{length-drop, get_or-set_same, get_or-set_other, get_or_past, list_any-append}
+use Rattle.rdm_queue.proofs.Common.{filter-append, ArrayVec, EachAfter, Request, LineEvent, Sent, verdict, sent_by}
+use Rattle.rdm_queue.proofs.Common.{Joined, JoinerStanding, Kind, ClientId, Opening, Entry, Accept, Ask, Send, Came}
+use Rattle.rdm_queue.proofs.Common.{Collect, Accepted, AskedDiscovery, Sending, accepts, asks, sends, cames, finishes}
+use Rattle.rdm_queue.proofs.Common.{collectors, verdicts, result, is_request, is_run, awaited, unfinished, answers_to}
+use Rattle.rdm_queue.proofs.Common.{uncollected, last_run, MayFollow, OutcomeValue, outcome_of, completion_of}
+use Rattle.rdm_queue.proofs.Common.{QueueState, owed_for, owed_to, owed_value, owes, accepts_request, asks_discovery}
+use Rattle.rdm_queue.proofs.Common.{collects_oldest, finishes_oldest, finish_of, IsStanding, sent_for, IsLast}
+use Rattle.rdm_queue.proofs.Common.{AwaitsRequest, IsNotRunning, oldest_number, Agrees, joins_same, accepts_same}
+use Rattle.rdm_queue.proofs.Common.{asks_same, answered_same, sends_same, sends_more, cames_same, finishes_same}
+use Rattle.rdm_queue.proofs.Common.{collectors_same, awaited-push, is_paused-push, is_closed-push, unfinished_same}
+use Rattle.rdm_queue.proofs.Common.{index_within, IsUnanswered, verdicts_sent, verdicts_unsent, LogFacts}
+use Rattle.rdm_queue.proofs.Common.{unfinished_number, AskFacts, answers_same, ClientFacts, last_run_same}
+use Rattle.rdm_queue.proofs.Common.{last_run_sent, outcomes_step, known_step, answers_passed, same_running, asked_stays}
+use Rattle.std.proofs.lemmas.List.{same_from_push, drop-drop}
+use Rattle.std.proofs.lemmas.List.Elements.{filter_map-append}
 use Rattle.rdm_log.specs.declared.entry.Owner.TheVariants as owners
-use Rattle.rdm_log.specs.declared.entry.Opening.{Opening}
-use Rattle.rdm_log.specs.declared.entry.Entry.{Entry}
-use Rattle.rdm_log.specs.declared.entry.Entry.TheVariants.{Accept, Ask, Send, Came, Collect}
 use Rattle.rdm_queue.specs.declared.pending.Awaited.TheVariants as awaiting
-use Rattle.rdm_log.specs.log.Entries.{Accepted, AskedDiscovery, Sending, accepts, asks, sends, cames, finishes}
-use Rattle.rdm_log.specs.log.Entries.{collectors, verdicts, result, is_request, is_run}
-use Rattle.rdm_log.specs.log.History.{awaited, unfinished}
-use Rattle.rdm_log.specs.log.Clients.{answers_to, collects_by, uncollected, client_of_request}
-use Rattle.rdm_log.specs.log.Runs.{last_run}
-use Rattle.rdm_log.specs.log.Legal.{MayFollow}
-use Rattle.rdm_log.specs.promises.Outcomes.{OutcomeValue, outcome_of, completion_of}
-use Rattle.rdm_queue.specs.body.State.{QueueState, owed_for, owed_to, owed_value, owes, accepts_request, asks_discovery}
-use Rattle.rdm_queue.specs.body.State.{collects_oldest, finishes_oldest, finish_of, IsStanding}
-use Rattle.rdm_queue.specs.body.Sending.{sends_request, sent_for}
-use Rattle.rdm_queue.specs.body.Agrees.{IsLast, AwaitsRequest, IsNotRunning, oldest_number, Agrees}
-use Rattle.rdm_log.proofs.LogLemmas.PushLemmas.{joins_same, accepts_same, accepts_more, asks_same, asks_more}
-use Rattle.rdm_log.proofs.LogLemmas.PushLemmas.{answered_same, sends_same, sends_more, cames_same, finishes_same}
-use Rattle.rdm_log.proofs.LogLemmas.PushLemmas.{finishes_more, collectors_same, collectors_more, awaited-push}
-use Rattle.rdm_log.proofs.LogLemmas.PushLemmas.{is_paused-push, is_closed-push, unfinished_same, unfinished_accept}
-use Rattle.rdm_log.proofs.LogLemmas.PushLemmas.{unfinished_finish, unanswered_ask}
-use Rattle.rdm_log.proofs.LogLemmas.Indices.{index_within}
-use Rattle.rdm_log.proofs.LogLemmas.ExchangeLemmas.{IsUnanswered, verdicts_sent, verdicts_came_own}
-use Rattle.rdm_log.proofs.LogLemmas.ExchangeLemmas.{verdicts_unsent, result_same}
-use Rattle.rdm_log.proofs.LogLemmas.LegalFacts.{LogFacts, unfinished_number, unfinished_index}
-use Rattle.rdm_log.proofs.LogLemmas.AskFacts.{AskFacts}
-use Rattle.rdm_log.proofs.LogLemmas.ClientLemmas.{answers_same, answers_accept, answers_ask, answers_finish_own}
-use Rattle.rdm_log.proofs.LogLemmas.ClientLemmas.{answers_finish_other, client_of_accepted}
-use Rattle.rdm_log.proofs.LogLemmas.ClientFacts.{ClientFacts}
-use Rattle.rdm_log.proofs.LogLemmas.RunLemmas.{last_run_same, last_run_sent, SameRuns, same_runs_sent}
-use Rattle.rdm_log.proofs.PromiseLemmas.OutcomeLemmas.{outcomes_step, known_step, uncollected_more, outcomes_rest}
-use Rattle.rdm_log.proofs.PromiseLemmas.OutcomeLemmas.{answers_passed}
-use Rattle.rdm_queue.proofs.BodyLemmas.OutstandingLemmas.{in_all, in_all-cons, removed_at, put_at}
-use Rattle.rdm_queue.proofs.BodyLemmas.OutstandingLemmas.{owes-own, owes-other}
-use Rattle.rdm_log.proofs.LogLemmas.RunningLemmas.{same_running, same_running_came, asked_stays}
+use Rattle.rdm_log.specs.log.Clients.{collects_by, client_of_request}
+use Rattle.rdm_queue.specs.body.Sending.{sends_request}
+use Rattle.rdm_log.proofs.LogLemmas.PushLemmas.{accepts_more, asks_more, finishes_more, collectors_more}
+use Rattle.rdm_log.proofs.LogLemmas.PushLemmas.{unfinished_accept, unfinished_finish, unanswered_ask}
+use Rattle.rdm_log.proofs.LogLemmas.ExchangeLemmas.{verdicts_came_own, result_same}
+use Rattle.rdm_log.proofs.LogLemmas.LegalFacts.{unfinished_index}
+use Rattle.rdm_log.proofs.LogLemmas.ClientLemmas.{answers_accept, answers_ask, answers_finish_own, answers_finish_other}
+use Rattle.rdm_log.proofs.LogLemmas.ClientLemmas.{client_of_accepted}
+use Rattle.rdm_log.proofs.LogLemmas.RunLemmas.{SameRuns, same_runs_sent}
+use Rattle.rdm_log.proofs.PromiseLemmas.OutcomeLemmas.{uncollected_more, outcomes_rest}
+use Rattle.rdm_queue.proofs.BodyLemmas.OutstandingLemmas.{in_all, in_all-cons, removed_at, put_at, owes-own, owes-other}
+use Rattle.rdm_log.proofs.LogLemmas.RunningLemmas.{same_running_came}
 use Rattle.rdm_queue.proofs.BodyLemmas.RunningLemmas.{run_same}
 use Rattle.rdm_queue.proofs.BodyLemmas.AgreesSame.{devices_run_same, AgreesOnLine, same_line, line_same, traded}
 

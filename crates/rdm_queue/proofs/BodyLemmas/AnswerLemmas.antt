@@ -1,23 +1,12 @@
 -- The oldest discovery is answered: its client's ring has capacity, and what all clients' rings are then.
-use Rattle.std.proofs.Common.{◌≡◌, ℕ, ◌+◌, ◌<◌, ◌≤◌, ◌-◌, Bool, true, false, List, [], ◌∷◌, length, drop, get_or, set}
-use Rattle.std.proofs.Common.{filter, map, Option, Some, None, slice_get, refl, sym, ap, ◌∙◌, subst, arith}
-use Rattle.std.specs.Prelude.{◌==◌, MatchOption, nat_lt, if◌then◌else◌}
-use Rattle.std.specs.VecDeque.{deque_len, deque_capacity}
-use Rattle.std.proofs.lemmas.Bool.{ltb-true, ltb-false, false≢true}
-use Rattle.std.proofs.lemmas.Option.{slice_get-get_or}
-use Rattle.std.proofs.lemmas.List.{length-map, drop-map}
-use Rattle.rdm_wire.specs.declared.device.Device.{Device}
-use Rattle.rdm_agent.specs.declared.fault.AgentFault.{AgentFault}
-use Rattle.rdm_queue.specs.declared.client.Client.{Client}
-use Rattle.rdm_queue.specs.declared.pending.Asked.{Asked}
-use Rattle.rdm_queue.specs.declared.queue.Queue.TheInside.{Inside}
-use Rattle.rdm_log.specs.log.Entries.{AskedDiscovery}
-use Rattle.rdm_queue.specs.body.Rings.{HasSets, ClientAnswers}
-use Rattle.rdm_queue.specs.body.Fields.{asked_is, state_of}
-use Rattle.rdm_queue.specs.body.QueueInvariant.{QueueInvariant, served_by}
-use Rattle.rdm_queue.specs.body.State.{QueueState, RunState}
-use Rattle.rdm_queue.specs.body.Ending.{answer_value, answers_oldest, one_less}
-use Rattle.rdm_log.proofs.LogLemmas.Indices.{all_at}
+use Rattle.rdm_queue.proofs.Common.{◌≡◌, ℕ, ◌+◌, ◌<◌, ◌≤◌, ◌-◌, Bool, true, false, List, [], ◌∷◌, length, drop, get_or}
+use Rattle.rdm_queue.proofs.Common.{set, filter, map, Option, Some, None, slice_get, refl, sym, ap, ◌∙◌, subst, arith}
+use Rattle.rdm_queue.proofs.Common.{◌==◌, MatchOption, nat_lt, if◌then◌else◌, deque_len, deque_capacity, ltb-true}
+use Rattle.rdm_queue.proofs.Common.{ltb-false, false≢true, slice_get-get_or, length-map, Device, AgentFault, Client}
+use Rattle.rdm_queue.proofs.Common.{Asked, Inside, AskedDiscovery, HasSets, ClientAnswers, asked_is, state_of}
+use Rattle.rdm_queue.proofs.Common.{QueueInvariant, served_by, QueueState, RunState, answer_value, answers_oldest}
+use Rattle.rdm_queue.proofs.Common.{one_less, all_at}
+use Rattle.std.proofs.lemmas.List.{drop-map}
 use Rattle.rdm_queue.proofs.BodyLemmas.FieldLemmas.{read_at}
 use Rattle.rdm_queue.proofs.BodyLemmas.RingFields.{AreClientsOf, are_clients}
 use Rattle.rdm_queue.proofs.BodyLemmas.InvariantLemmas.{asked_joined, first_counts, held-answers}

@@ -1,47 +1,23 @@
 -- What a queue's calls say for each log that it stands after.
-use Rattle.std.proofs.Common.{◌≡◌, ℕ, ◌∙◌, ◌<◌, Bool, true, false, List, [], ◌∷◌, ◌++◌, length, Option, Some, None}
-use Rattle.std.proofs.Common.{Result, Ok, Err, refl, sym, ap, append-nil, append_assoc}
-use Rattle.std.specs.Prelude.{◌≢◌, IfOk, IfErr, IfSome, IfNone, OnErr, OnSome, option_map, slice_get}
-use Rattle.arrayvec.specs.ArrayVec.{ArrayVec}
-use Rattle.rdm_wire.specs.declared.request.Request.{Request}
-use Rattle.rdm_log.specs.log.LogState.{LogState, grown}
-use Rattle.rdm_log.specs.declared.entry.ClientId.{ClientId}
-use Rattle.rdm_log.specs.declared.entry.Owner.{Owner}
-use Rattle.rdm_log.specs.declared.entry.Entry.{Entry}
-use Rattle.rdm_log.specs.declared.entry.Entry.TheVariants.{Join, Accept, Ask, Send, Collect, Close}
-use Rattle.rdm_log.specs.log.History.{is_closed}
-use Rattle.rdm_log.specs.declared.fault.JoinFault.{JoinFault}
-use Rattle.rdm_log.specs.declared.fault.SubmitFault.{SubmitFault}
-use Rattle.rdm_log.specs.declared.fault.AskFault.{AskFault}
-use Rattle.rdm_agent.specs.declared.kind.Kind.{Kind}
-use Rattle.rdm_wire.specs.declared.device.Device.{Device}
-use Rattle.rdm_log.specs.declared.outcome.Outcome.{Outcome}
+use Rattle.rdm_queue.proofs.Common.{◌≡◌, ℕ, ◌∙◌, ◌<◌, Bool, true, false, List, [], ◌∷◌, ◌++◌, length, Option, Some}
+use Rattle.rdm_queue.proofs.Common.{None, Result, Ok, Err, refl, sym, ap, append-nil, append_assoc, ◌≢◌, IfOk, IfErr}
+use Rattle.rdm_queue.proofs.Common.{IfSome, IfNone, OnErr, OnSome, option_map, slice_get, ArrayVec, Request, LogState}
+use Rattle.rdm_queue.proofs.Common.{grown, ClientId, Owner, Entry, Join, Accept, Ask, Send, Collect, Close, is_closed}
+use Rattle.rdm_queue.proofs.Common.{JoinFault, SubmitFault, AskFault, Kind, Device, Outcome, Completion, join_fault}
+use Rattle.rdm_queue.proofs.Common.{outcome_value, request_outcome, discovery_outcome, oldest_kind, RefusesJoin}
+use Rattle.rdm_queue.proofs.Common.{join_refused, submit_refused, ask_refused, CloseAdds, IsWithResults, is_result}
+use Rattle.rdm_queue.proofs.Common.{AllResults, QueueState, first_join_fault, first_submit_fault, first_ask_fault}
+use Rattle.rdm_queue.proofs.Common.{joins_client, accepts_request, asks_discovery, collects_oldest, owed_to, unended}
+use Rattle.rdm_queue.proofs.Common.{OwedOutcome, owed_next, end_of_oldest, CollectsOldest, first_kind, IsEnded}
+use Rattle.rdm_queue.proofs.Common.{HasNothingDue, FaultNeedsClose, AnswersInBound, block_more, ByRun, ByResult}
+use Rattle.rdm_queue.proofs.Common.{ByClose, Accepted, Joined, none-some, drop, arith, StandsAfter, StandsAmid, MaySend}
+use Rattle.rdm_queue.proofs.Common.{NoSend, IsGiven, to_send, false≢true, is_some}
 use Rattle.rdm_log.specs.declared.outcome.OutcomeKind.{OutcomeKind}
-use Rattle.rdm_log.specs.declared.outcome.Completion.{Completion}
 use Rattle.rdm_log.specs.declared.outcome.DiscoveryEnd.{DiscoveryEnd}
-use Rattle.rdm_log.specs.log.Refusals.{join_fault}
-use Rattle.rdm_log.specs.promises.Outcomes.{outcome_value, request_outcome, discovery_outcome, oldest_kind}
-use Rattle.rdm_log.specs.promises.Blocks.{RefusesJoin, join_refused, submit_refused, ask_refused, JoinAdds, SubmitAdds}
-use Rattle.rdm_log.specs.promises.Blocks.{DiscoverAdds, SwitchAdds, CloseAdds, CollectAdds, IsWithResults, is_result}
-use Rattle.rdm_log.specs.promises.Blocks.{AllResults}
-use Rattle.rdm_queue.specs.body.State.{QueueState, first_join_fault, first_submit_fault, first_ask_fault, joins_client}
-use Rattle.rdm_queue.specs.body.State.{accepts_request, asks_discovery, collects_oldest, owed_to, unended, OwedOutcome}
-use Rattle.rdm_queue.specs.body.State.{owed_next, end_of_oldest, CollectsOldest, first_kind}
-use Rattle.rdm_queue.specs.body.Ending.{IsEnded, HasNothingDue}
-use Rattle.rdm_log.specs.promises.InBound.{FaultNeedsClose, AnswersInBound}
-use Rattle.rdm_log.proofs.BoundLemmas.{block_more}
+use Rattle.rdm_log.specs.promises.Blocks.{JoinAdds, SubmitAdds, DiscoverAdds, SwitchAdds, CollectAdds}
 use Rattle.rdm_queue.proofs.BodyLemmas.EndLemmas.{ends_amid, ends_in_bound_amid, settled_after}
-use Rattle.rdm_queue.specs.body.Ending.IsEnded.{ByRun, ByResult, ByClose}
-use Rattle.rdm_log.specs.log.Entries.{Accepted}
-use Rattle.rdm_join.specs.Result.{Joined}
-use Rattle.std.proofs.lemmas.Option.{none-some}
-use Rattle.std.proofs.Common.{drop, arith}
-use Rattle.rdm_queue.specs.body.Agrees.{StandsAfter, StandsAmid, ForEachBlock, Ends, FinishesAll}
+use Rattle.rdm_queue.specs.body.Agrees.{ForEachBlock, Ends, FinishesAll}
 use Rattle.rdm_queue.specs.promises.EachLog.{ForEachLog, StandsWith, AddsToEach}
-use Rattle.rdm_log.specs.log.MaySend.{MaySend, NoSend}
-use Rattle.rdm_queue.specs.body.Sending.{IsGiven, to_send}
-use Rattle.std.proofs.lemmas.Bool.{false≢true}
-use Rattle.std.specs.Prelude.{is_some}
 use Rattle.rdm_queue.proofs.BodyLemmas.RingLemmas.{all_push}
 use Rattle.rdm_queue.proofs.BodyLemmas.SearchLemmas.{given_same, ended_same}
 use Rattle.rdm_queue.proofs.BodyLemmas.TakeLemmas.{take_after, none_after}

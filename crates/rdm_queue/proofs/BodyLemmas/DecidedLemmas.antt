@@ -1,15 +1,10 @@
 -- A decided result, and what a request with it is finished with.
-use Rattle.std.proofs.Common.{◌≡◌, ◌<◌, Bool, true, false, List, [], ◌∷◌, ◌++◌, length, Option, Some, None, refl, ap}
-use Rattle.std.proofs.Common.{◌∙◌, inl, inr, arith}
-use Rattle.std.specs.Prelude.{◌≢◌, if◌then◌else◌}
-use Rattle.rdm_join.specs.declared.status.Status.{Status}
+use Rattle.rdm_queue.proofs.Common.{◌≡◌, ◌<◌, Bool, true, false, List, [], ◌∷◌, ◌++◌, length, Option, Some, None, refl}
+use Rattle.rdm_queue.proofs.Common.{ap, ◌∙◌, inl, inr, arith, ◌≢◌, if◌then◌else◌, Status, Judged, Joined, ended}
+use Rattle.rdm_queue.proofs.Common.{result_of, or_if_open, FitsResult, completion_of, GivesResult}
 use Rattle.rdm_join.specs.declared.status.Status.TheVariants.{Completed, InvalidResponse}
-use Rattle.rdm_join.specs.declared.verdict.Judged.{Judged}
 use Rattle.rdm_join.specs.declared.verdict.Judged.TheVariants.{Whole, Part, Ended}
-use Rattle.rdm_join.specs.Result.{Joined, ended, decides, result_of, result_after, or_if_open, joined_data, head_of}
-use Rattle.rdm_log.specs.log.MayFinish.{FitsResult}
-use Rattle.rdm_log.specs.promises.Outcomes.{completion_of}
-use Rattle.rdm_queue.specs.body.State.{GivesResult}
+use Rattle.rdm_join.specs.Result.{decides, result_after, joined_data, head_of}
 
 -- a result is its own completion: only status Completed has data
 abbrev IsComplete : Joined → Type 0

@@ -1,57 +1,32 @@
 -- What a queue ends is in the log, and if it ends nothing, nothing is due.
-use Rattle.std.proofs.Common.{◌≡◌, ℕ, zero, suc, ◌≤◌, Bool, true, false, not, List, [], ◌∷◌, ◌++◌, length, Option, Some}
-use Rattle.std.proofs.Common.{None, slice_get, refl, sym, ap, ◌∙◌, subst, inl, inr, length-append, arith}
-use Rattle.std.specs.Prelude.{◌⊎◌, ◌==◌, is_some, if◌then◌else◌}
-use Rattle.std.specs.List.{list_any}
-use Rattle.std.proofs.lemmas.Bool.{cases_Bool, or_parts, false≢true}
-use Rattle.std.proofs.lemmas.Option.{none-some}
-use Rattle.std.proofs.lemmas.List.Folds.{list_any-append}
-use Rattle.rdm_join.specs.declared.status.Status.TheVariants.{FailedToSend}
-use Rattle.rdm_join.specs.Result.{Joined, result_of, ended, or_if_open}
-use Rattle.rdm_agent.specs.Calls.{next_op, HasRunBy}
-use Rattle.rdm_log.specs.log.LogState.{LogState}
-use Rattle.rdm_agent.specs.Machine.{AgentState, fault_of}
-use Rattle.rdm_agent.specs.declared.op.Op.{Op}
+use Rattle.rdm_queue.proofs.Common.{◌≡◌, ℕ, zero, suc, ◌≤◌, Bool, true, false, not, List, [], ◌∷◌, ◌++◌, length, Option}
+use Rattle.rdm_queue.proofs.Common.{Some, None, slice_get, refl, sym, ap, ◌∙◌, subst, inl, inr, length-append, arith}
+use Rattle.rdm_queue.proofs.Common.{◌⊎◌, ◌==◌, is_some, if◌then◌else◌, list_any, cases_Bool, or_parts, false≢true}
+use Rattle.rdm_queue.proofs.Common.{none-some, list_any-append, FailedToSend, Joined, result_of, ended, or_if_open}
+use Rattle.rdm_queue.proofs.Common.{next_op, HasRunBy, LogState, AgentState, fault_of, Op, AgentFault, Aborted}
+use Rattle.rdm_queue.proofs.Common.{aborted_ends, runs-own, Opening, Entry, Answer, Accepted, AskedDiscovery, Answered}
+use Rattle.rdm_queue.proofs.Common.{Sending, sends, answers, asks, verdicts, result, is_request, awaited, is_closed}
+use Rattle.rdm_queue.proofs.Common.{unfinished, unanswered, has_begun, entries_before_run, last_run, is_answered}
+use Rattle.rdm_queue.proofs.Common.{asked_before, run_kind, known_at_run, run_exchanges, MayAnswer, FaultNeedsClose}
+use Rattle.rdm_queue.proofs.Common.{QueueState, RunState, due, end_of_oldest, owed_next, owed_for, is_closing}
+use Rattle.rdm_queue.proofs.Common.{stopped_at, agent_at_end, answer_of, HasNothingDue, IsEnded, ByRun, ByResult}
+use Rattle.rdm_queue.proofs.Common.{ByClose, IsRunning, IsNotRunning, RunIs, RunGoesOn, oldest_number, Agrees}
+use Rattle.rdm_queue.proofs.Common.{StandsAfter, StandsAmid, pushed, all_from_indices, answered_more, sends_same}
+use Rattle.rdm_queue.proofs.Common.{LogFacts, legal_facts, later_unsent, unfinished_number, ask_facts, client_facts}
+use Rattle.rdm_queue.proofs.Common.{last_run_same, agent_goes_on, some_at, asked_stays, asked_fewer, all_unserved}
 use Rattle.rdm_agent.specs.declared.op.Op.TheVariants as ops
-use Rattle.rdm_agent.specs.declared.fault.AgentFault.{AgentFault}
-use Rattle.rdm_agent.specs.declared.fault.AgentFault.TheVariants.{Aborted}
-use Rattle.rdm_agent.proofs.CallLemmas.{aborted_ends, next_none, runs-own}
+use Rattle.rdm_agent.proofs.CallLemmas.{next_none}
 use Rattle.rdm_agent.proofs.BoundRuns.{ends_in_bound_by}
-use Rattle.rdm_log.specs.declared.entry.Opening.{Opening}
-use Rattle.rdm_log.specs.declared.entry.Entry.{Entry}
-use Rattle.rdm_log.specs.declared.entry.Entry.TheVariants.{Answer}
-use Rattle.rdm_log.specs.log.Entries.{Accepted, AskedDiscovery, Answered, Sending, sends, answers, asks, verdicts}
-use Rattle.rdm_log.specs.log.Entries.{result, is_request}
-use Rattle.rdm_log.specs.log.History.{awaited, is_closed, unfinished, unanswered}
-use Rattle.rdm_log.specs.log.Runs.{has_begun, entries_before_run, last_run, is_answered, unless_answered, asked_before}
-use Rattle.rdm_log.specs.log.Runs.{run_kind, known_at_run, run_exchanges}
+use Rattle.rdm_log.specs.log.Runs.{unless_answered}
 use Rattle.rdm_log.specs.log.Due.{NothingDue, AllAnswered}
-use Rattle.rdm_log.specs.log.MayAnswer.{MayAnswer}
-use Rattle.rdm_log.specs.promises.InBound.{FaultNeedsClose}
-use Rattle.rdm_queue.specs.body.State.{QueueState, RunState, due, end_of_oldest, owed_next, owed_for, is_closing}
-use Rattle.rdm_queue.specs.body.Ending.{stopped_at, agent_at_end, answer_of, AnswersUnserved}
-use Rattle.rdm_queue.specs.body.Ending.{NothingToEnd, HasNothingDue, IsEnded}
-use Rattle.rdm_queue.specs.body.Ending.IsEnded.{ByRun, ByResult, ByClose}
-use Rattle.rdm_queue.specs.body.Agrees.{IsRunning, IsNotRunning, RunIs, RunGoesOn, oldest_number, Agrees, StandsAfter}
-use Rattle.rdm_queue.specs.body.Agrees.{StandsAmid}
-use Rattle.rdm_log.proofs.LogLemmas.Grows.{pushed}
-use Rattle.rdm_log.proofs.LogLemmas.Indices.{all_from_indices}
-use Rattle.rdm_log.proofs.LogLemmas.PushLemmas.{answered_more, sends_same}
+use Rattle.rdm_queue.specs.body.Ending.{AnswersUnserved, NothingToEnd}
 use Rattle.rdm_log.proofs.LogLemmas.ExchangeLemmas.{result_unsent}
-use Rattle.rdm_log.proofs.LogLemmas.LegalFacts.{LogFacts, legal_facts, later_unsent, unfinished_number}
-use Rattle.rdm_log.proofs.LogLemmas.AskFacts.{ask_facts}
-use Rattle.rdm_log.proofs.LogLemmas.ClientFacts.{client_facts}
-use Rattle.rdm_log.proofs.LogLemmas.RunLemmas.{last_run_same}
-use Rattle.rdm_log.proofs.LogLemmas.AgentLemmas.{agent_goes_on}
 use Rattle.rdm_queue.proofs.BodyLemmas.AfterLemmas.{pending_flag}
-use Rattle.rdm_log.proofs.PromiseLemmas.OutcomeLemmas.{some_at}
-use Rattle.rdm_log.proofs.LogLemmas.RunningLemmas.{asked_stays}
-use Rattle.rdm_queue.proofs.BodyLemmas.AgreesRuns.{not_stopped, answers_with, stands_answer, known_kept}
-use Rattle.rdm_queue.proofs.BodyLemmas.AgreesRuns.{run_after}
+use Rattle.rdm_queue.proofs.BodyLemmas.AgreesRuns.{not_stopped, answers_with, stands_answer, known_kept, run_after}
 use Rattle.rdm_queue.proofs.BodyLemmas.TakeLemmas.{not_running, running, run_opened}
 use Rattle.rdm_queue.proofs.BodyLemmas.EndRequests.{undecided, finish_amid}
 use Rattle.rdm_queue.proofs.BodyLemmas.EndRuns.{at_end, ended_same, answer_amid, and_left, and_right}
-use Rattle.rdm_log.proofs.LogLemmas.BegunLemmas.{asked_fewer, in_order, all_answered, none_begun, all_unserved}
+use Rattle.rdm_log.proofs.LogLemmas.BegunLemmas.{in_order, all_answered, none_begun}
 
 -- a close that finds no request to finish finds none
 closing_end : (decided : Option Joined) (closing : Bool) → closing ≡ true

@@ -1,33 +1,18 @@
 -- The oldest request is finished if it has ended, or at a close.
-use Rattle.std.proofs.Common.{◌≡◌, ℕ, Bool, true, false, List, [], ◌∷◌, ◌++◌, length, Option, Some, None, slice_get}
-use Rattle.std.proofs.Common.{refl, sym, ap, ◌∙◌, subst, arith}
-use Rattle.std.specs.Prelude.{◌&&◌, not, is_some, if◌then◌else◌}
-use Rattle.std.proofs.lemmas.Bool.{false≢true}
-use Rattle.std.proofs.lemmas.Option.{none-some, same_Some}
-use Rattle.rdm_join.specs.declared.status.Status.TheVariants.{FailedToSend}
-use Rattle.rdm_join.specs.declared.verdict.Judged.{Judged}
-use Rattle.rdm_join.specs.declared.verdict.Sent.{Sent}
-use Rattle.rdm_join.specs.Result.{Joined, result_of, ended, or_if_open}
-use Rattle.rdm_join.specs.JoinerStanding.{JoinerStanding}
-use Rattle.rdm_log.specs.declared.entry.Opening.{Opening}
-use Rattle.rdm_log.specs.declared.entry.Entry.{Entry}
-use Rattle.rdm_queue.specs.declared.pending.Awaited.{Awaited}
+use Rattle.rdm_queue.proofs.Common.{◌≡◌, ℕ, Bool, true, false, List, [], ◌∷◌, ◌++◌, length, Option, Some, None}
+use Rattle.rdm_queue.proofs.Common.{slice_get, refl, sym, ap, ◌∙◌, subst, arith, ◌&&◌, not, is_some, if◌then◌else◌}
+use Rattle.rdm_queue.proofs.Common.{false≢true, none-some, same_Some, FailedToSend, Judged, Sent, Joined, result_of}
+use Rattle.rdm_queue.proofs.Common.{ended, or_if_open, JoinerStanding, Opening, Entry, Awaited, Accepted, verdicts}
+use Rattle.rdm_queue.proofs.Common.{result, unfinished, FitsResult, completion_of, QueueState, OwedOutcome, owed_for}
+use Rattle.rdm_queue.proofs.Common.{finish_of, finishes_oldest, end_of_oldest, owed_next, due, GivesResult, StandingAt}
+use Rattle.rdm_queue.proofs.Common.{IsStanding, AwaitsRun, IsPending, oldest_number, Agrees, StandsAmid, pushed}
+use Rattle.rdm_queue.proofs.Common.{LogFacts, legal_facts, unfinished_number, client_facts, all_unserved}
 use Rattle.rdm_queue.specs.declared.pending.Awaited.TheVariants as awaiting
-use Rattle.rdm_log.specs.log.Entries.{Accepted, verdicts, result}
-use Rattle.rdm_log.specs.log.History.{unfinished}
-use Rattle.rdm_log.specs.log.MayFinish.{MayFinish, IsClosing, FitsResult}
-use Rattle.rdm_log.specs.promises.Outcomes.{completion_of}
-use Rattle.rdm_queue.specs.body.State.{QueueState, OwedOutcome, owed_for, finish_of, finishes_oldest, end_of_oldest}
-use Rattle.rdm_queue.specs.body.State.{owed_next, due, GivesResult, StandingAt, IsStanding}
-use Rattle.rdm_queue.specs.body.Agrees.{AwaitsRun, IsPending, oldest_number, Agrees, StandsAmid}
-use Rattle.rdm_log.proofs.LogLemmas.Grows.{pushed}
-use Rattle.rdm_log.proofs.LogLemmas.LegalFacts.{LogFacts, legal_facts, unfinished_number}
-use Rattle.rdm_log.proofs.LogLemmas.ClientFacts.{client_facts}
+use Rattle.rdm_log.specs.log.MayFinish.{MayFinish, IsClosing}
 use Rattle.rdm_queue.proofs.BodyLemmas.DecidedLemmas.{result_complete, gives_complete, gives_fits}
 use Rattle.rdm_queue.proofs.BodyLemmas.AfterLemmas.{pending_flag}
 use Rattle.rdm_queue.proofs.BodyLemmas.AfterFinish.{open_standing, awaited_open}
 use Rattle.rdm_queue.proofs.BodyLemmas.AgreesWork.{stands_finish}
-use Rattle.rdm_log.proofs.LogLemmas.BegunLemmas.{all_unserved}
 use Rattle.rdm_queue.proofs.BodyLemmas.TakeLemmas.{not_running}
 
 -- the state of the oldest request, if it isn't decided

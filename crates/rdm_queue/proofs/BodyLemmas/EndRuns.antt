@@ -1,49 +1,32 @@
 -- The oldest discovery is answered by its run, or at a close.
-use Rattle.std.proofs.Common.{◌≡◌, ℕ, ◌+◌, ◌-◌, ◌<◌, ◌≤◌, Bool, true, false, not, List, [], ◌∷◌, ◌++◌, length, Option}
-use Rattle.std.proofs.Common.{Some, None, slice_get, refl, sym, ap, ◌∙◌, subst, inl, inr, length-append, arith}
-use Rattle.std.specs.Prelude.{◌⊎◌, ◌==◌, ◌&&◌, ◌||◌, is_some, nat_lt, if◌then◌else◌}
-use Rattle.std.specs.List.{list_any}
-use Rattle.std.proofs.lemmas.Bool.{false≢true, eq-eqb, ne_eqb, ltb-true, ltb-false}
-use Rattle.std.proofs.lemmas.List.Folds.{list_any-append}
+use Rattle.rdm_queue.proofs.Common.{◌≡◌, ℕ, ◌+◌, ◌-◌, ◌<◌, ◌≤◌, Bool, true, false, not, List, [], ◌∷◌, ◌++◌, length}
+use Rattle.rdm_queue.proofs.Common.{Option, Some, None, slice_get, refl, sym, ap, ◌∙◌, subst, inl, inr, length-append}
+use Rattle.rdm_queue.proofs.Common.{arith, ◌⊎◌, ◌==◌, ◌&&◌, ◌||◌, is_some, nat_lt, if◌then◌else◌, list_any, false≢true}
+use Rattle.rdm_queue.proofs.Common.{eq-eqb, ne_eqb, ltb-true, ltb-false, list_any-append, Sent, next_op, HasRunBy}
+use Rattle.rdm_queue.proofs.Common.{AgentState, fault_of, Op, AgentFault, runs-own, Opening, Entry, Awaited}
+use Rattle.rdm_queue.proofs.Common.{AskedDiscovery, Answered, asks, answers, is_closed, unanswered, was_sent, has_begun}
+use Rattle.rdm_queue.proofs.Common.{entries_before_run, last_run, is_answered, asked_before, unserved, run_exchanges}
+use Rattle.rdm_queue.proofs.Common.{run_devices, run_kind, known_at_run, answer_devices, MayAnswer, QueueState}
+use Rattle.rdm_queue.proofs.Common.{RunState, is_closing, stopped_at, agent_at_end, answer_of, one_less, devices_after}
+use Rattle.rdm_queue.proofs.Common.{devices_run_after, AwaitsRequest, AwaitsRun, IsPending, IsRunning, RunIs}
+use Rattle.rdm_queue.proofs.Common.{oldest_number, Agrees, StandsAmid, pushed, all_from_indices, slice_get-drop}
+use Rattle.rdm_queue.proofs.Common.{answered_more, sends_same, is_closed-push, awaited-push, ask_facts}
+use Rattle.rdm_queue.proofs.Common.{unanswered_index, client_facts, run_facts, last_begun, last_run_same, served_stays}
+use Rattle.rdm_queue.proofs.Common.{entries_before_run_stays, some_at, asked_stays}
 use Rattle.std.proofs.lemmas.Map.Keys.{any_passes_from_place}
-use Rattle.rdm_join.specs.declared.verdict.Sent.{Sent}
-use Rattle.rdm_agent.specs.Calls.{next_op, HasRunBy, ended_by_abort}
-use Rattle.rdm_agent.specs.Machine.{AgentState, fault_of}
-use Rattle.rdm_agent.specs.declared.op.Op.{Op}
+use Rattle.rdm_agent.specs.Calls.{ended_by_abort}
 use Rattle.rdm_agent.specs.declared.op.Op.TheVariants as ops
-use Rattle.rdm_agent.specs.declared.fault.AgentFault.{AgentFault}
-use Rattle.rdm_agent.proofs.CallLemmas.{runs-own}
-use Rattle.rdm_log.specs.declared.entry.Opening.{Opening}
-use Rattle.rdm_log.specs.declared.entry.Entry.{Entry}
-use Rattle.rdm_queue.specs.declared.pending.Awaited.{Awaited}
 use Rattle.rdm_queue.specs.declared.pending.Awaited.TheVariants as awaiting
-use Rattle.rdm_log.specs.log.Entries.{AskedDiscovery, Answered, asks, answers}
-use Rattle.rdm_log.specs.log.History.{is_closed, unanswered, was_sent}
-use Rattle.rdm_log.specs.log.Runs.{has_begun, entries_before_run, last_run, is_answered, asked_before, unserved, served}
-use Rattle.rdm_log.specs.log.Runs.{run_exchanges, run_devices, run_kind, known_at_run, answer_devices}
-use Rattle.rdm_log.specs.log.MayAnswer.{MayAnswer}
-use Rattle.rdm_queue.specs.body.State.{QueueState, RunState, is_closing}
-use Rattle.rdm_queue.specs.body.Ending.{stopped_at, agent_at_end, answer_of, one_less, answers_by_run}
-use Rattle.rdm_queue.specs.body.Ending.{devices_after, devices_run_after}
-use Rattle.rdm_queue.specs.body.Agrees.{AwaitsRequest, AwaitsRun, IsPending, IsRunning, RunIs, oldest_number, Agrees}
-use Rattle.rdm_queue.specs.body.Agrees.{StandsAmid}
-use Rattle.rdm_log.proofs.LogLemmas.Grows.{pushed}
-use Rattle.rdm_log.proofs.LogLemmas.Indices.{all_from_indices, slice_get-push, IsPushed, slice_get-drop}
-use Rattle.rdm_log.proofs.LogLemmas.Indices.{slice_get_append_within}
-use Rattle.rdm_log.proofs.LogLemmas.PushLemmas.{asks-append, answered-append, answered_more, sends_same, is_closed-push}
-use Rattle.rdm_log.proofs.LogLemmas.PushLemmas.{awaited-push}
-use Rattle.rdm_log.proofs.LogLemmas.AskFacts.{ask_facts, unanswered_index}
-use Rattle.rdm_log.proofs.LogLemmas.ClientFacts.{client_facts}
-use Rattle.rdm_log.proofs.LogLemmas.RunFacts.{run_facts}
-use Rattle.rdm_log.proofs.LogLemmas.RunLemmas.{last_begun, last_run_same, served_stays, entries_before_run_stays}
+use Rattle.rdm_log.specs.log.Runs.{served}
+use Rattle.rdm_queue.specs.body.Ending.{answers_by_run}
+use Rattle.rdm_log.proofs.LogLemmas.Indices.{slice_get-push, IsPushed, slice_get_append_within}
+use Rattle.rdm_log.proofs.LogLemmas.PushLemmas.{asks-append, answered-append}
 use Rattle.rdm_log.proofs.LogLemmas.AgentLemmas.{agent_shows, agent_found}
 use Rattle.rdm_queue.proofs.BodyLemmas.AfterLemmas.{pending_flag}
-use Rattle.rdm_log.proofs.PromiseLemmas.OutcomeLemmas.{some_at}
 use Rattle.rdm_queue.proofs.BodyLemmas.AgreesWork.{was_sent_own}
-use Rattle.rdm_queue.proofs.BodyLemmas.AgreesRuns.{not_stopped, answers_with, stands_answer, known_after}
-use Rattle.rdm_queue.proofs.BodyLemmas.AgreesRuns.{run_after, exchanges_answered}
+use Rattle.rdm_queue.proofs.BodyLemmas.AgreesRuns.{not_stopped, answers_with, stands_answer, known_after, run_after}
+use Rattle.rdm_queue.proofs.BodyLemmas.AgreesRuns.{exchanges_answered}
 use Rattle.rdm_queue.proofs.BodyLemmas.TakeLemmas.{running}
-use Rattle.rdm_log.proofs.LogLemmas.RunningLemmas.{asked_stays}
 use Rattle.rdm_log.proofs.LogLemmas.BegunLemmas.{before_front}
 
 -- the agent at the end stands after the run's exchanges

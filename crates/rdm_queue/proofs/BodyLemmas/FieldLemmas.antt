@@ -1,33 +1,22 @@
 -- The clients' rings, as the lists of a queue's state.
-use Rattle.std.proofs.Common.{◌≡◌, ℕ, ◌+◌, ◌-◌, ◌<◌, map, ◌≤◌, true, false, List, [], ◌∷◌, ◌++◌, length, take, set}
-use Rattle.std.proofs.Common.{get_or, Some, None, slice_get, refl, sym, ap, ◌∙◌, inl, inr, arith}
-use Rattle.std.specs.Prelude.{◌⊎◌, ◌==◌, ◌||◌, nat_le, if◌then◌else◌}
-use Rattle.std.specs.List.{refill, sum_by, list_any}
-use Rattle.std.specs.VecDeque.{deque_len}
-use Rattle.std.proofs.lemmas.Bool.{le-leb, lt-leb, eq-eqb, ne_eqb, cases_eq}
-use Rattle.std.proofs.lemmas.Option.{slice_get-get_or}
-use Rattle.std.proofs.lemmas.List.{append-nil, drop_all, take_all, length-set, length-map}
-use Rattle.std.proofs.lemmas.List.Sums.{sum_by-cons}
-use Rattle.rdm_queue.specs.declared.client.Client.{Client}
-use Rattle.rdm_log.specs.declared.config.Setup.{Setup}
+use Rattle.rdm_queue.proofs.Common.{◌≡◌, ℕ, ◌+◌, ◌-◌, ◌<◌, map, ◌≤◌, true, false, List, [], ◌∷◌, ◌++◌, length, take}
+use Rattle.rdm_queue.proofs.Common.{set, get_or, Some, None, slice_get, refl, sym, ap, ◌∙◌, inl, inr, arith, ◌⊎◌, ◌==◌}
+use Rattle.rdm_queue.proofs.Common.{◌||◌, nat_le, if◌then◌else◌, list_any, deque_len, le-leb, lt-leb, eq-eqb, ne_eqb}
+use Rattle.rdm_queue.proofs.Common.{cases_eq, slice_get-get_or, take_all, length-set, length-map, sum_by-cons, Client}
+use Rattle.rdm_queue.proofs.Common.{Setup, Asked, AskedDiscovery, is_full_kind, owed_values, merged, accepted_is}
+use Rattle.rdm_queue.proofs.Common.{asked_is, waiting_ring, rings_from, waiting_rings, owed_rings, places_of}
+use Rattle.rdm_queue.proofs.Common.{StateInvariant, QueueInvariant, QueueState, first_state, first_submit_fault}
+use Rattle.rdm_queue.proofs.Common.{first_ask_fault, asked_of, index_within}
+use Rattle.std.specs.List.{refill, sum_by}
+use Rattle.std.proofs.lemmas.List.{append-nil, drop_all}
 use Rattle.rdm_log.specs.declared.fault.SubmitFault.TheVariants as submit_faults
 use Rattle.rdm_log.specs.declared.fault.AskFault.TheVariants as ask_faults
-use Rattle.rdm_queue.specs.declared.pending.Asked.{Asked}
-use Rattle.rdm_log.specs.log.Entries.{AskedDiscovery}
-use Rattle.rdm_log.specs.log.Runs.{is_full_kind}
 use Rattle.rdm_log.specs.log.Config.{IsConfig}
-use Rattle.rdm_queue.specs.body.Rings.{owed_values}
-use Rattle.rdm_queue.specs.body.Merged.{merged}
-use Rattle.rdm_queue.specs.body.Fields.{accepted_is, asked_is, waiting_ring, rings_from, waiting_rings, owed_rings}
-use Rattle.rdm_queue.specs.body.Fields.{places_of}
-use Rattle.rdm_queue.specs.body.QueueInvariant.{StateInvariant, QueueInvariant}
-use Rattle.rdm_queue.specs.body.State.{QueueState, first_state, first_submit_fault, first_ask_fault, asked_of}
 use Rattle.rdm_queue.specs.body.State.{uncollected}
 use Rattle.rdm_queue.proofs.BodyLemmas.InvariantLemmas.{waiting_rises, has_place}
 use Rattle.rdm_queue.proofs.BodyLemmas.MergedLemmas.{merged_shares, length-put_all}
 use Rattle.rdm_queue.proofs.BodyLemmas.OutstandingLemmas.{waiting-le, in_all, in_all-cons, uncollected-le}
 use Rattle.rdm_queue.proofs.BodyLemmas.ValueLemmas.{length-values}
-use Rattle.rdm_log.proofs.LogLemmas.Indices.{index_within}
 use Rattle.rdm_queue.proofs.BodyLemmas.RingSteps.{outstanding_count, sets_count, places_at}
 
 pub waiting_are : (s : QueueState) (clients : List Client) → QueueInvariant s clients

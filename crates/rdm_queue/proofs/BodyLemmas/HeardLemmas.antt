@@ -1,17 +1,13 @@
 -- How a reply changes the oldest request.
-use Rattle.std.proofs.Common.{◌≡◌, ◌<◌, List, [], ◌∷◌, length, slice_get, Option, Some, None, refl, ◌∙◌, inl, inr}
-use Rattle.std.specs.Prelude.{◌⊎◌}
-use Rattle.rdm_join.specs.declared.verdict.Judged.{Judged}
-use Rattle.rdm_join.specs.declared.status.Status.{Status}
+use Rattle.rdm_queue.proofs.Common.{◌≡◌, ◌<◌, List, [], ◌∷◌, length, slice_get, Option, Some, None, refl, ◌∙◌, inl, inr}
+use Rattle.rdm_queue.proofs.Common.{◌⊎◌, Judged, Status, Joined, result_of, ended, JoinerStanding, StandsAt, Entry}
+use Rattle.rdm_queue.proofs.Common.{Accepted, QueueState, GivesResult, StandingAt, IsStanding, end_of_oldest, owed_next}
+use Rattle.rdm_queue.proofs.Common.{owed_for, finish_of, finishes_oldest}
 use Rattle.rdm_join.specs.declared.status.Status.TheVariants.{NoMemory}
 use Rattle.rdm_join.specs.declared.joiner.Step.TheVariants.{More, Done}
-use Rattle.rdm_join.specs.Result.{Joined, result_of, ended}
-use Rattle.rdm_join.specs.JoinerStanding.{JoinerStanding, step_of, head_of_standing}
-use Rattle.rdm_join.specs.body.Standing.{StandsAt, standing_at}
-use Rattle.rdm_log.specs.declared.entry.Entry.{Entry}
-use Rattle.rdm_log.specs.log.Entries.{Accepted}
-use Rattle.rdm_queue.specs.body.State.{QueueState, fresh_joiner, GivesResult, StandingAt, IsStanding, end_of_oldest}
-use Rattle.rdm_queue.specs.body.State.{owed_next, owed_for, finish_of, finishes_oldest, IsFinished}
+use Rattle.rdm_join.specs.JoinerStanding.{step_of, head_of_standing}
+use Rattle.rdm_join.specs.body.Standing.{standing_at}
+use Rattle.rdm_queue.specs.body.State.{fresh_joiner, IsFinished}
 
 -- the completion of a joiner that has a result
 abbrev pub CompletesAs : Status → JoinerStanding → Joined → Type 0

@@ -1,34 +1,24 @@
 -- A queue's calls keep its invariant.
-use Rattle.std.proofs.Common.{◌≡◌, ℕ, zero, suc, ◌+◌, ◌-◌, ◌≤◌, ◌<◌, Bool, true, false, cond, not, List, [], ◌∷◌, ◌++◌}
-use Rattle.std.proofs.Common.{length, drop, get_or, filter, map, sum, Option, Some, None, slice_get, refl, sym, ap}
-use Rattle.std.proofs.Common.{◌∙◌, subst, inl, inr, length-append, arith}
-use Rattle.std.specs.List.{AllByRecursion}
-use Rattle.std.specs.Prelude.{◌⊎◌, ◌==◌, ◌||◌, nat_le, nat_lt, slice_index, if◌then◌else◌, MatchOption}
-use Rattle.std.proofs.lemmas.Bool.{eqb-true, eq-eqb, leb-false, ltb-false, or_parts, cases_lt, cases_eq}
-use Rattle.std.proofs.lemmas.List.{map-append, get_or_append_left, get_or_past, get_or-set_same, get_or-set_other}
-use Rattle.std.proofs.lemmas.List.{length-set, length-map, length-drop}
-use Rattle.std.proofs.lemmas.List.Sums.{sum_by-append}
-use Rattle.rdm_wire.specs.Uid.{IsAscending}
-use Rattle.rdm_wire.specs.declared.request.Request.{Request}
-use Rattle.rdm_join.specs.Result.{Joined}
-use Rattle.rdm_agent.specs.declared.kind.Kind.{Kind}
+use Rattle.rdm_queue.proofs.Common.{◌≡◌, ℕ, zero, suc, ◌+◌, ◌-◌, ◌≤◌, ◌<◌, Bool, true, false, cond, not, List, [], ◌∷◌}
+use Rattle.rdm_queue.proofs.Common.{◌++◌, length, drop, get_or, filter, map, sum, Option, Some, None, slice_get, refl}
+use Rattle.rdm_queue.proofs.Common.{sym, ap, ◌∙◌, subst, inl, inr, length-append, arith, AllByRecursion, ◌⊎◌, ◌==◌}
+use Rattle.rdm_queue.proofs.Common.{◌||◌, nat_le, nat_lt, slice_index, if◌then◌else◌, MatchOption, eqb-true, eq-eqb}
+use Rattle.rdm_queue.proofs.Common.{ltb-false, or_parts, cases_lt, cases_eq, map-append, get_or_past, get_or-set_same}
+use Rattle.rdm_queue.proofs.Common.{get_or-set_other, length-set, length-map, length-drop, sum_by-append, IsAscending}
+use Rattle.rdm_queue.proofs.Common.{Request, Joined, Kind, JoinFault, SubmitFault, AskFault, Accepted, AskedDiscovery}
+use Rattle.rdm_queue.proofs.Common.{OutcomeValue, StateInvariant, served_by, QueueState, RunState, outstanding}
+use Rattle.rdm_queue.proofs.Common.{outstanding_asks, owes, is_discovery, owed_for, finishes_oldest, accepts_request}
+use Rattle.rdm_queue.proofs.Common.{accepted_as, asks_discovery, joins_client, collects_oldest, first_join_fault}
+use Rattle.rdm_queue.proofs.Common.{first_submit_fault, first_ask_fault, begun, slice_get_first}
+use Rattle.std.proofs.lemmas.Bool.{leb-false}
+use Rattle.std.proofs.lemmas.List.{get_or_append_left}
 use Rattle.rdm_agent.specs.declared.kind.Kind.TheVariants.{Full}
-use Rattle.rdm_log.specs.declared.fault.JoinFault.{JoinFault}
 use Rattle.rdm_log.specs.declared.fault.JoinFault.TheVariants as join_faults
-use Rattle.rdm_log.specs.declared.fault.SubmitFault.{SubmitFault}
 use Rattle.rdm_log.specs.declared.fault.SubmitFault.TheVariants as submit_faults
-use Rattle.rdm_log.specs.declared.fault.AskFault.{AskFault}
 use Rattle.rdm_log.specs.declared.fault.AskFault.TheVariants as ask_faults
-use Rattle.rdm_log.specs.log.Entries.{Accepted, AskedDiscovery}
-use Rattle.rdm_log.specs.promises.Outcomes.{OutcomeValue}
-use Rattle.rdm_queue.specs.body.QueueInvariant.{StateInvariant, numbers, served_by}
-use Rattle.rdm_queue.specs.body.State.{QueueState, RunState, outstanding, outstanding_asks, owes, is_discovery}
-use Rattle.rdm_queue.specs.body.State.{owed_for, finishes_oldest, accepts_request, accepted_as, asks_discovery}
-use Rattle.rdm_queue.specs.body.State.{asked_as, joins_client, collects_oldest, first_join_fault, first_submit_fault}
-use Rattle.rdm_queue.specs.body.State.{first_ask_fault}
-use Rattle.rdm_queue.specs.body.Sending.{begun}
+use Rattle.rdm_queue.specs.body.QueueInvariant.{numbers}
+use Rattle.rdm_queue.specs.body.State.{asked_as}
 use Rattle.rdm_log.proofs.LogLemmas.RefusalLemmas.{none_stands}
-use Rattle.rdm_log.proofs.LogLemmas.Indices.{slice_get_first}
 use Rattle.rdm_queue.proofs.BodyLemmas.OutstandingLemmas.{removed_at, owes-count, without_first, one_more, four}
 use Rattle.rdm_queue.proofs.BodyLemmas.OutstandingLemmas.{asked-le}
 

@@ -1,24 +1,11 @@
 -- How long a client's oldest outcome is: its rings, all clients' rings and the log agree.
-use Rattle.std.proofs.Common.{◌≡◌, ℕ, true, List, [], ◌∷◌, get_or, Some, refl, ap, ◌∙◌, filter_map}
-use Rattle.std.specs.Prelude.{option_map, option_and_then, slice_get}
-use Rattle.std.specs.List.{AllByRecursion}
-use Rattle.std.proofs.lemmas.Bool.{false≢true}
-use Rattle.rdm_wire.specs.declared.device.Device.{Device}
-use Rattle.rdm_queue.specs.declared.client.Client.{Client}
-use Rattle.rdm_queue.specs.declared.client.Owed.{Owed}
+use Rattle.rdm_queue.proofs.Common.{◌≡◌, ℕ, true, List, [], ◌∷◌, get_or, Some, refl, ap, ◌∙◌, filter_map, option_map}
+use Rattle.rdm_queue.proofs.Common.{option_and_then, slice_get, AllByRecursion, false≢true, Device, Client, Owed}
+use Rattle.rdm_queue.proofs.Common.{Opening, Entry, Finish, Answer, is_answer_to, uncollected, outcome_of}
+use Rattle.rdm_queue.proofs.Common.{answers_passed, QueueState, values, owed_rings, StandsAfter}
 use Rattle.rdm_queue.specs.declared.client.Owed.TheVariants as owed
-use Rattle.rdm_log.specs.declared.entry.Opening.{Opening}
-use Rattle.rdm_log.specs.declared.entry.Entry.{Entry}
-use Rattle.rdm_log.specs.declared.entry.Entry.TheVariants.{Finish, Answer}
-use Rattle.rdm_log.specs.log.Clients.{is_answer_to, uncollected}
-use Rattle.rdm_log.specs.promises.Outcomes.{outcome_of}
-use Rattle.rdm_log.proofs.PromiseLemmas.OutcomeLemmas.{answers_passed}
 use Rattle.rdm_queue.specs.promises.Lengths.{length_of_value, answer_length, oldest_length}
-use Rattle.rdm_queue.specs.body.State.{QueueState}
-use Rattle.rdm_queue.specs.body.Rings.{values}
-use Rattle.rdm_queue.specs.body.Fields.{owed_rings}
 use Rattle.rdm_queue.specs.body.Lengths.{length_owed, first_length_owed, first_length}
-use Rattle.rdm_queue.specs.body.Agrees.{StandsAfter}
 use Rattle.rdm_queue.proofs.BodyLemmas.RingSteps.{values_at}
 
 length_first : (ds : List Owed) (sets : List (List Device))

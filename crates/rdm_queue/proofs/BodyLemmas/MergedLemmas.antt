@@ -1,12 +1,11 @@
 -- Merging the clients' shares of a list whose numbers rise gives the list.
-use Rattle.std.proofs.Common.{◌≡◌, ℕ, suc, ◌+◌, ◌-◌, ◌<◌, ◌≤◌, Bool, true, false, cond, List, [], ◌∷◌, length, get_or}
-use Rattle.std.proofs.Common.{refl, sym, ap, ◌∙◌, inl, inr, filter, map, zero-add, arith}
-use Rattle.std.specs.Prelude.{◌⊎◌, ◌==◌, not, nat_lt}
-use Rattle.std.specs.List.{AllByRecursion}
-use Rattle.std.proofs.lemmas.Bool.{cases_Bool, eq-eqb, ne_eqb, eqb-true, eqb-false, lt-ltb, le-ltb}
+use Rattle.rdm_queue.proofs.Common.{◌≡◌, ℕ, suc, ◌+◌, ◌-◌, ◌<◌, ◌≤◌, Bool, true, false, cond, List, [], ◌∷◌, length}
+use Rattle.rdm_queue.proofs.Common.{get_or, refl, sym, ap, ◌∙◌, inl, inr, filter, map, zero-add, arith, ◌⊎◌, ◌==◌, not}
+use Rattle.rdm_queue.proofs.Common.{nat_lt, AllByRecursion, cases_Bool, eq-eqb, ne_eqb, eqb-true, lt-ltb, IsAscending}
+use Rattle.rdm_queue.proofs.Common.{merged, AreShares}
+use Rattle.std.proofs.lemmas.Bool.{eqb-false, le-ltb}
 use Rattle.std.proofs.lemmas.List.Elements.{filter_agree}
-use Rattle.rdm_wire.specs.Uid.{IsAscending}
-use Rattle.rdm_queue.specs.body.Merged.{put_in, put_all, merged, AreShares}
+use Rattle.rdm_queue.specs.body.Merged.{put_in, put_all}
 
 pub all_passed : {X : Type 0} (number : X → ℕ) (P : ℕ → Type 0) (p : X → Bool) (xs : List X)
     → AllByRecursion P (map number xs) → AllByRecursion P (map number (filter p xs))

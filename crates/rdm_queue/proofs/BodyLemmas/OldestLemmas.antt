@@ -1,22 +1,12 @@
 -- Of the requests that are first in their rings, the one with the lowest number is the oldest.
-use Rattle.std.proofs.Common.{◌≡◌, ℕ, zero, suc, ◌+◌, ◌<◌, ◌≤◌, true, false, List, [], ◌∷◌, length, get_or, Option}
-use Rattle.std.proofs.Common.{Some, None, slice_get, refl, sym, ap, ◌∙◌, inl, inr, filter, map, arith}
-use Rattle.std.specs.Prelude.{◌⊎◌, ◌==◌, IfSome, IfNone, option_map}
-use Rattle.std.specs.VecDeque.{deque_len}
+use Rattle.rdm_queue.proofs.Common.{◌≡◌, ℕ, zero, suc, ◌+◌, ◌<◌, ◌≤◌, true, false, List, [], ◌∷◌, length, get_or}
+use Rattle.rdm_queue.proofs.Common.{Option, Some, None, slice_get, refl, sym, ap, ◌∙◌, inl, inr, filter, map, arith}
+use Rattle.rdm_queue.proofs.Common.{◌⊎◌, ◌==◌, IfSome, IfNone, option_map, deque_len, AllByRecursion, cases_Bool}
+use Rattle.rdm_queue.proofs.Common.{cases_lt, eq-eqb, IsAscending, Client, Waiting, Accepted, AreShares, accepted_is}
+use Rattle.rdm_queue.proofs.Common.{waiting_ring, waiting_rings, QueueInvariant, QueueState, index_within}
 use Rattle.std.specs.Borrow.{Bor}
-use Rattle.std.specs.List.{AllByRecursion}
-use Rattle.std.proofs.lemmas.Bool.{cases_Bool, cases_lt, eq-eqb}
-use Rattle.rdm_wire.specs.Uid.{IsAscending}
-use Rattle.rdm_queue.specs.declared.client.Client.{Client}
-use Rattle.rdm_queue.specs.declared.client.Waiting.{Waiting}
-use Rattle.rdm_log.specs.log.Entries.{Accepted}
-use Rattle.rdm_queue.specs.body.Merged.{AreShares}
 use Rattle.rdm_queue.specs.body.Rings.{OldestOf, NoneWaits, IsFirstInLine}
-use Rattle.rdm_queue.specs.body.Fields.{accepted_is, waiting_ring, waiting_rings}
-use Rattle.rdm_queue.specs.body.QueueInvariant.{QueueInvariant}
-use Rattle.rdm_queue.specs.body.State.{QueueState}
 use Rattle.rdm_queue.proofs.BodyLemmas.InvariantLemmas.{waiting_rises}
-use Rattle.rdm_log.proofs.LogLemmas.Indices.{index_within}
 use Rattle.rdm_queue.proofs.BodyLemmas.MergedLemmas.{all_passed}
 use Rattle.rdm_queue.proofs.BodyLemmas.RingLemmas.{ring_of, ring_past}
 

@@ -1,17 +1,13 @@
 -- What all clients have outstanding together.
-use Rattle.std.proofs.Common.{◌≡◌, ℕ, zero, suc, ◌+◌, ◌-◌, ◌*◌, ◌<◌, ◌≤◌, Bool, true, false, cond, not, List, [], ◌∷◌}
-use Rattle.std.proofs.Common.{◌++◌, length, drop, get_or, set, Some, slice_get, refl, sym, ap, subst, inl, inr}
-use Rattle.std.proofs.Common.{length-append, filter, map, sum, arith}
-use Rattle.std.specs.Prelude.{◌⊎◌, ◌≢◌, ◌==◌, slice_index}
-use Rattle.std.proofs.lemmas.Bool.{eq-eqb, ne_eqb, cases_eq, cases_lt}
-use Rattle.std.proofs.lemmas.List.{length-map, get_or-set_same, get_or-set_other, get_or_past}
-use Rattle.std.proofs.lemmas.List.Sums.{sum_by-set, sum_by-cons}
-use Rattle.std.proofs.lemmas.List.Elements.{filter-append}
+use Rattle.rdm_queue.proofs.Common.{◌≡◌, ℕ, zero, suc, ◌+◌, ◌-◌, ◌*◌, ◌<◌, ◌≤◌, Bool, true, false, cond, not, List, []}
+use Rattle.rdm_queue.proofs.Common.{◌∷◌, ◌++◌, length, drop, get_or, set, Some, slice_get, refl, sym, ap, subst, inl}
+use Rattle.rdm_queue.proofs.Common.{inr, length-append, filter, map, sum, arith, ◌⊎◌, ◌≢◌, ◌==◌, slice_index, eq-eqb}
+use Rattle.rdm_queue.proofs.Common.{ne_eqb, cases_eq, cases_lt, length-map, get_or-set_same, get_or-set_other}
+use Rattle.rdm_queue.proofs.Common.{get_or_past, sum_by-cons, filter-append, slice_get_first, OutcomeValue}
+use Rattle.rdm_queue.proofs.Common.{StateInvariant, QueueState, owed_to, owes, is_discovery}
+use Rattle.std.proofs.lemmas.List.Sums.{sum_by-set}
 use Rattle.rdm_log.proofs.LogLemmas.Counts.{count}
-use Rattle.rdm_log.proofs.LogLemmas.Indices.{slice_get_first}
-use Rattle.rdm_log.specs.promises.Outcomes.{OutcomeValue}
-use Rattle.rdm_queue.specs.body.QueueInvariant.{StateInvariant}
-use Rattle.rdm_queue.specs.body.State.{QueueState, owed_to, owes, is_discovery, uncollected}
+use Rattle.rdm_queue.specs.body.State.{uncollected}
 
 count-same : (c x : ℕ) (xs : List ℕ) → c ≡ x → count c (x ∷ xs) ≡ 1 + count c xs
 count-same c x xs same = rw (eq-eqb c x same) omega arith

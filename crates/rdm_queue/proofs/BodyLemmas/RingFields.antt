@@ -1,22 +1,11 @@
 -- All clients' rings are the fields of the queue's state, also once a call has changed one client's.
-use Rattle.std.proofs.Common.{◌≡◌, ℕ, ◌<◌, List, [], ◌∷◌, ◌++◌, set, get_or, Option, Some, None, slice_get}
-use Rattle.std.proofs.Common.{refl, sym, ap, ◌∙◌, subst, arith}
-use Rattle.std.specs.Prelude.{IfNone, IfSome}
-use Rattle.std.specs.VecDeque.{deque_len, deque_capacity}
-use Rattle.std.proofs.lemmas.List.{map-append}
-use Rattle.rdm_wire.specs.declared.request.Request.{Request}
-use Rattle.rdm_queue.specs.declared.client.Client.{Client}
-use Rattle.rdm_queue.specs.declared.queue.Queue.TheInside.{Inside}
-use Rattle.rdm_log.specs.declared.entry.Entry.{Entry}
-use Rattle.rdm_log.specs.declared.outcome.Completion.{Completion}
-use Rattle.rdm_log.specs.log.Entries.{Accepted}
-use Rattle.rdm_log.specs.promises.Outcomes.{OutcomeValue, completion_value}
-use Rattle.rdm_queue.specs.body.Merged.{merged}
-use Rattle.rdm_queue.specs.body.Rings.{IsNewClient, ClientAccepts, ClientFinishes, ClientCollects, owed_values}
-use Rattle.rdm_queue.specs.body.Fields.{state_of, places_of, waiting_rings, owed_rings}
-use Rattle.rdm_queue.specs.body.QueueInvariant.{QueueInvariant}
-use Rattle.rdm_queue.specs.body.State.{QueueState, owed_for, finishes_oldest, accepts_request, joins_client}
-use Rattle.rdm_queue.specs.body.State.{first_join_fault, first_submit_fault, CollectsOldest}
+use Rattle.rdm_queue.proofs.Common.{◌≡◌, ℕ, ◌<◌, List, [], ◌∷◌, ◌++◌, set, get_or, Option, Some, None, slice_get, refl}
+use Rattle.rdm_queue.proofs.Common.{sym, ap, ◌∙◌, subst, arith, IfNone, IfSome, deque_len, deque_capacity, map-append}
+use Rattle.rdm_queue.proofs.Common.{Request, Client, Inside, Entry, Completion, Accepted, OutcomeValue}
+use Rattle.rdm_queue.proofs.Common.{completion_value, merged, IsNewClient, ClientAccepts, ClientFinishes}
+use Rattle.rdm_queue.proofs.Common.{ClientCollects, owed_values, state_of, places_of, waiting_rings, owed_rings}
+use Rattle.rdm_queue.proofs.Common.{QueueInvariant, QueueState, owed_for, finishes_oldest, accepts_request}
+use Rattle.rdm_queue.proofs.Common.{joins_client, first_join_fault, first_submit_fault, CollectsOldest}
 use Rattle.rdm_queue.proofs.BodyLemmas.InvariantLemmas.{first_counts}
 use Rattle.rdm_queue.proofs.BodyLemmas.ValueLemmas.{values-fresh}
 use Rattle.rdm_queue.proofs.BodyLemmas.RingLemmas.{places_stayed, set_same}

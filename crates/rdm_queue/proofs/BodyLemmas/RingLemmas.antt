@@ -1,16 +1,11 @@
 -- One client's rings changed, and whose shares all rings then have.
-use Rattle.std.proofs.Common.{◌≡◌, ℕ, zero, suc, ◌+◌, ◌<◌, ◌≤◌, cond, List, [], ◌∷◌, ◌++◌, length, set, get_or, Some}
-use Rattle.std.proofs.Common.{slice_get, refl, sym, ap, ◌∙◌, subst, inl, inr, filter, arith}
-use Rattle.std.specs.Prelude.{◌⊎◌, ◌==◌}
-use Rattle.std.specs.List.{AllByRecursion}
-use Rattle.std.proofs.lemmas.Bool.{cases_eq, cases_lt, eq-eqb, ne_eqb}
-use Rattle.std.proofs.lemmas.List.{get_or-set_same, get_or-set_other, get_or_past, set-get_or, append-nil}
-use Rattle.std.proofs.lemmas.List.Elements.{filter-append}
-use Rattle.rdm_queue.specs.declared.client.Client.{Client}
-use Rattle.rdm_queue.specs.body.Merged.{AreShares}
-use Rattle.rdm_queue.specs.body.Fields.{rings_from, places_of}
-use Rattle.rdm_queue.specs.body.Rings.{HasRings, SameRings}
-use Rattle.rdm_log.proofs.LogLemmas.Indices.{index_within}
+use Rattle.rdm_queue.proofs.Common.{◌≡◌, ℕ, zero, suc, ◌+◌, ◌<◌, ◌≤◌, cond, List, [], ◌∷◌, ◌++◌, length, set, get_or}
+use Rattle.rdm_queue.proofs.Common.{Some, slice_get, refl, sym, ap, ◌∙◌, subst, inl, inr, filter, arith, ◌⊎◌, ◌==◌}
+use Rattle.rdm_queue.proofs.Common.{AllByRecursion, cases_eq, cases_lt, eq-eqb, ne_eqb, get_or-set_same}
+use Rattle.rdm_queue.proofs.Common.{get_or-set_other, get_or_past, filter-append, Client, AreShares, rings_from}
+use Rattle.rdm_queue.proofs.Common.{places_of, HasRings, index_within}
+use Rattle.std.proofs.lemmas.List.{set-get_or, append-nil}
+use Rattle.rdm_queue.specs.body.Rings.{SameRings}
 
 -- a client's ring among all rings
 ring_from : {X : Type 0} (ring : ℕ → Client → List X) (from : ℕ) (clients : List Client) (i : ℕ) (k : Client)

@@ -1,39 +1,25 @@
 -- How one client's call changes all clients' rings.
-use Rattle.std.proofs.Common.{◌≡◌, ℕ, zero, suc, ◌+◌, ◌-◌, ◌<◌, ◌≤◌, false, List, [], ◌∷◌, ◌++◌, length, drop, set}
-use Rattle.std.proofs.Common.{get_or, Option, Some, None, slice_get, refl, sym, ap, ◌∙◌, subst, filter, map, arith}
-use Rattle.std.specs.Prelude.{◌==◌, option_map, is_some, OnSome, IfNone, IfSome}
-use Rattle.std.specs.List.{AllByRecursion}
-use Rattle.std.specs.VecDeque.{deque_len, deque_capacity}
-use Rattle.std.proofs.lemmas.Bool.{eq-eqb, false≢true}
-use Rattle.std.proofs.lemmas.List.{map-append, length-map}
-use Rattle.rdm_wire.specs.declared.request.Request.{Request}
-use Rattle.rdm_wire.specs.declared.device.Device.{Device}
-use Rattle.rdm_agent.specs.declared.fault.AgentFault.{AgentFault}
-use Rattle.rdm_queue.specs.declared.client.Client.{Client}
-use Rattle.rdm_queue.specs.declared.client.Waiting.{Waiting}
-use Rattle.rdm_log.specs.declared.entry.Entry.{Entry}
+use Rattle.rdm_queue.proofs.Common.{◌≡◌, ℕ, zero, suc, ◌+◌, ◌-◌, ◌<◌, ◌≤◌, false, List, [], ◌∷◌, ◌++◌, length, drop}
+use Rattle.rdm_queue.proofs.Common.{set, get_or, Option, Some, None, slice_get, refl, sym, ap, ◌∙◌, subst, filter, map}
+use Rattle.rdm_queue.proofs.Common.{arith, ◌==◌, option_map, is_some, OnSome, IfNone, IfSome, AllByRecursion, deque_len}
+use Rattle.rdm_queue.proofs.Common.{deque_capacity, eq-eqb, false≢true, map-append, length-map, Request, Device}
+use Rattle.rdm_queue.proofs.Common.{AgentFault, Client, Waiting, Entry, Completion, Accepted, AskedDiscovery}
+use Rattle.rdm_queue.proofs.Common.{OutcomeValue, completion_value, AreShares, HasRings, HasSets, IsNewClient}
+use Rattle.rdm_queue.proofs.Common.{ClientAccepts, ClientFinishes, ClientAnswers, ClientCollects, owed_values}
+use Rattle.rdm_queue.proofs.Common.{first_kind_owed, accepted_is, run_is, waiting_ring, waiting_rings, owed_rings}
+use Rattle.rdm_queue.proofs.Common.{places_of, QueueInvariant, QueueState, outstanding, outstanding_asks, owed_for}
+use Rattle.rdm_queue.proofs.Common.{owed_value, owes, accepted_as, accepts_request, finishes_oldest, joins_client}
+use Rattle.rdm_queue.proofs.Common.{collects_oldest, first_join_fault, first_submit_fault, owed_to, is_discovery}
+use Rattle.rdm_queue.proofs.Common.{first_kind, kind_of_value, answer_value, all_at, slice_get_first}
 use Rattle.rdm_queue.specs.declared.pending.Running.{Running}
-use Rattle.rdm_log.specs.declared.outcome.Completion.{Completion}
-use Rattle.rdm_log.specs.log.Entries.{Accepted, AskedDiscovery}
-use Rattle.rdm_log.specs.promises.Outcomes.{OutcomeValue, completion_value}
-use Rattle.rdm_queue.specs.body.Merged.{AreShares}
-use Rattle.rdm_queue.specs.body.Rings.{HasRings, HasSets, IsNewClient, ClientAccepts, ClientFinishes, ClientAnswers}
-use Rattle.rdm_queue.specs.body.Rings.{ClientCollects, owed_values, first_kind_owed}
-use Rattle.rdm_queue.specs.body.Fields.{accepted_is, run_is, waiting_ring, waiting_rings, owed_rings, places_of}
-use Rattle.rdm_queue.specs.body.QueueInvariant.{RingsInvariant, QueueInvariant}
-use Rattle.rdm_queue.specs.body.State.{QueueState, outstanding, outstanding_asks, owed_for, owed_value, owes}
-use Rattle.rdm_queue.specs.body.State.{accepted_as, accepts_request, finishes_oldest, joins_client, collects_oldest}
-use Rattle.rdm_queue.specs.body.State.{first_join_fault, first_submit_fault, owed_to, is_discovery, first_kind}
-use Rattle.rdm_queue.specs.body.State.{kind_of_value}
-use Rattle.rdm_queue.specs.body.Ending.{answer_value}
-use Rattle.rdm_log.proofs.LogLemmas.Indices.{all_at, slice_get_first}
+use Rattle.rdm_queue.specs.body.QueueInvariant.{RingsInvariant}
 use Rattle.rdm_queue.proofs.BodyLemmas.InvariantLemmas.{has_place, has_room, held-finishes, held-accepts, held-collects}
 use Rattle.rdm_queue.proofs.BodyLemmas.InvariantLemmas.{held-joins}
 use Rattle.rdm_queue.proofs.BodyLemmas.OutstandingLemmas.{both_kinds, fours}
 use Rattle.rdm_queue.proofs.BodyLemmas.ValueLemmas.{length-values, discoveries-values, values-request, values-discovery}
 use Rattle.rdm_queue.proofs.BodyLemmas.ValueLemmas.{sets-finish, sets-answer, few_discoveries, kind_first}
-use Rattle.rdm_queue.proofs.BodyLemmas.RingLemmas.{ring_of, ring_within, ring_changed, ring_stayed}
-use Rattle.rdm_queue.proofs.BodyLemmas.RingLemmas.{shares_more, shares_push, shares_rest, same_sizes, all_set, all_push}
+use Rattle.rdm_queue.proofs.BodyLemmas.RingLemmas.{ring_of, ring_within, ring_changed, ring_stayed, shares_more}
+use Rattle.rdm_queue.proofs.BodyLemmas.RingLemmas.{shares_push, shares_rest, same_sizes, all_set, all_push}
 
 -- a client joins
 pub rings-join : (s : QueueState) (clients : List Client) (k : Client) (places : ℕ) → RingsInvariant s clients

@@ -1,32 +1,19 @@
 -- An idle queue stands after the opening that its log leaves, and no entries.
-use Rattle.rdm_log.proofs.PromiseLemmas.LogInBoundLemmas.{empty_in_bound}
-use Rattle.std.proofs.Common.{◌≡◌, ℕ, zero, suc, ◌≤◌, Bool, true, false, List, [], ◌∷◌, length, get_or}
-use Rattle.std.proofs.Common.{Option, Some, None, slice_get, refl, sym, ap, ◌∙◌, append-nil, inl, inr, arith}
-use Rattle.std.proofs.Common.{if◌then◌else◌}
-use Rattle.std.specs.Prelude.{◌⊎◌, ◌&&◌, ◌==◌}
-use Rattle.std.proofs.lemmas.Bool.{cases_Bool, eq-eqb, eqb-true, false≢true}
-use Rattle.std.proofs.lemmas.Option.{none-some}
-use Rattle.std.proofs.lemmas.List.{length-drop}
+use Rattle.rdm_queue.proofs.Common.{empty_in_bound, ◌≡◌, ℕ, zero, suc, ◌≤◌, Bool, true, false, List, [], ◌∷◌, length}
+use Rattle.rdm_queue.proofs.Common.{get_or, Option, Some, None, slice_get, refl, sym, ap, ◌∙◌, append-nil, inl, inr}
+use Rattle.rdm_queue.proofs.Common.{arith, if◌then◌else◌, ◌⊎◌, ◌&&◌, ◌==◌, cases_Bool, eq-eqb, eqb-true, false≢true}
+use Rattle.rdm_queue.proofs.Common.{none-some, length-drop, Opening, Entry, Awaited, Sending, joins, accepts, asks}
+use Rattle.rdm_queue.proofs.Common.{sends, cames, finishes, answers, collectors, traded, of_request, verdicts}
+use Rattle.rdm_queue.proofs.Common.{is_request, awaited, is_paused, is_closed, is_idle, unfinished, unanswered}
+use Rattle.rdm_queue.proofs.Common.{answers_to, last_run, open_run, OutcomeValue, QueueState, RunState, IsPending}
+use Rattle.rdm_queue.proofs.Common.{RunIs, Agrees, StandsAfter, oldest_number, SessionInvariant, empty, LogFacts}
+use Rattle.rdm_queue.proofs.Common.{legal_facts, IsAwaited, IsRunAwaited, run_facts, verdicts_unsent, asked_fewer}
 use Rattle.rdm_log.specs.declared.entry.Owner.TheVariants as owners
-use Rattle.rdm_log.specs.declared.entry.Opening.{Opening}
-use Rattle.rdm_log.specs.declared.entry.Entry.{Entry}
-use Rattle.rdm_queue.specs.declared.pending.Awaited.{Awaited}
 use Rattle.rdm_queue.specs.declared.pending.Awaited.TheVariants as awaiting
-use Rattle.rdm_log.specs.log.Entries.{Sending, joins, accepts, asks, sends, cames, finishes, answers, collectors}
-use Rattle.rdm_log.specs.log.Entries.{traded, of_request, verdicts, is_request}
-use Rattle.rdm_log.specs.log.History.{awaited, is_paused, is_closed, is_idle, unfinished, unanswered, uncollected_count}
-use Rattle.rdm_log.specs.log.Clients.{answers_to}
-use Rattle.rdm_log.specs.log.Runs.{last_run, number_after, open_run}
+use Rattle.rdm_log.specs.log.History.{uncollected_count}
+use Rattle.rdm_log.specs.log.Runs.{number_after}
 use Rattle.rdm_log.specs.log.LogState.{opening_after}
-use Rattle.rdm_log.specs.promises.Outcomes.{OutcomeValue}
-use Rattle.rdm_queue.specs.body.State.{QueueState, RunState, opening_of, uncollected}
-use Rattle.rdm_queue.specs.body.Agrees.{IsPending, RunIs, Agrees, StandsAfter, oldest_number}
-use Rattle.rdm_queue.specs.body.SessionInvariant.{SessionInvariant}
-use Rattle.rdm_log.proofs.LogLemmas.Grows.{empty}
-use Rattle.rdm_log.proofs.LogLemmas.LegalFacts.{LogFacts, legal_facts, IsAwaited, IsRunAwaited}
-use Rattle.rdm_log.proofs.LogLemmas.RunFacts.{run_facts}
-use Rattle.rdm_log.proofs.LogLemmas.ExchangeLemmas.{verdicts_unsent}
-use Rattle.rdm_log.proofs.LogLemmas.BegunLemmas.{asked_fewer}
+use Rattle.rdm_queue.specs.body.State.{opening_of, uncollected}
 use Rattle.rdm_queue.proofs.BodyLemmas.OutstandingLemmas.{in_all, in_all-cons}
 use Rattle.rdm_queue.proofs.BodyLemmas.AgreesWork.{none_sent}
 

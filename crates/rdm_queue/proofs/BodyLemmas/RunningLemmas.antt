@@ -1,13 +1,7 @@
 -- The run that has begun, as the log grows.
-use Rattle.std.proofs.Common.{◌≡◌, true, false, List, Option, Some, None, ◌∙◌, inl, inr}
-use Rattle.std.specs.Prelude.{◌⊎◌}
-use Rattle.rdm_log.specs.declared.entry.Opening.{Opening}
-use Rattle.rdm_log.specs.declared.entry.Entry.{Entry}
-use Rattle.rdm_queue.specs.body.State.{QueueState, RunState}
-use Rattle.rdm_queue.specs.body.Agrees.{RunIs}
-use Rattle.rdm_log.specs.log.Runs.{has_begun}
-use Rattle.rdm_log.proofs.LogLemmas.RunLemmas.{last_begun}
-use Rattle.rdm_log.proofs.LogLemmas.RunningLemmas.{SameRunning, open_same, kind_same, known_at_same}
+use Rattle.rdm_queue.proofs.Common.{◌≡◌, true, false, List, Option, Some, None, ◌∙◌, inl, inr, ◌⊎◌, Opening, Entry}
+use Rattle.rdm_queue.proofs.Common.{QueueState, RunState, RunIs, has_begun, last_begun, SameRunning}
+use Rattle.rdm_log.proofs.LogLemmas.RunningLemmas.{open_same, kind_same, known_at_same}
 
 pub run_same : (o : Opening) (h k : List Entry) (s new : QueueState) (run : Option RunState) → SameRunning o h k
     → new.agent ≡ s.agent → new.search ≡ s.search → (new.under_way ≡ s.under_way) ⊎ (new.under_way ≡ false)

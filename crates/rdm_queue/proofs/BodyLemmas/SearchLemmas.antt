@@ -1,13 +1,6 @@
 -- No call changes how a queue's runs search.
-use Rattle.std.proofs.Common.{◌≡◌, ℕ, ap}
-use Rattle.arrayvec.specs.ArrayVec.{ArrayVec}
-use Rattle.rdm_log.specs.declared.entry.Owner.{Owner}
-use Rattle.rdm_log.specs.declared.entry.Entry.{Entry}
-use Rattle.rdm_queue.specs.body.State.{QueueState}
-use Rattle.rdm_queue.specs.body.Sending.{WhichGives}
-use Rattle.rdm_queue.specs.body.Sending.WhichGives.{Opened, Turned, Began}
-use Rattle.rdm_queue.specs.body.Ending.{IsEnded}
-use Rattle.rdm_queue.specs.body.Ending.IsEnded.{ByRun, ByResult, ByClose}
+use Rattle.rdm_queue.proofs.Common.{◌≡◌, ℕ, ap, ArrayVec, Owner, Entry, QueueState, WhichGives, Opened, Turned, Began}
+use Rattle.rdm_queue.proofs.Common.{IsEnded, ByRun, ByResult, ByClose}
 
 -- two queues search alike
 abbrev pub SameSearch : QueueState → QueueState → Type 0

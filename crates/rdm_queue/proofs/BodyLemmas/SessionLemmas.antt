@@ -1,26 +1,17 @@
 -- A session's entries always fit into its log, and its controller stands after it.
-use Rattle.std.proofs.Common.{◌≡◌, ℕ, ◌+◌, ◌≤◌, Bool, true, false, List, [], ◌∷◌, ◌++◌, length, append_assoc}
-use Rattle.std.proofs.Common.{append-nil, length-append, refl, sym, ap, arith, ◌∙◌}
-use Rattle.std.proofs.lemmas.Bool.{ltb-false}
-use Rattle.std.specs.Prelude.{Ok}
-use Rattle.rdm_join.specs.declared.event.LineEvent.{LineEvent}
-use Rattle.rdm_log.specs.declared.config.Setup.{Setup}
-use Rattle.rdm_log.specs.declared.entry.Entry.{Entry}
-use Rattle.rdm_log.specs.declared.entry.Entry.TheVariants.{Came, Finish, Answer, Close}
-use Rattle.rdm_log.specs.log.Entries.{accepts, asks, finishes, answers, collectors}
-use Rattle.rdm_log.specs.log.History.{is_closed, awaited, reserved}
-use Rattle.rdm_log.specs.log.LogState.{LogState, grown, free_entries, is_full_log, opened, drained}
-use Rattle.rdm_log.specs.promises.Blocks.{UnlessFull, is_result, AllResults, IsWithResults, CloseAdds, DeliverAdds}
-use Rattle.rdm_log.specs.promises.Blocks.{GrowsBy}
-use Rattle.rdm_log.specs.promises.InBound.{FaultNeedsClose, AnswersInBound}
-use Rattle.rdm_queue.specs.body.State.{QueueState}
-use Rattle.rdm_queue.specs.body.Agrees.{StandsAfter, StandsAmid}
-use Rattle.rdm_queue.specs.body.SessionInvariant.{HasRoom, SessionInvariant, SessionAmid, FinishesDue}
-use Rattle.rdm_wire.specs.Lists.{EachAfter}
-use Rattle.rdm_log.specs.log.Legal.{MayFollow}
+use Rattle.rdm_queue.proofs.Common.{◌≡◌, ℕ, ◌+◌, ◌≤◌, Bool, true, false, List, [], ◌∷◌, ◌++◌, length, append_assoc}
+use Rattle.rdm_queue.proofs.Common.{append-nil, length-append, refl, sym, ap, arith, ◌∙◌, ltb-false, Ok, LineEvent}
+use Rattle.rdm_queue.proofs.Common.{Setup, Entry, Came, Finish, Answer, Close, accepts, asks, finishes, answers}
+use Rattle.rdm_queue.proofs.Common.{collectors, is_closed, awaited, LogState, grown, opened, is_result, AllResults}
+use Rattle.rdm_queue.proofs.Common.{IsWithResults, CloseAdds, FaultNeedsClose, AnswersInBound, QueueState, StandsAfter}
+use Rattle.rdm_queue.proofs.Common.{StandsAmid, SessionInvariant, SessionAmid, EachAfter, MayFollow, empty_in_bound}
+use Rattle.rdm_queue.proofs.Common.{IsSetUp}
+use Rattle.rdm_log.specs.log.History.{reserved}
+use Rattle.rdm_log.specs.log.LogState.{free_entries, is_full_log, drained}
+use Rattle.rdm_log.specs.promises.Blocks.{UnlessFull, DeliverAdds, GrowsBy}
+use Rattle.rdm_queue.specs.body.SessionInvariant.{HasRoom, FinishesDue}
 use Rattle.rdm_log.proofs.BoundLemmas.{after_growth}
-use Rattle.rdm_log.proofs.PromiseLemmas.LogInBoundLemmas.{in_bound_grows, empty_in_bound}
-use Rattle.rdm_queue.specs.promises.EachLog.{IsSetUp}
+use Rattle.rdm_log.proofs.PromiseLemmas.LogInBoundLemmas.{in_bound_grows}
 use Rattle.rdm_log.proofs.LogLemmas.RoomLemmas.{added, added_by, used_block}
 
 -- a block within the free entries

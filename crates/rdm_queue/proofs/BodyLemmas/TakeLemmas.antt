@@ -1,46 +1,36 @@
 -- The frame that a queue returns may be sent, and the queue stands after the log with it.
-use Rattle.std.proofs.Common.{◌≡◌, ℕ, zero, suc, ◌+◌, ◌<◌, ◌≤◌, Bool, true, false, List, [], ◌∷◌, length, filter, map}
-use Rattle.std.proofs.Common.{Option, Some, None, slice_get, refl, sym, ap, ◌∙◌, subst, inl, inr, arith, cond}
-use Rattle.std.specs.Prelude.{◌⊎◌, ◌==◌, ◌||◌, is_some, zip, if◌then◌else◌}
-use Rattle.std.proofs.lemmas.Bool.{cases_Bool, cases_lt, lt-ltb, eqb-true, false≢true, or_parts}
-use Rattle.std.proofs.lemmas.Option.{same_Some, none-some}
-use Rattle.arrayvec.specs.ArrayVec.{ArrayVec}
+use Rattle.rdm_queue.proofs.Common.{◌≡◌, ℕ, zero, suc, ◌+◌, ◌<◌, ◌≤◌, Bool, true, false, List, [], ◌∷◌, length, filter}
+use Rattle.rdm_queue.proofs.Common.{map, Option, Some, None, slice_get, refl, sym, ap, ◌∙◌, subst, inl, inr, arith}
+use Rattle.rdm_queue.proofs.Common.{cond, ◌⊎◌, ◌==◌, ◌||◌, is_some, zip, if◌then◌else◌, cases_Bool, cases_lt, lt-ltb}
+use Rattle.rdm_queue.proofs.Common.{eqb-true, false≢true, or_parts, same_Some, none-some, ArrayVec, asked_by, next_op}
+use Rattle.rdm_queue.proofs.Common.{HasRunBy, op_frame, Op, Owner, Opening, Entry, Accepted, AskedDiscovery, Sending}
+use Rattle.rdm_queue.proofs.Common.{traded, accepts, finishes, sends, cames, is_request, is_run, LineEvent, awaited}
+use Rattle.rdm_queue.proofs.Common.{unfinished, was_sent, next_tn, has_begun, open_run, last_run, unserved}
+use Rattle.rdm_queue.proofs.Common.{run_exchanges, is_answered, run_kind, known_at_run, NoSend, QueueState, RunState}
+use Rattle.rdm_queue.proofs.Common.{IsGiven, WhichGives, begun, to_send, Opened, Turned, Began, IsRunning, IsNotRunning}
+use Rattle.rdm_queue.proofs.Common.{RunIs, RunGoesOn, oldest_number, Agrees, StandsAfter, LogFacts, legal_facts}
+use Rattle.rdm_queue.proofs.Common.{unfinished_number, later_unsent, ask_facts, run_facts, slice_get-drop}
+use Rattle.rdm_queue.proofs.Common.{agent_goes_on, all_unserved}
 use Rattle.rdm_wire.specs.Honest.Asked.{Unmute, Branch, Mute}
-use Rattle.rdm_agent.specs.Run.{asked_by}
 use Rattle.rdm_agent.specs.Statements.{IsInOrder}
-use Rattle.rdm_agent.specs.Calls.{next_op, HasRunBy}
-use Rattle.rdm_agent.specs.OpFrames.{op_frame}
-use Rattle.rdm_agent.specs.declared.op.Op.{Op}
 use Rattle.rdm_agent.specs.declared.op.Op.TheVariants as ops
 use Rattle.rdm_agent.proofs.CallLemmas.{next-in_order, next-in_budget}
-use Rattle.rdm_log.specs.declared.entry.Owner.{Owner}
 use Rattle.rdm_log.specs.declared.entry.Owner.TheVariants as owners
-use Rattle.rdm_log.specs.declared.entry.Opening.{Opening}
-use Rattle.rdm_log.specs.declared.entry.Entry.{Entry}
-use Rattle.rdm_log.specs.log.Entries.{Accepted, AskedDiscovery, Sending, Traded, traded_of, traded, accepts, finishes}
-use Rattle.rdm_log.specs.log.Entries.{sends, cames, is_request, is_run}
-use Rattle.rdm_join.specs.declared.event.LineEvent.{LineEvent}
-use Rattle.rdm_log.specs.log.History.{awaited, unfinished, was_sent, under_way, next_tn, next_request}
-use Rattle.rdm_log.specs.log.Runs.{has_begun, open_run, last_run, unserved, run_frames, run_exchanges, is_answered}
-use Rattle.rdm_log.specs.log.Runs.{seen_of, run_kind, known_at_run}
-use Rattle.rdm_log.specs.log.MaySend.{MaySendRequest, MaySendRun, MayBegin, IsRunFrame, NoSend}
-use Rattle.rdm_queue.specs.body.State.{QueueState, RunState}
-use Rattle.rdm_queue.specs.body.Sending.{GivesRun, GivesTurn, GivesFirst, IsGiven, WhichGives, begun, unless_ended}
-use Rattle.rdm_queue.specs.body.Sending.{of_run, run_to_send, request_to_send, to_send}
+use Rattle.rdm_log.specs.log.Entries.{Traded, traded_of}
+use Rattle.rdm_log.specs.log.History.{under_way, next_request}
+use Rattle.rdm_log.specs.log.Runs.{run_frames, seen_of}
+use Rattle.rdm_log.specs.log.MaySend.{MaySendRequest, MaySendRun, MayBegin, IsRunFrame}
+use Rattle.rdm_queue.specs.body.Sending.{GivesRun, GivesTurn, GivesFirst, unless_ended, of_run, run_to_send}
+use Rattle.rdm_queue.specs.body.Sending.{request_to_send}
 use Rattle.rdm_queue.specs.body.Sending.ToSend.{OfRequest, OfRun}
-use Rattle.rdm_queue.specs.body.Sending.WhichGives.{Opened, Turned, Began}
-use Rattle.rdm_queue.specs.body.Agrees.{IsRunning, IsNotRunning, RunIs, RunGoesOn, oldest_number, Agrees, StandsAfter}
 use Rattle.rdm_log.proofs.LogLemmas.KeepsLegal.{send_keeps, run_send_keeps}
-use Rattle.rdm_log.proofs.LogLemmas.LegalFacts.{LogFacts, legal_facts, sent_evenly, unfinished_number, later_unsent}
-use Rattle.rdm_log.proofs.LogLemmas.AskFacts.{ask_facts}
-use Rattle.rdm_log.proofs.LogLemmas.RunFacts.{is_open, run_facts, any_from_index}
-use Rattle.rdm_log.proofs.LogLemmas.Indices.{slice_get-drop, within_some}
+use Rattle.rdm_log.proofs.LogLemmas.LegalFacts.{sent_evenly}
+use Rattle.rdm_log.proofs.LogLemmas.RunFacts.{is_open, any_from_index}
+use Rattle.rdm_log.proofs.LogLemmas.Indices.{within_some}
 use Rattle.rdm_log.proofs.LogLemmas.RunLemmas.{no_frames}
-use Rattle.rdm_log.proofs.LogLemmas.AgentLemmas.{agent_goes_on}
 use Rattle.rdm_queue.proofs.BodyLemmas.AfterLemmas.{IsSent, pending_flag, sent_by_frame}
 use Rattle.rdm_queue.proofs.BodyLemmas.AgreesWork.{stands_send, none_sent}
 use Rattle.rdm_queue.proofs.BodyLemmas.AgreesRuns.{stands_run_send, stands_begin, not_stopped}
-use Rattle.rdm_log.proofs.LogLemmas.BegunLemmas.{all_unserved}
 
 -- no reply is awaited
 free_of : (o : Opening) (h : List Entry) (s : QueueState) → is_some s.awaited ≡ false → StandsAfter o h s

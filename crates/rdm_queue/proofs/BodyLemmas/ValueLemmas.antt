@@ -1,21 +1,12 @@
 -- A client's outcomes as it sees them, as its rings change.
-use Rattle.std.proofs.Common.{◌≡◌, ℕ, suc, ◌≤◌, Bool, true, false, cond, List, [], ◌∷◌, ◌++◌, length, Option, Some}
-use Rattle.std.proofs.Common.{refl, sym, ap, ◌∙◌, filter, length-append, arith}
-use Rattle.std.specs.Prelude.{option_map, slice_get}
-use Rattle.std.specs.VecDeque.{deque_capacity}
-use Rattle.std.proofs.lemmas.List.Elements.{filter-append}
-use Rattle.rdm_wire.specs.declared.device.Device.{Device}
-use Rattle.rdm_agent.specs.declared.fault.AgentFault.{AgentFault}
-use Rattle.rdm_queue.specs.declared.client.Client.{Client}
-use Rattle.rdm_queue.specs.declared.client.Owed.{Owed}
+use Rattle.rdm_queue.proofs.Common.{◌≡◌, ℕ, suc, ◌≤◌, Bool, true, false, cond, List, [], ◌∷◌, ◌++◌, length, Option}
+use Rattle.rdm_queue.proofs.Common.{Some, refl, sym, ap, ◌∙◌, filter, length-append, arith, option_map, slice_get}
+use Rattle.rdm_queue.proofs.Common.{deque_capacity, filter-append, Device, AgentFault, Client, Owed, Entry, Completion}
+use Rattle.rdm_queue.proofs.Common.{completion_value, is_discovery, kind_of_value, HasSets, values, owed_values}
+use Rattle.rdm_queue.proofs.Common.{IsNewClient, ClientFinishes, ClientAnswers, ClientCollects}
 use Rattle.rdm_queue.specs.declared.client.Owed.TheVariants as owed
-use Rattle.rdm_log.specs.declared.entry.Entry.{Entry}
-use Rattle.rdm_log.specs.declared.outcome.Completion.{Completion}
-use Rattle.rdm_log.specs.promises.Outcomes.{completion_value}
 use Rattle.rdm_log.specs.promises.Outcomes.OutcomeValue.{RequestValue, DiscoveryValue}
-use Rattle.rdm_queue.specs.body.State.{is_discovery, kind_of_value}
-use Rattle.rdm_queue.specs.body.Rings.{owes_discovery, HasSets, values, owed_values, IsNewClient, ClientFinishes}
-use Rattle.rdm_queue.specs.body.Rings.{ClientAnswers, ClientCollects, kind_of_owed}
+use Rattle.rdm_queue.specs.body.Rings.{owes_discovery, kind_of_owed}
 
 -- as many as its ring holds, and as many discoveries
 pub length-values : (ds : List Owed) (sets : List (List Device)) → length (values ds sets) ≡ length ds

@@ -1,10 +1,8 @@
-use Rattle.std.proofs.Common.{◌≡◌, Some, None, slice_get, sym, ap, ◌∙◌}
-use Rattle.std.proofs.lemmas.Option.{slice_get-get_or}
+use Rattle.rdm_queue.proofs.Common.{◌≡◌, Some, None, slice_get, sym, ap, ◌∙◌, slice_get-get_or}
 use Rattle.rdm_queue.proofs.BodyLemmas.OldestLemmas.{none_more, first_stays, first_replaced, all_none, all_first}
 use Rattle.rdm_queue.proofs.queue.first_in_line.Goals.{in-Some-first, in_default-first}
 use Rattle.rdm_queue.proofs.queue.first_in_line.Goals.{in_default-first-via-in-Some-first+else-lowest-oldest}
-use Rattle.rdm_queue.proofs.queue.first_in_line.Goals.{in_default-first-via-in_default-first}
-use Rattle.rdm_queue.proofs.queue.first_in_line.Goals.{After-oldest}
+use Rattle.rdm_queue.proofs.queue.first_in_line.Goals.{in_default-first-via-in_default-first, After-oldest}
 use Rattle.rdm_queue.proofs.queue.first_in_line.Goals as goal
 
 -- the client at the index

@@ -1,5 +1,4 @@
-use Rattle.std.proofs.Common.{◌≡◌, take}
-use Rattle.rdm_queue.specs.body.Fields.{places_of}
+use Rattle.rdm_queue.proofs.Common.{◌≡◌, take, places_of}
 use Rattle.rdm_queue.proofs.queue.places_of.Given as goal
 
 -- those of the clients so far

@@ -1,8 +1,5 @@
-use Rattle.std.proofs.Common.{◌++◌, ◌∷◌, [], ap, ◌∙◌}
-use Rattle.rdm_log.specs.log.LogState.{grown}
-use Rattle.rdm_log.specs.promises.InBound.{FaultNeedsClose}
+use Rattle.rdm_queue.proofs.Common.{◌++◌, ◌∷◌, [], ap, ◌∙◌, grown, FaultNeedsClose, block_more}
 use Rattle.rdm_queue.proofs.BodyLemmas.SessionLemmas.{amid_grown, result_added, grown_twice, all_results_more}
-use Rattle.rdm_log.proofs.BoundLemmas.{block_more}
 use Rattle.rdm_queue.proofs.session.finish_due.Goals as goal
 
 pub loop-entry-preserved : goal.loop-entry-preserved

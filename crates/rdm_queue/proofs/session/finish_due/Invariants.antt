@@ -1,10 +1,4 @@
-use Rattle.std.proofs.Common.{◌≡◌, List}
-use Rattle.rdm_log.specs.declared.entry.Entry.{Entry}
-use Rattle.rdm_log.specs.log.LogState.{grown}
-use Rattle.rdm_log.specs.promises.Blocks.{AllResults}
-use Rattle.rdm_log.specs.promises.InBound.{AnswersInBound}
-use Rattle.rdm_queue.specs.body.State.{unended}
-use Rattle.rdm_queue.specs.body.SessionInvariant.{SessionAmid}
+use Rattle.rdm_queue.proofs.Common.{◌≡◌, List, Entry, grown, AllResults, AnswersInBound, unended, SessionAmid}
 use Rattle.rdm_queue.proofs.session.finish_due.Given as goal
 
 -- the entries so far are Finishes, and Answers in bound

@@ -1,14 +1,9 @@
-use Rattle.rdm_log.proofs.Common.{ℕ, ◌≤◌, refl, arith, ◌≢◌, false≢true, certified, joins, accepts, asks, sends, cames}
-use Rattle.rdm_log.proofs.Common.{finishes, answers, collectors, traded, of_request, verdicts, result, awaited}
-use Rattle.rdm_log.proofs.Common.{is_paused, is_closed, answers_to, has_begun, entries_before_run, last_run}
-use Rattle.rdm_log.proofs.Common.{run_exchanges}
-use Rattle.rdm_log.proofs.SampleLemmas.RunsLegal.{may_answer_first, goes_on_9}
+use Rattle.rdm_log.proofs.Common.{refl, arith, false≢true, certified, joins, accepts, asks, sends, cames, finishes}
+use Rattle.rdm_log.proofs.Common.{answers, collectors, traded, of_request, verdicts, result, awaited, is_paused}
+use Rattle.rdm_log.proofs.Common.{is_closed, answers_to, has_begun, entries_before_run, last_run, run_exchanges}
+use Rattle.rdm_log.proofs.SampleLemmas.RunsLegal.{not_zero, may_answer_first, goes_on_9}
 use Rattle.rdm_log.proofs.SampleLemmas.FailedRuns.{may_abort}
 use Rattle.rdm_log.proofs.laws.runs.wrong_discovery_answers.Goals as goal
-
--- one isn't zero
-not_zero : (r : ℕ) → 1 ≤ r → r ≢ 0
-not_zero r from none = omega (arith, none)
 
 pub returns : goal.returns
 unfolding accepts asks sends cames finishes answers collectors traded of_request verdicts result awaited is_paused

@@ -1,14 +1,11 @@
-use Rattle.rdm_log.proofs.Common.{ℕ, ◌≤◌, take, drop, refl, inl, inr, arith, ◌≢◌, false≢true, Mute, Acked, device, Full}
-use Rattle.rdm_log.proofs.Common.{joins, accepts, asks, sends, cames, finishes, answers, collectors, traded, of_request}
+use Rattle.rdm_log.proofs.Common.{take, drop, refl, inl, inr, arith, false≢true, Mute, Acked, device, Full, joins}
+use Rattle.rdm_log.proofs.Common.{accepts, asks, sends, cames, finishes, answers, collectors, traded, of_request}
 use Rattle.rdm_log.proofs.Common.{verdicts, result, awaited, is_paused, is_closed, answers_to, has_begun}
 use Rattle.rdm_log.proofs.Common.{entries_before_run, last_run, run_exchanges}
 use Rattle.rdm_agent.specs.SampleRun.{sample_ack}
 use Rattle.rdm_log.specs.samples.SampleRuns.{known_traffic, second_run}
+use Rattle.rdm_log.proofs.SampleLemmas.RunsLegal.{not_zero}
 use Rattle.rdm_log.proofs.laws.runs.wrong_kinds.Goals as goal
-
--- two isn't zero
-not_zero : (r : ℕ) → 1 ≤ r → r ≢ 0
-not_zero r from none = omega (arith, none)
 
 pub returns : goal.returns
 unfolding accepts asks sends cames finishes answers collectors traded of_request verdicts result awaited is_paused

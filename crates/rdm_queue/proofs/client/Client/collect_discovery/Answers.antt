@@ -1,5 +1,4 @@
-use Rattle.std.proofs.Common.{◌≡◌, ◌∷◌, Some, slice_get, refl, sym, ◌∙◌, ap}
-use Rattle.rdm_log.proofs.LogLemmas.Indices.{slice_get_first}
+use Rattle.rdm_queue.proofs.Common.{◌≡◌, ◌∷◌, Some, slice_get, refl, sym, ◌∙◌, ap, slice_get_first}
 use Rattle.rdm_queue.proofs.BodyLemmas.ValueLemmas.{collects-discovery}
 use Rattle.rdm_queue.proofs.client.Client.collect_discovery.Goals as goal
 

@@ -1,8 +1,4 @@
-use Rattle.std.proofs.Common.{◌≡◌, false, [], ◌∷◌, sym, ap, ◌∙◌}
-use Rattle.rdm_log.specs.declared.entry.Entry.TheVariants.{Close}
-use Rattle.rdm_log.specs.log.History.{is_closed}
-use Rattle.rdm_log.specs.log.LogState.{grown}
-use Rattle.rdm_queue.specs.body.State.{QueueState}
+use Rattle.rdm_queue.proofs.Common.{◌≡◌, false, [], ◌∷◌, sym, ap, ◌∙◌, Close, is_closed, grown, QueueState}
 use Rattle.rdm_queue.proofs.BodyLemmas.CallLemmas.{close_adds}
 use Rattle.rdm_queue.proofs.controller.Controller.close.Goals as goal
 

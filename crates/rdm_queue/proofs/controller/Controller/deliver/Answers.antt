@@ -1,7 +1,4 @@
-use Rattle.std.proofs.Common.{◌≡◌, true, [], ◌∷◌, sym, ◌∙◌}
-use Rattle.rdm_log.specs.declared.entry.Entry.TheVariants.{Came}
-use Rattle.rdm_log.specs.log.History.{awaited}
-use Rattle.rdm_log.specs.log.LogState.{grown}
+use Rattle.rdm_queue.proofs.Common.{◌≡◌, true, [], ◌∷◌, sym, ◌∙◌, Came, awaited, grown}
 use Rattle.rdm_queue.proofs.BodyLemmas.CallLemmas.{with_results}
 use Rattle.rdm_queue.proofs.controller.Controller.deliver.Goals as goal
 

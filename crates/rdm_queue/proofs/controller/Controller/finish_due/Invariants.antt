@@ -1,7 +1,4 @@
-use Rattle.std.proofs.Common.{◌≡◌}
-use Rattle.rdm_log.specs.log.LogState.{LogState}
-use Rattle.rdm_queue.specs.body.State.{unended}
-use Rattle.rdm_queue.specs.body.Agrees.{StandsAmid}
+use Rattle.rdm_queue.proofs.Common.{◌≡◌, LogState, unended, StandsAmid}
 use Rattle.rdm_queue.proofs.BodyLemmas.CallLemmas.{EndedSoFar}
 use Rattle.rdm_queue.proofs.controller.Controller.finish_due.Given as goal
 

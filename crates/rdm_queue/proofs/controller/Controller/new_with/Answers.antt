@@ -1,5 +1,4 @@
-use Rattle.std.proofs.Common.{refl, sym, subst, ◌∙◌}
-use Rattle.rdm_queue.specs.promises.EachLog.{IsSetUp}
+use Rattle.rdm_queue.proofs.Common.{refl, sym, subst, ◌∙◌, IsSetUp}
 use Rattle.rdm_queue.proofs.BodyLemmas.AfterLemmas.{first_after}
 use Rattle.rdm_queue.proofs.controller.Controller.new_with.Goals as goal
 

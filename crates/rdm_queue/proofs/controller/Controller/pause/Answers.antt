@@ -1,6 +1,4 @@
-use Rattle.std.proofs.Common.{◌∷◌, [], refl, sym, ap, ◌∙◌}
-use Rattle.rdm_log.specs.declared.entry.Entry.TheVariants.{Pause}
-use Rattle.rdm_queue.specs.body.State.{QueueState}
+use Rattle.rdm_queue.proofs.Common.{◌∷◌, [], refl, sym, ap, ◌∙◌, Pause, QueueState}
 use Rattle.rdm_queue.proofs.BodyLemmas.AfterLemmas.{pause_after}
 use Rattle.rdm_queue.proofs.controller.Controller.pause.Goals as goal
 

@@ -1,6 +1,4 @@
-use Rattle.std.proofs.Common.{◌∷◌, [], refl, sym, ap, ◌∙◌}
-use Rattle.rdm_log.specs.declared.entry.Entry.TheVariants.{Resume}
-use Rattle.rdm_queue.specs.body.State.{QueueState}
+use Rattle.rdm_queue.proofs.Common.{◌∷◌, [], refl, sym, ap, ◌∙◌, Resume, QueueState}
 use Rattle.rdm_queue.proofs.BodyLemmas.AfterLemmas.{resume_after}
 use Rattle.rdm_queue.proofs.controller.Controller.resume.Goals as goal
 

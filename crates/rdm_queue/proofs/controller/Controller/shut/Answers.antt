@@ -1,5 +1,4 @@
-use Rattle.std.proofs.Common.{ap, ◌∙◌}
-use Rattle.rdm_queue.specs.body.State.{QueueState}
+use Rattle.rdm_queue.proofs.Common.{ap, ◌∙◌, QueueState}
 use Rattle.rdm_queue.proofs.BodyLemmas.AfterFinish.{close_amid}
 use Rattle.rdm_queue.proofs.controller.Controller.shut.Goals as goal
 

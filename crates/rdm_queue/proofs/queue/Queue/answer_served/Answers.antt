@@ -1,9 +1,5 @@
-use Rattle.std.proofs.Common.{◌≡◌, List, length, get_or, set, Some, slice_get, ap, refl, arith}
-use Rattle.rdm_queue.specs.declared.client.Client.{Client}
-use Rattle.rdm_log.specs.log.Entries.{AskedDiscovery}
-use Rattle.rdm_queue.specs.body.Fields.{state_of, asked_is, run_is}
-use Rattle.rdm_queue.specs.body.State.{QueueState}
-use Rattle.rdm_queue.specs.body.Ending.{one_less, answers_oldest}
+use Rattle.rdm_queue.proofs.Common.{◌≡◌, List, length, get_or, set, Some, slice_get, ap, refl, arith, Client}
+use Rattle.rdm_queue.proofs.Common.{AskedDiscovery, state_of, asked_is, run_is, QueueState, one_less, answers_oldest}
 use Rattle.rdm_queue.proofs.BodyLemmas.FieldLemmas.{written}
 use Rattle.rdm_queue.proofs.BodyLemmas.RingFields.{AreClientsOf, own_clients}
 use Rattle.rdm_queue.proofs.BodyLemmas.AnswerLemmas.{oldest_served, asked_rest, asked_within, CanAnswer, can_answer}

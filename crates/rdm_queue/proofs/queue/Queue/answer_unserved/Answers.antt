@@ -1,10 +1,5 @@
-use Rattle.std.proofs.Common.{◌≡◌, List, [], length, get_or, set, Some, None, refl, sym, ap, ◌∙◌, arith}
-use Rattle.rdm_agent.specs.declared.fault.AgentFault.TheVariants.{Aborted}
-use Rattle.rdm_queue.specs.declared.client.Client.{Client}
-use Rattle.rdm_log.specs.log.Entries.{AskedDiscovery}
-use Rattle.rdm_queue.specs.body.Fields.{state_of, asked_is}
-use Rattle.rdm_queue.specs.body.State.{QueueState}
-use Rattle.rdm_queue.specs.body.Ending.{answers_oldest}
+use Rattle.rdm_queue.proofs.Common.{◌≡◌, List, [], length, get_or, set, Some, None, refl, sym, ap, ◌∙◌, arith, Aborted}
+use Rattle.rdm_queue.proofs.Common.{Client, AskedDiscovery, state_of, asked_is, QueueState, answers_oldest}
 use Rattle.rdm_queue.proofs.BodyLemmas.FieldLemmas.{written}
 use Rattle.rdm_queue.proofs.BodyLemmas.RingFields.{AreClientsOf, own_clients}
 use Rattle.rdm_queue.proofs.BodyLemmas.AnswerLemmas.{nonempty, oldest_asked, asked_rest, asked_within, CanAnswer}

@@ -1,12 +1,9 @@
-use Rattle.std.proofs.Common.{◌≡◌, ◌<◌, ◌≤◌, length, Some, None, slice_get, sym, subst, ◌∙◌, refl}
-use Rattle.std.specs.Prelude.{◌+◌, ◌||◌, nat_le, if◌then◌else◌}
-use Rattle.std.proofs.lemmas.Bool.{le-leb, lt-leb, false≢true}
+use Rattle.rdm_queue.proofs.Common.{◌≡◌, ◌<◌, ◌≤◌, length, Some, None, slice_get, sym, subst, ◌∙◌, refl, ◌+◌, ◌||◌}
+use Rattle.rdm_queue.proofs.Common.{nat_le, if◌then◌else◌, le-leb, lt-leb, false≢true, state_of, asked_of}
+use Rattle.rdm_queue.proofs.Common.{first_ask_fault}
 use Rattle.rdm_log.specs.declared.fault.AskFault.TheVariants as ask_faults
-use Rattle.rdm_queue.specs.body.Fields.{state_of}
-use Rattle.rdm_queue.specs.body.State.{asked_of, first_ask_fault}
 use Rattle.rdm_queue.proofs.BodyLemmas.FieldLemmas.{found_at, ask_fault_of}
-use Rattle.rdm_queue.proofs.queue.Queue.ask_fault.Goals.{After-answered}
-use Rattle.rdm_queue.proofs.queue.Queue.ask_fault.Goals.{then-outstanding-ge-MOST_DISCOVERIES}
+use Rattle.rdm_queue.proofs.queue.Queue.ask_fault.Goals.{After-answered, then-outstanding-ge-MOST_DISCOVERIES}
 use Rattle.rdm_queue.proofs.queue.Queue.ask_fault.Goals.{else-outstanding-ge-MOST_DISCOVERIES}
 use Rattle.rdm_queue.proofs.queue.Queue.ask_fault.Goals as goal
 

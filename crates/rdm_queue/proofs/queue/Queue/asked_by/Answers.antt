@@ -1,10 +1,6 @@
-use Rattle.std.proofs.Common.{◌∙◌, sym, rules, tests}
-use Rattle.std.specs.Prelude.{◌==◌}
-use Rattle.std.proofs.lemmas.Iterator.{YieldsList-from_slice}
+use Rattle.rdm_queue.proofs.Common.{◌∙◌, sym, rules, tests, ◌==◌, YieldsList-from_slice, Asked, asked_is}
+use Rattle.rdm_queue.proofs.Common.{AskedDiscovery}
 use Rattle.std.proofs.lemmas.Iterator.Consumers.{YieldsList-from_filter, count_from_yields_List}
-use Rattle.rdm_queue.specs.declared.pending.Asked.{Asked}
-use Rattle.rdm_queue.specs.body.Fields.{asked_is}
-use Rattle.rdm_log.specs.log.Entries.{AskedDiscovery}
 use Rattle.rdm_queue.proofs.BodyLemmas.OutstandingLemmas.{length-filter_map}
 use Rattle.rdm_queue.proofs.queue.Queue.asked_by.Goals as goal
 

@@ -1,8 +1,5 @@
-use Rattle.std.proofs.Common.{refl, rules, tests}
-use Rattle.std.proofs.lemmas.Iterator.{YieldsList-from_slice}
+use Rattle.rdm_queue.proofs.Common.{refl, rules, tests, YieldsList-from_slice, Asked, is_full_kind}
 use Rattle.std.proofs.lemmas.Iterator.Search.{any_from_yields_List}
-use Rattle.rdm_queue.specs.declared.pending.Asked.{Asked}
-use Rattle.rdm_log.specs.log.Runs.{is_full_kind}
 use Rattle.rdm_queue.proofs.BodyLemmas.FieldLemmas.{any_asked}
 use Rattle.rdm_queue.proofs.queue.Queue.asked_kind.Goals as goal
 

@@ -1,7 +1,5 @@
-use Rattle.std.proofs.Common.{◌≡◌, ◌<◌, None, length, sym, ◌∙◌, arith}
-use Rattle.std.proofs.lemmas.List.{length-map}
-use Rattle.rdm_queue.specs.body.Fields.{state_of, asked_is}
-use Rattle.rdm_queue.specs.body.State.{QueueState, first_ask_fault}
+use Rattle.rdm_queue.proofs.Common.{◌≡◌, ◌<◌, None, length, sym, ◌∙◌, arith, length-map, state_of, asked_is, QueueState}
+use Rattle.rdm_queue.proofs.Common.{first_ask_fault}
 use Rattle.rdm_queue.proofs.BodyLemmas.InvariantLemmas.{room_to_ask}
 use Rattle.rdm_queue.proofs.queue.Queue.discover.Goals as goal
 

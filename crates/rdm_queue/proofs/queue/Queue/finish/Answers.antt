@@ -1,9 +1,5 @@
-use Rattle.std.proofs.Common.{◌≡◌, ◌<◌, List, length, get_or, set, None, refl, sym, ap, ◌∙◌, subst, arith}
-use Rattle.rdm_queue.specs.declared.client.Client.{Client}
-use Rattle.rdm_log.specs.declared.entry.Entry.TheVariants.{Finish}
-use Rattle.rdm_log.specs.promises.Outcomes.{completion_value}
-use Rattle.rdm_queue.specs.body.Fields.{state_of}
-use Rattle.rdm_queue.specs.body.State.{QueueState, finishes_oldest, owed_for}
+use Rattle.rdm_queue.proofs.Common.{◌≡◌, ◌<◌, List, length, get_or, set, None, refl, sym, ap, ◌∙◌, subst, arith, Client}
+use Rattle.rdm_queue.proofs.Common.{Finish, completion_value, state_of, QueueState, finishes_oldest, owed_for}
 use Rattle.rdm_queue.proofs.BodyLemmas.FieldLemmas.{written}
 use Rattle.rdm_queue.proofs.BodyLemmas.OldestLemmas.{oldest_within}
 use Rattle.rdm_queue.proofs.BodyLemmas.RingSteps.{entry-finish}

@@ -1,5 +1,4 @@
-use Rattle.std.proofs.Common.{sym}
-use Rattle.rdm_log.specs.promises.Outcomes.{completion_value}
+use Rattle.rdm_queue.proofs.Common.{sym, completion_value}
 use Rattle.rdm_queue.proofs.BodyLemmas.HeardLemmas.{finished_so}
 use Rattle.rdm_queue.proofs.queue.Queue.finish_oldest.Goals as goal
 

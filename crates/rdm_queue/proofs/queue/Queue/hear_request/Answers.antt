@@ -1,5 +1,4 @@
-use Rattle.std.proofs.Common.{◌++◌, ◌∷◌, [], refl}
-use Rattle.rdm_log.specs.promises.Outcomes.{completion_value}
+use Rattle.rdm_queue.proofs.Common.{◌++◌, ◌∷◌, [], refl, completion_value}
 use Rattle.rdm_queue.proofs.BodyLemmas.HeardLemmas.{heard_done}
 use Rattle.rdm_queue.proofs.queue.Queue.hear_request.Goals as goal
 

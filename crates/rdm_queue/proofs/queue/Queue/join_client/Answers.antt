@@ -1,8 +1,5 @@
-use Rattle.std.proofs.Common.{◌≡◌, [], ◌∷◌, ◌++◌, None, sym, ◌∙◌, refl}
-use Rattle.std.proofs.lemmas.List.{length-map}
-use Rattle.rdm_queue.specs.declared.client.Client.{Client}
-use Rattle.rdm_queue.specs.body.Fields.{state_of}
-use Rattle.rdm_queue.specs.body.State.{first_join_fault, joins_client}
+use Rattle.rdm_queue.proofs.Common.{◌≡◌, [], ◌∷◌, ◌++◌, None, sym, ◌∙◌, refl, length-map, Client, state_of}
+use Rattle.rdm_queue.proofs.Common.{first_join_fault, joins_client}
 use Rattle.rdm_queue.proofs.BodyLemmas.RingFields.{AreClientsOf, own_clients, clients-join}
 use Rattle.rdm_queue.proofs.queue.Queue.join_client.Goals as goal
 

@@ -1,5 +1,4 @@
-use Rattle.std.proofs.Common.{[], refl}
-use Rattle.rdm_queue.specs.body.State.{first_state}
+use Rattle.rdm_queue.proofs.Common.{[], refl, first_state}
 use Rattle.rdm_queue.proofs.BodyLemmas.FieldLemmas.{first_kept, waiting_are}
 use Rattle.rdm_queue.proofs.queue.Queue.new.Goals as goal
 

@@ -1,10 +1,6 @@
-use Rattle.std.proofs.Common.{◌≡◌, Some, slice_get, sym, ap, ◌∙◌, refl}
-use Rattle.std.specs.Prelude.{◌≢◌}
-use Rattle.std.proofs.lemmas.Option.{slice_get-get_or}
+use Rattle.rdm_queue.proofs.Common.{◌≡◌, Some, slice_get, sym, ap, ◌∙◌, refl, ◌≢◌, slice_get-get_or, outcome_value}
+use Rattle.rdm_queue.proofs.Common.{request_outcome, first_kind_owed, state_of}
 use Rattle.rdm_log.specs.declared.outcome.OutcomeKind.TheVariants as kinds
-use Rattle.rdm_log.specs.promises.Outcomes.{outcome_value, request_outcome}
-use Rattle.rdm_queue.specs.body.Rings.{first_kind_owed}
-use Rattle.rdm_queue.specs.body.Fields.{state_of}
 use Rattle.rdm_queue.proofs.BodyLemmas.RingSteps.{kind_is, if_none}
 use Rattle.rdm_queue.proofs.BodyLemmas.RingFields.{own_clients, MayCollect, may_collect}
 use Rattle.rdm_queue.proofs.queue.Queue.next_completion.Goals as goal

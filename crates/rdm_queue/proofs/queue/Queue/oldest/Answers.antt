@@ -1,4 +1,4 @@
-use Rattle.rdm_queue.specs.body.Fields.{state_of}
+use Rattle.rdm_queue.proofs.Common.{state_of}
 use Rattle.rdm_queue.proofs.BodyLemmas.OldestLemmas.{shown_first}
 use Rattle.rdm_queue.proofs.queue.Queue.oldest.Goals as goal
 

@@ -1,6 +1,4 @@
-use Rattle.std.proofs.Common.{◌≡◌, List, Some, slice_get, sym, ◌∙◌, refl}
-use Rattle.rdm_queue.specs.declared.client.Client.{Client}
-use Rattle.rdm_queue.specs.body.Fields.{state_of}
+use Rattle.rdm_queue.proofs.Common.{◌≡◌, List, Some, slice_get, sym, ◌∙◌, refl, Client, state_of}
 use Rattle.rdm_queue.proofs.BodyLemmas.FieldLemmas.{found_at}
 use Rattle.rdm_queue.proofs.BodyLemmas.LengthLemmas.{length_is}
 use Rattle.rdm_queue.proofs.queue.Queue.oldest_length.Goals as goal

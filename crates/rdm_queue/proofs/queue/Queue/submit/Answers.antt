@@ -1,7 +1,4 @@
-use Rattle.std.proofs.Common.{List, get_or, set, sym, ◌∙◌, refl}
-use Rattle.rdm_queue.specs.declared.client.Client.{Client}
-use Rattle.rdm_queue.specs.body.Fields.{state_of}
-use Rattle.rdm_queue.specs.body.State.{accepts_request}
+use Rattle.rdm_queue.proofs.Common.{List, get_or, set, sym, ◌∙◌, refl, Client, state_of, accepts_request}
 use Rattle.rdm_queue.proofs.BodyLemmas.FieldLemmas.{written}
 use Rattle.rdm_queue.proofs.BodyLemmas.RingFields.{AreClientsOf, own_clients, CanAccept, can_accept, clients-accept}
 use Rattle.rdm_queue.proofs.queue.Queue.submit.Goals.{After-index-deref_mut-from}

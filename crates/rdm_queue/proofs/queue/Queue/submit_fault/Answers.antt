@@ -1,15 +1,10 @@
-use Rattle.std.proofs.Common.{◌≡◌, ℕ, ◌<◌, ◌≤◌, Some, None, slice_get, sym, subst, ◌∙◌, refl, arith}
-use Rattle.std.specs.Prelude.{◌+◌, ◌-◌, ◌||◌, length, nat_le, if◌then◌else◌}
-use Rattle.std.proofs.lemmas.Bool.{le-leb, false≢true}
-use Rattle.std.specs.VecDeque.{deque_len}
-use Rattle.rdm_queue.specs.declared.client.Client.{Client}
+use Rattle.rdm_queue.proofs.Common.{◌≡◌, ℕ, ◌<◌, ◌≤◌, Some, None, slice_get, sym, subst, ◌∙◌, refl, arith, ◌+◌, ◌-◌}
+use Rattle.rdm_queue.proofs.Common.{◌||◌, length, nat_le, if◌then◌else◌, le-leb, false≢true, deque_len, Client}
+use Rattle.rdm_queue.proofs.Common.{state_of, first_submit_fault}
 use Rattle.rdm_log.specs.declared.fault.SubmitFault.TheVariants as submit_faults
-use Rattle.rdm_queue.specs.body.Fields.{state_of}
-use Rattle.rdm_queue.specs.body.State.{first_submit_fault}
 use Rattle.rdm_queue.proofs.BodyLemmas.FieldLemmas.{found_at, fault_of, full_by_places, full_by_number}
 use Rattle.rdm_queue.proofs.BodyLemmas.RingSteps.{fewer_sets}
-use Rattle.rdm_queue.proofs.queue.Queue.submit_fault.Goals.{then-outstanding-from, else-outstanding-from}
-use Rattle.rdm_queue.proofs.queue.Queue.submit_fault.Goals.{In-Some}
+use Rattle.rdm_queue.proofs.queue.Queue.submit_fault.Goals.{then-outstanding-from, else-outstanding-from, In-Some}
 use Rattle.rdm_queue.proofs.queue.Queue.submit_fault.Goals as goal
 
 -- the client, at its index

@@ -1,7 +1,4 @@
-use Rattle.std.proofs.Common.{◌∙◌, sym, ap, not, rules, tests}
-use Rattle.std.proofs.lemmas.List.{length-map}
-use Rattle.rdm_queue.specs.body.Fields.{asked_is}
-use Rattle.rdm_queue.specs.body.Sending.WhichGives.{Opened, Began}
+use Rattle.rdm_queue.proofs.Common.{◌∙◌, sym, ap, not, rules, tests, length-map, asked_is, Opened, Began}
 use Rattle.rdm_queue.proofs.BodyLemmas.RingSteps.{if_some, no_run_is}
 use Rattle.rdm_queue.proofs.queue.Queue.take.Goals.{then-is_none+else-self-2+else-self-3+else-is_empty, else-is_none}
 use Rattle.rdm_queue.proofs.queue.Queue.take.Goals as goal

@@ -1,5 +1,4 @@
-use Rattle.std.proofs.Common.{sym, refl}
-use Rattle.rdm_queue.specs.body.Fields.{accepted_is}
+use Rattle.rdm_queue.proofs.Common.{sym, refl, accepted_is}
 use Rattle.rdm_queue.proofs.queue.Queue.take_request.Goals as goal
 
 pub returns-clause-frame : goal.returns-clause-frame

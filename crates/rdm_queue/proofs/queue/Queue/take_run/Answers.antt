@@ -1,5 +1,4 @@
-use Rattle.std.proofs.Common.{refl, ◌∙◌, rules, tests}
-use Rattle.rdm_queue.specs.body.Fields.{run_is}
+use Rattle.rdm_queue.proofs.Common.{refl, ◌∙◌, rules, tests, run_is}
 use Rattle.rdm_queue.proofs.queue.Queue.take_run.Goals as goal
 
 pub returns-clause-frame : goal.returns-clause-frame

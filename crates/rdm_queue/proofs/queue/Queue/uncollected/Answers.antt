@@ -1,8 +1,5 @@
-use Rattle.std.proofs.Common.{sym, ◌∙◌, subst, ◌<◌, rules, tests}
-use Rattle.std.specs.VecDeque.{deque_len}
-use Rattle.std.proofs.lemmas.Iterator.{YieldsList-from_slice, YieldsList-from_map}
-use Rattle.std.proofs.lemmas.Iterator.Consumers.{sum_by_from_yields_List, fits_by_from_yields_list}
-use Rattle.rdm_queue.specs.body.Fields.{state_of}
+use Rattle.rdm_queue.proofs.Common.{sym, ◌∙◌, subst, ◌<◌, rules, tests, deque_len, YieldsList-from_slice}
+use Rattle.rdm_queue.proofs.Common.{YieldsList-from_map, sum_by_from_yields_List, fits_by_from_yields_list, state_of}
 use Rattle.rdm_queue.proofs.BodyLemmas.FieldLemmas.{outcomes_sum, outcomes_fit}
 use Rattle.rdm_queue.proofs.queue.Queue.uncollected.Goals as goal
 

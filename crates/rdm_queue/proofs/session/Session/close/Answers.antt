@@ -1,6 +1,4 @@
-use Rattle.std.proofs.Common.{◌≡◌, false, sym, ◌∙◌, refl}
-use Rattle.rdm_log.specs.declared.entry.Entry.TheVariants.{Close}
-use Rattle.rdm_log.specs.log.History.{is_closed}
+use Rattle.rdm_queue.proofs.Common.{◌≡◌, false, sym, ◌∙◌, refl, Close, is_closed}
 use Rattle.rdm_queue.proofs.BodyLemmas.SessionLemmas.{amid_begun, then_due, close_adds}
 use Rattle.rdm_queue.proofs.session.Session.close.Goals as goal
 

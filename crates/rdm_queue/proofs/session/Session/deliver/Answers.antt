@@ -1,6 +1,4 @@
-use Rattle.std.proofs.Common.{◌≡◌, true, sym, ◌∙◌, refl}
-use Rattle.rdm_log.specs.declared.entry.Entry.TheVariants.{Came}
-use Rattle.rdm_log.specs.log.History.{awaited}
+use Rattle.rdm_queue.proofs.Common.{◌≡◌, true, sym, ◌∙◌, refl, Came, awaited}
 use Rattle.rdm_queue.proofs.BodyLemmas.SessionLemmas.{amid_begun, then_due, deliver_adds}
 use Rattle.rdm_queue.proofs.session.Session.deliver.Goals as goal
 

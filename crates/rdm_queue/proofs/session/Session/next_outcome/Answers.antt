@@ -1,7 +1,4 @@
-use Rattle.std.proofs.Common.{◌∷◌, [], arith}
-use Rattle.rdm_log.specs.declared.entry.Entry.TheVariants.{Collect}
-use Rattle.rdm_log.specs.log.LogState.{grown}
-use Rattle.rdm_queue.specs.body.SessionInvariant.{SessionInvariant}
+use Rattle.rdm_queue.proofs.Common.{◌∷◌, [], arith, Collect, grown, SessionInvariant}
 use Rattle.rdm_queue.proofs.BodyLemmas.SessionLemmas.{session_grown, room_for}
 use Rattle.rdm_queue.proofs.session.Session.next_outcome.Goals.{In_ok-outcome}
 use Rattle.rdm_queue.proofs.session.Session.next_outcome.Goals as goal

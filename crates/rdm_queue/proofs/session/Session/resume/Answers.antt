@@ -1,5 +1,4 @@
-use Rattle.std.proofs.Common.{◌∷◌, [], sym, ◌∙◌, arith}
-use Rattle.rdm_log.specs.declared.entry.Entry.TheVariants.{Resume}
+use Rattle.rdm_queue.proofs.Common.{◌∷◌, [], sym, ◌∙◌, arith, Resume}
 use Rattle.rdm_queue.proofs.BodyLemmas.SessionLemmas.{free_of, session_grown}
 use Rattle.rdm_queue.proofs.session.Session.resume.Goals as goal
 

@@ -1,6 +1,4 @@
-use Rattle.std.proofs.Common.{◌≡◌, true, sym, ap, ◌∙◌}
-use Rattle.rdm_log.specs.log.History.{is_idle}
-use Rattle.rdm_log.specs.log.LogState.{LogState}
+use Rattle.rdm_queue.proofs.Common.{◌≡◌, true, sym, ap, ◌∙◌, is_idle, LogState}
 use Rattle.rdm_queue.proofs.BodyLemmas.RotateLemmas.{session_rotated}
 use Rattle.rdm_queue.proofs.session.Session.rotate.Goals as goal
 

@@ -1,6 +1,5 @@
-use Rattle.std.proofs.Common.{◌≡◌, ◌≤◌, length, take}
+use Rattle.rdm_queue.proofs.Common.{◌≡◌, ◌≤◌, length, take, Legal}
 use Rattle.std.specs.Vec.{vec_capacity}
-use Rattle.rdm_log.specs.log.Legal.{Legal}
 use Rattle.rdm_log.specs.promises.Explains.{Explains}
 use Rattle.rdm_queue.proofs.session.Session.run.Given as goal
 

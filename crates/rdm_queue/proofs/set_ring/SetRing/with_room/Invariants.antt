@@ -1,5 +1,4 @@
-use Rattle.std.proofs.Common.{◌≡◌, ◌≤◌, length}
-use Rattle.std.specs.Prelude.{vec_len, vec_capacity}
+use Rattle.rdm_queue.proofs.Common.{◌≡◌, ◌≤◌, length, vec_len, vec_capacity}
 use Rattle.rdm_queue.proofs.set_ring.SetRing.with_room.Given as goal
 
 abbrev pub invariant-loop : goal.invariant-loop
