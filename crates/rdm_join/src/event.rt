@@ -1,8 +1,10 @@
 //! What came from the line.
 ghost use Rattle.std.specs.Prelude.{◌≡◌};
+ghost use Rattle.rdm_join.specs.Exchange.{event_of};
 
 use arrayvec::ArrayVec;
 use rdm_wire::MOST_FRAME_BYTES;
+use thiserror::Error;
 
 /// The bytes that came after a frame: at most 257. No bytes are silence.
 pub type LineReply = ArrayVec<u8, MOST_FRAME_BYTES>;
@@ -24,6 +26,22 @@ impl LineEvent {
         match self {
             LineEvent::Reply(bytes) => LineEvent::Reply(copy_of_reply(bytes)),
             LineEvent::Failed => LineEvent::Failed,
+        }
+    }
+}
+
+/// The line failed, so it isn't known what the devices received.
+#[derive(Clone, Copy, Debug, PartialEq, Eq, Error)]
+#[error("the line failed")]
+pub struct LineFault;
+
+impl From<Result<LineReply, LineFault>> for LineEvent {
+    ghost from_gives = { λ answer event. event ≡ event_of answer };
+
+    fn from(answer: Result<LineReply, LineFault>) -> LineEvent {
+        match answer {
+            Ok(reply) => LineEvent::Reply(reply),
+            Err(LineFault) => LineEvent::Failed,
         }
     }
 }

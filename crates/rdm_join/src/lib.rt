@@ -8,7 +8,7 @@ pub mod laws;
 mod status;
 mod verdict;
 
-pub use event::{LineEvent, LineReply, copy_of_reply};
+pub use event::{LineEvent, LineFault, LineReply, copy_of_reply};
 pub use joiner::{Joiner, MOST_JOINED_BYTES, MOST_PARTS, ReplyHead, Step};
 pub use status::Status;
 pub use verdict::{ALL_SUB_DEVICES, Judged, Sent, judge};

@@ -1,11 +1,10 @@
 -- What a run of the simulated line keeps of its scene, and where it fails.
 use Rattle.std.proofs.Common.{◌≡◌, ℕ, Bool, true, false, List, [], ◌∷◌, length, map, replicate, Option, Some, None}
 use Rattle.std.proofs.Common.{refl, sym, ap, ◌∙◌, subst, true≢false}
-use Rattle.std.specs.Prelude.{◌≢◌, ◌↔◌, MatchBool, nat_lt, ◌&&◌}
+use Rattle.std.specs.Prelude.{◌≢◌, ◌↔◌, MatchBool, nat_lt}
 use Rattle.std.specs.List.{AllByRecursion}
 use Rattle.std.proofs.lemmas.Bool.{and_parts}
 use Rattle.std.proofs.lemmas.List.{length-map}
-use Rattle.rdm_wire.specs.Uid.{has}
 use Rattle.rdm_wire.specs.Commands.{command_read}
 use Rattle.rdm_wire.specs.Honest.{Asked, HonestTrace}
 use Rattle.rdm_wire.specs.Honest.Asked.{Unmute, Branch, Mute, Other}

@@ -1,18 +1,12 @@
 -- Exchanges of a frame and an event, and how a line's failures count.
-use Rattle.std.specs.Prelude.{◌≡◌, ℕ, ◌+◌, List, [], ◌∷◌, Result, Ok, Err}
+use Rattle.std.specs.Prelude.{◌≡◌, ℕ, ◌+◌, List, [], ◌∷◌}
 use Rattle.arrayvec.specs.ArrayVec.{ArrayVec}
 use Rattle.rdm_join.specs.declared.event.LineEvent.{LineEvent}
 use Rattle.rdm_join.specs.declared.event.LineEvent.TheVariants.{Reply, Failed}
-use Rattle.rdm_line.specs.declared.line.LineFault.{LineFault}
 
 -- a frame and what came after it
 abbrev pub Exchange : Type 0
 Exchange = ArrayVec ℕ × LineEvent
-
--- the event that an exchange's result reports
-abbrev pub event_of : Result (ArrayVec ℕ) LineFault → LineEvent
-event_of (Ok reply) = Reply reply
-event_of (Err fault) = Failed
 
 -- each failure is counted, and nothing else
 abbrev pub CountsFailure : LineEvent → ℕ → ℕ → Type 0

@@ -1,4 +1,5 @@
 pub mod Events
+pub mod Counting
 pub mod Parameters
 pub mod Overlays
 pub mod Scenes

@@ -1,15 +1,10 @@
 //! What a line has to do.
 ghost use Rattle.std.specs.Prelude.{◌≡◌, ℕ};
-ghost use Rattle.rdm_line.specs.Events.{Exchange, event_of, CountsFailure};
+ghost use Rattle.rdm_join.specs.Exchange.{event_of};
+ghost use Rattle.rdm_line.specs.Events.{Exchange, CountsFailure};
 
-use rdm_join::LineReply;
+use rdm_join::{LineFault, LineReply};
 use rdm_wire::Frame;
-use thiserror::Error;
-
-/// The line failed, so it isn't known what the devices received.
-#[derive(Clone, Copy, Debug, PartialEq, Eq, Error)]
-#[error("the line failed")]
-pub struct LineFault;
 
 /// A line on which frames are sent and replies come. Each line names its step. This relates its value before an
 /// exchange, the frame with the event after it, and its value afterwards.

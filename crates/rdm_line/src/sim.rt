@@ -14,12 +14,12 @@ ghost use Rattle.rdm_line.specs.Scenes.{IsScene};
 ghost use Rattle.rdm_line.specs.Sim.{response_to};
 
 use crate::collision::Collision;
-use crate::line::{Line, LineFault};
+use crate::line::Line;
 use crate::overlay::lay_over;
 use crate::parameter::ParameterPart;
 use crate::scene::{Scene, SceneDevice};
 use arrayvec::ArrayVec;
-use rdm_join::LineReply;
+use rdm_join::{LineFault, LineReply};
 use rdm_wire::{
     AckType, Command, Frame, LONGEST_PREAMBLE, NoMemory, ReqClass, Request, RespClass, Response,
     Uid, UidRange, UidSet, encode_response, mute_response, read_command, write_branch_reply,

@@ -5,9 +5,10 @@ ghost use Rattle.std.specs.Io.KnownBytes.{Appends, Consumes};
 ghost use Rattle.rdm_line.specs.Streams.{StreamStep, SaysReply, ReadsReply, ReadsNoReply, GoesUnanswered, frame_line};
 ghost use Rattle.rdm_line.specs.body.LineReading.{IsTextOf, ReadsWithin};
 
-use crate::line::{Line, LineFault};
+use crate::counting::count_failure;
+use crate::line::Line;
 use arrayvec::ArrayVec;
-use rdm_join::LineReply;
+use rdm_join::{LineFault, LineReply};
 use rdm_wire::{Frame, MOST_FRAME_BYTES};
 use std::io;
 use std::io::{ErrorKind, Read, Write};
@@ -93,14 +94,8 @@ impl<R: Read, W: Write> Line for StreamLine<R, W> {
     ghost failures_of = { λ s. s.failures };
 
     fn exchange(&mut self, frame: &Frame) -> Result<LineReply, LineFault> {
-        match self.ask(frame) {
-            Some(reply) => Ok(reply),
-            None if self.failures == u64::MAX => Ok(ArrayVec::new()),
-            None => {
-                self.failures += 1;
-                Err(LineFault)
-            }
-        }
+        let answer = self.ask(frame);
+        count_failure(&mut self.failures, answer)
     }
 
     fn failures(&self) -> u64 {

@@ -1,10 +1,11 @@
 //! A line that replays events.
 ghost use Rattle.std.specs.Prelude.{◌≡◌};
+ghost use Rattle.rdm_line.specs.Counting.{event_of_bytes};
 ghost use Rattle.rdm_line.specs.Tape.{TapeStep, first_event, later_events};
 
-use crate::line::{Line, LineFault};
-use arrayvec::ArrayVec;
-use rdm_join::{LineEvent, LineReply};
+use crate::counting::count_failure;
+use crate::line::Line;
+use rdm_join::{LineEvent, LineFault, LineReply, copy_of_reply};
 use rdm_wire::Frame;
 use std::marker::Model;
 
@@ -38,16 +39,17 @@ impl TapeLine {
         }
     }
 
-    // Takes the next event off the tape. After the last one the line fails.
-    fn next_event(&mut self) -> LineEvent
-        ensures event { result ≡ first_event self.old.left }
+    // Takes the next event off the tape, and returns its bytes; None if it is a failure, and after the last event.
+    fn next_reply(&mut self) -> Option<LineReply>
+        ensures event { event_of_bytes result ≡ first_event self.old.left }
         ensures rest { self.new ≡ record self.old { left = later_events self.old.left } }
     {
-        let Some(event) = self.events.get(self.next) else {
-            return LineEvent::Failed;
-        };
+        let event = self.events.get(self.next)?;
         self.next += 1;
-        event.copied()
+        match event {
+            LineEvent::Reply(reply) => Some(copy_of_reply(reply)),
+            LineEvent::Failed => None,
+        }
     }
 }
 
@@ -57,14 +59,8 @@ impl Line for TapeLine {
     ghost failures_of = { λ t. t.failures };
 
     fn exchange(&mut self, _frame: &Frame) -> Result<LineReply, LineFault> {
-        match self.next_event() {
-            LineEvent::Reply(reply) => Ok(reply),
-            LineEvent::Failed if self.failures == u64::MAX => Ok(ArrayVec::new()),
-            LineEvent::Failed => {
-                self.failures += 1;
-                Err(LineFault)
-            }
-        }
+        let answer = self.next_reply();
+        count_failure(&mut self.failures, answer)
     }
 
     fn failures(&self) -> u64 {

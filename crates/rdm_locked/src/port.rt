@@ -17,9 +17,8 @@ use crate::share::CallShare;
 use crate::turn::Turn;
 use rdm_client::{Desk, Tells, TellsAsk, WorkerEnd};
 use rdm_join::LineEvent;
-use rdm_line::{Line, LineFault};
+use rdm_line::Line;
 use rdm_queue::{Config, Entry, JoinFault, Log, LogFull, NoMemory, Page, Setup};
-use rdm_wire::Frame;
 use std::alloc::Global;
 use std::sync::ledger::{Blank, Ledger};
 use std::sync::{Mutex, Wait};
@@ -152,7 +151,7 @@ impl<L: Ledger> Port<L> {
             let turn = self.inside.lock(rt).turn();
             match turn {
                 Turn::Exchange(frame) => {
-                    let event = exchanged(line, &frame);
+                    let event = LineEvent::from(line.exchange(&frame));
                     let _ = self.inside.lock(rt).deliver(alloc, event.copied());
                     exchanges.push_reserved(Exchange { frame, event });
                 }
@@ -194,15 +193,5 @@ impl<L: Ledger> Port<L> {
             Ok(end) => Ok(end),
             Err((fault, inside, shares)) => Err((fault, Port::holding(inside), shares)),
         }
-    }
-}
-
-// Sends a frame, and returns what came.
-fn exchanged<X: Line>(line: &mut X, frame: &Frame) -> LineEvent
-    ensures { X.step line.old (frame.now, result) line.new }
-{
-    match line.exchange(frame) {
-        Ok(reply) => LineEvent::Reply(reply),
-        Err(LineFault) => LineEvent::Failed,
     }
 }

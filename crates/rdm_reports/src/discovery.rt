@@ -6,7 +6,6 @@ ghost use Rattle.rdm_agent.specs.Calls.{fits, next_op};
 ghost use Rattle.rdm_agent.specs.Machine.{AgentState, fed};
 ghost use Rattle.rdm_agent.specs.OpFrames.{op_frame};
 ghost use Rattle.rdm_agent.specs.Run.{heard_by};
-ghost use Rattle.rdm_line.specs.Events.{event_of};
 ghost use Rattle.rdm_agent.specs.declared.op.Op.TheVariants.{End};
 ghost use Rattle.rdm_line.specs.SimSteps.{NoFiveSuccessive};
 ghost use Rattle.rdm_reports.specs.Discovery.{GoesOn, IsDiscovery};
@@ -18,8 +17,8 @@ use crate::log_output::LogOutput;
 use crate::log_text::write_exchange;
 use crate::progress::{Progress, write_often};
 use rdm_agent::{Agent, AgentFault, Kind, Op, OpReply, Search};
-use rdm_join::LineReply;
-use rdm_line::{Line, LineFault, NoMemory, Scene, SimLine};
+use rdm_join::LineEvent;
+use rdm_line::{Line, NoMemory, Scene, SimLine};
 use rdm_wire::{DeviceSet, Uid, UidSet};
 use std::alloc::Global;
 use std::io::Write;
@@ -61,7 +60,7 @@ pub fn discover<L: Line, P: Progress, W: Write>(
         ask(alloc, &mut agent, line, source, made, log);
         write_often(progress, (made + 1) as usize);
     }
-    // For the proof alone: after as many exchanges as the budget allows, nothing is asked next.
+    // Only for the proof: after as many exchanges as the budget allows, nothing is asked next.
     let _end = agent.next();
     Discovery {
         frames: agent.frames(),
@@ -85,21 +84,21 @@ fn ask<L: Line, W: Write>(
     let tn = (made % 256) as u8;
     let op = agent.next();
     let frame = op.frame(source, tn);
-    let answer = line.exchange(&frame);
-    write_exchange(alloc, log, made, &frame, &answer);
-    agent.hear(read(op, source, tn, &answer));
+    let event = LineEvent::from(line.exchange(&frame));
+    write_exchange(alloc, log, made, &frame, &event);
+    agent.hear(read(op, source, tn, &event));
 }
 
 // What came after the frame of this operation.
-fn read(op: Op, source: Uid, tn: u8, answer: &Result<LineReply, LineFault>) -> OpReply
+fn read(op: Op, source: Uid, tn: u8, event: &LineEvent) -> OpReply
     requires { op ≢ Op.End }
     ensures fits { fits result op ≡ true }
     ensures fed { (a : AgentState) → next_op a ≡ op → fed a (heard_by result)
-        ≡ fed a (heard_in (op_frame op source tn) (bytes_heard (event_of answer.now))) }
+        ≡ fed a (heard_in (op_frame op source tn) (bytes_heard event.now)) }
 {
-    match answer {
-        Ok(bytes) => op.read_reply(source, tn, Some(bytes.as_slice())),
-        Err(LineFault) => op.read_reply(source, tn, None),
+    match event {
+        LineEvent::Reply(bytes) => op.read_reply(source, tn, Some(bytes.as_slice())),
+        LineEvent::Failed => op.read_reply(source, tn, None),
     }
 }
 

@@ -4,7 +4,6 @@ ghost use Rattle.std.specs.Prelude.{◌≡◌, ◌++◌, Some, IfOk, OnOk, codes
 ghost use Rattle.rdm_wire.specs.Bytes.{two_bytes};
 ghost use Rattle.rdm_wire.specs.UidText.{uid_text};
 ghost use Rattle.rdm_join.specs.Statuses.{number_of_status};
-ghost use Rattle.rdm_line.specs.Events.{event_of};
 ghost use Rattle.rdm_reports.specs.Writing.{Logs};
 ghost use Rattle.rdm_reports.specs.LogText.{number_member, text_member, bytes_member, request_members, kind_member};
 ghost use Rattle.rdm_reports.specs.LogText.{call_members, caller_member, asked_members, owner_member, event_member};
@@ -14,8 +13,7 @@ ghost use Rattle.rdm_reports.specs.LogText.{operation_text, exchange_line};
 use crate::log_output::LogOutput;
 use itoa::Buffer;
 use rdm_agent::{AgentFault, Kind};
-use rdm_join::{LineEvent, LineReply, Status};
-use rdm_line::LineFault;
+use rdm_join::{LineEvent, Status};
 use rdm_log::{Call, Cause, ClientId, Entry, Owner};
 use rdm_wire::{Frame, ReqClass, Request};
 use std::alloc::{AllocError, Global};
@@ -48,14 +46,14 @@ pub(crate) fn write_exchange<W: Write>(
     log: &mut LogOutput<W>,
     number: u64,
     frame: &Frame,
-    answer: &Result<LineReply, LineFault>,
+    event: &LineEvent,
 )
-    ensures { Logs log.old log.new (exchange_line number (frame.now, event_of answer.now)) }
+    ensures { Logs log.old log.new (exchange_line number (frame.now, event.now)) }
 {
     if !log.would_write() {
         return;
     }
-    match exchange_line(alloc, number, frame, answer) {
+    match exchange_line(alloc, number, frame, event) {
         Ok(line) => log.write(&line),
         Err(_) => log.fail(),
     }
@@ -77,19 +75,16 @@ fn exchange_line(
     alloc: Global,
     number: u64,
     frame: &Frame,
-    answer: &Result<LineReply, LineFault>,
+    event: &LineEvent,
 ) -> Result<Vec<u8>, AllocError>
-    ensures { IfOk result (λ line. line.items ≡ exchange_line number (frame.now, event_of answer.now)) }
+    ensures { IfOk result (λ line. line.items ≡ exchange_line number (frame.now, event.now)) }
 {
     let mut line = Vec::new(alloc);
     line.extend_from_slice(b"{\"number\":")?;
     line.extend_from_slice(Buffer::new().format(number).as_bytes())?;
     write_text(&mut line, "operation", operation_text(frame))?;
     write_bytes(alloc, &mut line, "frame", frame.as_slice())?;
-    match answer {
-        Ok(reply) => write_bytes(alloc, &mut line, "reply", reply.as_slice())?,
-        Err(LineFault) => line.extend_from_slice(FAILED)?,
-    }
+    write_event(alloc, &mut line, event)?;
     line.extend_from_slice(b"}\n")?;
     Ok(line)
 }

@@ -3,7 +3,6 @@ ghost use Rattle.std.specs.Prelude.{◌≡◌, ◌<◌, ◌≤◌, ◌+◌, true
 ghost use Rattle.rtrb.specs.Ring.{SameConsumer};
 ghost use Rattle.rdm_log.specs.log.LogState.{is_full_log};
 ghost use Rattle.rdm_log.specs.log.MaySend.{NoSend};
-ghost use Rattle.rdm_line.specs.Events.{event_of};
 ghost use Rattle.rdm_lanes.specs.Lines.{Exchanged, SameSwitches, exchange_count};
 ghost use Rattle.rdm_lanes.specs.body.Quiet.{NoExchange, OnlyCollects};
 ghost use Rattle.rdm_lanes.specs.Lanes.{SameLanes, AllHaveLeft};
@@ -18,8 +17,8 @@ use crate::worker::Worker;
 use crate::worker::moving::move_outcomes;
 use crate::worker::operating::operate;
 use crate::worker::serve::serve_call;
-use rdm_join::{LineEvent, LineReply};
-use rdm_line::{Line, LineFault};
+use rdm_join::LineEvent;
+use rdm_line::Line;
 use rdm_queue::{ClientId, LEAST_FREE, LogFull};
 use std::alloc::Global;
 
@@ -130,7 +129,7 @@ impl Worker {
             Err(LogFull) => Attempt::LogFull,
             Ok(None) => Attempt::NothingToSend,
             Ok(Some(frame)) => {
-                let event = event_from(line.exchange(&frame));
+                let event = LineEvent::from(line.exchange(&frame));
                 let _ = self.session.deliver(alloc, event);
                 Attempt::Exchanged
             }
@@ -142,15 +141,5 @@ impl Worker {
         ensures { result ≡ true → AllHaveLeft self.now.lanes.items × (self.now.operator_left ≡ true) }
     {
         self.operator_left && self.lanes.iter().all(|lane| lane.left)
-    }
-}
-
-// The event for an exchange's answer.
-fn event_from(answer: Result<LineReply, LineFault>) -> LineEvent
-    ensures { result ≡ event_of answer }
-{
-    match answer {
-        Ok(reply) => LineEvent::Reply(reply),
-        Err(_) => LineEvent::Failed,
     }
 }

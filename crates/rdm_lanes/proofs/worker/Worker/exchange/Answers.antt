@@ -41,7 +41,7 @@ invariant_of-self-in-Ok-None g c =
 pub invariant_of-self-in-Ok-Some : goal.invariant_of-self-in-Ok-Some
 invariant_of-self-in-Ok-Some g c =
     let me = c.args.self.now in
-    let made = exchange_made me.session c.take.new.self c.deliver.new.self c.in-Ok-Some.frame c.event_from-event.result
+    let made = exchange_made me.session c.take.new.self c.deliver.new.self c.in-Ok-Some.frame c.from-event.result
     c.take.result c.deliver.result (c.in-Ok-Some.is ∙ ap (λ x. Ok x) c.in-Ok-Some.field-0-is) c.take.ensures.adds
     c.deliver.ensures.adds c.take.ensures.legal c.deliver.ensures.legal me.served in
     record {
@@ -56,16 +56,16 @@ invariant_of-self-in-Ok-Some g c =
 pub returns-in-Ok-Some-clause-exchanged : goal.returns-in-Ok-Some-clause-exchanged
 returns-in-Ok-Some-clause-exchanged g c =
     let me = c.args.self.now in
-    let made = exchange_made me.session c.take.new.self c.deliver.new.self c.in-Ok-Some.frame c.event_from-event.result
+    let made = exchange_made me.session c.take.new.self c.deliver.new.self c.in-Ok-Some.frame c.from-event.result
     c.take.result c.deliver.result (c.in-Ok-Some.is ∙ ap (λ x. Ok x) c.in-Ok-Some.field-0-is) c.take.ensures.adds
     c.deliver.ensures.adds c.take.ensures.legal c.deliver.ensures.legal me.served in
     exchanged_one g.X.Line.step c.args.line.now c.exchange.new.self me.session c.deliver.new.self c.in-Ok-Some.frame
-    c.event_from-event.result made (rw c.event_from-event.ensures c.exchange.ensures.step)
+    c.from-event.result made (rw c.from-event.ensures c.exchange.ensures.step)
 
 pub returns-in-Ok-Some-clause-switches : goal.returns-in-Ok-Some-clause-switches
 returns-in-Ok-Some-clause-switches g c =
     let me = c.args.self.now in
-    (exchange_made me.session c.take.new.self c.deliver.new.self c.in-Ok-Some.frame c.event_from-event.result
+    (exchange_made me.session c.take.new.self c.deliver.new.self c.in-Ok-Some.frame c.from-event.result
     c.take.result c.deliver.result (c.in-Ok-Some.is ∙ ap (λ x. Ok x) c.in-Ok-Some.field-0-is) c.take.ensures.adds
     c.deliver.ensures.adds c.take.ensures.legal c.deliver.ensures.legal me.served).switches
 
@@ -74,8 +74,8 @@ returns-in-Ok-Some-clause-one g c =
     let me = c.args.self.now in
     omega (
       arith,
-      one_more me.session c.deliver.new.self c.in-Ok-Some.frame c.event_from-event.result
-          (exchange_made me.session c.take.new.self c.deliver.new.self c.in-Ok-Some.frame c.event_from-event.result
+      one_more me.session c.deliver.new.self c.in-Ok-Some.frame c.from-event.result
+          (exchange_made me.session c.take.new.self c.deliver.new.self c.in-Ok-Some.frame c.from-event.result
           c.take.result c.deliver.result (c.in-Ok-Some.is ∙ ap (λ x. Ok x) c.in-Ok-Some.field-0-is) c.take.ensures.adds
           c.deliver.ensures.adds c.take.ensures.legal c.deliver.ensures.legal me.served),
     )
@@ -83,8 +83,8 @@ returns-in-Ok-Some-clause-one g c =
 pub returns-in-Ok-Some-clause-made : goal.returns-in-Ok-Some-clause-made
 returns-in-Ok-Some-clause-made g c is =
     let me = c.args.self.now in
-    one_more me.session c.deliver.new.self c.in-Ok-Some.frame c.event_from-event.result
-    (exchange_made me.session c.take.new.self c.deliver.new.self c.in-Ok-Some.frame c.event_from-event.result
+    one_more me.session c.deliver.new.self c.in-Ok-Some.frame c.from-event.result
+    (exchange_made me.session c.take.new.self c.deliver.new.self c.in-Ok-Some.frame c.from-event.result
     c.take.result c.deliver.result (c.in-Ok-Some.is ∙ ap (λ x. Ok x) c.in-Ok-Some.field-0-is) c.take.ensures.adds
     c.deliver.ensures.adds c.take.ensures.legal c.deliver.ensures.legal me.served)
 
@@ -101,7 +101,7 @@ returns-in-Err-clause-full g c =
 pub returns-in-Ok-Some-clause-found : goal.returns-in-Ok-Some-clause-found
 returns-in-Ok-Some-clause-found g c =
     let me = c.args.self.now in
-    (exchange_made me.session c.take.new.self c.deliver.new.self c.in-Ok-Some.frame c.event_from-event.result
+    (exchange_made me.session c.take.new.self c.deliver.new.self c.in-Ok-Some.frame c.from-event.result
     c.take.result c.deliver.result (c.in-Ok-Some.is ∙ ap (λ x. Ok x) c.in-Ok-Some.field-0-is) c.take.ensures.adds
     c.deliver.ensures.adds c.take.ensures.legal c.deliver.ensures.legal me.served).found
 

@@ -9,10 +9,10 @@ turns-preserved g c =
     let was = c.args.exchanges.now.items in
     elim c.match-turn.branch [
       | in-Exchange w ↦
-          let x : Exchange = record { frame = w.in-Exchange.frame; event = w.exchanged-event.result } in
+          let x : Exchange = record { frame = w.in-Exchange.frame; event = w.from-event.result } in
           rw (w.line-is, w.exchanges-is, w.push_reserved.ensures.items, c.reserve.ensures.items)
           (records_more _ step c.args.line.now was c.turns.line c.turns.exchanges.items c.turns._turn x
-          w.exchanged-event.new.line c.turns.invariant w.exchanged-event.ensures)
+          w.exchange.new.self c.turns.invariant (rw w.from-event.ensures w.exchange.ensures.step))
       | in-Nothing w ↦
           rw (w.line-is, w.exchanges-is, c.reserve.ensures.items)
           (records_later _ step c.args.line.now was c.turns.line c.turns.exchanges.items c.turns._turn
