@@ -1,27 +1,17 @@
 -- What collects leave as it is.
-use Rattle.std.proofs.Common.{◌≡◌, ℕ, true, false, true≢false, List, [], ◌∷◌, ◌++◌, None, refl, sym, ap, ◌∙◌, subst}
-use Rattle.std.proofs.Common.{inl, inr, append-nil, append_assoc, arith}
-use Rattle.std.specs.Prelude.{nat_lt}
-use Rattle.std.specs.List.{AllByRecursion}
-use Rattle.arrayvec.specs.ArrayVec.{ArrayVec}
-use Rattle.rdm_agent.specs.declared.search.Search.{Search}
-use Rattle.rdm_wire.specs.Lists.{EachAfter}
-use Rattle.rdm_log.specs.declared.entry.ClientId.{ClientId}
-use Rattle.rdm_log.specs.declared.entry.Opening.{Opening}
+use Rattle.rdm_lanes.proofs.Common.{◌≡◌, ℕ, true, false, true≢false, List, [], ◌∷◌, ◌++◌, None, refl, sym, ap, ◌∙◌}
+use Rattle.rdm_lanes.proofs.Common.{subst, inl, inr, append-nil, append_assoc, arith, nat_lt, AllByRecursion, ArrayVec}
+use Rattle.rdm_lanes.proofs.Common.{Search, EachAfter, ClientId, Opening, Entry, Join, Send, Came, Finish, Answer}
+use Rattle.rdm_lanes.proofs.Common.{Collect, Pause, Resume, Close, join_of, answered_of, NoSend, MayBegin, Legal}
+use Rattle.rdm_lanes.proofs.Common.{MayFollow, LogState, is_full_log, free_entries, sends_same, answered_same}
+use Rattle.rdm_lanes.proofs.Common.{awaited-push, is_closed-push, is_paused-push, last_run_same, NoExchange}
+use Rattle.rdm_lanes.proofs.Common.{OnlyCollects, SameSwitches}
 use Rattle.rdm_log.specs.declared.entry.Owner.TheVariants as owners
-use Rattle.rdm_log.specs.declared.entry.Entry.{Entry}
-use Rattle.rdm_log.specs.declared.entry.Entry.TheVariants.{Join, Send, Came, Finish, Answer, Collect, Pause, Resume}
-use Rattle.rdm_log.specs.declared.entry.Entry.TheVariants.{Close}
-use Rattle.rdm_log.specs.log.Entries.{join_of, answered_of}
-use Rattle.rdm_log.specs.log.MaySend.{NoSend, MaySendRequest, MayBegin, MaySendRun}
-use Rattle.rdm_log.specs.log.Legal.{Legal, MayFollow}
-use Rattle.rdm_log.specs.log.LogState.{LogState, is_full_log, free_entries}
-use Rattle.rdm_log.proofs.LogLemmas.PushLemmas.{accepts_same, asks_same, sends_same, finishes_same, answered_same}
-use Rattle.rdm_log.proofs.LogLemmas.PushLemmas.{awaited-push, is_closed-push, is_paused-push}
-use Rattle.rdm_log.proofs.LogLemmas.RunLemmas.{open_run_same, last_run_same, asked_before_same}
+use Rattle.rdm_log.specs.log.MaySend.{MaySendRequest, MaySendRun}
+use Rattle.rdm_log.proofs.LogLemmas.PushLemmas.{accepts_same, asks_same, finishes_same}
+use Rattle.rdm_log.proofs.LogLemmas.RunLemmas.{open_run_same, asked_before_same}
 use Rattle.rdm_log.proofs.LogLemmas.RoomLemmas.{added, added_by, used_block}
-use Rattle.rdm_lanes.specs.body.Quiet.{NoExchange, OnlyCollects, is_collect}
-use Rattle.rdm_lanes.specs.Lines.{SameSwitches}
+use Rattle.rdm_lanes.specs.body.Quiet.{is_collect}
 use Rattle.rdm_lanes.proofs.ListLemmas.{all_follow}
 use Rattle.rdm_lanes.proofs.FoundLemmas.{quiet_views}
 use Rattle.rdm_lanes.proofs.LineLemmas.{is_off_line, is_switch, line_off, switches_stay, grown_join, grown_same}

@@ -1,41 +1,23 @@
 -- How a client's lane agrees with the log, once its oldest outcome was collected.
-use Rattle.std.proofs.Common.{◌≡◌, ℕ, ◌+◌, ◌-◌, ◌≤◌, true, List, [], ◌∷◌, ◌++◌, map, length, take, drop, Option, Some}
-use Rattle.std.proofs.Common.{refl, sym, ap, ◌∙◌, subst, slice_get, length-append, append-nil, append_assoc, arith}
-use Rattle.std.specs.List.{list_any}
-use Rattle.std.proofs.lemmas.Bool.{eq-eqb}
-use Rattle.std.proofs.lemmas.Option.{slice_get_within, get_or_from_slice_get}
-use Rattle.std.proofs.lemmas.List.{map-append, take_more}
+use Rattle.rdm_lanes.proofs.Common.{◌≡◌, ℕ, ◌+◌, ◌-◌, ◌≤◌, true, List, [], ◌∷◌, ◌++◌, map, length, take, drop, Option}
+use Rattle.rdm_lanes.proofs.Common.{Some, refl, sym, ap, ◌∙◌, subst, slice_get, length-append, append-nil, append_assoc}
+use Rattle.rdm_lanes.proofs.Common.{arith, list_any, eq-eqb, slice_get_within, get_or_from_slice_get, map-append}
+use Rattle.rdm_lanes.proofs.Common.{take_more, Search, EachAfter, ClientId, Call, Opening, Entry, Join, Refuse, Accept}
+use Rattle.rdm_lanes.proofs.Common.{Ask, Send, Came, Finish, Answer, Collect, Pause, Resume, Close, AskCompletion, asks}
+use Rattle.rdm_lanes.proofs.Common.{finishes, answers, collectors, accepts_by, asks_by, answers_to, collects_by}
+use Rattle.rdm_lanes.proofs.Common.{collected, uncollected, outstanding_requests, outstanding_discoveries, LogState}
+use Rattle.rdm_lanes.proofs.Common.{grown, Legal, MayFollow, GrowsBy, CollectAdds, OutcomeValue, Discovered, outcome_of}
+use Rattle.rdm_lanes.proofs.Common.{outcome_value, refused_outcome, DiscoveryValue, finishes-append, answered-append}
+use Rattle.rdm_lanes.proofs.Common.{ClientCall, RingOutcome, Lane, work_in, uncollected_values, values_in, value_in}
+use Rattle.rdm_lanes.proofs.Common.{Fits, is_leave}
 use Rattle.rtrb.specs.Ring.{sent as pushed}
-use Rattle.rdm_agent.specs.declared.search.Search.{Search}
-use Rattle.rdm_wire.specs.Lists.{EachAfter}
-use Rattle.rdm_log.specs.declared.entry.ClientId.{ClientId}
-use Rattle.rdm_log.specs.declared.entry.Call.{Call}
 use Rattle.rdm_log.specs.declared.entry.Call.TheVariants as calls
-use Rattle.rdm_log.specs.declared.entry.Opening.{Opening}
-use Rattle.rdm_log.specs.declared.entry.Entry.{Entry}
-use Rattle.rdm_log.specs.declared.entry.Entry.TheVariants.{Join, Refuse, Accept, Ask, Send, Came, Finish, Answer}
-use Rattle.rdm_log.specs.declared.entry.Entry.TheVariants.{Collect, Pause, Resume, Close}
 use Rattle.rdm_log.specs.declared.outcome.Completion.{Completion}
-use Rattle.rdm_log.specs.declared.outcome.AskCompletion.{AskCompletion}
 use Rattle.rdm_log.specs.declared.outcome.Outcome.TheVariants as outcomes
 use Rattle.rdm_join.specs.Result.{Joined}
-use Rattle.rdm_log.specs.log.Entries.{asks, finishes, answers, collectors}
-use Rattle.rdm_log.specs.log.Clients.{accepts_by, asks_by, answers_to, collects_by, collected, uncollected}
-use Rattle.rdm_log.specs.log.Clients.{outstanding_requests, outstanding_discoveries}
-use Rattle.rdm_log.specs.log.LogState.{LogState, grown}
-use Rattle.rdm_log.specs.log.Legal.{Legal, MayFollow}
-use Rattle.rdm_log.specs.promises.Blocks.{GrowsBy, CollectAdds}
-use Rattle.rdm_log.specs.promises.Outcomes.{OutcomeValue, Discovered, completion_value, discovered, outcome_of}
-use Rattle.rdm_log.specs.promises.Outcomes.{outcome_value, refused_outcome}
-use Rattle.rdm_log.specs.promises.Outcomes.OutcomeValue.{RequestValue, DiscoveryValue}
-use Rattle.rdm_log.proofs.LogLemmas.PushLemmas.{finishes-append, answered-append}
+use Rattle.rdm_log.specs.promises.Outcomes.{completion_value, discovered}
+use Rattle.rdm_log.specs.promises.Outcomes.OutcomeValue.{RequestValue}
 use Rattle.rdm_log.proofs.LogLemmas.Indices.{slice_get-drop}
-use Rattle.rdm_lanes.specs.declared.call.ClientCall.{ClientCall}
-use Rattle.rdm_lanes.specs.declared.ring_outcome.RingOutcome.{RingOutcome}
-use Rattle.rdm_lanes.specs.declared.worker.lane.Lane.{Lane}
-use Rattle.rdm_lanes.specs.Calls.{work_in}
-use Rattle.rdm_lanes.specs.Told.{uncollected_values, values_in, value_in}
-use Rattle.rdm_lanes.specs.Lanes.{Fits, is_leave}
 use Rattle.rdm_lanes.proofs.Counting.{value_more}
 use Rattle.rdm_lanes.proofs.LineLemmas.{is_quiet}
 use Rattle.rdm_lanes.proofs.GrowthLemmas.{to_values, values_stay, answers_split, accepts_by_split, asks_by_split}

@@ -1,26 +1,14 @@
 -- How a client counts what it sends and gets.
-use Rattle.std.proofs.Common.{◌≡◌, ℕ, ◌+◌, ◌<◌, Bool, true, false, List, [], ◌∷◌, ◌++◌, length, drop, refl, sym, ap}
-use Rattle.std.proofs.Common.{◌∙◌, length-append, append-nil, arith}
-use Rattle.std.specs.Prelude.{filter}
-use Rattle.std.proofs.lemmas.List.Elements.{filter-append}
-use Rattle.std.proofs.lemmas.List.{length-map, map-append}
-use Rattle.std.specs.declared.alloc.Global.{Global}
-use Rattle.rtrb.specs.declared.producer.Producer.{Producer}
-use Rattle.rtrb.specs.declared.consumer.Consumer.{Consumer}
+use Rattle.rdm_lanes.proofs.Common.{◌≡◌, ℕ, ◌+◌, ◌<◌, Bool, true, false, List, [], ◌∷◌, ◌++◌, length, drop, refl, sym}
+use Rattle.rdm_lanes.proofs.Common.{ap, ◌∙◌, length-append, append-nil, arith, filter, filter-append, length-map}
+use Rattle.rdm_lanes.proofs.Common.{map-append, Global, Producer, Consumer, ClientCall, Request, Kind, OutcomeValue}
+use Rattle.rdm_lanes.proofs.Common.{Held, Submit, Discover, Leave, RingOutcome, Discovery, HoldsForRequest}
+use Rattle.rdm_lanes.proofs.Common.{HoldsForDiscovery, is_work, work_in, value_in, values_in, IsCounted}
 use Rattle.rtrb.specs.Ring.{sent as pushed}
-use Rattle.rdm_lanes.specs.declared.call.ClientCall.{ClientCall}
-use Rattle.rdm_wire.specs.declared.request.Request.{Request}
-use Rattle.rdm_agent.specs.declared.kind.Kind.{Kind}
-use Rattle.rdm_log.specs.promises.Outcomes.{OutcomeValue}
-use Rattle.rdm_client.specs.Desks.{Held, without_oldest}
-use Rattle.rdm_lanes.specs.declared.call.ClientCall.TheVariants.{Submit, Discover, Leave}
-use Rattle.rdm_lanes.specs.declared.ring_outcome.RingOutcome.{RingOutcome}
-use Rattle.rdm_lanes.specs.declared.ring_outcome.RingOutcome.TheVariants.{Request as RequestDone, Discovery}
+use Rattle.rdm_client.specs.Desks.{without_oldest}
+use Rattle.rdm_lanes.specs.declared.ring_outcome.RingOutcome.TheVariants.{Request as RequestDone}
 use Rattle.rdm_lanes.specs.Callbacks.{is_submit, is_discover, is_of_request, is_of_discovery, HoldsItsOwn}
-use Rattle.rdm_lanes.specs.body.Holding.{HoldsForRequest, HoldsForDiscovery}
-use Rattle.rdm_lanes.specs.Calls.{is_work, work_in}
-use Rattle.rdm_lanes.specs.Told.{value_in, values_in, outcome_in}
-use Rattle.rdm_lanes.specs.body.Counts.{IsCounted}
+use Rattle.rdm_lanes.specs.Told.{outcome_in}
 
 -- an item more in a ring
 pub work_more : (xs : List ClientCall) (x : ClientCall) → is_work x ≡ true

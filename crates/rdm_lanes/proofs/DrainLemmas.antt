@@ -1,14 +1,6 @@
 -- A log whose entries were handed out says what it said.
-use Rattle.std.proofs.Common.{◌≡◌, ◌∙◌, ap, List, [], ◌++◌}
-use Rattle.rdm_log.specs.declared.entry.Opening.{Opening}
-use Rattle.rdm_log.specs.declared.entry.Entry.{Entry}
-use Rattle.rdm_log.specs.log.LogState.{LogState}
-use Rattle.rdm_lanes.specs.declared.call.OperatorCall.{OperatorCall}
-use Rattle.rdm_lanes.specs.declared.worker.lane.Lane.{Lane}
-use Rattle.rdm_lanes.specs.Lines.{IsBetweenTurns}
-use Rattle.rdm_lanes.specs.Lanes.{Fits, AllFit}
-use Rattle.rdm_lanes.specs.body.Operated.{IsOperated}
-use Rattle.rdm_lanes.specs.body.Showing.{Publishing, Publishes}
+use Rattle.rdm_lanes.proofs.Common.{◌≡◌, List, LogState, OperatorCall, Lane}
+use Rattle.rdm_lanes.proofs.Common.{IsBetweenTurns, Fits, AllFit, IsOperated, Publishing, Publishes}
 
 -- the same opening and the same entries
 pub record SameHistory (old new : LogState) : Type 0 where

@@ -1,27 +1,16 @@
 -- How both ends of each client's rings are compared, one client after the other.
-use Rattle.std.proofs.Common.{◌≡◌, ◌≢◌, ℕ, zero, suc, ◌+◌, ◌-◌, ◌<◌, ◌≤◌, Bool, true, false, true≢false, List, [], ◌∷◌}
-use Rattle.std.proofs.Common.{◌++◌, map, length, drop, Some, None, refl, sym, ap, ◌∙◌, slice_get, inl, inr, ⊎_elim}
-use Rattle.std.proofs.Common.{append-nil, length-append, arith}
-use Rattle.std.specs.Prelude.{◌||◌, slice_set}
-use Rattle.std.specs.List.{list_any, AllByRecursion}
-use Rattle.std.proofs.lemmas.Bool.{cases_lt}
-use Rattle.std.proofs.lemmas.Option.{slice_get_within, get_or_from_slice_get}
-use Rattle.std.proofs.lemmas.List.{length-set, length-map, map-append}
-use Rattle.std.proofs.lemmas.List.Elements.{filter-append}
-use Rattle.rtrb.specs.Ring.{sent as pushed, received as popped, known_items}
-use Rattle.rdm_log.specs.log.LogState.{LogState}
-use Rattle.rdm_lanes.specs.declared.views.history.ViewHistory.{Ghosts}
-use Rattle.rdm_lanes.specs.declared.call.ClientCall.{ClientCall}
-use Rattle.rdm_lanes.specs.declared.call.ClientCall.TheVariants.{Submit, Discover, Leave}
-use Rattle.rdm_lanes.specs.declared.ring_outcome.RingOutcome.{RingOutcome}
-use Rattle.rdm_lanes.specs.declared.worker.lane.Lane.{Lane}
-use Rattle.rdm_lanes.specs.declared.client.ends.ClientEnd.{ClientEnd}
-use Rattle.rdm_lanes.specs.Calls.{is_work, work_in}
+use Rattle.rdm_lanes.proofs.Common.{◌≡◌, ◌≢◌, ℕ, zero, suc, ◌+◌, ◌-◌, ◌<◌, ◌≤◌, Bool, true, false, true≢false, List, []}
+use Rattle.rdm_lanes.proofs.Common.{◌∷◌, ◌++◌, map, length, drop, Some, None, refl, sym, ap, ◌∙◌, slice_get, inl, inr}
+use Rattle.rdm_lanes.proofs.Common.{⊎_elim, append-nil, length-append, arith, ◌||◌, slice_set, list_any, AllByRecursion}
+use Rattle.rdm_lanes.proofs.Common.{cases_lt, slice_get_within, get_or_from_slice_get, length-set, length-map}
+use Rattle.rdm_lanes.proofs.Common.{map-append, filter-append, known_items, LogState, Ghosts, ClientCall, Submit}
+use Rattle.rdm_lanes.proofs.Common.{Discover, Leave, RingOutcome, Lane, ClientEnd, is_work, work_in, value_in}
+use Rattle.rdm_lanes.proofs.Common.{values_in, ArePair, Fits, AllFit, is_leave, end_rings, PairUp, Agrees, AllAgree}
+use Rattle.rdm_lanes.proofs.Common.{AllShowSame}
+use Rattle.rtrb.specs.Ring.{sent as pushed, received as popped}
 use Rattle.rdm_lanes.specs.body.Leaves.{leave_if}
-use Rattle.rdm_lanes.specs.Told.{value_in, values_in}
-use Rattle.rdm_lanes.specs.Pairs.{ArePair}
-use Rattle.rdm_lanes.specs.Lanes.{Fits, AllFit, AllHaveLeft, is_leave}
-use Rattle.rdm_lanes.specs.Ends.{end_rings, left_in, PairUp, Agrees, AllAgree, AllRead, ShowsSame, AllShowSame}
+use Rattle.rdm_lanes.specs.Lanes.{AllHaveLeft}
+use Rattle.rdm_lanes.specs.Ends.{left_in, AllRead, ShowsSame}
 use Rattle.rdm_lanes.proofs.LaneLemmas.{get-set}
 
 work_parts : (xs ys : List ClientCall) → work_in (xs ++ ys) ≡ work_in xs ++ work_in ys

@@ -1,29 +1,14 @@
 -- An exchange with the line: a frame is taken, and what came is delivered.
-use Rattle.std.proofs.Common.{◌≡◌, ℕ, ◌+◌, true, false, true≢false, List, [], ◌∷◌, ◌++◌, length, Option, Some, None}
-use Rattle.std.proofs.Common.{Result, Ok, Err, refl, sym, ap, ◌∙◌, subst, length-append, append-nil, append_assoc}
-use Rattle.arrayvec.specs.ArrayVec.{ArrayVec}
-use Rattle.rdm_wire.specs.Lists.{EachAfter}
-use Rattle.rdm_join.specs.declared.event.LineEvent.{LineEvent}
-use Rattle.rdm_line.specs.Events.{Exchange, Makes}
-use Rattle.rdm_log.specs.declared.entry.Owner.{Owner}
-use Rattle.rdm_log.specs.declared.entry.Entry.{Entry}
-use Rattle.rdm_log.specs.declared.entry.Entry.TheVariants.{Send, Came}
-use Rattle.rdm_log.specs.declared.fault.LogFull.{LogFull}
+use Rattle.rdm_lanes.proofs.Common.{◌≡◌, ℕ, ◌+◌, true, false, true≢false, List, [], ◌∷◌, ◌++◌, length, Option, Some}
+use Rattle.rdm_lanes.proofs.Common.{None, Result, Ok, Err, refl, sym, ap, ◌∙◌, subst, length-append, append-nil}
+use Rattle.rdm_lanes.proofs.Common.{append_assoc, ArrayVec, EachAfter, LineEvent, Exchange, Makes, Owner, Entry, Send}
+use Rattle.rdm_lanes.proofs.Common.{Came, LogFull, sends, cames, joins, exchanges, awaited, LogState, grown}
+use Rattle.rdm_lanes.proofs.Common.{is_full_log, NoSend, Legal, MayFollow, GrowsBy, AllResults, front, awaited-push}
+use Rattle.rdm_lanes.proofs.Common.{legal_facts, exchange_count, Exchanged, SameSwitches, NoCallLost, IsBetweenTurns}
+use Rattle.rdm_lanes.proofs.Common.{NoExchange, IsOnlyTold, views_found, GainOneAtMost}
 use Rattle.rdm_log.specs.declared.fault.NotAsked.{NotAsked}
-use Rattle.rdm_log.specs.log.Entries.{sends, cames, joins, exchanges}
-use Rattle.rdm_log.specs.log.History.{awaited}
-use Rattle.rdm_log.specs.log.LogState.{LogState, grown, is_full_log}
-use Rattle.rdm_log.specs.log.MaySend.{NoSend}
-use Rattle.rdm_log.specs.log.Legal.{Legal, MayFollow}
-use Rattle.rdm_log.specs.promises.Blocks.{GrowsBy, TakeLogs, DeliverAdds, AllResults}
-use Rattle.rdm_log.proofs.LogLemmas.Grows.{front}
-use Rattle.rdm_log.proofs.LogLemmas.PushLemmas.{awaited-push}
-use Rattle.rdm_log.proofs.LogLemmas.LegalFacts.{legal_facts, sent_evenly}
-use Rattle.rdm_lanes.specs.Lines.{exchange_count, Exchanged, SameSwitches, NoCallLost, IsBetweenTurns}
-use Rattle.rdm_lanes.specs.body.Quiet.{NoExchange}
-use Rattle.rdm_lanes.specs.body.Serving.{IsOnlyTold}
-use Rattle.rdm_lanes.specs.Views.{views_found}
-use Rattle.rdm_lanes.specs.body.Gains.{GainOneAtMost}
+use Rattle.rdm_log.specs.promises.Blocks.{TakeLogs, DeliverAdds}
+use Rattle.rdm_log.proofs.LogLemmas.LegalFacts.{sent_evenly}
 use Rattle.rdm_lanes.proofs.FoundLemmas.{exchange_views}
 use Rattle.rdm_lanes.proofs.LaneLemmas.{waits, waits_join}
 use Rattle.rdm_lanes.proofs.LineLemmas.{traded_one, exchanges_off, results_off, results_no_join, results_no_switch}

@@ -1,33 +1,14 @@
 -- A run's view is published before its outcomes are moved.
-use Rattle.std.proofs.Common.{◌≡◌, ℕ, zero, suc, ◌≤◌, Bool, true, false, List, [], ◌∷◌, ◌++◌, length, map, fold, Option}
-use Rattle.std.proofs.Common.{Some, None, refl, sym, ap, ◌∙◌, subst, slice_get, inl, inr, append_assoc, length-append}
-use Rattle.std.proofs.Common.{arith}
-use Rattle.std.specs.Prelude.{◌⊎◌, if◌then◌else◌}
-use Rattle.std.proofs.lemmas.Bool.{cases_Bool}
-use Rattle.std.proofs.lemmas.Option.{none-some, slice_get_within}
-use Rattle.rtrb.specs.Ring.{sent as pushed, known_items}
-use Rattle.rdm_agent.specs.declared.fault.AgentFault.{AgentFault}
-use Rattle.rdm_client.specs.declared.view.DeviceView.{DeviceView}
-use Rattle.rdm_log.specs.declared.entry.Entry.{Entry}
-use Rattle.rdm_log.specs.declared.entry.Entry.TheVariants.{Answer}
-use Rattle.rdm_log.specs.log.Entries.{Answered, answers}
-use Rattle.rdm_log.specs.log.LogState.{LogState}
-use Rattle.rdm_log.specs.promises.Outcomes.{OutcomeValue, Discovered, never_begun}
-use Rattle.rdm_log.specs.promises.Outcomes.OutcomeValue.{DiscoveryValue}
-use Rattle.rdm_log.proofs.LogLemmas.Indices.{slice_get-append_left}
-use Rattle.rdm_log.proofs.LogLemmas.PushLemmas.{answered-append, answered_more}
-use Rattle.rdm_lanes.specs.declared.views.history.ViewHistory.{Ghosts}
-use Rattle.rdm_lanes.specs.declared.client.RingClient.{RingClient}
-use Rattle.rdm_lanes.specs.declared.client.ends.ClientEnd.{ClientEnd}
-use Rattle.rdm_lanes.specs.declared.worker.lane.Lane.{Lane}
-use Rattle.rdm_lanes.specs.declared.ring_outcome.RingOutcome.{RingOutcome}
-use Rattle.rdm_lanes.specs.Told.{values_in, uncollected_values}
-use Rattle.rdm_lanes.specs.Lanes.{AllFit}
-use Rattle.rdm_lanes.specs.Ends.{end_got, AllAgree}
-use Rattle.rdm_lanes.specs.body.Opening.{AreNewWith}
-use Rattle.rdm_lanes.specs.Views.{last_view_run, last_number, is_last, with_run, with_found, runs_found, view_of}
-use Rattle.rdm_lanes.specs.Views.{all_views}
-use Rattle.rdm_lanes.specs.body.Showing.{NoneLater, AreShownFirst}
+use Rattle.rdm_lanes.proofs.Common.{◌≡◌, ℕ, zero, suc, ◌≤◌, Bool, true, false, List, [], ◌∷◌, ◌++◌, length, map, fold}
+use Rattle.rdm_lanes.proofs.Common.{Option, Some, None, refl, sym, ap, ◌∙◌, subst, slice_get, inl, inr, append_assoc}
+use Rattle.rdm_lanes.proofs.Common.{length-append, arith, ◌⊎◌, if◌then◌else◌, cases_Bool, none-some, slice_get_within}
+use Rattle.rdm_lanes.proofs.Common.{known_items, AgentFault, DeviceView, Entry, Answer, Answered, answers, LogState}
+use Rattle.rdm_lanes.proofs.Common.{OutcomeValue, Discovered, never_begun, DiscoveryValue, slice_get-append_left}
+use Rattle.rdm_lanes.proofs.Common.{answered-append, answered_more, Ghosts, RingClient, ClientEnd, Lane, RingOutcome}
+use Rattle.rdm_lanes.proofs.Common.{values_in, uncollected_values, AllFit, end_got, AllAgree, AreNewWith, last_view_run}
+use Rattle.rdm_lanes.proofs.Common.{last_number, is_last, with_run, with_found, runs_found, view_of, all_views}
+use Rattle.rdm_lanes.proofs.Common.{NoneLater, AreShownFirst}
+use Rattle.rtrb.specs.Ring.{sent as pushed}
 use Rattle.rdm_lanes.specs.ViewsRead.{AllShownFirst}
 use Rattle.rdm_lanes.proofs.EndLemmas.{get_map, within_get}
 use Rattle.rdm_lanes.proofs.FoundLemmas.{is_last_true, adds_found}

@@ -1,50 +1,29 @@
 -- How the lane of the client that is served agrees with the log, once its call was made.
-use Rattle.std.proofs.Common.{◌≡◌, ℕ, zero, suc, add-one, ◌+◌, ◌<◌, ◌≤◌, Bool, true, false, true≢false, cond, List, []}
-use Rattle.std.proofs.Common.{◌∷◌, ◌++◌, map, length, take, drop, Option, Some, None, refl, sym, ap, ◌∙◌, subst}
-use Rattle.std.proofs.Common.{slice_get, length-append, append-nil, arith, filter_map, Result, Ok, Err}
-use Rattle.std.specs.Prelude.{filter, ◌==◌, ◌||◌, nat_le, slice_index, if◌then◌else◌, MatchBool}
-use Rattle.std.specs.List.{list_any}
-use Rattle.std.proofs.lemmas.Bool.{eq-eqb}
-use Rattle.std.proofs.lemmas.List.{map-append, take-append-drop}
-use Rattle.std.proofs.lemmas.List.Elements.{filter_map-append}
+use Rattle.rdm_lanes.proofs.Common.{◌≡◌, ℕ, zero, suc, add-one, ◌+◌, ◌<◌, ◌≤◌, Bool, true, false, true≢false, cond}
+use Rattle.rdm_lanes.proofs.Common.{List, [], ◌∷◌, ◌++◌, map, length, take, drop, Option, Some, None, refl, sym, ap}
+use Rattle.rdm_lanes.proofs.Common.{◌∙◌, subst, slice_get, length-append, append-nil, arith, filter_map, Result, Ok}
+use Rattle.rdm_lanes.proofs.Common.{Err, filter, ◌==◌, ◌||◌, nat_le, slice_index, if◌then◌else◌, MatchBool, list_any}
+use Rattle.rdm_lanes.proofs.Common.{eq-eqb, map-append, filter_map-append, Search, EachAfter, Request, Kind, ClientId}
+use Rattle.rdm_lanes.proofs.Common.{Call, Cause, Opening, Entry, Refuse, Accept, Ask, Finish, Answer, accepts, asks}
+use Rattle.rdm_lanes.proofs.Common.{finishes, answers, collectors, collector_of, accepts_by, asks_by, is_answer_to}
+use Rattle.rdm_lanes.proofs.Common.{answers_to, collects_by, collected, uncollected, outstanding_requests}
+use Rattle.rdm_lanes.proofs.Common.{outstanding_discoveries, SubmitFault, AskFault, is_closed, places, next_request}
+use Rattle.rdm_lanes.proofs.Common.{next_ask, submit_fault_at, ask_fault_at, LogState, grown, is_full_log, Legal}
+use Rattle.rdm_lanes.proofs.Common.{MayFollow, GrowsBy, UnlessFull, SubmitLogs, SubmitAdds, DiscoverLogs, DiscoverAdds}
+use Rattle.rdm_lanes.proofs.Common.{OutcomeValue, outcome_of, is_closed_refusal, refused_outcome, closed_number, front}
+use Rattle.rdm_lanes.proofs.Common.{finishes-append, answered-append, client_facts, ClientCall, Submit, Discover}
+use Rattle.rdm_lanes.proofs.Common.{RingOutcome, Lane, call_by, calls_by, work_in, told_values, uncollected_values}
+use Rattle.rdm_lanes.proofs.Common.{values_in, value_in, FitsBut, Fits, is_leave, HasRefusalSlot, MayMake}
+use Rattle.std.proofs.lemmas.List.{take-append-drop}
 use Rattle.rtrb.specs.Ring.{sent as pushed, received as popped}
-use Rattle.rdm_agent.specs.declared.search.Search.{Search}
-use Rattle.rdm_wire.specs.Lists.{EachAfter}
-use Rattle.rdm_wire.specs.declared.request.Request.{Request}
-use Rattle.rdm_agent.specs.declared.kind.Kind.{Kind}
-use Rattle.rdm_log.specs.declared.entry.ClientId.{ClientId}
-use Rattle.rdm_log.specs.declared.entry.Call.{Call}
 use Rattle.rdm_log.specs.declared.entry.Call.TheVariants as calls
-use Rattle.rdm_log.specs.declared.entry.Cause.{Cause}
-use Rattle.rdm_log.specs.declared.entry.Opening.{Opening}
-use Rattle.rdm_log.specs.declared.entry.Entry.{Entry}
-use Rattle.rdm_log.specs.declared.entry.Entry.TheVariants.{Refuse, Accept, Ask, Finish, Answer}
-use Rattle.rdm_log.specs.log.Entries.{accepted_of, asked_of, accepts, asks, finishes, answers, collectors, collector_of}
-use Rattle.rdm_log.specs.log.Clients.{accepts_by, asks_by, is_answer_to, answers_to, collects_by, collected}
-use Rattle.rdm_log.specs.log.Clients.{uncollected, outstanding_requests, outstanding_discoveries}
-use Rattle.rdm_log.specs.declared.fault.SubmitFault.{SubmitFault}
+use Rattle.rdm_log.specs.log.Entries.{accepted_of, asked_of}
 use Rattle.rdm_log.specs.declared.fault.SubmitFault.TheVariants as submit_faults
-use Rattle.rdm_log.specs.declared.fault.AskFault.{AskFault}
 use Rattle.rdm_log.specs.declared.fault.AskFault.TheVariants as ask_faults
-use Rattle.rdm_log.specs.log.History.{is_closed, places, next_request, next_ask}
-use Rattle.rdm_log.specs.log.Refusals.{submit_fault_at, ask_fault_at}
-use Rattle.rdm_log.specs.log.LogState.{LogState, grown, is_full_log}
-use Rattle.rdm_log.specs.log.Legal.{Legal, MayFollow}
-use Rattle.rdm_log.specs.promises.Blocks.{GrowsBy, UnlessFull, SubmitLogs, SubmitAdds, DiscoverLogs, DiscoverAdds}
 use Rattle.rdm_log.specs.promises.Blocks.{submit_refused, ask_refused}
-use Rattle.rdm_log.specs.promises.Outcomes.{OutcomeValue, outcome_of, is_closed_refusal, refused_outcome, closed_number}
-use Rattle.rdm_log.proofs.LogLemmas.Grows.{front}
-use Rattle.rdm_log.proofs.LogLemmas.PushLemmas.{finishes-append, answered-append}
-use Rattle.rdm_log.proofs.LogLemmas.ClientFacts.{client_facts}
-use Rattle.rdm_lanes.specs.declared.call.ClientCall.{ClientCall}
-use Rattle.rdm_lanes.specs.declared.call.ClientCall.TheVariants.{Submit, Discover}
-use Rattle.rdm_lanes.specs.declared.ring_outcome.RingOutcome.{RingOutcome}
-use Rattle.rdm_lanes.specs.declared.worker.lane.Lane.{Lane}
-use Rattle.rdm_lanes.specs.Calls.{call_by, calls_by, refused_call, work_in}
-use Rattle.rdm_lanes.specs.Told.{told_values, uncollected_values, values_in, value_in}
-use Rattle.rdm_lanes.specs.Lanes.{FitsBut, Fits, is_leave}
-use Rattle.rdm_lanes.specs.body.Serving.{HasRefusalSlot, MayMake, FitsSubmitAnswer, FitsDiscoverAnswer, AfterSubmit}
-use Rattle.rdm_lanes.specs.body.Serving.{AfterSubmitFault, AfterDiscover, AfterAskFault}
+use Rattle.rdm_lanes.specs.Calls.{refused_call}
+use Rattle.rdm_lanes.specs.body.Serving.{FitsSubmitAnswer, FitsDiscoverAnswer, AfterSubmit, AfterSubmitFault}
+use Rattle.rdm_lanes.specs.body.Serving.{AfterDiscover, AfterAskFault}
 use Rattle.rdm_lanes.proofs.Counting.{value_more}
 use Rattle.rdm_lanes.proofs.LineLemmas.{is_quiet}
 use Rattle.rdm_lanes.proofs.GrowthLemmas.{tells, told_grows, uncollected_grows, collected_same, accepts_by_split}

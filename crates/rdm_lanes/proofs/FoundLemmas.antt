@@ -1,51 +1,34 @@
 -- The views of a log: how they go on as it grows.
-use Rattle.std.proofs.Common.{◌≡◌, ℕ, zero, suc, ◌+◌, ◌<◌, Bool, true, false, List, [], ◌∷◌, ◌++◌, length, map, fold}
-use Rattle.std.proofs.Common.{Option, Some, None, slice_get, refl, sym, ap, ◌∙◌, subst, inl, inr, append-nil}
-use Rattle.std.proofs.Common.{append_assoc, length-append, arith}
-use Rattle.std.specs.Prelude.{◌⊎◌, ◌≢◌, ◌==◌, if◌then◌else◌}
-use Rattle.std.specs.List.{AllByRecursion, list_any}
-use Rattle.std.proofs.lemmas.List.{map-append}
-use Rattle.std.proofs.lemmas.Grind.{fold-append}
+use Rattle.rdm_lanes.proofs.Common.{◌≡◌, ℕ, zero, suc, ◌+◌, ◌<◌, Bool, true, false, List, [], ◌∷◌, ◌++◌, length, map}
+use Rattle.rdm_lanes.proofs.Common.{fold, Option, Some, None, slice_get, refl, sym, ap, ◌∙◌, subst, inl, inr}
+use Rattle.rdm_lanes.proofs.Common.{append-nil, append_assoc, length-append, arith, ◌⊎◌, ◌≢◌, ◌==◌, if◌then◌else◌}
+use Rattle.rdm_lanes.proofs.Common.{AllByRecursion, list_any, map-append, fold-append, cases_Bool, eqb-true, eq-eqb}
+use Rattle.rdm_lanes.proofs.Common.{none-some, same_Some, ArrayVec, EachAfter, uids_of, AgentFault, DeviceView}
+use Rattle.rdm_lanes.proofs.Common.{LineEvent, Opening, Owner, Entry, Send, Came, Finish, Answer, Close, AskedDiscovery}
+use Rattle.rdm_lanes.proofs.Common.{Answered, answered_of, answers, known_devices, devices_run, MayBegin, MayFollow}
+use Rattle.rdm_lanes.proofs.Common.{is_result, AllResults, front, answered-append, answered_same, answered_more}
+use Rattle.rdm_lanes.proofs.Common.{sends_same, ask_facts, last_run_same, opening_view, last_view, last_view_run}
+use Rattle.rdm_lanes.proofs.Common.{last_number, is_last, with_run, with_found, runs_found, view_of, views_found}
+use Rattle.rdm_lanes.proofs.Common.{all_views, GainOneAtMost}
 use Rattle.std.proofs.lemmas.List.Folds.{list_any-append}
-use Rattle.std.proofs.lemmas.Bool.{cases_Bool, false≢true, eqb-true, eq-eqb}
-use Rattle.std.proofs.lemmas.Option.{none-some, same_Some}
+use Rattle.std.proofs.lemmas.Bool.{false≢true}
 use Rattle.std.proofs.lemmas.Map.Keys.{any_passes_from_place}
-use Rattle.arrayvec.specs.ArrayVec.{ArrayVec}
-use Rattle.rdm_wire.specs.Lists.{EachAfter}
-use Rattle.rdm_wire.specs.Devices.{uids_of}
 use Rattle.rdm_agent.specs.Certificate.{Certificate}
 use Rattle.rdm_agent.specs.declared.kind.Kind.TheVariants.{Full, Incremental}
-use Rattle.rdm_agent.specs.declared.fault.AgentFault.{AgentFault}
 use Rattle.rdm_agent.specs.declared.fault.AgentFault.TheVariants.{Aborted}
-use Rattle.rdm_client.specs.declared.view.DeviceView.{DeviceView}
-use Rattle.rdm_join.specs.declared.event.LineEvent.{LineEvent}
-use Rattle.rdm_log.specs.declared.entry.Opening.{Opening}
-use Rattle.rdm_log.specs.declared.entry.Owner.{Owner}
 use Rattle.rdm_log.specs.declared.entry.Owner.TheVariants as owners
-use Rattle.rdm_log.specs.declared.entry.Entry.{Entry}
-use Rattle.rdm_log.specs.declared.entry.Entry.TheVariants.{Send, Came, Finish, Answer, Close}
-use Rattle.rdm_log.specs.log.Entries.{AskedDiscovery, Answered, answered_of, answers}
 use Rattle.rdm_log.specs.log.Runs.{has_begun, is_answered, last_run, number_after, next_run, open_run, served}
 use Rattle.rdm_log.specs.log.Runs.{run_exchanges, run_devices, reported_devices, run_kind, is_full_kind, known_at_run}
-use Rattle.rdm_log.specs.log.Runs.{known_devices, devices_run, devices_of, run_or, last_run_without_fault}
-use Rattle.rdm_log.specs.log.Runs.{if_without_fault}
+use Rattle.rdm_log.specs.log.Runs.{devices_of, run_or, last_run_without_fault, if_without_fault}
 use Rattle.rdm_log.specs.log.Due.{has_answer, AllAnswered, IsDone, GoesOn, NothingDue}
-use Rattle.rdm_log.specs.log.MaySend.{MayBegin}
 use Rattle.rdm_log.specs.log.MayAnswer.{MayAnswer, MayAnswerByRun}
-use Rattle.rdm_log.specs.log.Legal.{MayFollow}
-use Rattle.rdm_log.specs.promises.Blocks.{is_result, AllResults}
-use Rattle.rdm_log.proofs.LogLemmas.Grows.{front}
 use Rattle.rdm_log.proofs.LogLemmas.Indices.{all_at, all_from_indices, index_within}
-use Rattle.rdm_log.proofs.LogLemmas.PushLemmas.{answered-append, answered_same, answered_more, sends_same}
 use Rattle.rdm_log.proofs.LogLemmas.LegalFacts.{along}
-use Rattle.rdm_log.proofs.LogLemmas.AskFacts.{AskFacts, ask_facts, unanswered_number}
-use Rattle.rdm_log.proofs.LogLemmas.RunLemmas.{not_sent, last_begun, last_run_same, last_run_sent, begun_same}
-use Rattle.rdm_log.proofs.LogLemmas.RunLemmas.{served_stays, entries_before_run_stays, run_exchanges_same}
+use Rattle.rdm_log.proofs.LogLemmas.AskFacts.{AskFacts, unanswered_number}
+use Rattle.rdm_log.proofs.LogLemmas.RunLemmas.{not_sent, last_begun, last_run_sent, begun_same, served_stays}
+use Rattle.rdm_log.proofs.LogLemmas.RunLemmas.{entries_before_run_stays, run_exchanges_same}
 use Rattle.rdm_log.proofs.LogLemmas.RunFacts.{open_is, is_open, run_facts, any_from_index}
 use Rattle.rdm_log.proofs.PromiseLemmas.OutcomeLemmas.{exchanges_kept, last_is_answered}
-use Rattle.rdm_lanes.specs.Views.{opening_view, last_view, last_view_run, last_number, is_last, with_run, with_found}
-use Rattle.rdm_lanes.specs.Views.{runs_found, view_of, views_found, all_views}
-use Rattle.rdm_lanes.specs.body.Gains.{GainOneAtMost}
 use Rattle.rdm_lanes.proofs.ListLemmas.{all_follow, map_agree}
 use Rattle.rdm_lanes.proofs.LineLemmas.{is_off_line, AllOffLine, results_off, sends_off, cames_off}
 

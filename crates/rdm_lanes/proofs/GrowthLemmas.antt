@@ -1,33 +1,22 @@
 -- What a log says of one client, as it grows by a block of entries.
-use Rattle.std.proofs.Common.{◌≡◌, ℕ, ◌-◌, ◌<◌, Bool, true, false, List, [], ◌∷◌, ◌++◌, map, length, Option, Some, None}
-use Rattle.std.proofs.Common.{refl, ap, ◌∙◌, slice_get, append-nil, arith}
-use Rattle.std.specs.Prelude.{filter, filter_map, ◌||◌, ◌&&◌, ◌==◌}
-use Rattle.std.specs.List.{AllByRecursion}
-use Rattle.std.proofs.lemmas.Option.{slice_get_within}
-use Rattle.std.proofs.lemmas.List.{drop-append-le, take-append-le, map-append}
-use Rattle.std.proofs.lemmas.List.Elements.{filter-append, filter_map-append}
-use Rattle.rdm_wire.specs.Lists.{EachAfter}
-use Rattle.rdm_log.specs.declared.entry.Opening.{Opening}
-use Rattle.rdm_log.specs.declared.entry.Entry.{Entry}
-use Rattle.rdm_log.specs.declared.entry.Entry.TheVariants.{Refuse, Accept, Ask, Finish, Answer, Collect}
-use Rattle.rdm_log.specs.log.Entries.{Accepted, AskedDiscovery, finished_of, collector_of, accepts, asks, finishes}
-use Rattle.rdm_log.specs.log.Entries.{collectors}
-use Rattle.rdm_log.specs.log.Clients.{accepts_by, asks_by, is_client_of, is_answer_to, answers_to, collects_by}
-use Rattle.rdm_log.specs.log.Clients.{collected, uncollected, outstanding_requests, outstanding_discoveries}
-use Rattle.rdm_log.specs.log.Legal.{MayFollow}
-use Rattle.rdm_log.specs.promises.Outcomes.{OutcomeValue, outcome_of, told, is_client, is_closed_refusal, closed_number}
-use Rattle.rdm_log.proofs.LogLemmas.Grows.{front}
+use Rattle.rdm_lanes.proofs.Common.{◌≡◌, ℕ, ◌-◌, ◌<◌, Bool, true, false, List, [], ◌∷◌, ◌++◌, map, length, Option, Some}
+use Rattle.rdm_lanes.proofs.Common.{None, refl, ap, ◌∙◌, slice_get, append-nil, arith, filter, filter_map, ◌||◌, ◌&&◌}
+use Rattle.rdm_lanes.proofs.Common.{◌==◌, AllByRecursion, slice_get_within, map-append, filter-append}
+use Rattle.rdm_lanes.proofs.Common.{filter_map-append, EachAfter, Opening, Entry, Refuse, Accept, Ask, Finish, Answer}
+use Rattle.rdm_lanes.proofs.Common.{Collect, AskedDiscovery, collector_of, accepts, asks, finishes, collectors}
+use Rattle.rdm_lanes.proofs.Common.{accepts_by, asks_by, is_answer_to, answers_to, collects_by, collected, uncollected}
+use Rattle.rdm_lanes.proofs.Common.{outstanding_requests, outstanding_discoveries, MayFollow, OutcomeValue, outcome_of}
+use Rattle.rdm_lanes.proofs.Common.{told, is_client, is_closed_refusal, closed_number, front, legal_facts, ask_facts}
+use Rattle.rdm_lanes.proofs.Common.{client_facts, filter_has, call_by, calls_by, told_values, uncollected_values}
+use Rattle.std.proofs.lemmas.List.{drop-append-le, take-append-le}
+use Rattle.rdm_log.specs.log.Entries.{Accepted, finished_of}
+use Rattle.rdm_log.specs.log.Clients.{is_client_of}
 use Rattle.rdm_log.proofs.LogLemmas.Indices.{filter_map_has, filter_agree_on}
-use Rattle.rdm_log.proofs.LogLemmas.LegalFacts.{LogFacts, legal_facts}
-use Rattle.rdm_log.proofs.LogLemmas.AskFacts.{ask_facts}
+use Rattle.rdm_log.proofs.LogLemmas.LegalFacts.{LogFacts}
 use Rattle.rdm_log.proofs.LogLemmas.ClientLemmas.{client_stays, asker_stays, answer_asked}
-use Rattle.rdm_log.proofs.LogLemmas.ClientFacts.{client_facts}
 use Rattle.rdm_log.proofs.LogLemmas.PushLemmas.{accepts-append, asks-append}
-use Rattle.rdm_log.proofs.PromiseLemmas.StableResults.{filter_has}
 use Rattle.rdm_log.proofs.PromiseLemmas.OwnDiscoveries.{outcome_stays}
 use Rattle.rdm_log.proofs.PromiseLemmas.StableOutcomes.{outcome_stays as uncollected_stays}
-use Rattle.rdm_lanes.specs.Calls.{call_by, calls_by}
-use Rattle.rdm_lanes.specs.Told.{told_values, uncollected_values}
 use Rattle.rdm_lanes.proofs.ListLemmas.{filter_map_nothing, all_follow, filter_keeps, map_agree}
 
 -- an entry that answers client c, or tells it that a close refused its call

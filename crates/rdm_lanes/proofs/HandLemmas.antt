@@ -1,13 +1,7 @@
 -- How clients that were driven by hand are ended, one after the other.
-use Rattle.std.proofs.Common.{◌≡◌, ◌+◌, ◌≤◌, List, [], ◌∷◌, ◌++◌, length, map, Vec, vec_capacity, refl, sym, ap, ◌∙◌}
-use Rattle.std.proofs.Common.{append_assoc, length-append, arith}
-use Rattle.std.specs.declared.alloc.Global.{Global}
-use Rattle.std.proofs.lemmas.List.{map-append}
-use Rattle.rdm_lanes.specs.declared.views.history.ViewHistory.{Ghosts}
-use Rattle.rdm_lanes.specs.declared.client.RingClient.{RingClient}
-use Rattle.rdm_lanes.specs.declared.client.ends.ClientEnd.{ClientEnd}
-use Rattle.rdm_lanes.specs.Ends.{end_rings}
-use Rattle.rdm_lanes.specs.Pairs.{Rings, client_rings}
+use Rattle.rdm_lanes.proofs.Common.{◌≡◌, ◌+◌, ◌≤◌, List, [], ◌∷◌, ◌++◌, length, map, Vec, vec_capacity, refl, sym, ap}
+use Rattle.rdm_lanes.proofs.Common.{◌∙◌, append_assoc, length-append, arith, Global, map-append, Ghosts, RingClient}
+use Rattle.rdm_lanes.proofs.Common.{ClientEnd, end_rings, Rings, client_rings}
 
 module _ {J : Type 0} {h : Ghosts J} {C A : Type 0} where
   pub record Ending (first clients : List (RingClient J C A h)) (ends : Vec (ClientEnd J C A h) Global) : Type 0 where

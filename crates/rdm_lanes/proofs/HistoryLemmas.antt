@@ -1,12 +1,9 @@
 -- The step that adds a view keeps the rule of the history.
-use Rattle.std.proofs.Common.{◌≡◌, ℕ, ◌+◌, ◌<◌, ◌==◌, Bool, true, false, List, [], ◌∷◌, ◌++◌, length, refl, ap, sym}
-use Rattle.std.proofs.Common.{subst, arith, inl, length-append, None, append-nil}
-use Rattle.std.proofs.lemmas.Bool.Decides.{nat_tests}
-use mathlib.Core.List.{IsPrefix}
+use Rattle.rdm_lanes.proofs.Common.{◌≡◌, ℕ, ◌+◌, ◌<◌, ◌==◌, Bool, true, false, List, [], ◌∷◌, ◌++◌, length, refl, ap}
+use Rattle.rdm_lanes.proofs.Common.{sym, subst, arith, inl, length-append, None, append-nil, nat_tests, IsPrefix}
+use Rattle.rdm_lanes.proofs.Common.{DeviceView, last_view_run, AreViews}
 use prog.Atomic.{either}
 use Rattle.logbook.specs.Pages.{Cell, cell, keeps, no_nib, step, Moves, Goes}
-use Rattle.rdm_client.specs.declared.view.DeviceView.{DeviceView}
-use Rattle.rdm_lanes.specs.Views.{last_view_run, AreViews}
 use Rattle.rdm_lanes.specs.body.History.{IsKept, Adds}
 use Rattle.rdm_lanes.proofs.Fronts.{prefix_whole}
 use Rattle.rdm_lanes.proofs.ViewFacts.{views_more}

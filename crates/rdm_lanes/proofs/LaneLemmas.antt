@@ -1,25 +1,12 @@
 -- How the lanes of a worker agree with the log, as it grows.
-use Rattle.std.proofs.Common.{◌≡◌, ◌≢◌, ℕ, ◌≤◌, zero, suc, get_or, List, [], ◌∷◌, ◌++◌, map, length, Option, Some, None}
-use Rattle.std.proofs.Common.{refl, sym, ap, ◌∙◌, subst, slice_get, inl, inr, append-nil, append_assoc, arith}
-use Rattle.std.specs.Prelude.{filter, ◌⊎◌, slice_set}
+use Rattle.rdm_lanes.proofs.Common.{◌≡◌, ◌≢◌, ℕ, ◌≤◌, zero, suc, get_or, List, [], ◌∷◌, ◌++◌, map, length, Option, Some}
+use Rattle.rdm_lanes.proofs.Common.{None, refl, sym, ap, ◌∙◌, subst, slice_get, inl, inr, append-nil, append_assoc}
+use Rattle.rdm_lanes.proofs.Common.{arith, filter, ◌⊎◌, slice_set, length-set, slice_get_within, get_or_from_slice_get}
+use Rattle.rdm_lanes.proofs.Common.{slice_get-get_or, EachAfter, Opening, Entry, joins, places, LogState, grown, Legal}
+use Rattle.rdm_lanes.proofs.Common.{MayFollow, is_answer_to, OutcomeValue, outcome_of, ClientCall, Lane, told_values}
+use Rattle.rdm_lanes.proofs.Common.{uncollected_values, values_in, FitsBut, Fits, AllFit, SameLane, SameLanes}
+use Rattle.rdm_lanes.proofs.Common.{lane_places, NoExchange, IsOnlyTold}
 use Rattle.rtrb.specs.Ring.{sent as pushed}
-use Rattle.std.proofs.lemmas.List.{length-set}
-use Rattle.std.proofs.lemmas.Option.{slice_get_within, get_or_from_slice_get, slice_get-get_or}
-use Rattle.rdm_wire.specs.Lists.{EachAfter}
-use Rattle.rdm_log.specs.declared.entry.Opening.{Opening}
-use Rattle.rdm_log.specs.declared.entry.Entry.{Entry}
-use Rattle.rdm_log.specs.log.Entries.{joins}
-use Rattle.rdm_log.specs.log.History.{places}
-use Rattle.rdm_log.specs.log.LogState.{LogState, grown}
-use Rattle.rdm_log.specs.log.Legal.{Legal, MayFollow}
-use Rattle.rdm_log.specs.log.Clients.{is_answer_to}
-use Rattle.rdm_log.specs.promises.Outcomes.{OutcomeValue, outcome_of}
-use Rattle.rdm_lanes.specs.declared.call.ClientCall.{ClientCall}
-use Rattle.rdm_lanes.specs.declared.worker.lane.Lane.{Lane}
-use Rattle.rdm_lanes.specs.Told.{told_values, uncollected_values, values_in}
-use Rattle.rdm_lanes.specs.Lanes.{FitsBut, Fits, AllFit, SameLane, SameLanes, lane_places}
-use Rattle.rdm_lanes.specs.body.Quiet.{NoExchange}
-use Rattle.rdm_lanes.specs.body.Serving.{IsOnlyTold}
 use Rattle.rdm_lanes.proofs.GrowthLemmas.{Untouched, calls_untouched, told_grows, uncollected_grows, requests_untouched}
 use Rattle.rdm_lanes.proofs.GrowthLemmas.{asks_untouched, tells_untouched, no_collects}
 

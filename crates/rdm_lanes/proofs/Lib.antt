@@ -9,6 +9,7 @@ pub mod SeatLemmas
 pub mod PairLemmas
 pub mod HandLemmas
 pub mod ListLemmas
+pub mod Common
 pub mod GrowthLemmas
 pub mod LaneLemmas
 pub mod LineLemmas

@@ -1,30 +1,17 @@
 -- How the exchanges in a log, and what is awaited, go on as it grows.
-use Rattle.std.proofs.Common.{◌≡◌, ℕ, Bool, true, false, true≢false, List, [], ◌∷◌, ◌++◌, map, length, None, refl, sym}
-use Rattle.std.proofs.Common.{ap, ◌∙◌, subst, zip, filter_map, append-nil, append_assoc}
-use Rattle.std.specs.List.{AllByRecursion}
-use Rattle.std.proofs.lemmas.List.{map-append}
-use Rattle.std.proofs.lemmas.List.Elements.{filter_map-append}
-use Rattle.arrayvec.specs.ArrayVec.{ArrayVec}
-use Rattle.rdm_wire.specs.Lists.{EachAfter}
+use Rattle.rdm_lanes.proofs.Common.{◌≡◌, ℕ, Bool, true, false, true≢false, List, [], ◌∷◌, ◌++◌, map, length, None, refl}
+use Rattle.rdm_lanes.proofs.Common.{sym, ap, ◌∙◌, subst, zip, filter_map, append-nil, append_assoc, AllByRecursion}
+use Rattle.rdm_lanes.proofs.Common.{map-append, filter_map-append, ArrayVec, EachAfter, LineEvent, Opening, Owner}
+use Rattle.rdm_lanes.proofs.Common.{Entry, Join, Refuse, Accept, Ask, Send, Came, Finish, Answer, Collect, Pause}
+use Rattle.rdm_lanes.proofs.Common.{Resume, Close, join_of, sends, cames, traded, joins, exchanges, awaited, is_closed}
+use Rattle.rdm_lanes.proofs.Common.{is_paused, LogState, grown, is_result, AllResults, awaited-push, is_closed-push}
+use Rattle.rdm_lanes.proofs.Common.{is_paused-push, SameSwitches, IsBetweenTurns, NoCallLost, switch_of, switches}
+use Rattle.rdm_lanes.proofs.Common.{NoExchange, views_found}
 use Rattle.rdm_wire.proofs.EachAfterLemmas.{EachAfter-push}
-use Rattle.rdm_join.specs.declared.event.LineEvent.{LineEvent}
-use Rattle.rdm_log.specs.declared.entry.Opening.{Opening}
-use Rattle.rdm_log.specs.declared.entry.Owner.{Owner}
-use Rattle.rdm_log.specs.declared.entry.Entry.{Entry}
-use Rattle.rdm_log.specs.declared.entry.Entry.TheVariants.{Join, Refuse, Accept, Ask, Send, Came, Finish, Answer}
-use Rattle.rdm_log.specs.declared.entry.Entry.TheVariants.{Collect, Pause, Resume, Close}
-use Rattle.rdm_log.specs.log.Entries.{sending_of, came_of, join_of, sends, cames, traded, traded_of, joins}
-use Rattle.rdm_log.specs.log.Entries.{exchange_of, exchanges}
-use Rattle.rdm_log.specs.log.History.{awaited, is_closed, is_paused, closed_after as closed_by}
-use Rattle.rdm_log.specs.log.History.{paused_after as paused_by}
-use Rattle.rdm_log.specs.log.LogState.{LogState, grown}
-use Rattle.rdm_log.specs.promises.Blocks.{is_result, AllResults}
-use Rattle.rdm_log.proofs.LogLemmas.PushLemmas.{awaited-push, is_closed-push, is_paused-push}
+use Rattle.rdm_log.specs.log.Entries.{sending_of, came_of, traded_of, exchange_of}
+use Rattle.rdm_log.specs.log.History.{closed_after as closed_by, paused_after as paused_by}
 use Rattle.rdm_log.proofs.LogLemmas.Indices.{zip_both_more}
-use Rattle.rdm_lanes.specs.Lines.{SameSwitches, IsBetweenTurns, NoCallLost, may_refuse}
-use Rattle.rdm_lanes.specs.Operators.{switch_of, switches}
-use Rattle.rdm_lanes.specs.body.Quiet.{NoExchange}
-use Rattle.rdm_lanes.specs.Views.{views_found}
+use Rattle.rdm_lanes.specs.Lines.{may_refuse}
 use Rattle.rdm_lanes.proofs.ListLemmas.{filter_map_nothing, all_follow}
 
 -- an entry that neither is of the line, nor ends anything, nor closes

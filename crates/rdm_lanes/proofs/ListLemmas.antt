@@ -1,8 +1,6 @@
 -- Lists that are filtered and mapped.
-use Rattle.std.proofs.Common.{◌≡◌, ℕ, zero, suc, Bool, true, false, cond, List, [], ◌∷◌, map, Option, Some, None, refl}
-use Rattle.std.proofs.Common.{slice_get}
-use Rattle.std.specs.Prelude.{filter, filter_map}
-use Rattle.std.specs.List.{AllByRecursion}
+use Rattle.rdm_lanes.proofs.Common.{◌≡◌, ℕ, zero, suc, Bool, true, false, cond, List, [], ◌∷◌, map, Option, Some, None}
+use Rattle.rdm_lanes.proofs.Common.{refl, slice_get, filter, filter_map, AllByRecursion}
 
 -- nothing is left
 pub filter_map_nothing : {X Y : Type 0} (f : X → Option Y) (xs : List X) → AllByRecursion (λ x. f x ≡ None) xs

@@ -1,12 +1,9 @@
 -- What a client's outcomes leave, while they are moved.
-use Rattle.std.proofs.Common.{◌≡◌, ◌≢◌, ℕ, true≢false, false, Some, refl, sym}
+use Rattle.rdm_lanes.proofs.Common.{◌≡◌, ◌≢◌, ℕ, true≢false, false, Some, refl, sym, LogState, Lane, IsBetweenTurns}
+use Rattle.rdm_lanes.proofs.Common.{Fits, SameLane, MovesFor}
 use Rattle.rdm_log.specs.declared.outcome.OutcomeKind.TheVariants as kinds
 use Rattle.rdm_log.specs.promises.Outcomes.{oldest_kind}
-use Rattle.rdm_log.specs.log.LogState.{LogState}
-use Rattle.rdm_lanes.specs.declared.worker.lane.Lane.{Lane}
-use Rattle.rdm_lanes.specs.Lines.{IsBetweenTurns}
-use Rattle.rdm_lanes.specs.Lanes.{Fits, SameLane}
-use Rattle.rdm_lanes.specs.body.Doing.{MayMoveOne, MovesFor, MovesOne}
+use Rattle.rdm_lanes.specs.body.Doing.{MayMoveOne, MovesOne}
 use Rattle.rdm_lanes.proofs.LaneLemmas.{waits_join, waits_same, same_lane, same_lane_join}
 use Rattle.rdm_lanes.proofs.CollectLemmas.{collects_none, collects_join}
 

@@ -1,57 +1,33 @@
 -- Clients and lanes that are opened one after the other, and the log of their joins.
-use Rattle.std.proofs.Common.{◌≡◌, ℕ, zero, suc, ◌+◌, ◌-◌, ◌<◌, ◌≤◌, Bool, true, false, List, [], ◌∷◌, ◌++◌, map}
-use Rattle.std.proofs.Common.{length, take, get_or, sum, Some, None, Result, Ok, Err, refl, sym, ap, ◌∙◌, subst}
-use Rattle.std.proofs.Common.{slice_get, inl, inr, length-append, arith}
-use Rattle.std.specs.Prelude.{nat_lt, nat_le, unwrap_or, if◌then◌else◌}
-use Rattle.std.proofs.lemmas.Bool.Decides.{nat_tests}
-use Rattle.std.specs.List.{AllByRecursion}
-use Rattle.std.proofs.lemmas.Option.{slice_get_within}
-use Rattle.std.proofs.lemmas.List.{length-map, length-take-le, take_more}
-use Rattle.std.specs.declared.alloc.Global.{Global}
-use Rattle.rtrb.specs.declared.producer.Producer.{Producer}
-use Rattle.rtrb.specs.declared.consumer.Consumer.{Consumer}
+use Rattle.rdm_lanes.proofs.Common.{◌≡◌, ℕ, zero, suc, ◌+◌, ◌-◌, ◌<◌, ◌≤◌, Bool, true, false, List, [], ◌∷◌, ◌++◌, map}
+use Rattle.rdm_lanes.proofs.Common.{length, take, get_or, sum, Some, None, Result, Ok, Err, refl, sym, ap, ◌∙◌, subst}
+use Rattle.rdm_lanes.proofs.Common.{slice_get, inl, inr, length-append, arith, nat_lt, nat_le, unwrap_or, if◌then◌else◌}
+use Rattle.rdm_lanes.proofs.Common.{nat_tests, AllByRecursion, slice_get_within, length-map, take_more, Global}
+use Rattle.rdm_lanes.proofs.Common.{Producer, Consumer, Setup, ClientId, Opening, Entry, Join, Refuse, joins, accepts}
+use Rattle.rdm_lanes.proofs.Common.{asks, finishes, answers, sends, cames, traded, collectors, exchanges, answers_to}
+use Rattle.rdm_lanes.proofs.Common.{awaited, is_closed, is_paused, places, LogState, grown, is_full_log, free_entries}
+use Rattle.rdm_lanes.proofs.Common.{Legal, GrowsBy, UnlessFull, slice_get-push, Ghosts, ClientCall, RingOutcome}
+use Rattle.rdm_lanes.proofs.Common.{RingClient, Lane, work_in, calls_by, IsCounted, told_values, uncollected_values}
+use Rattle.rdm_lanes.proofs.Common.{values_in, OperatorCall, switches, effective, IsOperated, IsBetweenTurns, Fits}
+use Rattle.rdm_lanes.proofs.Common.{AllFit, lane_places, Rings, ArePair, client_rings, ClientsPair, join_entries}
+use Rattle.rdm_lanes.proofs.Common.{opened_with, AreNew, AreNewWith, HoldNothing, answered_of, opening_view, runs_found}
+use Rattle.rdm_lanes.proofs.Common.{views_found, all_views, Publishing, NoneLater, Publishes}
+use Rattle.std.proofs.lemmas.List.{length-take-le}
 use Rattle.rtrb.specs.Ring.{sent as pushed, received as popped}
 use Rattle.rdm_log.specs.declared.config.Config.{Config}
-use Rattle.rdm_log.specs.declared.config.Setup.{Setup}
-use Rattle.rdm_log.specs.declared.entry.ClientId.{ClientId}
-use Rattle.rdm_log.specs.declared.entry.Opening.{Opening}
-use Rattle.rdm_log.specs.declared.entry.Entry.{Entry}
-use Rattle.rdm_log.specs.declared.entry.Entry.TheVariants.{Join, Refuse}
 use Rattle.rdm_log.specs.declared.fault.JoinFault.{JoinFault}
 use Rattle.rdm_log.specs.declared.fault.JoinFault.TheVariants as join_faults
-use Rattle.rdm_log.specs.log.Entries.{joins, accepts, asks, finishes, answers, sends, cames, traded, collectors}
-use Rattle.rdm_log.specs.log.Entries.{exchanges}
-use Rattle.rdm_log.specs.log.Clients.{answers_to}
-use Rattle.rdm_log.specs.log.History.{awaited, is_closed, is_paused, places, reserved}
+use Rattle.rdm_log.specs.log.History.{reserved}
 use Rattle.rdm_log.specs.log.Refusals.{join_fault_at}
-use Rattle.rdm_log.specs.log.LogState.{LogState, grown, opened, is_full_log, free_entries}
-use Rattle.rdm_log.specs.log.Legal.{Legal}
-use Rattle.rdm_log.specs.promises.Blocks.{GrowsBy, JoinLogs, JoinAdds, UnlessFull}
-use Rattle.rdm_log.proofs.LogLemmas.Indices.{slice_get-push}
-use Rattle.rdm_lanes.specs.declared.views.history.ViewHistory.{Ghosts}
-use Rattle.rdm_lanes.specs.declared.call.ClientCall.{ClientCall}
-use Rattle.rdm_lanes.specs.declared.ring_outcome.RingOutcome.{RingOutcome}
-use Rattle.rdm_lanes.specs.declared.client.RingClient.{RingClient}
-use Rattle.rdm_lanes.specs.declared.worker.lane.Lane.{Lane}
-use Rattle.rdm_lanes.specs.Calls.{work_in, calls_by}
-use Rattle.rdm_lanes.specs.body.Counts.{IsCounted}
-use Rattle.rdm_lanes.specs.Told.{told_values, uncollected_values, values_in}
-use Rattle.rdm_lanes.specs.declared.call.OperatorCall.{OperatorCall}
-use Rattle.rdm_lanes.specs.Operators.{switches, effective}
-use Rattle.rdm_lanes.specs.body.Operated.{IsOperated}
-use Rattle.rdm_lanes.specs.Lines.{IsBetweenTurns}
-use Rattle.rdm_lanes.specs.Lanes.{Fits, AllFit, lane_places}
-use Rattle.rdm_lanes.specs.Pairs.{Rings, ArePair, client_rings, ClientsPair}
+use Rattle.rdm_log.specs.log.LogState.{opened}
+use Rattle.rdm_log.specs.promises.Blocks.{JoinLogs, JoinAdds}
 use Rattle.rdm_lanes.specs.declared.fault.OpenFault.TheVariants.{TooManyClients, NoPlaces}
-use Rattle.rdm_lanes.specs.Opened.{places_fault, IsFullFor, join_entries, opened_with, AreNew}
-use Rattle.rdm_lanes.specs.body.Opening.{IsNewWith, AreNewWith, HoldNothing}
+use Rattle.rdm_lanes.specs.Opened.{places_fault, IsFullFor}
+use Rattle.rdm_lanes.specs.body.Opening.{IsNewWith}
 use Rattle.rdm_lanes.proofs.LaneLemmas.{waits, fits_waits}
 use Rattle.rdm_lanes.proofs.LineLemmas.{AllQuiet, NoSwitch, quiet_all_off, served_quiet, exchanges_off, awaited_off}
 use Rattle.rdm_lanes.proofs.LineLemmas.{closed_stays, paused_stays, switches_off, is_refusal, rightly_without}
 use Rattle.rdm_lanes.proofs.GrowthLemmas.{Untouched, calls_untouched}
-use Rattle.rdm_log.specs.log.Entries.{answered_of}
-use Rattle.rdm_lanes.specs.Views.{opening_view, runs_found, views_found, all_views}
-use Rattle.rdm_lanes.specs.body.Showing.{Publishing, NoneLater, Publishes}
 use Rattle.rdm_lanes.proofs.FoundLemmas.{quiet_views}
 use Rattle.rdm_lanes.proofs.ShowingLemmas.{showing_all}
 use Rattle.rdm_lanes.proofs.ViewFacts.{none_later_opening}

@@ -1,24 +1,15 @@
 -- How the pauses, resumes and closes in a log follow the operator's calls.
-use Rattle.std.proofs.Common.{◌≡◌, Bool, true, false, true≢false, List, [], ◌∷◌, ◌++◌, Some, Result, Ok, Err, fold}
-use Rattle.std.proofs.Common.{filter_map, refl, sym, ap, ◌∙◌, append-nil, append_assoc}
-use Rattle.std.specs.Prelude.{not, if◌then◌else◌}
-use Rattle.std.specs.List.{AllByRecursion}
-use Rattle.std.proofs.lemmas.Grind.{fold-append}
-use Rattle.std.proofs.lemmas.List.Elements.{filter_map-append}
-use Rattle.rdm_log.specs.declared.entry.Opening.{Opening}
-use Rattle.rdm_log.specs.declared.entry.Entry.{Entry}
+use Rattle.rdm_lanes.proofs.Common.{◌≡◌, Bool, true, false, true≢false, List, [], ◌∷◌, ◌++◌, Some, Result, Ok, Err}
+use Rattle.rdm_lanes.proofs.Common.{fold, filter_map, refl, sym, ap, ◌∙◌, append-nil, append_assoc, not, if◌then◌else◌}
+use Rattle.rdm_lanes.proofs.Common.{AllByRecursion, fold-append, filter_map-append, Opening, Entry, LogFull, is_closed}
+use Rattle.rdm_lanes.proofs.Common.{is_paused, can_pause, can_resume, LogState, grown, is_full_log, Legal, GrowsBy}
+use Rattle.rdm_lanes.proofs.Common.{PauseLogs, ResumeLogs, CloseAdds, CloseAddsWhere, is_result, OperatorCall}
+use Rattle.rdm_lanes.proofs.Common.{SameSwitches, switch_of, switches, effective, NoExchange, IsOperated}
 use Rattle.rdm_log.specs.declared.entry.Entry.TheVariants as entries
-use Rattle.rdm_log.specs.declared.fault.LogFull.{LogFull}
-use Rattle.rdm_log.specs.log.History.{is_closed, is_paused, can_pause, can_resume, closed_after, paused_after}
-use Rattle.rdm_log.specs.log.LogState.{LogState, grown, is_full_log}
-use Rattle.rdm_log.specs.log.Legal.{Legal}
-use Rattle.rdm_log.specs.promises.Blocks.{GrowsBy, PauseLogs, ResumeLogs, CloseAdds, CloseAddsWhere, is_result}
-use Rattle.rdm_lanes.specs.declared.call.OperatorCall.{OperatorCall}
+use Rattle.rdm_log.specs.log.History.{closed_after, paused_after}
 use Rattle.rdm_lanes.specs.declared.call.OperatorCall.TheVariants.{Pause, Resume, Close, Leave}
-use Rattle.rdm_lanes.specs.Lines.{SameSwitches}
-use Rattle.rdm_lanes.specs.Operators.{switch_of, switches, paused_by, closed_by, with_call, effective}
-use Rattle.rdm_lanes.specs.body.Quiet.{NoExchange}
-use Rattle.rdm_lanes.specs.body.Operated.{IsOperated, IsOperatorStep}
+use Rattle.rdm_lanes.specs.Operators.{paused_by, closed_by, with_call}
+use Rattle.rdm_lanes.specs.body.Operated.{IsOperatorStep}
 use Rattle.rdm_lanes.proofs.LineLemmas.{results_no_switch, switches_off, line_same}
 use Rattle.rdm_lanes.proofs.LaneLemmas.{waits_same}
 use Rattle.rdm_lanes.proofs.StepLemmas.{pauses, resumes, closes, all_wait_pause, all_wait_resume}

@@ -1,20 +1,13 @@
 -- For whoever drives clients by hand: their rings stay the worker's, so that `ViewWorker::end` may compare them. A
 -- client's calls say that it is the same client, the worker's work that its lanes are the same, and `RingClient::end`
 -- that its rings are. `pairs_kept_on` joins these, for clients and for what is left of them.
-use Rattle.std.proofs.Common.{◌≡◌, ℕ, zero, suc, List, [], ◌∷◌, map, get_or, Some, None, refl, sym, ap, ◌∙◌, slice_get}
-use Rattle.std.proofs.Common.{inl, inr, arith}
-use Rattle.std.specs.Prelude.{slice_set}
-use Rattle.std.proofs.lemmas.List.{length-map, length-set}
-use Rattle.std.proofs.lemmas.Option.{slice_get_within, slice_get-get_or, get_or_from_slice_get}
-use Rattle.rtrb.specs.Ring.{SameProducer, SameConsumer}
-use Rattle.rdm_lanes.specs.declared.views.history.ViewHistory.{Ghosts}
-use Rattle.rdm_lanes.specs.declared.worker.lane.Lane.{Lane}
-use Rattle.rdm_lanes.specs.declared.client.RingClient.{RingClient}
-use Rattle.rdm_lanes.specs.declared.client.ends.ClientEnd.{ClientEnd}
-use Rattle.rdm_lanes.specs.Clients.{SameClient}
-use Rattle.rdm_lanes.specs.Lanes.{SameLane, SameLanes}
-use Rattle.rdm_lanes.specs.Ends.{end_rings, PairUp}
-use Rattle.rdm_lanes.specs.Pairs.{Rings, ArePair, RingsPair, client_rings, ClientsPair}
+use Rattle.rdm_lanes.proofs.Common.{◌≡◌, ℕ, zero, suc, List, [], ◌∷◌, map, get_or, Some, None, refl, sym, ap, ◌∙◌}
+use Rattle.rdm_lanes.proofs.Common.{slice_get, inl, inr, arith, slice_set, length-map, length-set, slice_get_within}
+use Rattle.rdm_lanes.proofs.Common.{slice_get-get_or, get_or_from_slice_get, SameConsumer, Ghosts, Lane, RingClient}
+use Rattle.rdm_lanes.proofs.Common.{ClientEnd, SameClient, SameLane, SameLanes, end_rings, PairUp, Rings, ArePair}
+use Rattle.rdm_lanes.proofs.Common.{client_rings, ClientsPair}
+use Rattle.rtrb.specs.Ring.{SameProducer}
+use Rattle.rdm_lanes.specs.Pairs.{RingsPair}
 use Rattle.rdm_lanes.specs.body.Seats.{SameRings}
 use Rattle.rdm_lanes.proofs.EndLemmas.{map_get}
 use Rattle.rdm_lanes.proofs.LaneLemmas.{get-set, same_lanes}

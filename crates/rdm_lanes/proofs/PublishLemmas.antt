@@ -1,6 +1,6 @@
 -- What is put up for publication.
-use Rattle.std.proofs.Common.{◌≡◌, ◌≢◌, ◌<◌, List, [], ◌∷◌, ◌++◌, length, fold, ap, ◌∙◌, arith, length-append}
-use Rattle.rdm_client.specs.declared.view.DeviceView.{DeviceView}
+use Rattle.rdm_lanes.proofs.Common.{◌≡◌, ◌≢◌, ◌<◌, List, [], ◌∷◌, ◌++◌, length, fold, ap, ◌∙◌, arith, length-append}
+use Rattle.rdm_lanes.proofs.Common.{DeviceView}
 use Rattle.rdm_lanes.specs.body.Showing.{AreAll}
 
 pub all_put : (added next : List DeviceView) (pending : List (List DeviceView)) → next ≡ added → AreAll added pending

@@ -1,24 +1,11 @@
 -- What clients have read of the published views, and what they found themselves.
-use Rattle.std.proofs.Common.{◌≡◌, ℕ, ◌<◌, ◌≤◌, List, [], ◌∷◌, ◌++◌, length, take, map, fold, Some, refl, sym, ap, ◌∙◌}
-use Rattle.std.proofs.Common.{subst, inl, inr, slice_get, length-append, arith}
-use Rattle.std.specs.Prelude.{◌⊎◌}
-use Rattle.std.proofs.lemmas.Bool.{cases_lt}
-use Rattle.std.proofs.lemmas.Grind.{fold-append}
-use Rattle.std.proofs.lemmas.List.{map-append}
-use mathlib.Core.List.{IsPrefix}
-use Rattle.rdm_client.specs.declared.view.DeviceView.{DeviceView}
-use Rattle.rdm_log.specs.log.LogState.{LogState}
-use Rattle.rdm_log.specs.promises.Outcomes.{OutcomeValue}
-use Rattle.rdm_lanes.specs.declared.views.history.ViewHistory.{Ghosts}
-use Rattle.rdm_client.specs.Desks.{Held}
-use Rattle.rdm_lanes.specs.declared.ring_outcome.RingOutcome.{RingOutcome}
-use Rattle.rdm_lanes.specs.declared.ring_outcome.RingOutcome.TheVariants.{Request, Discovery}
-use Rattle.rdm_lanes.specs.body.Holding.{HoldsForRequest}
-use Rattle.rdm_lanes.specs.declared.client.ends.ClientEnd.{ClientEnd}
-use Rattle.rdm_lanes.specs.Told.{value_in, values_in}
-use Rattle.rdm_lanes.specs.Views.{opening_view, last_view, last_view_run, RisesAbove, AreViews, all_views, found_after}
-use Rattle.rdm_lanes.specs.Views.{last_found}
-use Rattle.rdm_lanes.specs.body.Showing.{Publishing, Publishes}
+use Rattle.rdm_lanes.proofs.Common.{◌≡◌, ℕ, ◌<◌, ◌≤◌, List, [], ◌∷◌, ◌++◌, length, take, map, fold, Some, refl, sym, ap}
+use Rattle.rdm_lanes.proofs.Common.{◌∙◌, subst, inl, inr, slice_get, length-append, arith, ◌⊎◌, cases_lt, fold-append}
+use Rattle.rdm_lanes.proofs.Common.{map-append, IsPrefix, DeviceView, LogState, OutcomeValue, Ghosts, Held, RingOutcome}
+use Rattle.rdm_lanes.proofs.Common.{Discovery, HoldsForRequest, ClientEnd, value_in, values_in, opening_view, last_view}
+use Rattle.rdm_lanes.proofs.Common.{last_view_run, RisesAbove, AreViews, all_views, found_after, last_found, Publishing}
+use Rattle.rdm_lanes.proofs.Common.{Publishes}
+use Rattle.rdm_lanes.specs.declared.ring_outcome.RingOutcome.TheVariants.{Request}
 use Rattle.rdm_lanes.specs.Publishing.{IsPublished, BeginOne}
 use Rattle.rdm_lanes.proofs.Fronts.{prefix_shorter}
 

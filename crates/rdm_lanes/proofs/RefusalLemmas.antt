@@ -1,27 +1,14 @@
 -- Why a call is refused that may be made.
-use Rattle.std.proofs.Common.{◌≡◌, ℕ, ◌<◌, ◌≤◌, Bool, true, false, true≢false, List, [], ◌∷◌, length, Some, None, refl}
-use Rattle.std.proofs.Common.{sym, slice_get, arith, Result, Ok, Err}
-use Rattle.std.specs.Prelude.{◌||◌, nat_le, slice_index, if◌then◌else◌, MatchBool}
-use Rattle.std.proofs.lemmas.Bool.Decides.{nat_tests}
-use Rattle.std.proofs.lemmas.Option.{slice_get_within, get_or_from_slice_get}
-use Rattle.rdm_wire.specs.declared.request.Request.{Request}
-use Rattle.rdm_agent.specs.declared.kind.Kind.{Kind}
-use Rattle.rdm_log.specs.declared.entry.ClientId.{ClientId}
-use Rattle.rdm_log.specs.declared.entry.Opening.{Opening}
-use Rattle.rdm_log.specs.declared.entry.Entry.{Entry}
-use Rattle.rdm_log.specs.log.Clients.{outstanding_requests, outstanding_discoveries}
-use Rattle.rdm_log.specs.declared.fault.SubmitFault.{SubmitFault}
+use Rattle.rdm_lanes.proofs.Common.{◌≡◌, ℕ, ◌<◌, ◌≤◌, Bool, true, false, true≢false, List, [], ◌∷◌, length, Some, None}
+use Rattle.rdm_lanes.proofs.Common.{refl, sym, slice_get, arith, Result, Ok, Err, ◌||◌, nat_le, slice_index}
+use Rattle.rdm_lanes.proofs.Common.{if◌then◌else◌, MatchBool, nat_tests, slice_get_within, get_or_from_slice_get}
+use Rattle.rdm_lanes.proofs.Common.{Request, Kind, ClientId, Opening, Entry, outstanding_requests}
+use Rattle.rdm_lanes.proofs.Common.{outstanding_discoveries, SubmitFault, AskFault, is_closed, places, next_request}
+use Rattle.rdm_lanes.proofs.Common.{next_ask, submit_fault_at, ask_fault_at, LogState, is_full_log, GrowsBy, SubmitLogs}
+use Rattle.rdm_lanes.proofs.Common.{SubmitAdds, DiscoverLogs, DiscoverAdds, Submit, Discover, Lane, FitsBut}
+use Rattle.rdm_lanes.proofs.Common.{HasRefusalSlot, MayMake}
 use Rattle.rdm_log.specs.declared.fault.SubmitFault.TheVariants as submit_faults
-use Rattle.rdm_log.specs.declared.fault.AskFault.{AskFault}
 use Rattle.rdm_log.specs.declared.fault.AskFault.TheVariants as ask_faults
-use Rattle.rdm_log.specs.log.History.{is_closed, places, next_request, next_ask}
-use Rattle.rdm_log.specs.log.Refusals.{submit_fault_at, ask_fault_at}
-use Rattle.rdm_log.specs.log.LogState.{LogState, is_full_log}
-use Rattle.rdm_log.specs.promises.Blocks.{GrowsBy, SubmitLogs, SubmitAdds, DiscoverLogs, DiscoverAdds}
-use Rattle.rdm_lanes.specs.declared.call.ClientCall.TheVariants.{Submit, Discover}
-use Rattle.rdm_lanes.specs.declared.worker.lane.Lane.{Lane}
-use Rattle.rdm_lanes.specs.Lanes.{FitsBut}
-use Rattle.rdm_lanes.specs.body.Serving.{HasRefusalSlot, MayMake}
 use Rattle.rdm_lanes.proofs.LineLemmas.{AllRightly}
 use Rattle.rdm_lanes.proofs.FitLemmas.{submit_adds, ask_adds}
 

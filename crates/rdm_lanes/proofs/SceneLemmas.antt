@@ -1,38 +1,23 @@
 -- What a client of a session over a simulated line is told of discoveries, by the laws of the session's log.
-use Rattle.std.proofs.Common.{◌≡◌, ℕ, Bool, true, false, true≢false, List, [], ◌∷◌, ◌++◌, length, ◌≤◌, Option, Some}
-use Rattle.std.proofs.Common.{None, refl, sym, ap, ◌∙◌, subst, inl, inr, append-nil, append_assoc, arith}
-use Rattle.std.specs.Prelude.{◌⊎◌, ◌||◌, ◌==◌, option_map, nat_le, if◌then◌else◌}
-use Rattle.std.proofs.lemmas.Bool.{and_parts, eqb-true}
+use Rattle.rdm_lanes.proofs.Common.{◌≡◌, ℕ, Bool, true, false, true≢false, List, [], ◌∷◌, ◌++◌, length, ◌≤◌, Option}
+use Rattle.rdm_lanes.proofs.Common.{Some, None, refl, sym, ap, ◌∙◌, subst, inl, inr, append-nil, append_assoc, arith}
+use Rattle.rdm_lanes.proofs.Common.{◌⊎◌, ◌||◌, ◌==◌, option_map, nat_le, if◌then◌else◌, eqb-true, uids_of, Device}
+use Rattle.rdm_lanes.proofs.Common.{AgentFault, Setup, Call, Cause, ClientId, Opening, Entry, Refuse, Answer}
+use Rattle.rdm_lanes.proofs.Common.{outstanding_discoveries, is_closed, places, next_ask, ask_fault_at, LogState}
+use Rattle.rdm_lanes.proofs.Common.{answer_devices, Discovered, is_closed_refusal, is_client, never_begun}
+use Rattle.rdm_lanes.proofs.Common.{refused_outcome, outcome_of, DiscoveryValue, Ghosts, ClientEnd}
+use Rattle.std.proofs.lemmas.Bool.{and_parts}
 use Rattle.rdm_wire.specs.Uid.{has}
-use Rattle.rdm_wire.specs.Devices.{uids_of}
-use Rattle.rdm_wire.specs.declared.device.Device.{Device}
-use Rattle.rdm_agent.specs.declared.fault.AgentFault.{AgentFault}
 use Rattle.rdm_line.specs.Scenes.{uids_of_scene}
 use Rattle.rdm_line.specs.Sim.{SimState}
-use Rattle.rdm_log.specs.declared.config.Setup.{Setup}
-use Rattle.rdm_log.specs.declared.entry.Call.{Call}
 use Rattle.rdm_log.specs.declared.entry.Call.TheVariants as calls
-use Rattle.rdm_log.specs.declared.entry.Cause.{Cause}
-use Rattle.rdm_log.specs.declared.entry.ClientId.{ClientId}
-use Rattle.rdm_log.specs.declared.entry.Opening.{Opening}
-use Rattle.rdm_log.specs.declared.entry.Entry.{Entry}
-use Rattle.rdm_log.specs.declared.entry.Entry.TheVariants.{Refuse, Answer}
 use Rattle.rdm_log.specs.declared.fault.AskFault.TheVariants as ask_faults
-use Rattle.rdm_log.specs.log.Clients.{outstanding_discoveries}
-use Rattle.rdm_log.specs.log.History.{is_closed, places, next_ask}
-use Rattle.rdm_log.specs.log.Refusals.{ask_fault_at, number_of_ask_fault, IsRefused}
-use Rattle.rdm_log.specs.log.LogState.{LogState}
-use Rattle.rdm_log.specs.log.Runs.{answer_devices}
-use Rattle.rdm_log.specs.promises.Outcomes.{Discovered, is_closed_refusal, is_client, never_begun, refused_outcome}
-use Rattle.rdm_log.specs.promises.Outcomes.{outcome_of}
-use Rattle.rdm_log.specs.promises.Outcomes.OutcomeValue.{DiscoveryValue}
+use Rattle.rdm_log.specs.log.Refusals.{number_of_ask_fault, IsRefused}
 use Rattle.rdm_log.proofs.PromiseLemmas.NothingAfterClose.{closed_more}
 use Rattle.rdm_scenes.specs.Scenes.{IsLossyScene, IsStayingScene, IsCalmScene}
 use Rattle.rdm_scenes.specs.Reports.{IsLogOver, AnswersAreTheDevices, AnswersFollowTheDevices, FaultsFollowAClose}
 use Rattle.rdm_scenes.proofs.SceneLemmas.{are_the_devices, follow_the_devices}
 use Rattle.rdm_scenes.proofs.CalmLemmas.{faults_follow, follow_by_default}
-use Rattle.rdm_lanes.specs.declared.views.history.ViewHistory.{Ghosts}
-use Rattle.rdm_lanes.specs.declared.client.ends.ClientEnd.{ClientEnd}
 use Rattle.rdm_lanes.specs.OverThreads.{IsEnough, IsByDefault, HasGot, IsEndOver, GetsTheDevices, GetsNoFault}
 use Rattle.rdm_lanes.specs.OverThreads.{GetsTheChanging}
 use Rattle.rdm_lanes.proofs.GrowthLemmas.{tells}

@@ -1,22 +1,13 @@
 -- Bodies and clients in their seats, and what is left of them.
-use Rattle.std.proofs.Common.{◌≡◌, ℕ, ◌+◌, ◌<◌, ◌≤◌, List, [], ◌∷◌, ◌++◌, length, map, take, drop, get_or, remove, Some}
-use Rattle.std.proofs.Common.{slice_get, Vec, vec_capacity, refl, sym, ap, ◌∙◌, subst, append_assoc, length-append}
-use Rattle.std.proofs.Common.{arith}
-use Rattle.std.specs.Prelude.{slice_index_or}
-use Rattle.std.specs.declared.alloc.Global.{Global}
-use Rattle.std.proofs.lemmas.List.{map-append, length-map}
-use Rattle.std.proofs.lemmas.Option.{slice_get_within, get_or_from_slice_get, slice_get-get_or}
-use Rattle.rdm_lanes.specs.declared.views.history.ViewHistory.{Ghosts}
+use Rattle.rdm_lanes.proofs.Common.{◌≡◌, ℕ, ◌+◌, ◌<◌, ◌≤◌, List, [], ◌∷◌, ◌++◌, length, map, take, drop, get_or, remove}
+use Rattle.rdm_lanes.proofs.Common.{Some, slice_get, Vec, vec_capacity, refl, sym, ap, ◌∙◌, subst, append_assoc}
+use Rattle.rdm_lanes.proofs.Common.{length-append, arith, slice_index_or, Global, map-append, length-map}
+use Rattle.rdm_lanes.proofs.Common.{slice_get_within, get_or_from_slice_get, slice_get-get_or, Ghosts, Lane, RingClient}
+use Rattle.rdm_lanes.proofs.Common.{ClientEnd, SameClient, SameLane, SameLanes, end_rings, AllShowSame, AreNew, Rings}
+use Rattle.rdm_lanes.proofs.Common.{ArePair, client_rings}
 use Rattle.rdm_lanes.specs.declared.opening.seat.Seat.{Seat}
-use Rattle.rdm_lanes.specs.declared.worker.lane.Lane.{Lane}
-use Rattle.rdm_lanes.specs.declared.client.RingClient.{RingClient}
-use Rattle.rdm_lanes.specs.declared.client.ends.ClientEnd.{ClientEnd}
-use Rattle.rdm_lanes.specs.Clients.{SameClient}
-use Rattle.rdm_lanes.specs.Lanes.{SameLane, SameLanes}
 use Rattle.rtrb.specs.Ring.{producer_capacity, consumer_capacity}
-use Rattle.rdm_lanes.specs.Ends.{end_rings, AllHaveSlots, AllShowSame}
-use Rattle.rdm_lanes.specs.Opened.{AreNew}
-use Rattle.rdm_lanes.specs.Pairs.{Rings, ArePair, client_rings}
+use Rattle.rdm_lanes.specs.Ends.{AllHaveSlots}
 use Rattle.rdm_lanes.specs.body.Seats.{seat_rings, SeatsPair, SameSeats, RingsHaveSlots}
 use Rattle.rdm_lanes.proofs.EndLemmas.{get_map, map_get, within_get}
 

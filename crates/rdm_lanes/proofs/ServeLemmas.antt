@@ -1,19 +1,9 @@
 -- How a call comes out of a client's ring.
-use Rattle.std.proofs.Common.{◌≡◌, ℕ, Bool, true, false, List, [], ◌∷◌, ◌++◌, refl, sym, ap, ◌∙◌, slice_get}
-use Rattle.std.proofs.Common.{subst, MatchOption, append-nil, length, length-append, arith}
-use Rattle.std.specs.Prelude.{⊤, ◌||◌}
-use Rattle.std.specs.List.{list_any}
-use Rattle.std.specs.declared.alloc.Global.{Global}
-use Rattle.rtrb.specs.declared.AnyItems.{AnyItems}
-use Rattle.rtrb.specs.declared.consumer.Consumer.{Consumer}
-use Rattle.rtrb.specs.Ring.{sent as pushed, received as popped, SameConsumer, ConsumerLooked}
-use Rattle.rdm_log.specs.log.LogState.{LogState}
-use Rattle.rdm_lanes.specs.declared.call.ClientCall.{ClientCall}
-use Rattle.rdm_lanes.specs.declared.call.ClientCall.TheVariants.{Submit, Discover, Leave}
-use Rattle.rdm_lanes.specs.declared.worker.lane.Lane.{Lane}
-use Rattle.rdm_lanes.specs.Calls.{is_work, work_in}
-use Rattle.rdm_lanes.specs.Lanes.{FitsBut, Fits, SameLane, is_leave}
-use Rattle.rdm_lanes.specs.Lines.{IsBetweenTurns}
+use Rattle.rdm_lanes.proofs.Common.{◌≡◌, ℕ, Bool, true, false, List, [], ◌∷◌, ◌++◌, refl, sym, ap, ◌∙◌, slice_get}
+use Rattle.rdm_lanes.proofs.Common.{subst, MatchOption, append-nil, length, length-append, arith, ⊤, ◌||◌, list_any}
+use Rattle.rdm_lanes.proofs.Common.{Global, AnyItems, Consumer, SameConsumer, LogState, ClientCall, Submit, Discover}
+use Rattle.rdm_lanes.proofs.Common.{Leave, Lane, is_work, work_in, FitsBut, Fits, SameLane, is_leave, IsBetweenTurns}
+use Rattle.rtrb.specs.Ring.{sent as pushed, received as popped, ConsumerLooked}
 use Rattle.rdm_lanes.specs.body.Serving.{LooksForSlot, ServesClient}
 use Rattle.rdm_lanes.proofs.Counting.{work_more, leave_more}
 use Rattle.rdm_lanes.proofs.LaneLemmas.{waits_same, same_lane_join}

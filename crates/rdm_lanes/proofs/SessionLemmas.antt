@@ -1,16 +1,8 @@
 -- A whole session, from its opening to its end.
-use Rattle.std.proofs.Common.{◌≡◌, ℕ, List, ◌++◌, length, sym, ap, ◌∙◌, subst, arith}
-use Rattle.rdm_line.specs.Events.{Exchange, Makes}
-use Rattle.rdm_log.specs.declared.config.Setup.{Setup}
-use Rattle.rdm_log.specs.log.Entries.{joins, exchanges}
-use Rattle.rdm_log.specs.log.History.{is_closed, is_paused}
-use Rattle.rdm_log.specs.log.LogState.{LogState}
-use Rattle.rdm_log.specs.log.Legal.{Legal}
+use Rattle.rdm_lanes.proofs.Common.{◌≡◌, ℕ, List, ◌++◌, length, sym, ap, ◌∙◌, subst, arith, Exchange, Makes, Setup}
+use Rattle.rdm_lanes.proofs.Common.{joins, exchanges, is_closed, is_paused, LogState, Legal, Lane, exchange_count}
+use Rattle.rdm_lanes.proofs.Common.{Exchanged, SameSwitches, IsBetweenTurns, AllFit, opened_with}
 use Rattle.rdm_log.specs.promises.Promised.{Promised}
-use Rattle.rdm_lanes.specs.declared.worker.lane.Lane.{Lane}
-use Rattle.rdm_lanes.specs.Lines.{exchange_count, Exchanged, SameSwitches, IsBetweenTurns}
-use Rattle.rdm_lanes.specs.Lanes.{AllFit}
-use Rattle.rdm_lanes.specs.Opened.{opened_with}
 use Rattle.rdm_lanes.specs.Sessions.{SessionOver}
 use Rattle.rdm_lanes.specs.Operators.{switches as switches_in}
 use Rattle.rdm_lanes.proofs.OpenLemmas.{open_opened, no_switches_opened, not_paused_opened, no_exchanges_opened}

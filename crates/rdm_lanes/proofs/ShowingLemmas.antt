@@ -1,16 +1,10 @@
 -- What a worker publishes, as its session's log grows.
-use Rattle.std.proofs.Common.{◌≡◌, ◌≢◌, ◌+◌, ◌<◌, ◌≤◌, ℕ, List, [], ◌∷◌, ◌++◌, length, take, length-append, refl, sym}
-use Rattle.std.proofs.Common.{ap, ◌∙◌, subst, inl, inr, arith}
-use Rattle.std.specs.Prelude.{◌⊎◌}
-use Rattle.rdm_wire.specs.declared.device.Device.{Device}
-use Rattle.rdm_client.specs.declared.view.DeviceView.{DeviceView}
-use Rattle.rdm_log.specs.declared.entry.Entry.{Entry}
-use Rattle.rdm_log.specs.log.LogState.{LogState, grown}
-use Rattle.rdm_log.specs.log.Runs.{known_devices, devices_run}
-use Rattle.rdm_lanes.specs.body.Quiet.{NoExchange}
-use Rattle.rdm_lanes.specs.Views.{opening_view, last_view, last_view_run, views_found, all_views}
-use Rattle.rdm_lanes.specs.body.Gains.{GainOneAtMost}
-use Rattle.rdm_lanes.specs.body.Showing.{Publishing, NoneLater, IsShowing, Publishes, AllPublished}
+use Rattle.rdm_lanes.proofs.Common.{◌≡◌, ◌≢◌, ◌+◌, ◌<◌, ◌≤◌, ℕ, List, [], ◌∷◌, ◌++◌, length, take, length-append, refl}
+use Rattle.rdm_lanes.proofs.Common.{sym, ap, ◌∙◌, subst, inl, inr, arith, ◌⊎◌, Device, DeviceView, Entry, LogState}
+use Rattle.rdm_lanes.proofs.Common.{grown, known_devices, devices_run, NoExchange, opening_view, last_view}
+use Rattle.rdm_lanes.proofs.Common.{last_view_run, views_found, all_views, GainOneAtMost, Publishing, NoneLater}
+use Rattle.rdm_lanes.proofs.Common.{Publishes}
+use Rattle.rdm_lanes.specs.body.Showing.{IsShowing, AllPublished}
 use Rattle.rdm_lanes.proofs.ViewFacts.{last_added, none_later_more}
 use Rattle.rdm_lanes.proofs.FoundLemmas.{last_known}
 

@@ -1,33 +1,16 @@
 -- What each call of a session leaves of the line, and of the other clients.
-use Rattle.std.proofs.Common.{◌≡◌, ◌≢◌, ℕ, Bool, true, false, true≢false, List, [], ◌∷◌, Some, None, Result, Ok, Err}
-use Rattle.std.proofs.Common.{refl, sym, subst}
-use Rattle.std.specs.Prelude.{◌==◌, if◌then◌else◌}
-use Rattle.std.specs.List.{AllByRecursion}
+use Rattle.rdm_lanes.proofs.Common.{◌≡◌, ◌≢◌, ℕ, Bool, true, false, true≢false, List, [], ◌∷◌, Some, None, Result, Ok}
+use Rattle.rdm_lanes.proofs.Common.{Err, refl, sym, subst, ◌==◌, if◌then◌else◌, AllByRecursion, Request, Kind, ClientId}
+use Rattle.rdm_lanes.proofs.Common.{Opening, Entry, Join, Refuse, Accept, Ask, Finish, Answer, Collect, Pause, Resume}
+use Rattle.rdm_lanes.proofs.Common.{Close, SubmitFault, AskFault, LogFull, EachAfter, join_of, answered_of, is_closed}
+use Rattle.rdm_lanes.proofs.Common.{can_pause, can_resume, LogState, grown, is_full_log, Legal, MayFollow, GrowsBy}
+use Rattle.rdm_lanes.proofs.Common.{UnlessFull, SubmitLogs, SubmitAdds, DiscoverLogs, DiscoverAdds, PauseLogs}
+use Rattle.rdm_lanes.proofs.Common.{ResumeLogs, CloseAdds, CloseAddsWhere, CollectAdds, is_result, AllResults}
+use Rattle.rdm_lanes.proofs.Common.{NoExchange, OnlyCollects, SameSwitches, IsBetweenTurns, IsOnlyTold}
 use Rattle.std.proofs.lemmas.Bool.{ne_eqb}
-use Rattle.rdm_wire.specs.declared.request.Request.{Request}
-use Rattle.rdm_agent.specs.declared.kind.Kind.{Kind}
-use Rattle.rdm_log.specs.declared.entry.ClientId.{ClientId}
-use Rattle.rdm_log.specs.declared.entry.Opening.{Opening}
-use Rattle.rdm_log.specs.declared.entry.Entry.{Entry}
-use Rattle.rdm_log.specs.declared.entry.Entry.TheVariants.{Join, Refuse, Accept, Ask, Finish, Answer, Collect, Pause}
-use Rattle.rdm_log.specs.declared.entry.Entry.TheVariants.{Resume, Close}
-use Rattle.rdm_log.specs.declared.fault.SubmitFault.{SubmitFault}
-use Rattle.rdm_log.specs.declared.fault.AskFault.{AskFault}
 use Rattle.rdm_log.specs.declared.fault.SubmitFault.TheVariants as submit_faults
 use Rattle.rdm_log.specs.declared.fault.AskFault.TheVariants as ask_faults
-use Rattle.rdm_log.specs.declared.fault.LogFull.{LogFull}
 use Rattle.rdm_log.specs.declared.outcome.Outcome.{Outcome}
-use Rattle.rdm_wire.specs.Lists.{EachAfter}
-use Rattle.rdm_log.specs.log.Entries.{join_of, answered_of}
-use Rattle.rdm_log.specs.log.History.{is_closed, can_pause, can_resume}
-use Rattle.rdm_log.specs.log.LogState.{LogState, grown, is_full_log}
-use Rattle.rdm_log.specs.log.Legal.{Legal, MayFollow}
-use Rattle.rdm_log.specs.promises.Blocks.{GrowsBy, UnlessFull, SubmitLogs, SubmitAdds, DiscoverLogs, DiscoverAdds}
-use Rattle.rdm_log.specs.promises.Blocks.{PauseLogs, ResumeLogs, CloseAdds, CloseAddsWhere, CollectAdds, is_result}
-use Rattle.rdm_log.specs.promises.Blocks.{AllResults}
-use Rattle.rdm_lanes.specs.body.Quiet.{NoExchange, OnlyCollects}
-use Rattle.rdm_lanes.specs.Lines.{SameSwitches, IsBetweenTurns}
-use Rattle.rdm_lanes.specs.body.Serving.{IsOnlyTold}
 use Rattle.rdm_lanes.proofs.ListLemmas.{all_follow}
 use Rattle.rdm_lanes.proofs.GrowthLemmas.{touches, Untouched}
 use Rattle.rdm_lanes.proofs.LaneLemmas.{waits}

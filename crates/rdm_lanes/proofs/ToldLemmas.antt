@@ -1,28 +1,14 @@
 -- The entry of an outcome that a client got.
-use Rattle.std.proofs.Common.{◌≡◌, ℕ, true, List, ◌∷◌, ◌++◌, map, Option, Some, sym, ap, ◌∙◌, slice_get, inl, inr, refl}
-use Rattle.std.specs.Prelude.{◌⊎◌}
-use Rattle.rdm_agent.specs.declared.fault.AgentFault.{AgentFault}
-use Rattle.rdm_log.specs.declared.entry.Call.{Call}
+use Rattle.rdm_lanes.proofs.Common.{◌≡◌, ℕ, true, List, ◌∷◌, ◌++◌, map, Option, Some, sym, ap, ◌∙◌, slice_get, inl, inr}
+use Rattle.rdm_lanes.proofs.Common.{refl, ◌⊎◌, AgentFault, Call, Cause, ClientId, Opening, Entry, Join, Refuse, Accept}
+use Rattle.rdm_lanes.proofs.Common.{Ask, Send, Came, Finish, Answer, Collect, Pause, Resume, Close, answer_devices}
+use Rattle.rdm_lanes.proofs.Common.{LogState, OutcomeValue, Discovered, never_begun, refused_outcome, outcome_of, told}
+use Rattle.rdm_lanes.proofs.Common.{DiscoveryValue, slice_get-append_left, filter_has, Ghosts, ClientEnd, known_items}
+use Rattle.rdm_lanes.proofs.Common.{told_values, uncollected_values, values_in, end_got, Agrees}
 use Rattle.rdm_log.specs.declared.entry.Call.TheVariants as calls
-use Rattle.rdm_log.specs.declared.entry.Cause.{Cause}
-use Rattle.rdm_log.specs.declared.entry.ClientId.{ClientId}
-use Rattle.rdm_log.specs.declared.entry.Opening.{Opening}
-use Rattle.rdm_log.specs.declared.entry.Entry.{Entry}
-use Rattle.rdm_log.specs.declared.entry.Entry.TheVariants.{Join, Refuse, Accept, Ask, Send, Came, Finish, Answer}
-use Rattle.rdm_log.specs.declared.entry.Entry.TheVariants.{Collect, Pause, Resume, Close}
-use Rattle.rdm_log.specs.log.Runs.{answer_devices}
-use Rattle.rdm_log.specs.log.LogState.{LogState}
-use Rattle.rdm_log.specs.promises.Outcomes.{OutcomeValue, Discovered, discovered_by, never_begun, refused_outcome}
-use Rattle.rdm_log.specs.promises.Outcomes.{outcome_of, told}
-use Rattle.rdm_log.specs.promises.Outcomes.OutcomeValue.{DiscoveryValue}
-use Rattle.rdm_log.proofs.LogLemmas.Indices.{slice_get-append_left}
-use Rattle.rdm_log.proofs.PromiseLemmas.StableResults.{filter_has}
+use Rattle.rdm_log.specs.promises.Outcomes.{discovered_by}
 use Rattle.rdm_scenes.proofs.SceneLemmas.{split_at}
-use Rattle.rdm_lanes.specs.declared.views.history.ViewHistory.{Ghosts}
-use Rattle.rdm_lanes.specs.declared.client.ends.ClientEnd.{ClientEnd}
-use Rattle.rtrb.specs.Ring.{known_items}
-use Rattle.rdm_lanes.specs.Told.{told_values, uncollected_values, values_in, TellsAll}
-use Rattle.rdm_lanes.specs.Ends.{end_got, Agrees}
+use Rattle.rdm_lanes.specs.Told.{TellsAll}
 use Rattle.rdm_lanes.proofs.GrowthLemmas.{tells}
 use Rattle.rdm_lanes.proofs.EndLemmas.{get_map, map_get}
 

@@ -1,14 +1,7 @@
 -- What a worker has done for each client, and in all its turns.
-use Rattle.std.proofs.Common.{◌≡◌, ◌≤◌, ℕ, ◌+◌, List, length, sym, subst, ◌∙◌, Some, slice_get, inl, inr, arith}
-use Rattle.std.proofs.lemmas.Option.{same_Some, slice_get_within}
-use Rattle.std.specs.Prelude.{suc}
-use mathlib.Core.List.{IsPrefix}
-use Rattle.rdm_client.specs.declared.view.DeviceView.{DeviceView}
-use Rattle.rdm_log.specs.log.LogState.{LogState}
-use Rattle.rdm_lanes.specs.declared.worker.lane.Lane.{Lane}
-use Rattle.rdm_lanes.specs.Turns.{IsTurn, AreTurns}
-use Rattle.rdm_lanes.specs.body.Quiet.{NoExchange, OnlyCollects}
-use Rattle.rdm_lanes.specs.body.Doing.{ServesAt, AreServed, MovesAt, AreMoved}
+use Rattle.rdm_lanes.proofs.Common.{◌≡◌, ◌≤◌, ℕ, ◌+◌, List, length, sym, subst, ◌∙◌, Some, slice_get, inl, inr, arith}
+use Rattle.rdm_lanes.proofs.Common.{same_Some, slice_get_within, suc, IsPrefix, DeviceView, LogState, Lane, IsTurn}
+use Rattle.rdm_lanes.proofs.Common.{AreTurns, NoExchange, OnlyCollects, ServesAt, AreServed, MovesAt, AreMoved}
 use Rattle.rdm_lanes.proofs.CollectLemmas.{collects_none, collects_join}
 use Rattle.rdm_lanes.proofs.LaneLemmas.{get-set}
 use Rattle.rdm_lanes.proofs.LineLemmas.{line_same, line_join}

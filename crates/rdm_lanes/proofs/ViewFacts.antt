@@ -1,12 +1,8 @@
 -- Views, whose runs rise.
-use Rattle.std.proofs.Common.{◌≡◌, ◌<◌, ◌≤◌, zero, suc, List, [], ◌∷◌, ◌++◌, Some, None, slice_get, refl, ap, subst}
-use Rattle.std.proofs.Common.{fold, inl, inr, arith}
-use Rattle.std.specs.Prelude.{◌⊎◌}
-use Rattle.std.proofs.lemmas.Grind.{fold-append}
-use Rattle.rdm_client.specs.declared.view.DeviceView.{DeviceView}
-use Rattle.rdm_log.proofs.LogLemmas.Indices.{IsPushed, slice_get-push}
-use Rattle.rdm_lanes.specs.Views.{opening_view, last_view, last_view_run, RisesAbove, AreViews}
-use Rattle.rdm_lanes.specs.body.Showing.{NoneLater}
+use Rattle.rdm_lanes.proofs.Common.{◌≡◌, ◌<◌, ◌≤◌, zero, suc, List, [], ◌∷◌, ◌++◌, Some, None, slice_get, refl, ap}
+use Rattle.rdm_lanes.proofs.Common.{subst, fold, inl, inr, arith, ◌⊎◌, fold-append, DeviceView, slice_get-push}
+use Rattle.rdm_lanes.proofs.Common.{opening_view, last_view, last_view_run, RisesAbove, AreViews, NoneLater}
+use Rattle.rdm_log.proofs.LogLemmas.Indices.{IsPushed}
 
 -- the view that was added is the last
 pub last_added : (views : List DeviceView) (v : DeviceView) → last_view (views ++ v ∷ []) ≡ v

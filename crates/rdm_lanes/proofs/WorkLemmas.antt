@@ -1,23 +1,9 @@
 -- What the steps of a worker leave.
-use Rattle.std.proofs.Common.{◌≡◌, ◌≢◌, ◌≤◌, ◌+◌, ℕ, true, List, refl, ◌∙◌}
-use Rattle.rdm_log.specs.log.LogState.{LogState}
-use Rattle.std.specs.Prelude.{◌⊎◌, Option, None, Some, IfNone}
-use mathlib.Core.List.{IsPrefix}
-use Rattle.std.specs.declared.alloc.Global.{Global}
-use Rattle.rtrb.specs.declared.AnyItems.{AnyItems}
-use Rattle.rtrb.specs.declared.consumer.Consumer.{Consumer}
-use Rattle.rdm_lanes.specs.declared.call.OperatorCall.{OperatorCall}
-use Rattle.rtrb.specs.Ring.{SameConsumer}
-use Rattle.rdm_client.specs.declared.view.DeviceView.{DeviceView}
-use Rattle.rdm_line.specs.Events.{Exchange}
-use Rattle.rdm_lanes.specs.declared.worker.Worker.{Worker}
-use Rattle.rdm_lanes.specs.body.Quiet.{NoExchange, OnlyCollects}
-use Rattle.rdm_lanes.specs.Lines.{SameSwitches, Exchanged, exchange_count}
-use Rattle.rdm_log.specs.log.MaySend.{NoSend}
-use Rattle.rdm_lanes.specs.Views.{all_views}
-use Rattle.rdm_lanes.specs.Turns.{IsTurn, AreTurns}
-use Rattle.rdm_lanes.specs.Lanes.{SameLanes}
-use Rattle.rdm_lanes.specs.body.Doing.{ServesAt, AreServed, MovesAt, AreMoved}
+use Rattle.rdm_lanes.proofs.Common.{◌≡◌, ◌≢◌, ◌≤◌, ◌+◌, ℕ, true, List, refl, ◌∙◌, LogState, ◌⊎◌, Option, None, Some}
+use Rattle.rdm_lanes.proofs.Common.{IfNone, IsPrefix, Global, AnyItems, Consumer, OperatorCall, SameConsumer}
+use Rattle.rdm_lanes.proofs.Common.{DeviceView, Exchange, Worker, NoExchange, OnlyCollects, SameSwitches, Exchanged}
+use Rattle.rdm_lanes.proofs.Common.{exchange_count, NoSend, all_views, IsTurn, AreTurns, SameLanes, ServesAt, AreServed}
+use Rattle.rdm_lanes.proofs.Common.{MovesAt, AreMoved}
 use Rattle.rdm_lanes.proofs.LaneLemmas.{same_lanes, same_lanes_join}
 use Rattle.rdm_lanes.proofs.LineLemmas.{line_same, line_join, switches_same, switches_join}
 use Rattle.rdm_lanes.proofs.CollectLemmas.{collects_none, collects_join}

@@ -1,12 +1,6 @@
-use Rattle.std.proofs.Common.{◌≡◌, ◌∙◌, refl, sym, subst, arith}
-use Rattle.rdm_log.specs.log.LogState.{LogState}
-use Rattle.rdm_log.specs.log.Legal.{Legal}
-use Rattle.rdm_lanes.specs.Lines.{IsBetweenTurns}
+use Rattle.rdm_lanes.proofs.Common.{◌≡◌, ◌∙◌, refl, sym, subst, arith, LogState, Legal, IsBetweenTurns, AllFit}
+use Rattle.rdm_lanes.proofs.Common.{IsOperated, Publishes, opened_with}
 use Rattle.rtrb.specs.Ring.{received as popped}
-use Rattle.rdm_lanes.specs.Lanes.{AllFit}
-use Rattle.rdm_lanes.specs.body.Operated.{IsOperated}
-use Rattle.rdm_lanes.specs.body.Showing.{Publishes}
-use Rattle.rdm_lanes.specs.Opened.{opened_with}
 use Rattle.rdm_lanes.proofs.OpenLemmas.{few_places, served_opened, fits_opened, operated_opened, new_hold_nothing}
 use Rattle.rdm_lanes.proofs.OpenLemmas.{new_clients, new_pairs, publishes_opened}
 use Rattle.rdm_lanes.proofs.FirstLemmas.{new_shown_first}

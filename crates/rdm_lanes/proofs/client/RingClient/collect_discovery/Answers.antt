@@ -1,11 +1,6 @@
-use Rattle.std.proofs.Common.{◌∙◌, List, sym, ap}
-use Rattle.rdm_client.specs.declared.view.DeviceView.{DeviceView}
-use Rattle.rtrb.specs.Ring.{sent as pushed, received as popped, known_items}
-use Rattle.rdm_lanes.specs.declared.ring_outcome.RingOutcome.{RingOutcome}
-use Rattle.rdm_lanes.specs.Calls.{work_in}
-use Rattle.rdm_lanes.specs.Told.{value_in, values_in}
-use Rattle.rdm_lanes.specs.Views.{found_after, last_found}
-use Rattle.rdm_lanes.specs.body.Holding.{HoldsForDiscovery}
+use Rattle.rdm_lanes.proofs.Common.{◌∙◌, List, sym, ap, DeviceView, known_items, RingOutcome, work_in, value_in}
+use Rattle.rdm_lanes.proofs.Common.{values_in, found_after, last_found, HoldsForDiscovery}
+use Rattle.rtrb.specs.Ring.{sent as pushed, received as popped}
 use Rattle.rdm_lanes.proofs.Counting.{own_discovery}
 use Rattle.rdm_lanes.proofs.ServeLemmas.{at_first}
 use Rattle.rdm_lanes.proofs.ReadLemmas.{found_more}

@@ -1,10 +1,6 @@
-use Rattle.std.proofs.Common.{◌∙◌, ◌++◌, ◌∷◌, [], List, sym, ap}
-use Rattle.rtrb.specs.Ring.{sent as pushed, received as popped, known_items}
-use Rattle.rdm_lanes.specs.declared.ring_outcome.RingOutcome.{RingOutcome}
-use Rattle.rdm_lanes.specs.Calls.{work_in}
-use Rattle.rdm_lanes.specs.Told.{values_in}
-use Rattle.rdm_lanes.specs.Views.{last_found}
-use Rattle.rdm_lanes.specs.body.Holding.{HoldsForRequest}
+use Rattle.rdm_lanes.proofs.Common.{◌∙◌, ◌++◌, ◌∷◌, [], List, sym, ap, known_items, RingOutcome, work_in, values_in}
+use Rattle.rdm_lanes.proofs.Common.{last_found, HoldsForRequest}
+use Rattle.rtrb.specs.Ring.{sent as pushed, received as popped}
 use Rattle.rdm_lanes.proofs.ReadLemmas.{found_more, request_finds_nothing}
 use Rattle.rdm_lanes.proofs.Counting.{own_request}
 use Rattle.rdm_lanes.proofs.ServeLemmas.{at_first}

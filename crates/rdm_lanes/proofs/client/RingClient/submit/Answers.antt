@@ -1,7 +1,5 @@
-use Rattle.std.proofs.Common.{◌∙◌, ◌++◌, ◌∷◌, [], List, length-append, ap, refl, arith}
+use Rattle.rdm_lanes.proofs.Common.{◌∙◌, ◌++◌, ◌∷◌, [], List, length-append, ap, refl, arith, ClientCall, Submit}
 use Rattle.rtrb.specs.Ring.{sent as pushed}
-use Rattle.rdm_lanes.specs.declared.call.ClientCall.{ClientCall}
-use Rattle.rdm_lanes.specs.declared.call.ClientCall.TheVariants.{Submit}
 use Rattle.rdm_lanes.proofs.Counting.{counted_sent, own_submitted}
 use Rattle.rdm_lanes.proofs.client.RingClient.submit.Goals as goal
 

@@ -1,5 +1,4 @@
-use Rattle.std.proofs.Common.{length}
-use Rattle.rdm_lanes.specs.body.Opening.{HoldNothing}
+use Rattle.rdm_lanes.proofs.Common.{length, HoldNothing}
 use Rattle.rdm_lanes.proofs.opening.steps.discard.Given as goal
 
 abbrev pub invariant-loop-client : goal.invariant-loop-client

@@ -1,6 +1,4 @@
-use Rattle.std.proofs.Common.{◌≡◌, ◌≤◌, ◌+◌, take}
-use Rattle.std.specs.Prelude.{◌⊎◌}
-use Rattle.rdm_lanes.specs.Opened.{join_entries}
+use Rattle.rdm_lanes.proofs.Common.{◌≡◌, ◌≤◌, ◌+◌, take, ◌⊎◌, join_entries}
 use Rattle.rdm_lanes.proofs.opening.steps.join_all.Given as goal
 
 abbrev pub invariant-loop-n : goal.invariant-loop-n

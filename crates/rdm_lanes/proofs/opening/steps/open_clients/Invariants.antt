@@ -1,5 +1,4 @@
-use Rattle.std.proofs.Common.{◌≡◌, length, take, vec_capacity}
-use Rattle.rdm_lanes.specs.body.Opening.{AreNewWith}
+use Rattle.rdm_lanes.proofs.Common.{◌≡◌, length, take, vec_capacity, AreNewWith}
 use Rattle.rdm_lanes.proofs.opening.steps.open_clients.Given as goal
 
 abbrev pub invariant-loop-n : goal.invariant-loop-n

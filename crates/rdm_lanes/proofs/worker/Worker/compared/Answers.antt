@@ -1,5 +1,4 @@
-use Rattle.std.proofs.Common.{◌<◌, ◌≤◌, refl, length, arith}
-use Rattle.std.proofs.lemmas.Option.{slice_get_read}
+use Rattle.rdm_lanes.proofs.Common.{◌<◌, ◌≤◌, refl, length, arith, slice_get_read}
 use Rattle.rdm_lanes.proofs.EndLemmas.{comparing_none, comparing_more, all_compared, all_read}
 use Rattle.rdm_lanes.proofs.worker.Worker.compared.Goals as goal
 

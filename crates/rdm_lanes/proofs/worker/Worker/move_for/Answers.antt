@@ -1,5 +1,4 @@
-use Rattle.std.proofs.Common.{refl, length, arith}
-use Rattle.std.proofs.lemmas.Option.{slice_get_read}
+use Rattle.rdm_lanes.proofs.Common.{refl, length, arith, slice_get_read}
 use Rattle.rdm_lanes.proofs.LaneLemmas.{all_set, places_stay, same_lanes_set}
 use Rattle.rdm_lanes.proofs.CollectLemmas.{collects_line, collects_switches}
 use Rattle.rdm_lanes.proofs.OperatorLemmas.{operated_quiet}

@@ -1,7 +1,5 @@
-use Rattle.std.proofs.Common.{◌∙◌, ℕ, List, ap, refl, length, slice_get, arith}
-use Rattle.rdm_lanes.specs.Lanes.{lane_places}
+use Rattle.rdm_lanes.proofs.Common.{◌∙◌, ℕ, List, ap, refl, length, slice_get, arith, lane_places, slice_get_read}
 use Rattle.rdm_lanes.proofs.EndLemmas.{get_map}
-use Rattle.std.proofs.lemmas.Option.{slice_get_read}
 use Rattle.rdm_lanes.proofs.LaneLemmas.{all_set, places_stay, same_lanes_set}
 use Rattle.rtrb.specs.Ring.{received as popped}
 use Rattle.rdm_lanes.proofs.OperatorLemmas.{operated_quiet}

@@ -1,7 +1,5 @@
-use Rattle.std.proofs.Common.{◌∙◌, List, ◌++◌, ◌∷◌, [], sym, ap, subst}
+use Rattle.rdm_lanes.proofs.Common.{◌∙◌, List, ◌++◌, ◌∷◌, [], sym, ap, subst, OperatorCall, IsOperated}
 use Rattle.rtrb.specs.Ring.{received as popped}
-use Rattle.rdm_lanes.specs.declared.call.OperatorCall.{OperatorCall}
-use Rattle.rdm_lanes.specs.body.Operated.{IsOperated}
 use Rattle.rdm_lanes.proofs.LaneLemmas.{all_wait, places_stay}
 use Rattle.rdm_lanes.proofs.worker.Worker.serve_operator.Goals as goal
 

@@ -1,6 +1,5 @@
-use Rattle.std.proofs.Common.{refl, true≢false}
+use Rattle.rdm_lanes.proofs.Common.{refl, true≢false, Some}
 use Rattle.rdm_log.specs.declared.outcome.Outcome.TheVariants as outcomes
-use Rattle.std.proofs.Common.{Some}
 use Rattle.rdm_lanes.specs.declared.ring_outcome.RingOutcome.TheVariants.{Request}
 use Rattle.rdm_lanes.proofs.CollectedLemmas.{has_request, fits_completion}
 use Rattle.rdm_lanes.proofs.StepLemmas.{collects, collect_served, others_wait_collect}

@@ -1,7 +1,6 @@
-use Rattle.std.proofs.Common.{refl, true≢false, ap, Some}
-use Rattle.rdm_log.specs.declared.outcome.AskCompletion.{AskCompletion}
+use Rattle.rdm_lanes.proofs.Common.{refl, true≢false, ap, Some, AskCompletion, outcome_value}
 use Rattle.rdm_log.specs.declared.outcome.Outcome.TheVariants as outcomes
-use Rattle.rdm_log.specs.promises.Outcomes.{discovery_outcome, outcome_value}
+use Rattle.rdm_log.specs.promises.Outcomes.{discovery_outcome}
 use Rattle.rdm_lanes.proofs.CollectedLemmas.{has_ask, fits_discovery}
 use Rattle.rdm_lanes.proofs.StepLemmas.{collects, collect_served, others_wait_collect}
 use Rattle.rdm_lanes.proofs.worker.moving.move_discovery.Goals as goal

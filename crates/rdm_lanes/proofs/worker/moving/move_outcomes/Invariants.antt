@@ -1,5 +1,5 @@
+use Rattle.rdm_lanes.proofs.Common.{MovesFor}
 use Rattle.rtrb.specs.Ring.{known_free}
-use Rattle.rdm_lanes.specs.body.Doing.{MovesFor}
 use Rattle.rdm_lanes.proofs.worker.moving.move_outcomes.Given as goal
 
 abbrev pub invariant-loop-alloc : goal.invariant-loop-alloc

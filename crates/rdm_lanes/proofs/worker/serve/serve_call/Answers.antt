@@ -1,12 +1,9 @@
-use Rattle.std.proofs.Common.{Some, List, [], ◌∷◌, ◌++◌, refl, sym, ap, ◌∙◌, true, rules}
-use Rattle.rdm_lanes.specs.declared.worker.lane.Lane.{Lane}
-use Rattle.rdm_lanes.specs.declared.call.ClientCall.TheVariants.{Submit, Discover}
-use Rattle.rdm_lanes.specs.body.Serving.{MayMake}
-use Rattle.rtrb.specs.Ring.{received as popped, known_items}
-use Rattle.rdm_lanes.specs.declared.call.ClientCall.{ClientCall}
+use Rattle.rdm_lanes.proofs.Common.{Some, List, [], ◌∷◌, ◌++◌, refl, sym, ap, ◌∙◌, true, rules, Lane, Submit, Discover}
+use Rattle.rdm_lanes.proofs.Common.{MayMake, known_items, ClientCall}
+use Rattle.rtrb.specs.Ring.{received as popped}
 use Rattle.rdm_lanes.proofs.LaneLemmas.{same_lane_join}
-use Rattle.rdm_lanes.proofs.ServeLemmas.{Calls, popped_more, at_first, fits_popped, fits_left, looked_at}
-use Rattle.rdm_lanes.proofs.ServeLemmas.{serves_none, serves_after}
+use Rattle.rdm_lanes.proofs.ServeLemmas.{Calls, popped_more, at_first, fits_popped, fits_left, looked_at, serves_none}
+use Rattle.rdm_lanes.proofs.ServeLemmas.{serves_after}
 use Rattle.rdm_lanes.proofs.worker.serve.serve_call.Goals as goal
 
 pub make_submit-requires : goal.make_submit-requires

@@ -1,5 +1,4 @@
-use Rattle.std.proofs.Common.{◌∙◌, length, ap, sym, subst}
-use Rattle.rdm_lanes.specs.Views.{AreViews}
+use Rattle.rdm_lanes.proofs.Common.{◌∙◌, length, ap, sym, subst, AreViews}
 use Rattle.rdm_lanes.specs.body.History.{head_of}
 use Rattle.rdm_lanes.proofs.ViewFacts.{opening_views}
 use Rattle.rdm_lanes.proofs.views.history.BlankHistory.named.Goals as goal

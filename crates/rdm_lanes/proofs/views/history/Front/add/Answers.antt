@@ -1,5 +1,4 @@
-use Rattle.std.proofs.Common.{◌<◌, sym, ◌∙◌, ap}
-use Rattle.rdm_lanes.specs.Views.{last_view_run}
+use Rattle.rdm_lanes.proofs.Common.{◌<◌, sym, ◌∙◌, ap, last_view_run}
 use Rattle.rdm_lanes.proofs.HistoryLemmas.{adds_moves}
 use Rattle.rdm_lanes.proofs.views.history.Front.add.Goals as goal
 

@@ -1,6 +1,4 @@
-use Rattle.std.proofs.Common.{◌≤◌, ap, subst, arith, length, List}
-use mathlib.Core.List.{IsPrefix}
-use Rattle.rdm_client.specs.declared.view.DeviceView.{DeviceView}
+use Rattle.rdm_lanes.proofs.Common.{◌≤◌, ap, subst, arith, length, List, IsPrefix, DeviceView}
 use Rattle.rdm_lanes.proofs.Fronts.{prefix_shorter}
 use Rattle.rdm_lanes.proofs.views.history.Front.longer.Goals as goal
 

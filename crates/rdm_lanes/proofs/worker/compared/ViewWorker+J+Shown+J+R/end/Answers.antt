@@ -1,6 +1,4 @@
-use Rattle.std.proofs.Common.{◌∙◌, sym}
-use Rattle.std.proofs.lemmas.List.{length-map}
-use Rattle.rdm_lanes.specs.Ends.{end_rings}
+use Rattle.rdm_lanes.proofs.Common.{◌∙◌, sym, length-map, end_rings}
 use Rattle.rdm_lanes.proofs.FirstLemmas.{ends_shown_first}
 use Rattle.rdm_lanes.proofs.ReadLemmas.{published_of}
 use Rattle.rdm_lanes.proofs.worker.compared.ViewWorker+J+Shown+J+R.end.Goals as goal

@@ -1,9 +1,4 @@
-use Rattle.std.proofs.Common.{◌≡◌, true, false, inl, inr}
-use Rattle.std.specs.Prelude.{◌⊎◌}
-use Rattle.std.proofs.lemmas.Bool.{cases_Bool}
-use mathlib.Core.List.{IsPrefix}
-use Rattle.rdm_lanes.specs.Views.{all_views}
-use Rattle.rdm_lanes.specs.body.Showing.{AreShownFirst}
+use Rattle.rdm_lanes.proofs.Common.{◌≡◌, true, false, inl, inr, ◌⊎◌, cases_Bool, IsPrefix, all_views, AreShownFirst}
 use Rattle.rdm_lanes.proofs.FirstLemmas.{first_shown}
 use Rattle.rdm_lanes.proofs.Fronts.{prefix_self}
 use Rattle.rdm_lanes.proofs.ReadLemmas.{take_prefix}

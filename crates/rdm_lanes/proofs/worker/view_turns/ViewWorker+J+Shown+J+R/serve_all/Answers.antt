@@ -1,13 +1,6 @@
-use Rattle.std.proofs.Common.{◌∙◌, ◌≡◌, true, ap, sym, subst, arith}
-use Rattle.std.proofs.lemmas.Option.{same_Some}
-use Rattle.rtrb.specs.Ring.{SameConsumer}
+use Rattle.rdm_lanes.proofs.Common.{◌∙◌, ◌≡◌, true, ap, sym, subst, arith, same_Some, SameConsumer, Worker, Exchanged}
+use Rattle.rdm_lanes.proofs.Common.{SameSwitches, NoExchange, OnlyCollects, SameLanes, IsPrefix, Publishing}
 use Rattle.rdm_lanes.proofs.WorkLemmas.{OperatorEnd, ring_same}
-use Rattle.rdm_lanes.specs.declared.worker.Worker.{Worker}
-use Rattle.rdm_lanes.specs.Lines.{Exchanged, SameSwitches}
-use Rattle.rdm_lanes.specs.body.Quiet.{NoExchange, OnlyCollects}
-use Rattle.rdm_lanes.specs.Lanes.{SameLanes}
-use mathlib.Core.List.{IsPrefix}
-use Rattle.rdm_lanes.specs.body.Showing.{Publishing}
 use Rattle.rdm_lanes.proofs.Fronts.{prefix_trans}
 use Rattle.rdm_lanes.proofs.LaneLemmas.{same_lanes_join}
 use Rattle.rdm_lanes.proofs.LineLemmas.{line_same, switches_join}

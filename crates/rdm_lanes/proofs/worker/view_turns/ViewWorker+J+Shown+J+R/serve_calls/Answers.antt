@@ -1,5 +1,4 @@
-use Rattle.std.proofs.Common.{◌∙◌, length, subst}
-use Rattle.rtrb.specs.Ring.{SameConsumer}
+use Rattle.rdm_lanes.proofs.Common.{◌∙◌, length, subst, SameConsumer}
 use Rattle.rdm_lanes.proofs.WorkLemmas.{OperatorEnd}
 use Rattle.rdm_lanes.proofs.TurnLemmas.{served_later}
 use Rattle.rdm_lanes.proofs.LineLemmas.{line_join, switches_join}

@@ -1,5 +1,4 @@
-use Rattle.std.proofs.Common.{◌∙◌, ℕ, Some, refl, ap, subst, arith}
-use Rattle.rdm_lanes.specs.Turns.{AreTurns}
+use Rattle.rdm_lanes.proofs.Common.{◌∙◌, ℕ, Some, refl, ap, subst, arith, AreTurns}
 use Rattle.rdm_lanes.proofs.LaneLemmas.{same_lanes, same_lanes_join}
 use Rattle.rdm_lanes.proofs.LineLemmas.{line_same, switches_same, switches_join}
 use Rattle.rdm_lanes.proofs.ExchangeLemmas.{exchanged_none, exchanged_join}
