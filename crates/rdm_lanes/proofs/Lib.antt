@@ -1,4 +1,6 @@
 pub mod DrainLemmas
+pub mod PageLemmas
+pub mod PagedWork
 pub mod Fronts
 pub mod ViewFacts
 pub mod HistoryLemmas
@@ -29,6 +31,7 @@ pub mod WorkLemmas
 pub mod EndLemmas
 pub mod OpenLemmas
 pub mod SessionLemmas
+pub mod PagedSessions
 pub mod ToldLemmas
 pub mod SceneLemmas
 pub mod FirstLemmas

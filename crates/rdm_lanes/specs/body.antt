@@ -1,6 +1,7 @@
 -- What only proofs and type invariants need. Nothing here has to be trusted, since no promise cites it.
 pub mod Counts
 pub mod Doing
+pub mod Done
 pub mod Gains
 pub mod History
 pub mod Holding

@@ -3,7 +3,10 @@ ghost use Rattle.std.specs.Prelude.{◌≡◌, length, IfOk, IfErr};
 ghost use Rattle.rdm_log.specs.log.Config.{steady};
 ghost use Rattle.rdm_log.specs.log.LogState.{blank_log};
 ghost use Rattle.rdm_lanes.specs.Opened.{MayOpen, HasFirstFault};
+ghost use Rattle.rdm_lanes.specs.PagedEnds.{IsPagedEnd};
+ghost use Rattle.rdm_lanes.specs.Pages.{pages_out};
 ghost use Rattle.rdm_lanes.specs.SessionEnds.{IsSessionEnd};
+ghost use Rattle.rdm_lanes.specs.declared.pages.Spare.TheVariants.{Nothing as NoSpare};
 ghost use Rattle.rdm_lanes.specs.Workers.{book_of};
 
 pub(crate) mod body;
@@ -13,6 +16,7 @@ pub(crate) mod together;
 use crate::fault::OpenFault;
 use crate::opening::rooms::rooms_for;
 use crate::opening::{fault_of_places, open_lanes_with};
+use crate::pages::{NoSink, PageSink, Pages, Spare};
 use crate::session::body::{Body, Gate};
 use crate::session::together::{LanesEnd, lanes_in_threads};
 use crate::views::history::{BlankHistory, ViewHistory};
@@ -110,17 +114,83 @@ pub fn run_session_with<
     ensures back { IfErr result (λ e. (e.1 ≡ blank_log log.room) × (e.2 ≡ bodies) × (e.3 ≡ line)
         × (book_of e.4 ≡ J.book)) }
 {
+    let pages = Pages {
+        sink: NoSink,
+        spare: Spare::Nothing,
+    };
+    let ended = run_session_in_pages(
+        rt, alloc, history, setup, log, ring, places, bodies, gate, line, turns, pages,
+    );
+    match ended {
+        Ok((end, _)) => Ok(end),
+        Err((fault, log, bodies, line, history, _)) => Err((fault, log, bodies, line, history)),
+    }
+}
+
+/// The same with a sink that takes the entries of the log, page by page, so that a session can outlive its log's
+/// memory. Before a turn of the worker, if the log stores at least as many entries as are free, all that it stores is
+/// given to the sink, and the log continues in the spare memory. No page ends between a frame and its reply. The memory
+/// that the sink returns is the next spare memory. If the sink refuses a page, nothing more is handed out: the session
+/// goes on until its log is full, and the page is returned. Conditions and errors are those of [`run_session`].
+///
+/// The pages that the sink has taken and then the page that it refused follow each other. They and then the entries
+/// that the log stores are the whole history, each entry once, in order. Contracts still cover the whole history.
+pub fn run_session_in_pages<
+    J: ViewHistory + Send + Sync,
+    B: Body<C, A> + Send,
+    C: Tells + Send,
+    A: TellsAsk + Send,
+    G: Gate + Sync,
+    X: Line + Send,
+    S: PageSink + Send,
+    R: Threads + Wait + Sync,
+>(
+    rt: &R,
+    alloc: Global,
+    history: BlankHistory,
+    setup: Setup,
+    log: Log,
+    ring: u8,
+    places: &[u8],
+    bodies: Vec<B>,
+    gate: &G,
+    line: X,
+    turns: u64,
+    pages: Pages<S>,
+) -> Result<
+    (LanesEnd<J, B, X, C, A>, Pages<S>),
+    (OpenFault, Log, Vec<B>, X, BlankHistory, Pages<S>),
+>
+    requires may_open { MayOpen J.book history setup.config log ring }
+    requires one_each { length bodies.items ≡ length places.now }
+    ensures over { IfOk result (λ end. IsPagedEnd X.step setup log.room ring places.now line turns
+        (pages_out S.taken pages) (pages_out S.taken end.1) end.0) }
+    ensures still { pages.spare ≡ NoSpare
+        → IfOk result (λ end. (end.0.session.room ≡ log.room) × (end.0.session.gone ≡ 0)) }
+    ensures fault { HasFirstFault setup.config.places log.room places.now (λ e. e.0) result }
+    ensures back { IfErr result (λ e. (e.1 ≡ blank_log log.room) × (e.2 ≡ bodies) × (e.3 ≡ line)
+        × (book_of e.4 ≡ J.book) × (e.5 ≡ pages)) }
+{
     if let Some(fault) = fault_of_places(&setup.config, places) {
-        return Err((fault, log.cleared(), bodies, line, history));
+        return Err((fault, log.cleared(), bodies, line, history, pages));
     }
     let Some(rooms) = rooms_for(alloc, bodies.len()) else {
-        return Err((OpenFault::NoMemory, log.cleared(), bodies, line, history));
+        return Err((
+            OpenFault::NoMemory,
+            log.cleared(),
+            bodies,
+            line,
+            history,
+            pages,
+        ));
     };
     match open_lanes_with(rt, alloc, history, setup, log, ring, places) {
-        Ok(lanes) => Ok(lanes_in_threads(rt, alloc, lanes, rooms, bodies, gate, line, turns)),
+        Ok(lanes) => Ok(lanes_in_threads(
+            rt, alloc, lanes, rooms, bodies, gate, line, turns, pages,
+        )),
         Err((fault, log, history)) => {
             rooms.give_up();
-            Err((fault, log, bodies, line, history))
+            Err((fault, log, bodies, line, history, pages))
         }
     }
 }

@@ -1,14 +1,17 @@
 //! The worker and the bodies in threads.
 ghost use Rattle.std.specs.Prelude.{◌≡◌, ◌≢◌, ◌≤◌, ◌+◌, true, false};
 ghost use Rattle.rdm_log.specs.log.LogState.{is_full_log};
-ghost use Rattle.rdm_log.specs.log.MaySend.{NoSend};
 ghost use Rattle.rdm_client.specs.declared.worker_end.WorkerEnd.TheVariants.{AllLeft, Turns, LogFull as FullLog};
 ghost use Rattle.rdm_lanes.specs.Lines.{Exchanged, SameSwitches, exchange_count};
-ghost use Rattle.rdm_lanes.specs.Lanes.{SameLanes, AllHaveLeft};
+ghost use Rattle.rdm_lanes.specs.Lanes.{SameLanes};
+ghost use Rattle.rdm_lanes.specs.body.Done.{IsDone};
+ghost use Rattle.rdm_lanes.specs.Pages.{HandsOut, SameMemory, pages_out, with_memory};
+ghost use Rattle.rdm_lanes.specs.declared.pages.Spare.TheVariants.{Nothing as NoSpare};
 ghost use Rattle.rdm_lanes.specs.body.Seats.{SameSeats};
 ghost use Rattle.rdm_lanes.specs.Workers.{session_of, lanes_of, operator_has_left, turns_made_of, HasPublishedAll};
 
 use crate::opening::seat::Seat;
+use crate::pages::{PageSink, Pages};
 use crate::session::body::{Body, Gate, WORKER_STOPPED};
 use crate::views::history::ViewHistory;
 use crate::views::publishing::Shown;
@@ -40,7 +43,8 @@ pub fn call_bodies<
     );
 }
 
-/// Runs the worker beside the bodies, and waits for all of them. The worker arrives at its point once it has stopped.
+/// Runs the worker beside the bodies, and waits for all of them. The worker hands out the entries of its log, and
+/// arrives at its point once it has stopped.
 #[tactic(auto, using(crate::proofs::SeatLemmas::same_seats_in))]
 pub fn all_in_threads<
     J: ViewHistory + Send + Sync,
@@ -49,6 +53,7 @@ pub fn all_in_threads<
     A: Send,
     G: Gate + Sync,
     X: Line + Send,
+    S: PageSink + Send,
     R: Threads + Sync,
     W: Wait + Drop + Send,
 >(
@@ -59,17 +64,22 @@ pub fn all_in_threads<
     gate: &G,
     line: X,
     turns: u64,
+    pages: Pages<S>,
 ) -> (
     ViewWorker<J, Shown<J>, W>,
     Vec<Seat<J, B, C, A>>,
     X,
     WorkerEnd,
+    Pages<S>,
 )
     ensures lanes { SameLanes (lanes_of worker) (lanes_of result.0) }
     ensures seats { SameSeats seats.items result.1.items }
-    ensures exchanged { Exchanged X.step line (session_of worker) result.2 (session_of result.0) }
-    ensures all_left { result.3 ≡ AllLeft → AllHaveLeft (lanes_of result.0)
-        × NoSend (session_of result.0).opening (session_of result.0).entries }
+    ensures exchanged { Exchanged X.step line (session_of worker) result.2
+        (with_memory (session_of worker).room (session_of worker).gone (session_of result.0)) }
+    ensures handed { HandsOut (session_of worker) (session_of result.0) (pages_out S.taken pages)
+        (pages_out S.taken result.4) }
+    ensures still { pages.spare ≡ NoSpare → SameMemory (session_of worker) (session_of result.0) }
+    ensures all_left { result.3 ≡ AllLeft → IsDone (lanes_of result.0) (session_of result.0) }
     ensures published { result.3 ≢ Turns → HasPublishedAll result.0 }
     ensures full { result.3 ≡ FullLog → is_full_log (session_of result.0) ≡ true }
     ensures turns { (turns_made_of result.0 ≤ turns) × (turns ≡ 0 → result.3 ≡ Turns) }
@@ -81,13 +91,14 @@ pub fn all_in_threads<
     let mut worker = worker;
     let mut seats = seats;
     let mut line = line;
+    let mut pages = pages;
     let mut serve = || {
-        let end = worker.work(alloc, &mut line, turns);
+        let end = worker.work_in_pages(alloc, &mut line, turns, &mut pages);
         gate.arrive(WORKER_STOPPED);
         end
     };
     let all = seats.as_mut_slice();
     let mut play = || call_bodies(rt, all, gate);
     let (end, _) = thread::join_mut(rt, &mut serve, &mut play);
-    (worker, seats, line, end)
+    (worker, seats, line, end, pages)
 }

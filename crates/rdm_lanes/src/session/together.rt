@@ -6,6 +6,8 @@ ghost use Rattle.rdm_client.specs.declared.worker_end.WorkerEnd.TheVariants.{Tur
 ghost use Rattle.rdm_lanes.specs.declared.worker.lane.Lane.{Lane};
 ghost use Rattle.rdm_lanes.specs.Lines.{Exchanged, SameSwitches, IsBetweenTurns, exchange_count};
 ghost use Rattle.rdm_lanes.specs.Lanes.{AllFit};
+ghost use Rattle.rdm_lanes.specs.Pages.{HandsOut, SameMemory, pages_out, with_memory};
+ghost use Rattle.rdm_lanes.specs.declared.pages.Spare.TheVariants.{Nothing as NoSpare};
 ghost use Rattle.rdm_lanes.specs.Ended.{IsEnded};
 ghost use Rattle.rdm_lanes.specs.Ends.{AllHaveSlots};
 ghost use Rattle.rdm_lanes.specs.Pairs.{ClientsPair, client_rings};
@@ -16,6 +18,7 @@ ghost use Rattle.rdm_lanes.specs.Workers.{session_of, lanes_of};
 use crate::client::ends::ClientEnd;
 use crate::opening::Lanes;
 use crate::opening::rooms::{Rooms, seated, unseated};
+use crate::pages::{PageSink, Pages};
 use crate::session::body::{Body, Gate};
 use crate::session::threads::all_in_threads;
 use crate::views::history::{Front, ViewHistory};
@@ -56,6 +59,7 @@ pub fn lanes_in_threads<
     A: TellsAsk + Send,
     G: Gate + Sync,
     X: Line + Send,
+    S: PageSink + Send,
     R: Threads + Sync,
     W: Wait + Drop + Send,
 >(
@@ -67,23 +71,29 @@ pub fn lanes_in_threads<
     gate: &G,
     line: X,
     turns: u64,
-) -> LanesEnd<J, B, X, C, A>
+    pages: Pages<S>,
+) -> (LanesEnd<J, B, X, C, A>, Pages<S>)
     requires pairs { ClientsPair (lanes_of lanes.worker) lanes.clients.items }
     requires one_each { length bodies.items ≡ length lanes.clients.items }
     requires room { HasRoomFor (length bodies.items) rooms }
-    ensures exchanged { Exchanged X.step line (session_of lanes.worker) result.line result.session }
-    ensures served { IsBetweenTurns result.session }
-    ensures legal { Legal result.session.opening result.session.entries }
-    ensures promised { Promised result.session }
-    ensures switches { SameSwitches (session_of lanes.worker) result.session }
+    ensures exchanged { Exchanged X.step line (session_of lanes.worker) result.0.line (with_memory
+        (session_of lanes.worker).room (session_of lanes.worker).gone result.0.session) }
+    ensures handed { HandsOut (session_of lanes.worker) result.0.session (pages_out S.taken pages)
+        (pages_out S.taken result.1) }
+    ensures still { pages.spare ≡ NoSpare → SameMemory (session_of lanes.worker) result.0.session }
+    ensures served { IsBetweenTurns result.0.session }
+    ensures legal { Legal result.0.session.opening result.0.session.entries }
+    ensures promised { Promised result.0.session }
+    ensures switches { SameSwitches (session_of lanes.worker) result.0.session }
     ensures fits { (lanes_left : List Lane) × (length lanes_left ≡ length (lanes_of lanes.worker))
-        × AllFit result.session lanes_left }
-    ensures ended { IsEnded (length bodies.items) result }
+        × AllFit result.0.session lanes_left }
+    ensures ended { IsEnded (length bodies.items) result.0 }
     ensures slots { (n : ℕ) → RingsHaveSlots n (map client_rings lanes.clients.items)
-        → AllHaveSlots n result.ends.items }
-    ensures turns { (result.turns ≤ turns) × (turns ≡ 0 → result.worker ≡ Turns) }
-    ensures all_turns { result.worker ≡ Turns → result.turns ≡ turns }
-    ensures exchanges { exchange_count result.session ≤ exchange_count (session_of lanes.worker) + result.turns }
+        → AllHaveSlots n result.0.ends.items }
+    ensures turns { (result.0.turns ≤ turns) × (turns ≡ 0 → result.0.worker ≡ Turns) }
+    ensures all_turns { result.0.worker ≡ Turns → result.0.turns ≡ turns }
+    ensures exchanges { exchange_count result.0.session
+        ≤ exchange_count (session_of lanes.worker) + result.0.turns }
 {
     let Lanes {
         clients,
@@ -97,7 +107,9 @@ pub fn lanes_in_threads<
     } = rooms;
     let paired = seated(bodies, clients, seats);
     let alone = worker.without_operator();
-    let (worker, left, line, end) = all_in_threads(rt, alloc, alone, paired, gate, line, turns);
+    let (worker, left, line, end, pages) = all_in_threads(
+        rt, alloc, alone, paired, gate, line, turns, pages,
+    );
     let (bodies, ends) = unseated(left, back, ends);
     let turns = worker.turns_made;
     let Compared {
@@ -106,7 +118,7 @@ pub fn lanes_in_threads<
         matched,
         published,
     } = worker.end(ends);
-    LanesEnd {
+    let ended = LanesEnd {
         session,
         ends,
         matched,
@@ -115,5 +127,6 @@ pub fn lanes_in_threads<
         turns,
         line,
         published,
-    }
+    };
+    (ended, pages)
 }

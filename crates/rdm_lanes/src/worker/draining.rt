@@ -2,6 +2,7 @@
 ghost use Rattle.std.specs.Prelude.{◌≡◌, [], IfOk, IfErr, OnOk, OnErr, vec_capacity};
 ghost use Rattle.rdm_log.specs.log.LogState.{stored, drained, MayGoOn};
 ghost use Rattle.rdm_lanes.specs.Workers.{session_of, lanes_of, operator_has_left, published_by};
+ghost use Rattle.rdm_lanes.specs.Workers.{operator_ring, turns_made_of};
 
 use crate::views::history::ViewHistory;
 use crate::views::publishing::Shown;
@@ -44,9 +45,13 @@ impl<J: ViewHistory, R: Wait + Drop> ViewWorker<J, Shown<J>, R> {
         ensures back { IfErr result (λ e. e.1 ≡ next) }
         ensures refused { OnErr result (MayGoOn (session_of self.old) (vec_capacity next) → ⊥) }
         ensures unchanged { OnErr result (session_of self.new ≡ session_of self.old) }
+        ensures history { ((session_of self.new).opening ≡ (session_of self.old).opening)
+            × ((session_of self.new).entries ≡ (session_of self.old).entries) }
         ensures lanes { lanes_of self.new ≡ lanes_of self.old }
         ensures operator { operator_has_left self.new ≡ operator_has_left self.old }
+        ensures ring { operator_ring self.new ≡ operator_ring self.old }
         ensures views { published_by self.new ≡ published_by self.old }
+        ensures count { turns_made_of self.new ≡ turns_made_of self.old }
     {
         self.server.drain(next)
     }

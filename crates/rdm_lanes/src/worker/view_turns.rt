@@ -85,7 +85,7 @@ impl<J: ViewHistory, R: Wait + Drop> ViewWorker<J, Shown<J>, R> {
     }
 
     // One turn, which is counted first. Some: the worker stops.
-    fn turn<X: Line>(&mut self, alloc: Global, line: &mut X) -> Option<WorkerEnd>
+    pub(crate) fn turn<X: Line>(&mut self, alloc: Global, line: &mut X) -> Option<WorkerEnd>
         requires few { self.old.turns_made < 2 ^ 64 - 1 }
         ensures counted { self.new.turns_made ≡ self.old.turns_made + 1 }
         ensures exchanged { Exchanged X.step line.old self.old.server.session line.new self.new.server.session }

@@ -24,6 +24,16 @@ returns-clause-exchanged g c =
     rw c.end-session.ensures.log
     (rw c.without_operator-alone.ensures.same.0 at c.all_in_threads-worker.ensures.exchanged)
 
+pub returns-clause-handed : goal.returns-clause-handed
+returns-clause-handed g c =
+    rw c.end-session.ensures.log
+    (rw c.without_operator-alone.ensures.same.0 at c.all_in_threads-worker.ensures.handed)
+
+pub returns-clause-still : goal.returns-clause-still
+returns-clause-still g c none =
+    rw c.end-session.ensures.log
+    (rw c.without_operator-alone.ensures.same.0 at (c.all_in_threads-worker.ensures.still none))
+
 pub returns-clause-fits : goal.returns-clause-fits
 returns-clause-fits g c =
     let news = c.all_in_threads-worker.result.0.server.lanes.items in (
@@ -40,7 +50,7 @@ returns-clause-ended g c =
     record {
       agree = rw c.end-session.ensures.log c.end-session.ensures.agree;
       all_left = λ is. let left = c.all_in_threads-worker.ensures.all_left is in
-          (c.end-session.ensures.read left.0, rw c.end-session.ensures.log left.1);
+          (c.end-session.ensures.read left.left, rw c.end-session.ensures.log left.silent);
       full = λ is. rw c.end-session.ensures.log (c.all_in_threads-worker.ensures.full is);
       one_each = (c.end-session.ensures.show_same.long ∙ (rings ∙ seats), c.unseated-bodies.ensures.bodies ∙ seats);
       unspent = c.end-session.ensures.unspent;
