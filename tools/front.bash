@@ -67,27 +67,29 @@ call_front() {
     exec python3 -m wurstlinen.tool "$@"
 }
 
-# Says what the next steps in the repository cost.
-show_costs() {
+# Sets `costs` to what the doctor also says: what the next steps in the repository cost.
+find_costs() {
     local kit_found
     kit_found="$(kit)"
-    echo "kit        ${kit_found:-not there: add its folder bin to PATH}"
-    is_up_to_date || echo "program    its first command proves and builds it: about 80 processor minutes"
-    library_is_up_to_date || echo "C library  its first command proves and builds it: about 10 minutes"
-    command -v c++ > /dev/null && has_ola_headers || echo "OLA        no headers: --install-ola needs libola-dev"
+    costs=(--also kit "${kit_found:-not there: add its folder bin to PATH}")
+    is_up_to_date || costs+=(--also program "its first command proves and builds it: about 80 processor minutes")
+    library_is_up_to_date || costs+=(--also "C library" "its first command proves and builds it: about 10 minutes")
+    command -v c++ > /dev/null && has_ola_headers \
+        || costs+=(--also OLA "no headers: --install-ola needs libola-dev")
 }
 
 # The same with the C library, if the command needs it.
 run_front() {
+    local costs=()
     if [ "$1" = doctor ] && ! asks_for_help "$@"; then
-        [ $# -gt 1 ] || show_costs
+        find_costs
         [ -n "${WURSTLINEN_LIBRARY-}" ] || export WURSTLINEN_LIBRARY="$front_folder/$soname"
     fi
     if [ -z "${WURSTLINEN_LIBRARY-}" ] && [[ " ${with_library[*]} " = *" $1 "* ]] && ! asks_for_help "$@"; then
         ensure_library
         export WURSTLINEN_LIBRARY="$front_folder/$soname"
     fi
-    call_front "$@"
+    call_front "$@" "${costs[@]}"
 }
 
 # What the C library is built from.

@@ -5,6 +5,7 @@ import contextlib
 import io
 import json
 import os
+import pty
 import re
 import signal
 import subprocess
@@ -13,7 +14,7 @@ import tempfile
 import time
 import unittest
 from pathlib import Path
-from typing import Iterator, List
+from typing import IO, Iterator, List, Tuple
 from unittest import mock
 
 from clone import ROOT, Clone, compile_c, is_alive, new_clone, wait_for
@@ -36,10 +37,30 @@ read -r reply <&4
 echo "$reply"
 exit 5
 """
+# The same, with lines on both streams.
+TALKING = """#!/bin/sh
+exec 3> "$3" 4< "$5"
+echo {frame} >&3
+read -r reply <&4
+echo one
+echo "wurstlinen: 12 exchanges after 2 seconds" >&2
+echo "wurstlinen: two" >&2
+echo three
+exit 5
+"""
 # Unmutes all devices, which none answers: the source is 7ff0:00000001.
 FRAME = "cc0118ffffffffffff7ff000000001000100000010000300"
 # The program waits for a reply that doesn't come, or for nothing, and says that it has begun.
 SLOW = '#!/bin/sh\nexec 3> "$3" 4< "$5"\necho $$ > "{note}"\n{more}\nread -r reply <&4\nexit 9\n'
+
+
+def read_all(terminal: IO[bytes]) -> bytes:
+    """What was written to a terminal, whose writers are gone."""
+    found = b""
+    with contextlib.suppress(OSError):
+        while data := terminal.read(4096):
+            found += data
+    return found
 
 
 def with_sum(text: str) -> str:
@@ -101,6 +122,44 @@ class Commands(Place):
         self.assertEqual((done.returncode, done.stderr), (5, ""))
         self.assertRegex(done.stdout, r"^discover --line FD --replies FD --source 7ff0:00000001\n")
 
+    def test_frames_are_shown(self) -> None:
+        wanted = "0000  UNMUTE ffff:ffffffff  -> silence\n"
+        for words in (["discover", "--frames"], ["discover", "--line", f"rig:{FIXTURES}", "--frames"],
+                      ["run", "--frames", "x", f"--line=rig:{FIXTURES}"]):
+            done = self.call(*words, WURSTLINEN_LINE=f"rig:{FIXTURES}")
+            self.assertEqual((done.returncode, done.stderr), (5, wanted), words)
+            self.assertNotIn("--frames", done.stdout)
+        # These have no line that is served here.
+        self.expect(["discover", "x", "--frames"], 4, "discover x --frames\n")
+
+    def test_progress_on_a_terminal(self) -> None:
+        self.put_program(TALKING.format(frame=with_sum(FRAME)))
+        words = ["discover", "--line", f"rig:{FIXTURES}"]
+        hidden = "0 found, 1 frames"
+        shown = f"\r{hidden}\r{' ' * len(hidden)}\rone\r\nwurstlinen: two\r\nthree\r\n"
+        self.assertEqual(self.on_terminal(words, "out", "err"), (shown, ""))
+        # Standard output that is no terminal gets its bytes as they are.
+        terminal, out = self.on_terminal(words, "err")
+        self.assertEqual((terminal, out), (f"\r{hidden}\r{' ' * len(hidden)}\rwurstlinen: two\r\n", "one\nthree\n"))
+        # Nothing but a discovery on a line that is served here has progress.
+        plain = "one\r\nwurstlinen: 12 exchanges after 2 seconds\r\nwurstlinen: two\r\nthree\r\n"
+        self.assertEqual(self.on_terminal(["run", "x", *words[1:]], "out", "err"), (plain, ""))
+        self.assertNotIn("found", self.on_terminal([*words, "--frames"], "out", "err")[0])
+        done = self.call(*words)
+        self.assertEqual((done.stdout, done.stderr),
+                         ("one\nthree\n", "wurstlinen: 12 exchanges after 2 seconds\nwurstlinen: two\n"))
+
+    def on_terminal(self, words: List[str], *streams: str) -> Tuple[str, str]:
+        """What a command writes to a terminal, which has these of its streams, and to its standard output elsewhere."""
+        ours, theirs = pty.openpty()
+        with os.fdopen(ours, "rb", 0) as terminal:
+            process = subprocess.Popen([sys.executable, "-m", "wurstlinen.tool", *words], env=self.environment(),
+                                       stdout=theirs if "out" in streams else subprocess.PIPE, stderr=theirs)
+            os.close(theirs)
+            out = process.communicate()[0] or b""
+            self.assertEqual(process.returncode, 5)
+            return read_all(terminal).decode(), out.decode()
+
     def test_a_program_that_opens_nothing(self) -> None:
         self.put_program("#!/bin/sh\ncat\nexit 7\n")
         self.expect(["run", "x", "--line", f"rig:{FIXTURES}"], 7, "")
@@ -154,7 +213,8 @@ class Commands(Place):
     def test_wrong_arguments_are_one_line(self) -> None:
         self.expect(["fixturs"], 2, "", "wurstlinen: there is no command 'fixturs'; did you mean fixtures?; try "
                     "'wurstlinen --help'\n")
-        for words in (["fixtures", "x"], ["rig", "a", "b"], ["bridge", "--lien", "x"], ["rig", "--firmware", "x"]):
+        for words in (["fixtures", "x"], ["rig", "a", "b"], ["bridge", "--lien", "x"], ["rig", "--firmware", "x"],
+                      ["rig"]):
             done = self.call(*words)
             self.assertEqual((done.returncode, done.stderr.count("\n")), (2, 1), words)
             self.assertRegex(done.stderr, r"^wurstlinen: .*; try 'wurstlinen( [a-z]+)? --help'\n$")
@@ -163,6 +223,26 @@ class Commands(Place):
             self.assertEqual((done.returncode, done.stderr), (2, ""), words)
             self.assertEqual(json.loads(done.stdout)["error"]["reason"], "arguments")
 
+    def test_the_commands_for_lines_as_json(self) -> None:
+        wanted = {"error": {"text": "[Errno 2] No such file or directory: 'nowhere'", "reason": "line"}}
+        for words in (["rig", "nowhere"], ["rig", "--line", "rig:nowhere"], ["bridge", "--line", "rig:nowhere"]):
+            done = self.call(*words, "--json")
+            # Standard output of bridge is for replies.
+            text, other = (done.stderr, done.stdout) if "bridge" in words else (done.stdout, done.stderr)
+            self.assertEqual((done.returncode, other, json.loads(text)), (1, "", wanted), words)
+        for command in ("rig", "bridge"):
+            done = self.call(command, "--json")
+            text, other = (done.stderr, done.stdout) if command == "bridge" else (done.stdout, done.stderr)
+            self.assertEqual((done.returncode, other, json.loads(text)["error"]["reason"]), (2, "", "arguments"))
+
+    def test_the_line_of_a_rig_as_json(self) -> None:
+        command = [sys.executable, "-m", "wurstlinen.tool", "rig", str(FIXTURES), "--json"]
+        with subprocess.Popen(command, env=self.environment(), stdout=subprocess.PIPE, text=True) as process:
+            assert process.stdout is not None
+            self.assertRegex(json.loads(process.stdout.readline())["line"], "^enttec:/dev/pts/[0-9]+$")
+            process.send_signal(signal.SIGINT)
+            self.assertEqual(process.wait(10), 0)
+
     def test_an_interrupt_of_the_commands_for_bytes(self) -> None:
         with mock.patch("wurstlinen.commands.run_bridge", side_effect=KeyboardInterrupt):
             self.assertEqual(main(["bridge", "--line", "rig:x"]), 130)
@@ -170,7 +250,7 @@ class Commands(Place):
     def test_no_program(self) -> None:
         (self.folder / "program").unlink()
         self.expect(["decode", "00"], 127, "", "wurstlinen: 'decode' needs the proved program, which isn't installed "
-                    "here: it is in the Debian package wurstlinen and in the .tar.gz, but not in the wheel; "
+                    "here: it is in the Debian package wurstlinen, in the wheel and in the .tar.gz; "
                     "WURSTLINEN_PROGRAM may name it\n")
 
     def test_words(self) -> None:
@@ -288,6 +368,10 @@ class Repository(unittest.TestCase):
         self.assertEqual(self.clone.rt_calls(), [])
         self.assertEqual(self.clone.run("./wurstlinen", "decode", "00").returncode, 0)
         self.assertIn("\nprogram    there\n", self.clone.run("./wurstlinen", "doctor").stdout)
+        done = self.clone.run("./wurstlinen", "doctor", "--json")
+        found = [json.loads(line) for line in done.stdout.splitlines()]
+        self.assertIn({"part": "kit", "text": "kit-of-tests logic 1"}, found)
+        self.assertIn({"part": "C library", "text": "its first command proves and builds it: about 10 minutes"}, found)
 
     def test_the_library_is_built_once(self) -> None:
         part = self.clone.folder / "part.o"

@@ -202,6 +202,17 @@ class Packages(unittest.TestCase):
         self.assertEqual({name for name in files_below(self.folder / "wurstlinen") if name.endswith(".py")}, modules)
         self.assertTrue((self.folder / "wurstlinen/py.typed").is_file())
 
+    def test_the_wheel_has_the_program(self) -> None:
+        wheel = self.package("wurstlinen-" + VERSION + "-py3")
+        self.call(["/usr/bin/python3", "-m", "pip", "install", "--quiet", "--no-index", "--no-deps", "--no-compile",
+                   "--disable-pip-version-check", "--root-user-action=ignore", "--target", str(self.folder),
+                   str(wheel)])
+        self.assertEqual(self.run_python(self.folder, "-m", "wurstlinen.tool", "decode", "00"),
+                         "the program: decode 00\n")
+        for name, wanted in (("rdm_port", "the program: --version\n"), ("wurstlinen", f"wurstlinen {VERSION} (proved")):
+            found = self.run_python(self.folder, str(self.folder / "bin" / name), "--version")
+            self.assertTrue(found.startswith(wanted), found)
+
     def test_others_have_the_whole_python_package(self) -> None:
         source = ROOT / "bindings/python/wurstlinen"
         wanted = {str(path.relative_to(source)) for path in source.rglob("*.py")} | {"py.typed"}

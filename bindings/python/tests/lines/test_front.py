@@ -283,10 +283,12 @@ class Requests(OneRig):
             def dispose(self) -> None:
                 pass
         with mock.patch.object(work, "Controller", Logged), folder() as place:
-            for arguments in (["fixtures"], ["get", SLOW, "device_label"], ["save", str(place / "rig.csv")],
-                              ["apply", str(place / "rig.csv")], ["identify", LEFT]):
+            for arguments in (["fixtures"], ["get", SLOW, "device_label"], ["set", LEFT, "dmx_start_address", "3"],
+                              ["save", str(place / "rig.csv")], ["apply", str(place / "rig.csv")], ["identify", LEFT],
+                              ["identify", "--each"], ["get", LEFT, "0x8001", "--wait", "1"]):
                 self.frames.clear()
-                self.assertEqual(self.run_command(*arguments)[0], 0)
+                status = self.run_command(*arguments, text="\n" * 5)[0]
+                self.assertEqual(status, 3 if "0x8001" in arguments else 0)
                 logged = [sessions[-1].entry(index) for index in range(sessions[-1].entry_count())]
                 sent = [entry.frame for entry in logged if isinstance(entry, entries.Send)]
                 self.assertEqual(sent, self.frames, arguments)

@@ -74,17 +74,29 @@ def look_at_all(work: Work, devices: Sequence[Device]) -> List[Fixture]:
 
 
 def note_unmuted(work: Work, found: List[Fixture]) -> None:
-    """Notes which device ended the discovery, if there is one that answers to this UID."""
-    uid = work.unmuted
-    if uid is None or uid.is_broadcast:
+    """Notes which device ended the discovery, if there is one.
+
+    That is the one whose branch was answered again and again, or else the one whose UID these answers had.
+    """
+    if work.unmuted is None:
         return
+    spelled = None if work.line.spelled is None else Uid.from_number(work.line.spelled)
+    for uid in (work.unmuted, spelled):
+        fixture = None if uid is None or uid.is_broadcast else found_or_asked(work, found, uid)
+        if fixture is not None:
+            fixture.notes.insert(0, "ended the discovery by wrong answers")
+            return
+
+
+def found_or_asked(work: Work, found: List[Fixture], uid: Uid) -> Optional[Fixture]:
+    """A device that was found, or else one that answers."""
     fixture = next((each for each in found if each.uid == uid), None)
     if fixture is None:
         fixture = look_at(work, Device(uid))
         if fixture.is_gone:
-            return
+            return None
         found.append(fixture)
-    fixture.notes.insert(0, "ended the discovery by wrong answers")
+    return fixture
 
 
 def overlap(first: Fixture, second: Fixture) -> bool:
@@ -99,6 +111,8 @@ def look_at(work: Work, device: Device) -> Fixture:
     fixture = Fixture(device.uid, root=device.binding or device.uid)
     if fixture.root != fixture.uid:
         fixture.notes.append(f"part of {fixture.root}")
+    if fixture.uid.number in work.line.talkative:
+        fixture.notes.append("sends too much in discovery")
     fixture.info = values_of(work, fixture, "device_info")
     fixture.label = text_of(work, fixture, "device_label")
     fixture.maker = text_of(work, fixture, "manufacturer_label")

@@ -4,6 +4,7 @@ from __future__ import annotations
 import contextlib
 import json
 import sys
+from threading import RLock
 from typing import Any, Iterable, Optional, TextIO
 
 from ..parameters import Parameter, Reading
@@ -32,21 +33,22 @@ class Output:
         self._out = sys.stdout if out is None else out
         self._errors = sys.stderr if errors is None else errors
         self._progress = ""
+        self._lock = RLock()
 
     def progress(self, text: str) -> None:
         """How far a command is: on a terminal, until something else is printed."""
         if self.is_json or not self._errors.isatty():
             return
         # The work goes on, even if nobody can see it.
-        with contextlib.suppress(OSError):
-            print(f"\r{text.ljust(len(self._progress))}", end="", file=self._errors, flush=True)
-        self._progress = text
+        with self._lock, contextlib.suppress(OSError):
+            shown, self._progress = self._progress, text
+            print(f"\r{text.ljust(len(shown))}", end="", file=self._errors, flush=True)
 
     def end_progress(self) -> None:
         """Deletes that line."""
-        if self._progress:
-            self.progress("")
-            with contextlib.suppress(OSError):
+        with self._lock, contextlib.suppress(OSError):
+            if self._progress:
+                self.progress("")
                 print("\r", end="", file=self._errors, flush=True)
 
     def result(self, lines: Iterable[str], **keys: Any) -> None:
@@ -76,6 +78,12 @@ class Output:
         self.end_progress()
         if not self.is_json:
             print(f"wurstlinen: {text}", file=self._errors, flush=True)
+
+    def remark(self, line: str) -> None:
+        """A line of another program's, from another thread."""
+        with self._lock, contextlib.suppress(OSError):
+            self.end_progress()
+            print(line, end="", file=self._errors, flush=True)
 
     def failure(self, failure: Failure) -> None:
         """Why something failed."""

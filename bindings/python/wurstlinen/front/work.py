@@ -11,60 +11,19 @@ from .. import (
     Uid, Unserved,
 )
 from ..commands import RUN_FAULTS, source_of
-from ..line import Line, LineFailed
+from ..line import LineFailed
 from ..lines import open_line
 from ..lines.numbers import Pid
-from ..lines.packets import decode_packet, is_answer
 from ..parameters import Misfit, Parameter, Reading, decode, described
 from ..parameters.fields import Bytes, Message, SubDevices
 from ..parameters.names import NACK_REASONS
-from .frames import exchange_text
 from .naming import is_manufacturers, table_of
 from .output import BAD_ARGUMENTS, FAILED, REFUSED, Failure, Output
+from .watched import WatchedLine
 
 LINE_VARIABLE = "WURSTLINEN_LINE"
 # More than one command has outstanding.
 PLACES = 4
-
-
-class WatchedLine:
-    """A line that counts its exchanges, shows them, and remembers why it failed."""
-
-    def __init__(self, line: Line, output: Output, shows_frames: bool) -> None:
-        self._line = line
-        self._output = output
-        self._shows_frames = shows_frames
-        self.frames = 0
-        self.failure: Optional[LineFailed] = None
-        # The devices that a discovery has muted so far; None if none runs.
-        self.found: Optional[Set[int]] = None
-
-    def exchange(self, frame: bytes) -> bytes:
-        """The line's exchange."""
-        number = self.frames
-        self.frames += 1
-        try:
-            reply = self._line.exchange(frame)
-        except LineFailed as failure:
-            self.failure = failure
-            self._show(number, frame, None)
-            raise
-        self._show(number, frame, reply)
-        if self.found is not None:
-            self._show_progress(self.found, frame, reply)
-        return reply
-
-    def _show_progress(self, found: Set[int], frame: bytes, reply: bytes) -> None:
-        command = decode_packet(frame)
-        if (command is not None and command.pid == Pid.DISC_MUTE and decode_packet(reply) is not None
-                and is_answer(reply, frame)):
-            found.add(command.destination)
-        if not self._shows_frames:
-            self._output.progress(f"{len(found)} found, {self.frames} frames")
-
-    def _show(self, number: int, frame: bytes, reply: Optional[bytes]) -> None:
-        if self._shows_frames:
-            self._output.frame(exchange_text(number, frame, reply))
 
 
 class Work:

@@ -11,8 +11,8 @@ from .adapters import chips, look_at
 
 
 def run_doctor(chosen: argparse.Namespace, output: Output) -> int:
-    """Prints what is there."""
-    for name, text in [*parts(), *adapters()]:
+    """Prints what the caller says, and what is there."""
+    for name, text in [*chosen.also, *parts(), *adapters()]:
         output.result([f"{name:<11}{text}"], part=name, text=text)
     return DONE
 
