@@ -176,6 +176,11 @@ class Packages(unittest.TestCase):
         self.assertRegex(self.run_python(path, front, "--version"), wanted)
         self.assertIn("device_label", self.run_python(path, front, "pids", "label"))
 
+    def test_there_is_a_rig_to_try_the_commands_on(self) -> None:
+        wanted = (ROOT / "bindings/examples/five_fixtures.json").read_bytes()
+        for share in (self.unpacked("wurstlinen") / "usr/share", self.unpacked_archive() / "share"):
+            self.assertEqual((share / "doc/wurstlinen/examples/five_fixtures.json").read_bytes(), wanted)
+
     def test_libraries(self) -> None:
         root = self.unpacked(*PACKAGES)
         where, = root.glob("usr/lib/*/libwurstlinen.so.0")
@@ -238,6 +243,14 @@ class Packages(unittest.TestCase):
         service = (root / "usr/share/doc/wurstlinen-ola/examples/wurstlinen.conf").read_text()
         self.assertIn(f"LD_PRELOAD=/{library.relative_to(root)} /usr/bin/olad", service)
         self.assertFalse((root / "etc").exists())
+
+    @unittest.skipUnless(shutil.which("lintian"), "lintian isn't installed")
+    def test_lintian_finds_no_errors(self) -> None:
+        packages = [str(self.package(f"{name}_")) for name in PACKAGES]
+        # The programs and libraries here are stand-ins.
+        done = subprocess.run(["lintian", "--allow-root", "--fail-on", "error", *packages], check=False, text=True,
+                              capture_output=True)
+        self.assertEqual(done.returncode, 0, done.stdout + done.stderr)
 
     @unittest.skipUnless(os.geteuid() == 0, "only root can install packages")
     def test_a_removal_leaves_nothing(self) -> None:
