@@ -235,6 +235,15 @@ class Commands(Place):
             text, other = (done.stderr, done.stdout) if command == "bridge" else (done.stdout, done.stderr)
             self.assertEqual((done.returncode, other, json.loads(text)["error"]["reason"]), (2, "", "arguments"))
 
+    def test_keys_of_json_are_on_the_page(self) -> None:
+        page = (ROOT / "bindings/python/COMMANDS.md").read_text().partition("## JSON")[2]
+        out = io.StringIO()
+        adapters.show([adapters.Adapter(Path("/dev/x"))], Output(True, out))
+        text = out.getvalue() + "".join(self.call(*words, "--json").stdout for words in
+                                        (["doctor"], ["completion", "bash"], ["rig", "nowhere"]))
+        for line in text.splitlines():
+            self.assertEqual([key for key in json.loads(line) if f"`{key}`" not in page], [], line)
+
     def test_the_line_of_a_rig_as_json(self) -> None:
         command = [sys.executable, "-m", "wurstlinen.tool", "rig", str(FIXTURES), "--json"]
         with subprocess.Popen(command, env=self.environment(), stdout=subprocess.PIPE, text=True) as process:

@@ -9,11 +9,11 @@ import os
 import re
 import unittest
 from pathlib import Path
-from typing import Any, Dict, List, Tuple
+from typing import Any, Dict, Iterator, List, Set, Tuple
 from unittest import mock
 
 from common import PACKAGE, folder, needs_library
-from fronts import LEFT, SLOW, OneRig
+from fronts import LEFT, SLOW, OneRig, called
 from wurstlinen.front import csv_files, main, requests, work
 from wurstlinen.front.output import Failure, Output
 
@@ -317,6 +317,35 @@ uid,label,address,personality
         with folder() as place:
             self.assertEqual(self.run_command("save", str(place / "rig.csv"))[0], 1)
             self.assertEqual(list(place.iterdir()), [])
+
+
+@needs_library
+class Keys(OneRig):
+    def test_each_is_on_the_page(self) -> None:
+        """The keys of JSON objects, all of which COMMANDS.md has."""
+        self.scene({"uid": LEFT}, {"uid": SLOW, "rig": {"timer": 2}})
+        self.run_command("get", SLOW, "device_label", "--wait", "0")
+        text = f"uid,label\n{LEFT},Side\n"
+        log = '{"frame":"00","reply":""}\n{"frame":"01","failed":true}\n'
+        found: Set[str] = set()
+        for words in (["fixtures"], ["save", "-"], ["apply", "-"], ["get", SLOW, "device_info"], ["get", LEFT, "0x8001"],
+                      ["set", LEFT, "device_label", "x"], ["identify", LEFT], ["identify", "--each"], ["set", LEFT]):
+            out = self.run_command(*words, "--json", text=text)[1]
+            found |= {key for line in out.splitlines() for key in keys_of(json.loads(line))}
+        for words, text in ((["pids", "device_label"], ""), (["trace", "-"], log)):
+            found |= {key for line in called(*words, "--json", text=text)[1].splitlines() for key in json.loads(line)}
+        wanted = {"values", "queued", "error", "text", "reason", "nack", "before", "dry_run", "fault", "get", "reply"}
+        self.assertLessEqual(wanted, found)
+        page = (PACKAGE / "COMMANDS.md").read_text(encoding="utf-8").partition("## JSON")[2].partition("\n## ")[0]
+        self.assertEqual({key for key in found if f"`{key}`" not in page}, set())
+
+
+def keys_of(made: Dict[str, Any]) -> Iterator[str]:
+    """An object's keys, and those of objects in it; a parameter's own fields are no keys of the front."""
+    for key, value in made.items():
+        yield key
+        if isinstance(value, dict) and key in ("error", "queued"):
+            yield from keys_of(value)
 
 
 @needs_library
