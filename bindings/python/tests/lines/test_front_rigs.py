@@ -160,6 +160,16 @@ class Progress(OneRig):
         self.assertEqual(re.findall(r"\rasking (\d) of 5", terminal.getvalue()), list("12345"))
         self.assertEqual(terminal.lines(), [f"wurstlinen: {SLOW} asks for 0.3 s", ""])
 
+    def test_of_changes(self) -> None:
+        with folder() as place:
+            file = place / "rig.csv"
+            file.write_text(f"uid,label,address\n{LEFT},Side,9\n1234:00000002,Front right,8\n")
+            terminal = self.on_terminal("apply", str(file))
+        self.assertEqual(self.out.splitlines()[-1], "2 changes")
+        self.assertEqual(re.findall(r"\r([a-z]+ing \d of \d)", terminal.getvalue()),
+                         ["asking 1 of 2", "asking 2 of 2", "changing 1 of 2", "changing 2 of 2"])
+        self.assertEqual(terminal.lines(), [""])
+
     def test_only_people_want_it(self) -> None:
         self.assertEqual(self.on_terminal("fixtures", "--json").getvalue(), "")
         self.frames.clear()

@@ -202,7 +202,8 @@ def changes_of(work: Work, rows: Sequence[Tuple[Uid, Dict[str, str]]], output: O
     """What differs, and the status of those devices that couldn't be asked."""
     changes: List[Change] = []
     status = DONE
-    for uid, values in rows:
+    for number, (uid, values) in enumerate(rows, 1):
+        output.progress(f"asking {number} of {len(rows)}")
         try:
             changes += [Change(uid, column, before, values[column]) for column in COLUMNS if column in values
                         for before in [value_of(work, uid, column)] if differs(column, before, values[column])]
@@ -224,7 +225,8 @@ def differs(column: str, before: str, after: str) -> bool:
 def make_all(work: Work, changes: Sequence[Change], output: Output) -> int:
     """Makes the changes, and returns the status of the last one that failed."""
     status = DONE
-    for change in changes:
+    for number, change in enumerate(changes, 1):
+        output.progress(f"changing {number} of {len(changes)}")
         try:
             make(work, change)
         except Failure as failure:
