@@ -86,10 +86,22 @@ run_front() {
         [ -n "${WURSTLINEN_LIBRARY-}" ] || export WURSTLINEN_LIBRARY="$front_folder/$soname"
     fi
     if [ -z "${WURSTLINEN_LIBRARY-}" ] && [[ " ${with_library[*]} " = *" $1 "* ]] && ! asks_for_help "$@"; then
-        ensure_library
+        ensure_library "$@"
         export WURSTLINEN_LIBRARY="$front_folder/$soname"
     fi
     call_front "$@" "${costs[@]}"
+}
+
+# Ends if the words of a command are wrong, or its line can't be opened: that mustn't be said only after a proof.
+check_words() {
+    "$root/tools/check_words" "$@" || exit
+}
+
+# Refuses a word that is no command: as the program does, but with the reason of the command in Python, which knows all.
+refuse_command() {
+    [[ " $* " = *" --json "* ]] || echo "fault: command line" || exit 1
+    (call_front "$@")
+    exit "$bad_arguments"
 }
 
 # What the C library is built from.
@@ -102,10 +114,11 @@ library_is_up_to_date() {
     [ -r "$front_folder/$soname" ] && [ "$(cat "$front_folder/built" 2> /dev/null)" = "$(library_fingerprint)" ]
 }
 
-# Proves and builds the C library into the folder out/, unless it is up to date.
+# Proves and builds the C library for a command into the folder out/, unless it is up to date.
 ensure_library() {
     local made before
     ! library_is_up_to_date || return 0
+    check_words "$@"
     before="$(library_fingerprint)"
     need_rt_and_cc
     say "proving and building the C library, about 10 minutes; a call after an interrupt goes on"

@@ -367,6 +367,57 @@ class Repository(unittest.TestCase):
         self.assertEqual(self.clone.rt_calls(), [])
         self.assertEqual(list(self.clone.root.rglob("__pycache__")), [])
 
+    def test_wrong_words_build_nothing(self) -> None:
+        rig, uid = f"--line=rig:{FIXTURES}", "1234:00000001"
+        for words, status, reason in (
+                (["get", "foo", rig], 2, "'foo' isn't a UID"), (["fixtures", "--lin"], 2, "argument --line: "),
+                (["set", uid, "dmx_start_address", "0017", rig], 2, "'0017' can be read in two ways"),
+                (["get", uid, "device_lable", rig], 2, "did you mean device_label?"),
+                (["get", "--raw", rig], 2, "required: "), (["get", "--raw", uid, "0082", "--line=rig:no"], 1, "'no'"),
+                (["apply", "/nope.csv", rig], 2, "/nope.csv: No such file"), (["identify", rig], 2, "takes a UID"),
+                (["save", "x", "--line", "enttec:/dev/nope"], 1, "/dev/nope can't be opened: No such file"),
+                (["fixtures", "--line", "exec:no-such-command x"], 1, "can't be started"),
+                (["fixtures", "--line", "text:/no/out,/no/in"], 1, "can't be opened"),
+                (["fixtures", "--line", "exec:'"], 2, "can't be split"),
+                (["discover", "--line", "enttec:/dev/nope"], 1, "/dev/nope can't be opened: No such file"),
+                (["discover", rig, "--quik"], 2, "unrecognized arguments: --quik")):
+            done = self.clone.run("./wurstlinen", *words)
+            self.assertEqual((done.returncode, reason in done.stderr), (status, True), (words, done.stderr))
+            self.assertEqual(done.stdout, "fault: command line\n" if "--quik" in words else "", words)
+        self.assertEqual(self.clone.rt_calls(), [])
+
+    def test_words_are_checked_without_an_effect(self) -> None:
+        note, rows = self.clone.folder / "note", self.clone.folder / "rows"
+        for words in (["fixtures", "--line", f"exec:touch {note}"], ["apply", str(rows), f"--line=rig:{FIXTURES}"],
+                      ["fixtures", "--line", f"text:{rows}"], ["fixtures", "--line", f"rig:{rows}"]):
+            if not rows.exists():
+                os.mkfifo(rows)
+            done = self.clone.run("tools/check_words", *words)
+            self.assertEqual((done.returncode, done.stdout, done.stderr), (0, "", ""), words)
+        self.assertFalse(note.exists())
+        # After the check comes the build.
+        done = self.clone.run("./wurstlinen", "save", "x", f"--line=rig:{FIXTURES}")
+        self.assertIn("proving and building the C library", done.stderr)
+
+    def test_a_word_that_is_no_command(self) -> None:
+        reason = "wurstlinen: there is no command 'fixturs'; did you mean fixtures?; try 'wurstlinen --help'\n"
+        done = self.clone.run("./wurstlinen", "fixturs", "--frames")
+        self.assertEqual((done.returncode, done.stdout, done.stderr), (2, "fault: command line\n", reason))
+        done = self.clone.run("./wurstlinen", "fixturs", "--json")
+        self.assertEqual((done.returncode, json.loads(done.stdout)["error"]["reason"]), (2, "arguments"))
+        with open("/dev/full", "w") as full:
+            done = self.clone.run("./wurstlinen", "fixturs", capture_output=False, stdout=full, stderr=-1)
+        self.assertEqual(done.returncode, 1)
+        self.assertEqual(self.clone.rt_calls(), [])
+
+    def test_help_for_a_command(self) -> None:
+        for command in ("get", "decode", "adapters"):
+            done = self.clone.run("./wurstlinen", "help", command)
+            self.assertEqual((done.returncode, done.stderr), (0, ""))
+            self.assertTrue(done.stdout.startswith(f"usage: wurstlinen {command}"))
+        self.assertEqual(self.clone.run("./wurstlinen", "help", "fixturs").returncode, 2)
+        self.assertEqual(self.clone.rt_calls(), [])
+
     def test_the_doctor_builds_nothing(self) -> None:
         done = self.clone.run("./wurstlinen", "doctor")
         self.assertEqual((done.returncode, done.stderr), (0, ""))
