@@ -241,8 +241,9 @@ class Asking:
 
     def _keep_found(self) -> None:
         """Keeps the newest answer so far as one of the other messages."""
-        if self._found is not None:
-            self._kept.queued.append(self._found)
+        found, self._found = self._found, None
+        if found is not None:
+            self._kept.queued.append(found)
 
     def _is_answer(self, message: Completion) -> bool:
         """Whether a message answers the request, as far as it shows."""
@@ -263,6 +264,7 @@ class Asking:
             if completion is not None:
                 return completion
             if self._asker.clock() >= until:
+                self._keep_found()
                 raise Unserved(*self._kept.take())
             self._asker.sleep(GLANCE)
 

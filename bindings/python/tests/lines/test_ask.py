@@ -420,6 +420,21 @@ class Kept(Asks):
             self.assertEqual([each.data for each in answer.queued], kept)
             self.assertEqual(self.ask(Device(lambda command: LAMP)).queued, ())
 
+    def test_messages_before_the_queue_is_paused(self) -> None:
+        client = self.client()
+        answers = Queueing(1, ack(HOURS, bytes(4)), LAMP)
+
+        def answer(command: Packet) -> Any:
+            if len(device.commands) == 3:
+                client.queue.pause()
+            return answers(command)
+        device = Device(answer)
+        asker = Asker(client, device, 1.0, clock=self.clock.time, sleep=self.clock.sleep)
+        with self.assertRaises(Unserved) as caught:
+            asker.get(DEVICE, LABEL)
+        self.assertEqual([each.data for each in caught.exception.queued], [bytes(4), b"Lamp"])
+        self.assertEqual(asker.kept.queued, [])
+
     def test_an_answer_before_the_line_fails(self) -> None:
         line = Interrupted(Queueing(1, ack(HOURS, bytes(4)), LAMP), 3, LineFailed("unplugged"))
         answer = self.ask(line)
