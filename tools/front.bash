@@ -73,7 +73,8 @@ find_costs() {
     kit_found="$(kit)"
     costs=(--also kit "${kit_found:-not there: add its folder bin to PATH}")
     is_up_to_date || costs+=(--also program "its first command proves and builds it: about 80 processor minutes")
-    library_is_up_to_date || costs+=(--also "C library" "its first command proves and builds it: about 10 minutes")
+    [ -n "${WURSTLINEN_LIBRARY-}" ] || library_is_up_to_date \
+        || costs+=(--also "C library" "its first command proves and builds it: about 10 minutes")
     command -v c++ > /dev/null && has_ola_headers \
         || costs+=(--also OLA "no headers: --install-ola needs libola-dev")
 }
@@ -135,8 +136,7 @@ ensure_library() {
 install_front() (
     staged="$(mktemp -d)" || exit
     trap 'rm -rf -- "$staged"' EXIT
-    mkdir "$staged/all" && cp -R -- "$root/bindings/python/wurstlinen" "$staged/all" || exit
-    find "$staged/all" -name __pycache__ -prune -exec rm -r {} + || exit
+    mkdir "$staged/all" && copy_package "$root/bindings/python/wurstlinen" "$staged/all/wurstlinen" || exit
     front_proof > "$staged/all/wurstlinen/PROOF" || exit
     python3 -m zipapp --python "/usr/bin/env python3" --main wurstlinen.tool:call --output "$staged/one" \
         "$staged/all" || exit
@@ -155,8 +155,12 @@ commit() {
 # Prints the version, the kit that proved the program, and the commit.
 show_version() {
     local found state="not proved here yet"
-    [ ! -x "$program" ] || state="changed since it was proved with $(kit_of_program)"
-    ! is_up_to_date || state="proved with $(kit_of_program)"
+    if [ -x "$program" ] && [ ! -r "$program.kit" ]; then
+        state="it isn't known what proved it"
+    elif [ -x "$program" ]; then
+        state="changed since it was proved with $(kit_of_program)"
+        ! is_up_to_date || state="proved with $(kit_of_program)"
+    fi
     found="$(commit)"
     printf 'wurstlinen %s (%s, commit %s)\n' "$(cat "$root/VERSION")" "${state%% logic *}" "${found:0:8}"
 }

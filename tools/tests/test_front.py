@@ -421,10 +421,13 @@ class Repository(unittest.TestCase):
     def test_the_doctor_builds_nothing(self) -> None:
         done = self.clone.run("./wurstlinen", "doctor")
         self.assertEqual((done.returncode, done.stderr), (0, ""))
-        for line in ("kit        kit-of-tests logic 1", "program    its first command proves and builds it: about 80",
-                     "program    decode, encode, discover and run need it, and it isn't here",
-                     "C library  fixtures by names need it: libwurstlinen.so.0 is not at ", "adapter    "):
+        lines = ("kit        kit-of-tests logic 1", "program    its first command proves and builds it: about 80",
+                 "C library  its first command proves and builds it: about 10 minutes", "adapter    ")
+        for line in lines:
             self.assertIn(f"\n{line}", f"\n{done.stdout}")
+            self.assertEqual(f"\n{done.stdout}".count(f"\n{line.partition('  ')[0]}  "), 1, line)
+        done = self.clone.run("./wurstlinen", "doctor", env={**self.clone.environment, "WURSTLINEN_LIBRARY": "/no.so"})
+        self.assertIn("\nC library  fixtures by names need it: libwurstlinen.so.0 is not at /no.so", done.stdout)
         self.assertEqual(self.clone.rt_calls(), [])
         self.assertEqual(self.clone.run("./wurstlinen", "decode", "00").returncode, 0)
         self.assertIn("\nprogram    there\n", self.clone.run("./wurstlinen", "doctor").stdout)
@@ -488,6 +491,16 @@ class Repository(unittest.TestCase):
         self.expect_version(f"wurstlinen {version} ({changed}, commit {head[:8]})\n")
         self.assertEqual(self.clone.rt_calls(), calls)
 
+    def test_an_unknown_kit_is_no_proof(self) -> None:
+        version = (ROOT / "VERSION").read_text().strip()
+        self.assertEqual(self.clone.run("./wurstlinen", "decode", "00").returncode, 0)
+        (self.clone.root / "out/wurstlinen.kit").unlink()
+        wanted = f"wurstlinen {version} (it isn't known what proved it, commit unknown)\n"
+        self.expect_version(wanted)
+        target = self.clone.folder / "bin dir"
+        self.assertEqual(self.clone.run("./wurstlinen", "--install", str(target)).returncode, 0)
+        self.assertEqual(self.clone.run(str(target / "wurstlinen"), "--version").stdout, wanted)
+
     def expect_version(self, wanted: str) -> None:
         done = self.clone.run("./wurstlinen", "--version")
         self.assertEqual((done.returncode, done.stdout, done.stderr), (0, wanted, ""))
@@ -514,7 +527,8 @@ class Repository(unittest.TestCase):
             self.assertEqual((done.returncode, done.stderr), (0, ""))
             self.assertIn(wanted, done.stdout)
         done = self.clone.run(str(target / "wurstlinen"), "fixtures", "--line", f"rig:{FIXTURES}")
-        self.assertIn(f"libwurstlinen.so.0 is not at {self.clone.folder}/a b/lib/libwurstlinen.so.0", done.stderr)
+        self.assertIn(f"libwurstlinen.so.0 is not at {self.clone.folder}/a b/lib/libwurstlinen.so.0; './wurstlinen "
+                      "--install-library PREFIX' in the repository makes it", done.stderr)
 
 
 if __name__ == "__main__":

@@ -17,6 +17,7 @@ PROGRAM_BESIDE_FILE = "rdm_port"
 # A wheel has it inside.
 PROGRAM_IN_PACKAGE = "rdm_port"
 LIBRARY_BESIDE_FILE = "../lib/libwurstlinen.so.0"
+UNKNOWN = "unknown"
 
 
 def one_file() -> Optional[Path]:
@@ -48,6 +49,8 @@ def version_line() -> str:
     facts = proof() or repository()
     kit = facts.get("kit of the program", "").partition(" logic ")[0]
     state = f"proved with {kit}" if kit else "not proved here yet"
+    if kit == UNKNOWN:
+        state = "it isn't known what proved it"
     commit = re.sub(r"^([0-9a-f]{8})[0-9a-f]+", r"\1", facts.get("commit", "unknown"))
     return f"wurstlinen {facts.get('version', 'unknown')} ({state}, commit {commit})"
 
