@@ -4,13 +4,18 @@ from __future__ import annotations
 import os
 import re
 import signal
+import sys
 import time
 import unittest
 from typing import List
 
-from cases.checker.case import Case
+from cases.checker.case import Case, Output
 from cases.checker.tables import read_tables
 from clone import ROOT, Clone, new_clone, wait_for
+
+sys.path.insert(0, str(ROOT / "bindings/python"))
+from wurstlinen.front.output import Failure  # noqa: E402
+from wurstlinen.tool import adapters, arguments  # noqa: E402
 
 # Cases of the program whose standard error has this need no program.
 EARLY = re.compile(rb"wurstlinen: (the command is missing|.* is no command|the file .* no such file|.*no UTF-8 text)\n")
@@ -27,6 +32,11 @@ def early_cases() -> List[Case]:
 def has_more_files(case: Case) -> bool:
     """Whether another file than FILE may be the one that isn't there."""
     return any(option in words for words in case.commands for option in (b"--line", b"--log"))
+
+
+def is_refused(case: Case) -> bool:
+    """Whether the program may refuse the words of a case."""
+    return case.expected.status in (2, None) or case.output is not Output.READ
 
 
 def usage() -> str:
@@ -107,13 +117,34 @@ class Answers(unittest.TestCase):
 
     def test_other_arguments_are_left_to_the_program(self) -> None:
         (self.clone.root / "file").write_text("{}")
-        for words in (["run", "file"], ["run", "none", "--quick"], ["run", "none", "--port", "no"], ["discover"],
-                      ["run", "none", "b"], ["run", "none", "--replies", "in"], ["discover", "none", "--quick=yes"],
-                      ["discover", "--line", "none"], ["discover", "none", "--quick", "--quick"], ["decode", "00"],
-                      ["run", "none", "--log", "-x"], ["run", "none", "--log"]):
+        for words in (["run", "file"], ["run", "none", "--replies", "in"], ["discover", "--line", "none"],
+                      ["discover", "none", "--quick", "--quick"], ["decode", "00"]):
             done = self.clone.run("./wurstlinen", *words)
             self.assertEqual((done.returncode, done.stdout), (125, ""), words)
             self.assertIn("proving and building", done.stderr)
+
+    def test_wrong_words_of_the_programs_commands(self) -> None:
+        (self.clone.root / "none").write_text("{}")
+        wrong = [["run", "none", "--quick"], ["run", "none", "--port", "no"], ["run", "none", "b"],
+                 ["discover", "none", "--quick=yes"], ["run", "none", "--log", "-x"], ["run", "none", "--log"], ["run"],
+                 ["decode"], ["encode", "a", "b"]]
+        for words in wrong + ([] if adapters.chips() else [["discover"], ["discover", "--quick"]]):
+            done = self.clone.run("./wurstlinen", *words)
+            self.assertEqual((done.returncode, done.stdout), (2, "fault: command line\n"), words)
+            self.assertRegex(done.stderr, r"^wurstlinen: .*\n$")
+            # The other name's words are all the program's.
+            self.assertIn("proving and building", self.clone.run("./rdm_port", *words).stderr)
+
+    def test_no_right_words_are_refused(self) -> None:
+        """What the program doesn't refuse is let through, too."""
+        found = {tuple(words) for table in read_tables(ROOT / "cases") for case in table.cases
+                 for words in case.commands if words and words[0] in PROVED and not is_refused(case)}
+        self.assertGreater(len(found), 50)
+        for words in found:
+            try:
+                arguments.parser().parse_args([os.fsdecode(word) for word in words])
+            except Failure as failure:
+                self.fail(f"{words}: {failure}")
 
     def test_a_full_device(self) -> None:
         with open("/dev/full", "w") as full:

@@ -474,6 +474,7 @@ class Repository(unittest.TestCase):
     @unittest.skipIf(adapters.chips(), "an adapter is plugged in")
     def test_a_discovery_without_a_line_is_the_programs(self) -> None:
         self.clone.environment.pop("WURSTLINEN_LINE", None)
+        self.assertEqual(self.clone.run("./wurstlinen", "decode", "00").returncode, 0)
         self.assertEqual(self.clone.run("./wurstlinen", "discover").stdout, "the program: discover\n")
 
     def test_the_version_says_what_was_proved(self) -> None:
