@@ -40,11 +40,22 @@ lacks_line() {
     [ -n "${WURSTLINEN_LINE-}" ] || has_adapter
 }
 
-# Whether an adapter is plugged in. If there are several, the command in Python lists the choice.
-has_adapter() (
+# Ends with what the expression $2 gives, which uses the module $1 of the command in Python and the other arguments.
+ask_front() (
     export_front
-    python3 -c 'import sys; from wurstlinen.tool.adapters import chips; sys.exit(not chips())' 2> /dev/null
+    exec python3 -c "import sys; from wurstlinen.tool import $1; sys.exit($2)" "${@:3}"
 )
+
+# Whether an adapter is plugged in. If there are several, the command in Python lists the choice.
+has_adapter() {
+    ask_front adapters 'not adapters.chips()' 2> /dev/null
+}
+
+# Whether a word is no command, but nearly one of those in Python.
+is_nearly_of_front() {
+    [[ "$1" = [a-z]* && "$1" != @(decode|encode|discover|run|help|version) ]] \
+        && ask_front checks 'not checks.is_meant(sys.argv[1])' "$1" 2> /dev/null
+}
 
 asks_for_help() {
     local word
@@ -86,6 +97,7 @@ run_front() {
         [ -n "${WURSTLINEN_LIBRARY-}" ] || export WURSTLINEN_LIBRARY="$front_folder/$soname"
     fi
     if [ -z "${WURSTLINEN_LIBRARY-}" ] && [[ " ${with_library[*]} " = *" $1 "* ]] && ! asks_for_help "$@"; then
+        library_is_up_to_date || ask_front checks 'checks.check()' "$@" || exit
         ensure_library
         export WURSTLINEN_LIBRARY="$front_folder/$soname"
     fi

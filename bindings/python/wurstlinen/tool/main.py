@@ -16,6 +16,7 @@ from ..front.work import LINE_VARIABLE
 from ..parameters.words import hint
 from . import arguments, places, serving
 from .adapters import default_line
+from .checks import read
 
 VERSION_WORDS = ("version", "--version", "-V")
 HELP_WORDS = ("-h", "--help")
@@ -65,9 +66,7 @@ def main(words: Sequence[str]) -> int:
     if "--raw" in words:
         os.environ[LINE_VARIABLE] = option(words, "--line") or default_line()
         return front(words)
-    chosen = arguments.parser().parse_args(words)
-    if "line" in chosen and not chosen.line:
-        chosen.line = default_line()
+    chosen = read(words)
     return run_chosen(chosen, Output(chosen.json))
 
 
