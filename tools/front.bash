@@ -155,7 +155,7 @@ commit() {
 # Prints the version, the kit that proved the program, and the commit.
 show_version() {
     local found state="not proved here yet"
-    if [ -x "$program" ] && [ ! -r "$program.kit" ]; then
+    if [ -x "$program" ] && [ ! -s "$program.kit" ]; then
         state="it isn't known what proved it"
     elif [ -x "$program" ]; then
         state="changed since it was proved with $(kit_of_program)"

@@ -450,6 +450,26 @@ class Repository(unittest.TestCase):
         done = self.clone.run("./wurstlinen", "get", "1234:00000001", "device_label", "--line", f"rig:{FIXTURES}")
         self.assertIn("proving and building the C library", done.stderr)
 
+    def test_wrong_arguments_build_nothing(self) -> None:
+        line = ["--line", f"rig:{FIXTURES}"]
+        for words, wanted in ((["get", "1234", "device_label", *line], "argument UID: '1234' isn't a UID"),
+                              (["get", "1234:00000001", "device_lable", *line], "did you mean device_label?"),
+                              (["set", "1234:00000001", "dmx_start_address", "0017", *line], "in two ways"),
+                              (["fixtures", "--lien", "x"], "unrecognized arguments: --lien x")):
+            done = self.clone.run("./wurstlinen", *words)
+            self.assertEqual((done.returncode, done.stdout, done.stderr.count("\n")), (2, "", 1), words)
+            self.assertIn(wanted, done.stderr)
+            self.assertEqual(json.loads(self.clone.run("./wurstlinen", *words, "--json").stdout).keys(), {"error"})
+        self.assertEqual(self.clone.rt_calls(), [])
+
+    @unittest.skipIf(adapters.chips(), "an adapter is plugged in")
+    def test_no_line_builds_nothing(self) -> None:
+        self.clone.environment.pop("WURSTLINEN_LINE", None)
+        done = self.clone.run("./wurstlinen", "fixtures")
+        self.assertEqual((done.returncode, done.stdout), (2, ""))
+        self.assertIn("no adapter is plugged in", done.stderr)
+        self.assertEqual(self.clone.rt_calls(), [])
+
     def test_a_line_is_served(self) -> None:
         (self.clone.root / "x").write_text("{}")
         done = self.clone.run("./wurstlinen", "run", "x", "--line", f"rig:{FIXTURES}")

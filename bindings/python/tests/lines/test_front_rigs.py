@@ -338,8 +338,9 @@ class Keys(OneRig):
         text = f"uid,label\n{LEFT},Side\n"
         log = '{"frame":"00","reply":""}\n{"frame":"01","failed":true}\n'
         found: Set[str] = set()
-        for words in (["fixtures"], ["save", "-"], ["apply", "-"], ["get", SLOW, "device_info"], ["get", LEFT, "0x8001"],
-                      ["set", LEFT, "device_label", "x"], ["identify", LEFT], ["identify", "--each"], ["set", LEFT]):
+        for words in (["fixtures"], ["save", "-"], ["apply", "-"], ["get", SLOW, "device_info"], ["set", LEFT],
+                      ["get", LEFT, "0x8001"], ["set", LEFT, "device_label", "x"], ["identify", LEFT],
+                      ["identify", "--each"]):
             out = self.run_command(*words, "--json", text=text)[1]
             found |= {key for line in out.splitlines() for key in keys_of(json.loads(line))}
         for words, text in ((["pids", "device_label"], ""), (["trace", "-"], log)):

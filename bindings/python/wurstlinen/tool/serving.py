@@ -81,14 +81,17 @@ def relayed_streams() -> Dict[str, int]:
 
 def relay(stream: IO[str], output: Output, stack: ExitStack) -> None:
     """Prints what the program writes in the place of the progress, until it ends."""
-    def print_all() -> None:
-        for line in stream:
-            if not REPORT.fullmatch(line):
-                output.remark(line)
     stack.callback(output.end_progress)
-    thread = Thread(target=print_all, daemon=True)
+    thread = Thread(target=print_remarks, args=(stream, output), daemon=True)
     thread.start()
     stack.callback(thread.join, SECONDS_TO_END)
+
+
+def print_remarks(stream: IO[str], output: Output) -> None:
+    """Prints a stream's lines, except for the program's own reports."""
+    for line in stream:
+        if not REPORT.fullmatch(line):
+            output.remark(line)
 
 
 def source_words(words: Sequence[str], line: OpenLine) -> List[str]:
