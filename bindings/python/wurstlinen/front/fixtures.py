@@ -15,7 +15,8 @@ HEADINGS = ("UID", "ADDRESS", "SLOTS", "LABEL", "MAKER", "MODEL", "PERSONALITY",
 NOTHING = "-"
 LAST_SLOT = 512
 UNKNOWN_PID = "unknown_pid"
-LINE_FAILED = "failed_to_send"
+# A device that doesn't answer so many times in a row isn't asked any more.
+MOST_SILENCES = 2
 REASONS = {"timeout": "no answer", "late": "no answer in time"}
 
 
@@ -32,7 +33,8 @@ class Fixture:
     notes: List[str] = field(default_factory=list)
     # The device that it is a part of, or itself.
     root: Optional[Uid] = None
-    # Whether it no longer answers.
+    # How many times in a row it didn't answer, and whether it isn't asked any more.
+    silences: int = 0
     is_gone: bool = False
 
     def number(self, name: str) -> Optional[int]:
@@ -51,26 +53,33 @@ def run_fixtures(chosen: argparse.Namespace, output: Output) -> int:
     """Discovers the devices, and prints what they say of themselves."""
     with open_work(chosen, output) as work:
         devices, fault = work.discover()
-        found = look_at_all(work, devices)
+        found, failure = look_at_all(work, devices)
         frames = work.line.frames
     print_all(found, output)
+    if failure is not None:
+        raise failure
     count = "1 fixture" if len(found) == 1 else f"{len(found)} fixtures"
     end = "discovery without a fault" if fault is None else f"the discovery ended early: {fault}"
-    output.result([f"{count}, {frames} frames; {end}"], fixtures=len(found), frames=frames, fault=fault)
+    sent = "1 frame" if frames == 1 else f"{frames} frames"
+    output.result([f"{count}, {sent}; {end}"], fixtures=len(found), frames=frames, fault=fault)
     return DONE if fault is None else FAILED
 
 
-def look_at_all(work: Work, devices: Sequence[Device]) -> List[Fixture]:
-    """Asks each device, and notes whose slots overlap."""
-    found = []
-    for number, device in enumerate(devices, 1):
-        work.output.progress(f"asking {number} of {len(devices)}")
-        found.append(look_at(work, device))
-    note_unmuted(work, found)
+def look_at_all(work: Work, devices: Sequence[Device]) -> Tuple[List[Fixture], Optional[Failure]]:
+    """Asks each device, until the line fails, and notes whose slots overlap."""
+    found: List[Fixture] = []
+    failed: Optional[Failure] = None
+    try:
+        for number, device in enumerate(devices, 1):
+            work.output.progress(f"asking {number} of {len(devices)}")
+            found.append(look_at(work, device))
+        note_unmuted(work, found)
+    except Failure as failure:
+        failed = failure
     for fixture in found:
         others = [str(other.uid) for other in found if overlap(fixture, other)]
         fixture.notes += [f"overlaps {', '.join(others)}"] if others else []
-    return found
+    return found, failed
 
 
 def note_unmuted(work: Work, found: List[Fixture]) -> None:
@@ -134,11 +143,14 @@ def values_of(work: Work, fixture: Fixture, name: str, data: bytes = b"") -> Opt
     try:
         reading = work.read(fixture.uid, STANDARD.named(name), data)
     except Failure as failure:
-        if failure.keys.get("reason") == LINE_FAILED:
+        if failure.is_of_line:
             raise
-        fixture.is_gone = failure.status != REFUSED
+        fixture.silences = 0 if failure.status == REFUSED else fixture.silences + 1
+        # Some devices are silent if they don't know a parameter, but each has DEVICE_INFO.
+        fixture.is_gone = fixture.silences >= (1 if name == "device_info" else MOST_SILENCES)
         fixture.notes += note_of(name, failure)
         return None
+    fixture.silences = 0
     if reading.values is None:
         fixture.notes.append(f"wrong {name}: 0x{reading.data.hex()}")
     return reading.values

@@ -34,7 +34,9 @@ def request(chosen: argparse.Namespace, output: Output, is_set: bool) -> int:
     with open_work(chosen, output) as work:
         parameter = known or work.described(uid, pid)
         completion = work.ask(uid, pid, data_of(parameter, chosen, is_set), chosen.sub, is_set)
-        if not is_set or completion.data:
+        if completion.head is not None and completion.head.pid != pid:
+            output.message(str(uid), *work.message(uid, completion))
+        elif not is_set or completion.data:
             output.reading(str(uid), parameter, decode(parameter, is_set, completion.data))
         elif output.is_json:
             output.result([], uid=str(uid), parameter=parameter.name, pid=f"0x{pid:04x}", done=True)
@@ -91,12 +93,15 @@ def identify(work: Work, uid: Uid, state: bytes) -> None:
 def identify_each(work: Work, output: Output) -> int:
     """Steps through the devices, whenever a line comes from standard input."""
     devices, fault = work.discover()
+    output.note("each identifies itself until Enter is pressed")
     status = DONE
     for number, device in enumerate(devices, 1):
         try:
             if not show(work, device.uid, f"{number} of {len(devices)}: {device.uid}", output):
                 break
         except Failure as failure:
+            if failure.is_of_line:
+                raise
             output.failure(failure)
             status = failure.status
     if fault is not None:
@@ -109,8 +114,8 @@ def show(work: Work, uid: Uid, text: str, output: Output) -> bool:
 
     False at the end of standard input. Raises Failure.
     """
-    identify(work, uid, ON)
     try:
+        identify(work, uid, ON)
         output.result([text], uid=str(uid))
         return sys.stdin.readline() != ""
     finally:

@@ -18,12 +18,13 @@ from ..parameters import Misfit, Parameter, Reading, decode, described
 from ..parameters.fields import Bytes, Message, SubDevices
 from ..parameters.names import NACK_REASONS
 from .naming import is_manufacturers, table_of
-from .output import BAD_ARGUMENTS, FAILED, REFUSED, Failure, Output
+from .output import BAD_ARGUMENTS, FAILED, LINE_FAILED, REFUSED, Failure, Output
 from .watched import WatchedLine
 
 LINE_VARIABLE = "WURSTLINEN_LINE"
 # More than one command has outstanding.
 PLACES = 4
+NACK_BYTES = 2
 
 
 class Work:
@@ -65,30 +66,35 @@ class Work:
         """A completion that is an acknowledgement. Raises Failure for any other."""
         if completion.status == Status.WAS_BROADCAST:
             return completion
+        if completion.status == Status.FAILED_TO_SEND:
+            raise Failure(FAILED, str(self.line.failure or "the line failed"), reason=LINE_FAILED)
         if completion.head is None:
             reason = completion.status.name.lower()
             raise Failure(FAILED, f"{uid}: {self._reason(completion.status)}", uid=str(uid), reason=reason)
         if completion.head.ack == AckType.NACK:
-            name, number = nack_of(completion.data)
-            raise Failure(REFUSED, f"{uid} refused it: {name.replace('_', ' ')} (NACK 0x{number:04x})", uid=str(uid),
-                          reason="nack", nack=name)
+            name = nack_of(completion.data)
+            raise Failure(REFUSED, f"{uid} refused it: {name.replace('_', ' ')} (NACK 0x{completion.data.hex()})",
+                          uid=str(uid), reason="nack", nack=name)
         return completion
 
     def _reason(self, status: Status) -> str:
         """Why nothing came back."""
         if status == Status.TIMEOUT:
             return "no answer"
-        if status == Status.FAILED_TO_SEND:
-            return str(self.line.failure or "the line failed")
         return f"no valid answer ({status.name.lower().replace('_', ' ')})"
 
     def _report(self, uid: Uid, message: Completion) -> None:
         """Prints a message that the device had queued."""
         assert message.head is not None
+        nack = nack_of(message.data) if message.head.ack == AckType.NACK else None
+        self.output.queued(str(uid), *self.message(uid, message), nack)
+
+    @staticmethod
+    def message(uid: Uid, message: Completion) -> Tuple[Parameter, Reading]:
+        """What a message of a device says, whose parameter only the message names."""
+        assert message.head is not None
         parameter = known_or_raw(uid, message.head.pid)
-        nack = nack_of(message.data)[0] if message.head.ack == AckType.NACK else None
-        reading = decode(parameter, message.head.response_class == ResponseClass.SET, message.data)
-        self.output.queued(str(uid), parameter, reading, nack)
+        return parameter, decode(parameter, message.head.response_class == ResponseClass.SET, message.data)
 
     def read(self, uid: Uid, parameter: Parameter, data: bytes = b"", sub_device: int = 0) -> Reading:
         """What a GET returns. Raises Failure."""
@@ -147,10 +153,11 @@ def open_work(chosen: argparse.Namespace, output: Output) -> Iterator[Work]:
             yield Work(watched, controller.join(PLACES), chosen.wait, output)
 
 
-def nack_of(data: bytes) -> Tuple[str, int]:
-    """The name and the number of a refusal's reason."""
-    number = int.from_bytes(data[:2], "big")
-    return NACK_REASONS.get(number, "unknown reason"), number
+def nack_of(data: bytes) -> str:
+    """The name of a refusal's reason."""
+    if len(data) != NACK_BYTES:
+        return "malformed_reason"
+    return NACK_REASONS.get(int.from_bytes(data, "big"), "unknown_reason")
 
 
 def raw_parameter(pid: int) -> Parameter:
