@@ -374,6 +374,7 @@ class Repository(unittest.TestCase):
                 (["set", uid, "dmx_start_address", "0017", rig], 2, "'0017' can be read in two ways"),
                 (["get", uid, "device_lable", rig], 2, "did you mean device_label?"),
                 (["get", "--raw", rig], 2, "required: "), (["get", "--raw", uid, "0082", "--line=rig:no"], 1, "'no'"),
+                (["save", "/no/x", rig], 1, "/no/x: No such file"),
                 (["apply", "/nope.csv", rig], 2, "/nope.csv: No such file"), (["identify", rig], 2, "takes a UID"),
                 (["save", "x", "--line", "enttec:/dev/nope"], 1, "/dev/nope can't be opened: No such file"),
                 (["fixtures", "--line", "exec:no-such-command x"], 1, "can't be started"),
@@ -389,6 +390,7 @@ class Repository(unittest.TestCase):
     def test_words_are_checked_without_an_effect(self) -> None:
         note, rows = self.clone.folder / "note", self.clone.folder / "rows"
         for words in (["fixtures", "--line", f"exec:touch {note}"], ["apply", str(rows), f"--line=rig:{FIXTURES}"],
+                      ["save", str(rows), f"--line=rig:{FIXTURES}"], ["save", str(note), f"--line=rig:{FIXTURES}"],
                       ["fixtures", "--line", f"text:{rows}"], ["fixtures", "--line", f"rig:{rows}"]):
             if not rows.exists():
                 os.mkfifo(rows)
