@@ -28,7 +28,7 @@ put_package() (
     trap 'exit 129' HUP
     trap 'exit 130' INT
     trap 'exit 143' TERM
-    cp -R -- "$1" "$folder/new" && find "$folder/new" -name __pycache__ -prune -exec rm -r {} + || exit
+    copy_package "$1" "$folder/new" || exit
     chmod -R u=rwX,go=rX -- "$folder/new" || exit
     # Another call may put its own folder there between the two steps.
     for ((tries = 0; tries < 10; tries++)); do
@@ -47,4 +47,10 @@ end_put_package() {
     trap '' HUP INT TERM
     [ -e "$1" ] || [ -L "$1" ] || mv -T -- "$2/old" "$1" 2> /dev/null
     rm -rf -- "$2"
+}
+
+# Copies a folder of Python files, without others: a library among them isn't the proved one.
+copy_package() {
+    cp -R -- "$1" "$2" && find "$2" -name __pycache__ -prune -exec rm -r {} + \
+        && find "$2" ! -type d ! -name '*.py' ! -name py.typed -delete
 }

@@ -67,27 +67,42 @@ call_front() {
     exec python3 -m wurstlinen.tool "$@"
 }
 
-# Says what the next steps in the repository cost.
-show_costs() {
+# Sets `costs` to what the doctor also says: what the next steps in the repository cost.
+find_costs() {
     local kit_found
     kit_found="$(kit)"
-    echo "kit        ${kit_found:-not there: add its folder bin to PATH}"
-    is_up_to_date || echo "program    its first command proves and builds it: about 80 processor minutes"
-    library_is_up_to_date || echo "C library  its first command proves and builds it: about 10 minutes"
-    command -v c++ > /dev/null && has_ola_headers || echo "OLA        no headers: --install-ola needs libola-dev"
+    costs=(--also kit "${kit_found:-not there: add its folder bin to PATH}")
+    is_up_to_date || costs+=(--also program "its first command proves and builds it: about 80 processor minutes")
+    [ -n "${WURSTLINEN_LIBRARY-}" ] || library_is_up_to_date \
+        || costs+=(--also "C library" "its first command proves and builds it: about 10 minutes")
+    command -v c++ > /dev/null && has_ola_headers \
+        || costs+=(--also OLA "no headers: --install-ola needs libola-dev")
 }
 
 # The same with the C library, if the command needs it.
 run_front() {
+    local costs=()
     if [ "$1" = doctor ] && ! asks_for_help "$@"; then
-        [ $# -gt 1 ] || show_costs
+        find_costs
         [ -n "${WURSTLINEN_LIBRARY-}" ] || export WURSTLINEN_LIBRARY="$front_folder/$soname"
     fi
     if [ -z "${WURSTLINEN_LIBRARY-}" ] && [[ " ${with_library[*]} " = *" $1 "* ]] && ! asks_for_help "$@"; then
-        ensure_library
+        ensure_library "$@"
         export WURSTLINEN_LIBRARY="$front_folder/$soname"
     fi
-    call_front "$@"
+    call_front "$@" "${costs[@]}"
+}
+
+# Ends if the words of a command are wrong, or its line can't be opened: that mustn't be said only after a proof.
+check_words() {
+    "$root/tools/check_words" "$@" || exit
+}
+
+# Refuses a word that is no command: as the program does, but with the reason of the command in Python, which knows all.
+refuse_command() {
+    [[ " $* " = *" --json "* ]] || echo "fault: command line" || exit 1
+    (call_front "$@")
+    exit "$bad_arguments"
 }
 
 # What the C library is built from.
@@ -100,10 +115,11 @@ library_is_up_to_date() {
     [ -r "$front_folder/$soname" ] && [ "$(cat "$front_folder/built" 2> /dev/null)" = "$(library_fingerprint)" ]
 }
 
-# Proves and builds the C library into the folder out/, unless it is up to date.
+# Proves and builds the C library for a command into the folder out/, unless it is up to date.
 ensure_library() {
     local made before
     ! library_is_up_to_date || return 0
+    check_words "$@"
     before="$(library_fingerprint)"
     need_rt_and_cc
     say "proving and building the C library, about 10 minutes; a call after an interrupt goes on"
@@ -120,8 +136,7 @@ ensure_library() {
 install_front() (
     staged="$(mktemp -d)" || exit
     trap 'rm -rf -- "$staged"' EXIT
-    mkdir "$staged/all" && cp -R -- "$root/bindings/python/wurstlinen" "$staged/all" || exit
-    find "$staged/all" -name __pycache__ -prune -exec rm -r {} + || exit
+    mkdir "$staged/all" && copy_package "$root/bindings/python/wurstlinen" "$staged/all/wurstlinen" || exit
     front_proof > "$staged/all/wurstlinen/PROOF" || exit
     python3 -m zipapp --python "/usr/bin/env python3" --main wurstlinen.tool:call --output "$staged/one" \
         "$staged/all" || exit
@@ -140,8 +155,12 @@ commit() {
 # Prints the version, the kit that proved the program, and the commit.
 show_version() {
     local found state="not proved here yet"
-    [ ! -x "$program" ] || state="changed since it was proved with $(kit_of_program)"
-    ! is_up_to_date || state="proved with $(kit_of_program)"
+    if [ -x "$program" ] && [ ! -s "$program.kit" ]; then
+        state="it isn't known what proved it"
+    elif [ -x "$program" ]; then
+        state="changed since it was proved with $(kit_of_program)"
+        ! is_up_to_date || state="proved with $(kit_of_program)"
+    fi
     found="$(commit)"
     printf 'wurstlinen %s (%s, commit %s)\n' "$(cat "$root/VERSION")" "${state%% logic *}" "${found:0:8}"
 }

@@ -9,7 +9,9 @@ kit() {
 
 # The kit that proved the program, if that was noted.
 kit_of_program() {
-    cat "$program.kit" 2> /dev/null || echo "unknown"
+    local found
+    found="$(cat "$program.kit" 2> /dev/null)"
+    echo "${found:-unknown}"
 }
 
 # Proves and builds the program and the libraries, and makes packages of them.

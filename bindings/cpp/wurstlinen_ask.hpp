@@ -43,7 +43,13 @@ struct Answer {
 // The request wasn't sent, because the queue is paused, or a reply is awaited. It is still queued.
 class Unserved : public std::runtime_error {
 public:
-    Unserved() : std::runtime_error("the request wasn't sent: the queue is paused, or a reply is awaited") {}
+    Unserved(std::vector<Completion> queued_so_far, std::vector<std::variant<Completion, Discovery>> earlier_outcomes)
+        : std::runtime_error("the request wasn't sent: the queue is paused, or a reply is awaited"),
+          queued(std::move(queued_so_far)), earlier(std::move(earlier_outcomes)) {}
+
+    // What was collected, as an Answer has it.
+    std::vector<Completion> queued;
+    std::vector<std::variant<Completion, Discovery>> earlier;
 };
 
 namespace detail {
@@ -64,6 +70,8 @@ constexpr int most_messages = 256;
 constexpr int most_losses = 5;
 constexpr int most_exchanges = 1000;
 constexpr std::chrono::milliseconds fetch_time = 5s;
+// What of that may be after the end of the wait.
+constexpr std::chrono::milliseconds last_fetch_time = 2s;
 
 // The time that a device asks for; nullopt if it doesn't. A time of another size counts as none.
 inline std::optional<std::chrono::milliseconds> delay_of(const Completion &completion) {
@@ -110,7 +118,7 @@ template <typename Queue, typename Exchange, typename Time = SteadyTime> class A
 public:
     using Client = typename Queue::Client;
 
-    // `wait`: the longest wait for an answer.
+    // `wait`: the longest wait for an answer. What a device has queued may take 2 seconds more.
     Asker(Queue &queue, Client client, Exchange exchange,
           std::chrono::milliseconds wait = std::chrono::seconds(10), Time time = {})
         : queue_(queue), client_(client), exchange_(std::move(exchange)), wait_(wait), time_(std::move(time)) {}
@@ -123,27 +131,26 @@ public:
         return ask({target.number(), WURST_SET, sub_device, pid}, data);
     }
 
-    // The answer to a request. Faults of the queue and exceptions of the line pass through. Throws Unserved.
+    // The answer to a request. Faults of the queue and exceptions of the line pass through, and the next answer has
+    // what was collected until then. After an exception of the line the exchange has failed. Throws Unserved.
     // After every second wait without an answer, a GET is asked again. A SET isn't, since it may do something.
     Answer ask(const wurst_request &request, Bytes data = {}) {
         using std::chrono::milliseconds;
         begin(request, data);
-        Answer answer;
-        answer.completion = exchanged(request, data, answer);
-        auto delay = request.pid == detail::queued_message ? std::nullopt : detail::delay_of(answer.completion);
+        Completion completion = exchanged(request, data);
+        auto delay = detail::delay_of(completion);
         for (int waits = 1; delay && pause(*delay); waits++) {
-            if (auto found = has_queue_ ? fetched(answer) : std::nullopt) {
-                answer.completion = std::move(*found);
-                return answer;
+            if (auto found = has_queue_ ? fetched() : std::nullopt) {
+                return answer(std::move(*found));
             }
             delay = std::max(2 * *delay, detail::tenth);
             if (request.command_class == WURST_GET && (waits % 2 == 0 || !has_queue_)) {
-                answer.completion = exchanged(request, data, answer);
-                delay = detail::delay_of(answer.completion);
+                completion = exchanged(request, data);
+                delay = detail::delay_of(completion);
                 delay = delay ? std::optional(std::max<milliseconds>(*delay, detail::tenth)) : std::nullopt;
             }
         }
-        return answer;
+        return answer(std::move(completion));
     }
 
 private:
@@ -152,7 +159,14 @@ private:
         data_ = data;
         deadline_ = time_.now() + wait_;
         exchanges_ = 0;
-        has_queue_ = true;
+        // A queued message that isn't ready is asked for again.
+        has_queue_ = request.pid != detail::queued_message;
+        has_found_ = false;
+    }
+
+    // An answer with all that was collected.
+    Answer answer(Completion completion) {
+        return {std::move(completion), std::exchange(queued_, {}), std::exchange(earlier_, {})};
     }
 
     // Waits, but not beyond the deadline. False if there is nothing left to wait or to ask with.
@@ -166,58 +180,84 @@ private:
     }
 
     // Takes messages until none is left. The newest answer counts, since older ones may be to older requests. nullopt:
-    // no answer is among them.
-    std::optional<Completion> fetched(Answer &answer) {
-        const auto until = time_.now() + detail::fetch_time;
-        std::optional<Completion> found;
+    // no answer is among them. If the line fails, that counts, and an answer from before is kept.
+    std::optional<Completion> fetched() {
+        std::optional<Completion> failed;
+        try {
+            failed = take_messages();
+        } catch (...) {
+            keep_found();
+            throw;
+        }
+        if (failed || !has_found_) {
+            keep_found();
+            return failed;
+        }
+        return std::move(found_);
+    }
+
+    // Takes those messages. Returns how the request for one ended, if the line failed.
+    std::optional<Completion> take_messages() {
+        const auto now = time_.now();
+        const auto until = std::min(now + detail::fetch_time, std::max(now + detail::last_fetch_time, deadline_));
         bool is_lost = false;
         int losses = 0;
         for (int count = 0; count < detail::most_messages; count++) {
-            Completion message = queued(is_lost ? detail::get_last_message : detail::error_status, answer);
+            Completion message = queued(is_lost ? detail::get_last_message : detail::error_status);
             if (message.status() == WURST_FAILED_TO_SEND) {
                 return message;
             }
             const bool was_lost = std::exchange(is_lost, !message.head.has_head);
             losses += is_lost;
-            if (!is_lost && !was_lost && is_end(message, answer)) {
+            if (!is_lost && !was_lost && is_end(message)) {
                 break;
             }
             if (!is_lost) {
-                sort(std::move(message), was_lost, found, answer);
+                sort(std::move(message), was_lost);
             }
             if (losses >= detail::most_losses || exchanges_ >= detail::most_exchanges || time_.now() > until) {
                 break;
             }
         }
-        return found;
+        return std::nullopt;
+    }
+
+    // Keeps the newest answer so far as one of the other messages.
+    void keep_found() {
+        if (std::exchange(has_found_, false)) {
+            queued_.push_back(std::move(found_));
+        }
     }
 
     // The reply to a GET of QUEUED_MESSAGE.
-    Completion queued(std::uint8_t status_type, Answer &answer) {
-        return exchanged({request_.target, WURST_GET, 0, detail::queued_message}, Bytes(&status_type, 1), answer);
+    Completion queued(std::uint8_t status_type) {
+        return exchanged({request_.target, WURST_GET, 0, detail::queued_message}, Bytes(&status_type, 1));
     }
 
     // Whether the device has no more messages now. Status messages, which it sends then, are kept.
-    bool is_end(const Completion &message, Answer &answer) {
+    bool is_end(const Completion &message) {
         const wurst_completion &head = message.head;
         if (head.pid == detail::queued_message) {
             has_queue_ = head.ack != WURST_NACK;
             return true;
         }
-        if (detail::is_report(message)) {
-            answer.queued.push_back(message);
-        }
+        keep_report(message);
         return head.pid == detail::status_messages || head.ack == WURST_ACK_TIMER;
     }
 
-    // Keeps a message, and puts the newest answer into `found`. If a reply was lost, the device was asked to repeat it.
-    // The repeated message is an answer only if it is known not to be an older one.
-    void sort(Completion message, bool is_repeated, std::optional<Completion> &found, Answer &answer) {
+    // Keeps status messages.
+    void keep_report(const Completion &message) {
+        if (detail::is_report(message)) {
+            queued_.push_back(message);
+        }
+    }
+
+    // Keeps a message, as the newest answer if it is one. If a reply was lost, the device was asked to repeat it. The
+    // repeated message is an answer only if it is known not to be an older one.
+    void sort(Completion message, bool is_repeated) {
         const wurst_completion &head = message.head;
         if (is_repeated && (head.pid == detail::status_messages || head.pid == detail::queued_message)) {
-            if (detail::is_report(message)) {
-                answer.queued.push_back(std::move(message));
-            }
+            keep_report(message);
             return;
         }
         const auto before = newest_.find(request_.target);
@@ -228,32 +268,44 @@ private:
         const bool is_answer = detail::is_answer(message, request_, data_) && (!is_repeated || is_known);
         newest_[request_.target] = message;
         if (!is_answer) {
-            answer.queued.push_back(std::move(message));
+            queued_.push_back(std::move(message));
             return;
         }
-        if (found) {
-            answer.queued.push_back(std::move(*found));
-        }
-        found = std::move(message);
+        keep_found();
+        found_ = std::move(message);
+        has_found_ = true;
     }
 
     // How a request ends.
-    Completion exchanged(const wurst_request &request, Bytes data, Answer &answer) {
+    Completion exchanged(const wurst_request &request, Bytes data) {
         const std::uint64_t number = queue_.submit(client_, request, data);
         exchanges_++;
-        queue_.run([this](const Frame &frame) { return exchange_(frame); });
+        queue_.run([this](const Frame &frame) { return replied(frame); });
         while (const auto kind = queue_.oldest(client_)) {
             if (*kind == WURST_DISCOVERY_OUTCOME) {
-                answer.earlier.push_back(*queue_.next_discovery(client_));
+                earlier_.push_back(*queue_.next_discovery(client_));
                 continue;
             }
             Completion completion = *queue_.next_completion(client_);
             if (completion.number() == number) {
                 return completion;
             }
-            answer.earlier.push_back(std::move(completion));
+            earlier_.push_back(std::move(completion));
         }
-        throw Unserved();
+        keep_found();
+        throw Unserved(std::exchange(queued_, {}), std::exchange(earlier_, {}));
+    }
+
+    // The line's reply. If it throws, nobody could deliver a reply later, so the exchange has failed.
+    auto replied(const Frame &frame) {
+        try {
+            return exchange_(frame);
+        } catch (...) {
+            if (queue_.awaits()) {
+                queue_.fail();
+            }
+            throw;
+        }
     }
 
     Queue &queue_;
@@ -269,9 +321,14 @@ private:
     std::chrono::milliseconds deadline_{};
     int exchanges_ = 0;
     bool has_queue_ = true;
+    // The newest answer among a device's messages, the other ones, and the client's earlier outcomes.
+    bool has_found_ = false;
+    Completion found_{};
+    std::vector<Completion> queued_;
+    std::vector<std::variant<Completion, Discovery>> earlier_;
 };
 
-// The answer to a single request.
+// The answer to a single request. If the line throws, what was collected for it is lost: an Asker would keep it.
 template <typename Queue, typename Exchange>
 Answer ask(Queue &queue, typename Queue::Client client, Exchange exchange, const wurst_request &request,
            Bytes data = {}, std::chrono::milliseconds wait = std::chrono::seconds(10)) {

@@ -221,6 +221,122 @@ static void fails() {
     }
 }
 
+struct Unplugged {};
+
+// A line to a device that throws once, after so many exchanges.
+struct Throwing {
+    Device &device;
+    std::size_t exchanges;
+
+    std::optional<Data> operator()(const wurst::Frame &frame) {
+        if (device.asked.size() == exchanges) {
+            exchanges = ~std::size_t{};
+            throw Unplugged();
+        }
+        return device.exchange(frame);
+    }
+};
+
+static void keeps_what_was_collected() {
+    const Said report{WURST_ACK, status, {0, 0, 4, 0, 0x21, 0, 5, 0, 0}};
+    for (std::size_t kept : {0, 1, 2}) {
+        TestTime time;
+        Device line{{{WURST_ACK, hours, {}}, timer(label, 1), {WURST_ACK, hours, Data(4)}, {WURST_ACK, label, lamp},
+                     report, empty}};
+        wurst::Controller queue(source);
+        const auto client = queue.join(4);
+        queue.get(client, device, hours);
+        wurst::Asker asker(queue, client, Throwing{line, 2 + kept}, milliseconds(10000), time);
+        try {
+            asker.get(device, label);
+            CHECK(false);
+        } catch (const Unplugged &) {
+            CHECK(!queue.awaits());
+        }
+        line.says = {{WURST_ACK, label, lamp}};
+        const auto answer = asker.get(device, label);
+        CHECK(answer.completion.data == lamp && answer.queued.size() == kept);
+        CHECK(kept < 1 || answer.queued[0].data == Data(4));
+        CHECK(kept < 2 || answer.queued[1].data == lamp);
+        // The request that failed, after the one from before.
+        CHECK(answer.earlier.size() == 2 && std::get<wurst::Completion>(answer.earlier[0]).head.pid == hours);
+        CHECK(std::get<wurst::Completion>(answer.earlier[1]).status() == WURST_FAILED_TO_SEND);
+        const auto next = asker.get(device, label);
+        CHECK(next.queued.empty() && next.earlier.empty());
+    }
+}
+
+static void hands_over_what_was_collected() {
+    Device line{{{WURST_ACK, hours, {7}}}};
+    wurst::Controller queue(source);
+    const auto client = queue.join(2);
+    auto exchange = [&line](const wurst::Frame &frame) { return line.exchange(frame); };
+    queue.get(client, device, hours);
+    queue.run(exchange);
+    queue.pause();
+    try {
+        wurst::ask(queue, client, exchange, {device.number(), WURST_GET, 0, label});
+        CHECK(false);
+    } catch (const wurst::Unserved &unserved) {
+        CHECK(unserved.queued.empty() && unserved.earlier.size() == 1);
+        CHECK(std::get<wurst::Completion>(unserved.earlier[0]).data == Data{7});
+    }
+    queue.resume();
+    TestTime time;
+    line.says = {{WURST_ACK, label, {}}, timer(label, 1), {WURST_ACK, hours, Data(4)}, {WURST_ACK, label, lamp}, empty};
+    auto pausing = [&line, &queue](const wurst::Frame &frame) {
+        if (line.asked.size() == 4) {
+            queue.pause();
+        }
+        return line.exchange(frame);
+    };
+    wurst::Asker asker(queue, client, pausing, milliseconds(10000), time);
+    try {
+        asker.get(device, label);
+        CHECK(false);
+    } catch (const wurst::Unserved &unserved) {
+        CHECK(unserved.queued.size() == 2 && unserved.queued[1].data == lamp);
+        CHECK(unserved.earlier.size() == 1);
+    }
+}
+
+static void keeps_an_answer_before_the_line_fails() {
+    TestTime time;
+    Device line{{timer(label, 1), {WURST_ACK, label, lamp}, empty}};
+    wurst::Controller queue(source);
+    auto unplugged = [&line](const wurst::Frame &frame) {
+        return line.asked.size() < 2 ? line.exchange(frame) : std::optional<Data>();
+    };
+    wurst::Asker asker(queue, queue.join(1), unplugged, milliseconds(10000), time);
+    const auto answer = asker.get(device, label);
+    CHECK(answer.completion.status() == WURST_FAILED_TO_SEND && answer.queued.size() == 1);
+    CHECK(answer.queued[0].data == lamp);
+}
+
+static void waits_for_queued_messages() {
+    TestTime time;
+    Device line{{timer(queued, 5), timer(queued, 7), {WURST_ACK, label, lamp}}};
+    wurst::Controller queue(source);
+    auto exchange = [&line](const wurst::Frame &frame) { return line.exchange(frame); };
+    wurst::Asker asker(queue, queue.join(1), exchange, milliseconds(10000), time);
+    const auto answer = asker.get(device, queued, Data{4});
+    CHECK(!answer.is_late() && answer.completion.data == lamp && answer.queued.empty());
+    CHECK(line.count(queued) == 3 && time.slept() == milliseconds(1200));
+}
+
+static void fetches_for_two_seconds_at_most() {
+    TestTime time;
+    Device line{{timer(label, 1, true), {WURST_ACK, hours, {}}}};
+    wurst::Controller queue(source);
+    auto slow = [&line, &time](const wurst::Frame &frame) {
+        *time.at += milliseconds(1000);
+        return line.exchange(frame);
+    };
+    wurst::Asker asker(queue, queue.join(1), slow, milliseconds(10000), time);
+    CHECK(asker.set(device, label, lamp).is_late());
+    CHECK(*time.at < milliseconds(100000 + 13500));
+}
+
 int main() {
     needs_no_time();
     waits_as_long_as_it_says();
@@ -231,5 +347,10 @@ int main() {
     is_bounded();
     repeats_what_was_lost();
     fails();
+    keeps_what_was_collected();
+    hands_over_what_was_collected();
+    keeps_an_answer_before_the_line_fails();
+    waits_for_queued_messages();
+    fetches_for_two_seconds_at_most();
     return report();
 }

@@ -4,16 +4,22 @@ from __future__ import annotations
 import os
 import re
 import signal
+import sys
 import time
 import unittest
 from typing import List
 
-from cases.checker.case import Case
+from cases.checker.case import Case, Output
 from cases.checker.tables import read_tables
 from clone import ROOT, Clone, new_clone, wait_for
 
+sys.path.insert(0, str(ROOT / "bindings/python"))
+from wurstlinen.front.output import Failure  # noqa: E402
+from wurstlinen.tool import adapters, arguments  # noqa: E402
+
 # Cases of the program whose standard error has this need no program.
 EARLY = re.compile(rb"wurstlinen: (the command is missing|.* is no command|the file .* no such file|.*no UTF-8 text)\n")
+PROVED = (b"decode", b"encode", b"discover", b"run")
 BUILDING = 'echo "building" >&2; exit 1'
 
 
@@ -26,6 +32,11 @@ def early_cases() -> List[Case]:
 def has_more_files(case: Case) -> bool:
     """Whether another file than FILE may be the one that isn't there."""
     return any(option in words for words in case.commands for option in (b"--line", b"--log"))
+
+
+def is_refused(case: Case) -> bool:
+    """Whether the program may refuse the words of a case."""
+    return case.expected.status in (2, None) or case.output is not Output.READ
 
 
 def usage() -> str:
@@ -59,7 +70,9 @@ class Answers(unittest.TestCase):
                 (self.clone.root / file.path).write_bytes(file.contents)
             for words in case.commands:
                 for before in ([], ["--unproved"]):
-                    command = [os.fsencode(word) for word in ["./wurstlinen", *before]]
+                    # The script has an answer of its own to words that are no command.
+                    is_own = not before and words[:1] and words[0] not in PROVED and words[0][:1] not in (b"", b"-")
+                    command = [b"./rdm_port" if is_own else b"./wurstlinen", *map(os.fsencode, before)]
                     done = self.clone.run(*command, *words, text=False)
                     expected = case.expected
                     self.assertEqual((done.returncode, done.stderr), (expected.status, expected.err), case.name)
@@ -70,9 +83,9 @@ class Answers(unittest.TestCase):
         version = f"wurstlinen {(ROOT / 'VERSION').read_text().strip()} (not proved here yet, commit unknown)\n"
         for before in ([], ["--unproved"]):
             self.expect([*before, "help"], 0, usage(), "")
-            self.expect([*before, "help", "decode"], 0, usage(), "")
             for word in ("version", "--version", "-V"):
                 self.expect([*before, word], 0, version, "")
+        self.expect(["--unproved", "help", "decode"], 0, usage(), "")
         own = self.clone.run("./wurstlinen", "--help")
         self.assertEqual((own.returncode, own.stdout.split("\n")[0]), (0, "usage: ./wurstlinen COMMAND ARGUMENT.."))
         self.assertEqual(self.clone.run("./wurstlinen", "--unproved", "-h").stdout, own.stdout)
@@ -97,17 +110,41 @@ class Answers(unittest.TestCase):
         # As the program compiled by rt try writes them.
         word = 'w"\\\u0301\u00e4\u200b\t\u00a0\u0903\uff9e\u0e33\U0001f600'
         written = '"w\\"\\\\\\u{301}\u00e4\\u{200b}\\t\\u{a0}\u0903\\u{ff9e}\u0e33\U0001f600"'
-        self.expect([word], 2, "fault: command line\n", f"wurstlinen: {written} is no command\n{usage()}")
+        done = self.clone.run("./rdm_port", word)
+        self.assertEqual((done.returncode, done.stdout, done.stderr),
+                         (2, "fault: command line\n", f"wurstlinen: {written} is no command\n{usage()}"))
+        self.assertEqual(self.clone.rt_calls(), [])
 
     def test_other_arguments_are_left_to_the_program(self) -> None:
         (self.clone.root / "file").write_text("{}")
-        for words in (["run", "file"], ["run", "none", "--quick"], ["run", "none", "--port", "no"], ["discover"],
-                      ["run", "none", "b"], ["run", "none", "--replies", "in"], ["discover", "none", "--quick=yes"],
-                      ["discover", "--line", "none"], ["discover", "none", "--quick", "--quick"], ["decode", "00"],
-                      ["run", "none", "--log", "-x"], ["run", "none", "--log"]):
+        for words in (["run", "file"], ["run", "none", "--replies", "in"], ["discover", "--line", "none"],
+                      ["discover", "none", "--quick", "--quick"], ["decode", "00"]):
             done = self.clone.run("./wurstlinen", *words)
             self.assertEqual((done.returncode, done.stdout), (125, ""), words)
             self.assertIn("proving and building", done.stderr)
+
+    def test_wrong_words_of_the_programs_commands(self) -> None:
+        (self.clone.root / "none").write_text("{}")
+        wrong = [["run", "none", "--quick"], ["run", "none", "--port", "no"], ["run", "none", "b"],
+                 ["discover", "none", "--quick=yes"], ["run", "none", "--log", "-x"], ["run", "none", "--log"], ["run"],
+                 ["decode"], ["encode", "a", "b"]]
+        for words in wrong + ([] if adapters.chips() else [["discover"], ["discover", "--quick"]]):
+            done = self.clone.run("./wurstlinen", *words)
+            self.assertEqual((done.returncode, done.stdout), (2, "fault: command line\n"), words)
+            self.assertRegex(done.stderr, r"^wurstlinen: .*\n$")
+            # The other name's words are all the program's.
+            self.assertIn("proving and building", self.clone.run("./rdm_port", *words).stderr)
+
+    def test_no_right_words_are_refused(self) -> None:
+        """What the program doesn't refuse is let through, too."""
+        found = {tuple(words) for table in read_tables(ROOT / "cases") for case in table.cases
+                 for words in case.commands if words and words[0] in PROVED and not is_refused(case)}
+        self.assertGreater(len(found), 50)
+        for words in found:
+            try:
+                arguments.parser().parse_args([os.fsdecode(word) for word in words])
+            except Failure as failure:
+                self.fail(f"{words}: {failure}")
 
     def test_a_full_device(self) -> None:
         with open("/dev/full", "w") as full:
@@ -123,16 +160,16 @@ class Answers(unittest.TestCase):
     def test_what_cannot_be_answered_is_left_to_the_program(self) -> None:
         """Without the file that has the program's usage, and without Python."""
         (self.clone.root / "crates/rdm_words/src/usage.rt").unlink()
-        done = self.clone.run("./wurstlinen", "walk")
+        done = self.clone.run("./rdm_port", "walk")
         self.assertEqual((done.returncode, done.stdout), (125, ""))
         self.assertIn("proving and building", done.stderr)
         (self.clone.bin / "python3").write_text("#!/bin/sh\nexit 127\n")
         (self.clone.bin / "python3").chmod(0o755)
-        self.assertIn("proving and building", self.clone.run("./wurstlinen", "walk").stderr)
+        self.assertIn("proving and building", self.clone.run("./rdm_port", "walk").stderr)
 
     def test_a_built_program_answers_itself(self) -> None:
         self.clone.put_rt("")
-        for words in (["run", "none"], ["walk"], []):
+        for words in (["run", "none"], ["-walk"], []):
             (self.clone.root / "none").write_text("{}")
             self.assertEqual(self.clone.run("./wurstlinen", "run", "none").stdout, "the program: run none\n")
             (self.clone.root / "none").unlink()

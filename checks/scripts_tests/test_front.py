@@ -5,6 +5,7 @@ import contextlib
 import io
 import json
 import os
+import pty
 import re
 import signal
 import subprocess
@@ -13,7 +14,7 @@ import tempfile
 import time
 import unittest
 from pathlib import Path
-from typing import Iterator, List
+from typing import IO, Iterator, List, Tuple
 from unittest import mock
 
 from clone import ROOT, Clone, compile_c, is_alive, new_clone, wait_for
@@ -36,10 +37,30 @@ read -r reply <&4
 echo "$reply"
 exit 5
 """
+# The same, with lines on both streams.
+TALKING = """#!/bin/sh
+exec 3> "$3" 4< "$5"
+echo {frame} >&3
+read -r reply <&4
+echo one
+echo "wurstlinen: 12 exchanges after 2 seconds" >&2
+echo "wurstlinen: two" >&2
+echo three
+exit 5
+"""
 # Unmutes all devices, which none answers: the source is 7ff0:00000001.
 FRAME = "cc0118ffffffffffff7ff000000001000100000010000300"
 # The program waits for a reply that doesn't come, or for nothing, and says that it has begun.
 SLOW = '#!/bin/sh\nexec 3> "$3" 4< "$5"\necho $$ > "{note}"\n{more}\nread -r reply <&4\nexit 9\n'
+
+
+def read_all(terminal: IO[bytes]) -> bytes:
+    """What was written to a terminal, whose writers are gone."""
+    found = b""
+    with contextlib.suppress(OSError):
+        while data := terminal.read(4096):
+            found += data
+    return found
 
 
 def with_sum(text: str) -> str:
@@ -101,6 +122,44 @@ class Commands(Place):
         self.assertEqual((done.returncode, done.stderr), (5, ""))
         self.assertRegex(done.stdout, r"^discover --line FD --replies FD --source 7ff0:00000001\n")
 
+    def test_frames_are_shown(self) -> None:
+        wanted = "0000  UNMUTE ffff:ffffffff  -> silence\n"
+        for words in (["discover", "--frames"], ["discover", "--line", f"rig:{FIXTURES}", "--frames"],
+                      ["run", "--frames", "x", f"--line=rig:{FIXTURES}"]):
+            done = self.call(*words, WURSTLINEN_LINE=f"rig:{FIXTURES}")
+            self.assertEqual((done.returncode, done.stderr), (5, wanted), words)
+            self.assertNotIn("--frames", done.stdout)
+        # These have no line that is served here.
+        self.expect(["discover", "x", "--frames"], 4, "discover x --frames\n")
+
+    def test_progress_on_a_terminal(self) -> None:
+        self.put_program(TALKING.format(frame=with_sum(FRAME)))
+        words = ["discover", "--line", f"rig:{FIXTURES}"]
+        hidden = "0 found, 1 frames"
+        shown = f"\r{hidden}\r{' ' * len(hidden)}\rone\r\nwurstlinen: two\r\nthree\r\n"
+        self.assertEqual(self.on_terminal(words, "out", "err"), (shown, ""))
+        # Standard output that is no terminal gets its bytes as they are.
+        terminal, out = self.on_terminal(words, "err")
+        self.assertEqual((terminal, out), (f"\r{hidden}\r{' ' * len(hidden)}\rwurstlinen: two\r\n", "one\nthree\n"))
+        # Nothing but a discovery on a line that is served here has progress.
+        plain = "one\r\nwurstlinen: 12 exchanges after 2 seconds\r\nwurstlinen: two\r\nthree\r\n"
+        self.assertEqual(self.on_terminal(["run", "x", *words[1:]], "out", "err"), (plain, ""))
+        self.assertNotIn("found", self.on_terminal([*words, "--frames"], "out", "err")[0])
+        done = self.call(*words)
+        self.assertEqual((done.stdout, done.stderr),
+                         ("one\nthree\n", "wurstlinen: 12 exchanges after 2 seconds\nwurstlinen: two\n"))
+
+    def on_terminal(self, words: List[str], *streams: str) -> Tuple[str, str]:
+        """What a command writes to a terminal, which has these of its streams, and to its standard output elsewhere."""
+        ours, theirs = pty.openpty()
+        with os.fdopen(ours, "rb", 0) as terminal:
+            process = subprocess.Popen([sys.executable, "-m", "wurstlinen.tool", *words], env=self.environment(),
+                                       stdout=theirs if "out" in streams else subprocess.PIPE, stderr=theirs)
+            os.close(theirs)
+            out = process.communicate()[0] or b""
+            self.assertEqual(process.returncode, 5)
+            return read_all(terminal).decode(), out.decode()
+
     def test_a_program_that_opens_nothing(self) -> None:
         self.put_program("#!/bin/sh\ncat\nexit 7\n")
         self.expect(["run", "x", "--line", f"rig:{FIXTURES}"], 7, "")
@@ -154,7 +213,8 @@ class Commands(Place):
     def test_wrong_arguments_are_one_line(self) -> None:
         self.expect(["fixturs"], 2, "", "wurstlinen: there is no command 'fixturs'; did you mean fixtures?; try "
                     "'wurstlinen --help'\n")
-        for words in (["fixtures", "x"], ["rig", "a", "b"], ["bridge", "--lien", "x"], ["rig", "--firmware", "x"]):
+        for words in (["fixtures", "x"], ["rig", "a", "b"], ["bridge", "--lien", "x"], ["rig", "--firmware", "x"],
+                      ["rig"]):
             done = self.call(*words)
             self.assertEqual((done.returncode, done.stderr.count("\n")), (2, 1), words)
             self.assertRegex(done.stderr, r"^wurstlinen: .*; try 'wurstlinen( [a-z]+)? --help'\n$")
@@ -163,6 +223,35 @@ class Commands(Place):
             self.assertEqual((done.returncode, done.stderr), (2, ""), words)
             self.assertEqual(json.loads(done.stdout)["error"]["reason"], "arguments")
 
+    def test_the_commands_for_lines_as_json(self) -> None:
+        wanted = {"error": {"text": "[Errno 2] No such file or directory: 'nowhere'", "reason": "line"}}
+        for words in (["rig", "nowhere"], ["rig", "--line", "rig:nowhere"], ["bridge", "--line", "rig:nowhere"]):
+            done = self.call(*words, "--json")
+            # Standard output of bridge is for replies.
+            text, other = (done.stderr, done.stdout) if "bridge" in words else (done.stdout, done.stderr)
+            self.assertEqual((done.returncode, other, json.loads(text)), (1, "", wanted), words)
+        for command in ("rig", "bridge"):
+            done = self.call(command, "--json")
+            text, other = (done.stderr, done.stdout) if command == "bridge" else (done.stdout, done.stderr)
+            self.assertEqual((done.returncode, other, json.loads(text)["error"]["reason"]), (2, "", "arguments"))
+
+    def test_keys_of_json_are_on_the_page(self) -> None:
+        page = (ROOT / "bindings/python/COMMANDS.md").read_text().partition("## JSON")[2]
+        out = io.StringIO()
+        adapters.show([adapters.Adapter(Path("/dev/x"), fault="none")], Output(True, out))
+        text = out.getvalue() + "".join(self.call(*words, "--json").stdout for words in
+                                        (["doctor"], ["completion", "bash"], ["rig", "nowhere"]))
+        for line in text.splitlines():
+            self.assertEqual([key for key in json.loads(line) if f"`{key}`" not in page], [], line)
+
+    def test_the_line_of_a_rig_as_json(self) -> None:
+        command = [sys.executable, "-m", "wurstlinen.tool", "rig", str(FIXTURES), "--json"]
+        with subprocess.Popen(command, env=self.environment(), stdout=subprocess.PIPE, text=True) as process:
+            assert process.stdout is not None
+            self.assertRegex(json.loads(process.stdout.readline())["line"], "^enttec:/dev/pts/[0-9]+$")
+            process.send_signal(signal.SIGINT)
+            self.assertEqual(process.wait(10), 0)
+
     def test_an_interrupt_of_the_commands_for_bytes(self) -> None:
         with mock.patch("wurstlinen.commands.run_bridge", side_effect=KeyboardInterrupt):
             self.assertEqual(main(["bridge", "--line", "rig:x"]), 130)
@@ -170,7 +259,7 @@ class Commands(Place):
     def test_no_program(self) -> None:
         (self.folder / "program").unlink()
         self.expect(["decode", "00"], 127, "", "wurstlinen: 'decode' needs the proved program, which isn't installed "
-                    "here: it is in the Debian package wurstlinen and in the .tar.gz, but not in the wheel; "
+                    "here: it is in the Debian package wurstlinen, in the wheel and in the .tar.gz; "
                     "WURSTLINEN_PROGRAM may name it\n")
 
     def test_words(self) -> None:
@@ -278,16 +367,76 @@ class Repository(unittest.TestCase):
         self.assertEqual(self.clone.rt_calls(), [])
         self.assertEqual(list(self.clone.root.rglob("__pycache__")), [])
 
+    def test_wrong_words_build_nothing(self) -> None:
+        rig, uid = f"--line=rig:{FIXTURES}", "1234:00000001"
+        for words, status, reason in (
+                (["get", "foo", rig], 2, "'foo' isn't a UID"), (["fixtures", "--lin"], 2, "argument --line: "),
+                (["set", uid, "dmx_start_address", "0017", rig], 2, "'0017' can be read in two ways"),
+                (["get", uid, "device_lable", rig], 2, "did you mean device_label?"),
+                (["get", "--raw", rig], 2, "required: "), (["get", "--raw", uid, "0082", "--line=rig:no"], 1, "'no'"),
+                (["save", "/no/x", rig], 1, "/no/x: No such file"),
+                (["apply", "/nope.csv", rig], 2, "/nope.csv: No such file"), (["identify", rig], 2, "takes a UID"),
+                (["save", "x", "--line", "enttec:/dev/nope"], 1, "/dev/nope can't be opened: No such file"),
+                (["fixtures", "--line", "exec:no-such-command x"], 1, "can't be started"),
+                (["fixtures", "--line", "text:/no/out,/no/in"], 1, "can't be opened"),
+                (["fixtures", "--line", "exec:'"], 2, "can't be split"),
+                (["discover", "--line", "enttec:/dev/nope"], 1, "/dev/nope can't be opened: No such file"),
+                (["discover", rig, "--quik"], 2, "unrecognized arguments: --quik")):
+            done = self.clone.run("./wurstlinen", *words)
+            self.assertEqual((done.returncode, reason in done.stderr), (status, True), (words, done.stderr))
+            self.assertEqual(done.stdout, "fault: command line\n" if "--quik" in words else "", words)
+        self.assertEqual(self.clone.rt_calls(), [])
+
+    def test_words_are_checked_without_an_effect(self) -> None:
+        note, rows = self.clone.folder / "note", self.clone.folder / "rows"
+        for words in (["fixtures", "--line", f"exec:touch {note}"], ["apply", str(rows), f"--line=rig:{FIXTURES}"],
+                      ["save", str(rows), f"--line=rig:{FIXTURES}"], ["save", str(note), f"--line=rig:{FIXTURES}"],
+                      ["fixtures", "--line", f"text:{rows}"], ["fixtures", "--line", f"rig:{rows}"]):
+            if not rows.exists():
+                os.mkfifo(rows)
+            done = self.clone.run("tools/check_words", *words)
+            self.assertEqual((done.returncode, done.stdout, done.stderr), (0, "", ""), words)
+        self.assertFalse(note.exists())
+        # After the check comes the build.
+        done = self.clone.run("./wurstlinen", "save", "x", f"--line=rig:{FIXTURES}")
+        self.assertIn("proving and building the C library", done.stderr)
+
+    def test_a_word_that_is_no_command(self) -> None:
+        reason = "wurstlinen: there is no command 'fixturs'; did you mean fixtures?; try 'wurstlinen --help'\n"
+        done = self.clone.run("./wurstlinen", "fixturs", "--frames")
+        self.assertEqual((done.returncode, done.stdout, done.stderr), (2, "fault: command line\n", reason))
+        done = self.clone.run("./wurstlinen", "fixturs", "--json")
+        self.assertEqual((done.returncode, json.loads(done.stdout)["error"]["reason"]), (2, "arguments"))
+        with open("/dev/full", "w") as full:
+            done = self.clone.run("./wurstlinen", "fixturs", capture_output=False, stdout=full, stderr=-1)
+        self.assertEqual(done.returncode, 1)
+        self.assertEqual(self.clone.rt_calls(), [])
+
+    def test_help_for_a_command(self) -> None:
+        for command in ("get", "decode", "adapters"):
+            done = self.clone.run("./wurstlinen", "help", command)
+            self.assertEqual((done.returncode, done.stderr), (0, ""))
+            self.assertTrue(done.stdout.startswith(f"usage: wurstlinen {command}"))
+        self.assertEqual(self.clone.run("./wurstlinen", "help", "fixturs").returncode, 2)
+        self.assertEqual(self.clone.rt_calls(), [])
+
     def test_the_doctor_builds_nothing(self) -> None:
         done = self.clone.run("./wurstlinen", "doctor")
         self.assertEqual((done.returncode, done.stderr), (0, ""))
-        for line in ("kit        kit-of-tests logic 1", "program    its first command proves and builds it: about 80",
-                     "program    decode, encode, discover and run need it, and it isn't here",
-                     "C library  fixtures by names need it: libwurstlinen.so.0 is not at ", "adapter    "):
+        lines = ("kit        kit-of-tests logic 1", "program    its first command proves and builds it: about 80",
+                 "C library  its first command proves and builds it: about 10 minutes", "adapter    ")
+        for line in lines:
             self.assertIn(f"\n{line}", f"\n{done.stdout}")
+            self.assertEqual(f"\n{done.stdout}".count(f"\n{line.partition('  ')[0]}  "), 1, line)
+        done = self.clone.run("./wurstlinen", "doctor", env={**self.clone.environment, "WURSTLINEN_LIBRARY": "/no.so"})
+        self.assertIn("\nC library  fixtures by names need it: libwurstlinen.so.0 is not at /no.so", done.stdout)
         self.assertEqual(self.clone.rt_calls(), [])
         self.assertEqual(self.clone.run("./wurstlinen", "decode", "00").returncode, 0)
         self.assertIn("\nprogram    there\n", self.clone.run("./wurstlinen", "doctor").stdout)
+        done = self.clone.run("./wurstlinen", "doctor", "--json")
+        found = [json.loads(line) for line in done.stdout.splitlines()]
+        self.assertIn({"part": "kit", "text": "kit-of-tests logic 1"}, found)
+        self.assertIn({"part": "C library", "text": "its first command proves and builds it: about 10 minutes"}, found)
 
     def test_the_library_is_built_once(self) -> None:
         part = self.clone.folder / "part.o"
@@ -302,6 +451,26 @@ class Repository(unittest.TestCase):
         (self.clone.root / "bindings/c/heap.c").write_text("\n")
         done = self.clone.run("./wurstlinen", "get", "1234:00000001", "device_label", "--line", f"rig:{FIXTURES}")
         self.assertIn("proving and building the C library", done.stderr)
+
+    def test_wrong_arguments_build_nothing(self) -> None:
+        line = ["--line", f"rig:{FIXTURES}"]
+        for words, wanted in ((["get", "1234", "device_label", *line], "argument UID: '1234' isn't a UID"),
+                              (["get", "1234:00000001", "device_lable", *line], "did you mean device_label?"),
+                              (["set", "1234:00000001", "dmx_start_address", "0017", *line], "in two ways"),
+                              (["fixtures", "--lien", "x"], "unrecognized arguments: --lien x")):
+            done = self.clone.run("./wurstlinen", *words)
+            self.assertEqual((done.returncode, done.stdout, done.stderr.count("\n")), (2, "", 1), words)
+            self.assertIn(wanted, done.stderr)
+            self.assertEqual(json.loads(self.clone.run("./wurstlinen", *words, "--json").stdout).keys(), {"error"})
+        self.assertEqual(self.clone.rt_calls(), [])
+
+    @unittest.skipIf(adapters.chips(), "an adapter is plugged in")
+    def test_no_line_builds_nothing(self) -> None:
+        self.clone.environment.pop("WURSTLINEN_LINE", None)
+        done = self.clone.run("./wurstlinen", "fixtures")
+        self.assertEqual((done.returncode, done.stdout), (2, ""))
+        self.assertIn("no adapter is plugged in", done.stderr)
+        self.assertEqual(self.clone.rt_calls(), [])
 
     def test_a_line_is_served(self) -> None:
         (self.clone.root / "x").write_text("{}")
@@ -327,6 +496,7 @@ class Repository(unittest.TestCase):
     @unittest.skipIf(adapters.chips(), "an adapter is plugged in")
     def test_a_discovery_without_a_line_is_the_programs(self) -> None:
         self.clone.environment.pop("WURSTLINEN_LINE", None)
+        self.assertEqual(self.clone.run("./wurstlinen", "decode", "00").returncode, 0)
         self.assertEqual(self.clone.run("./wurstlinen", "discover").stdout, "the program: discover\n")
 
     def test_the_version_says_what_was_proved(self) -> None:
@@ -343,6 +513,16 @@ class Repository(unittest.TestCase):
         head = self.clone.run("git", "rev-parse", "HEAD").stdout
         self.expect_version(f"wurstlinen {version} ({changed}, commit {head[:8]})\n")
         self.assertEqual(self.clone.rt_calls(), calls)
+
+    def test_an_unknown_kit_is_no_proof(self) -> None:
+        version = (ROOT / "VERSION").read_text().strip()
+        self.assertEqual(self.clone.run("./wurstlinen", "decode", "00").returncode, 0)
+        (self.clone.root / "out/wurstlinen.kit").unlink()
+        wanted = f"wurstlinen {version} (it isn't known what proved it, commit unknown)\n"
+        self.expect_version(wanted)
+        target = self.clone.folder / "bin dir"
+        self.assertEqual(self.clone.run("./wurstlinen", "--install", str(target)).returncode, 0)
+        self.assertEqual(self.clone.run(str(target / "wurstlinen"), "--version").stdout, wanted)
 
     def expect_version(self, wanted: str) -> None:
         done = self.clone.run("./wurstlinen", "--version")
@@ -370,7 +550,8 @@ class Repository(unittest.TestCase):
             self.assertEqual((done.returncode, done.stderr), (0, ""))
             self.assertIn(wanted, done.stdout)
         done = self.clone.run(str(target / "wurstlinen"), "fixtures", "--line", f"rig:{FIXTURES}")
-        self.assertIn(f"libwurstlinen.so.0 is not at {self.clone.folder}/a b/lib/libwurstlinen.so.0", done.stderr)
+        self.assertIn(f"libwurstlinen.so.0 is not at {self.clone.folder}/a b/lib/libwurstlinen.so.0; './wurstlinen "
+                      "--install-library PREFIX' in the repository makes it", done.stderr)
 
 
 if __name__ == "__main__":

@@ -59,6 +59,8 @@ class Packages(unittest.TestCase):
     stack: contextlib.ExitStack
     clone: Clone
     made: Dict[str, Path]
+    head: str
+    version: str
 
     @classmethod
     def setUpClass(cls) -> None:
@@ -69,6 +71,9 @@ class Packages(unittest.TestCase):
         assert done.returncode == 0, done.stderr
         cls.made = {path.name: path for path in (cls.clone.root / "a b/dist").iterdir()}
         cls.printed = done.stdout
+        cls.head = cls.clone.run("git", "rev-parse", "HEAD").stdout.strip()
+        # The time is DATE.
+        cls.version = f"{VERSION}+git20260102030405.{cls.head[:8]}"
 
     def setUp(self) -> None:
         place = tempfile.TemporaryDirectory()
@@ -98,9 +103,10 @@ class Packages(unittest.TestCase):
         command = ["dpkg", "--print-architecture"]
         architecture = subprocess.run(command, check=True, capture_output=True, text=True).stdout.strip()
         machine = os.uname().machine
-        wanted = {f"{name}_{VERSION}_{architecture}.deb" for name in PACKAGES if name != "python3-wurstlinen"}
-        wanted |= {f"python3-wurstlinen_{VERSION}_all.deb", f"wurstlinen-{VERSION}-linux-{machine}.tar.gz",
-                   f"wurstlinen-{VERSION}-py3-none-linux_{machine}.whl"}
+        version = self.version
+        wanted = {f"{name}_{version}_{architecture}.deb" for name in PACKAGES if name != "python3-wurstlinen"}
+        wanted |= {f"python3-wurstlinen_{version}_all.deb", f"wurstlinen-{version}-linux-{machine}.tar.gz",
+                   f"wurstlinen-{version}-py3-none-linux_{machine}.whl"}
         self.assertEqual(set(self.made), wanted)
         self.assertEqual(set(self.printed.splitlines()), {str(path) for path in self.made.values()})
 
@@ -114,13 +120,13 @@ class Packages(unittest.TestCase):
                 self.assertEqual(path.read_bytes(), self.made[path.name].read_bytes(), path.name)
 
     def test_each_says_what_was_proved(self) -> None:
-        head = self.clone.run("git", "rev-parse", "HEAD").stdout.strip()
+        head = self.head
         for name in PACKAGES:
             folder = self.folder / name
             subprocess.run(["dpkg-deb", "-x", self.package(f"{name}_"), folder], check=True)
             self.check_proof(folder / f"usr/share/doc/{name}/PROOF", folder, head)
             self.assertIn("mustn't be given to others", (folder / f"usr/share/doc/{name}/copyright").read_text())
-        with zipfile.ZipFile(self.package("wurstlinen-" + VERSION + "-py3")) as wheel:
+        with zipfile.ZipFile(self.package(f"wurstlinen-{self.version}-py3")) as wheel:
             wheel.extractall(self.folder / "wheel")
         self.check_proof(self.folder / "wheel/wurstlinen/PROOF", self.folder / "wheel", head)
         archive = self.unpacked_archive()
@@ -139,7 +145,6 @@ class Packages(unittest.TestCase):
                 self.assertEqual(hashlib.sha256((folder / path).read_bytes()).hexdigest(), checksum, path)
 
     def test_changes_are_said(self) -> None:
-        head = self.clone.run("git", "rev-parse", "HEAD").stdout.strip()
         change = self.clone.root / "bindings/python/wurstlinen/more.py"
         self.addCleanup(change.unlink)
         change.write_text("")
@@ -149,11 +154,12 @@ class Packages(unittest.TestCase):
         with tarfile.open(found) as archive:
             proof = archive.extractfile(f"{found.name[:-len('.tar.gz')]}/PROOF")
             assert proof is not None
-            self.assertIn(f"commit: {head}, with changes\n", proof.read().decode())
+            self.assertIn(f"commit: {self.head}, with changes\n", proof.read().decode())
+        self.assertEqual({path.name.count(f"{self.version}.changed") for path in self.folder.iterdir()}, {1})
 
     def unpacked_archive(self) -> Path:
         """The folder in the .tar.gz."""
-        path = self.package(f"wurstlinen-{VERSION}-linux")
+        path = self.package(f"wurstlinen-{self.version}-linux")
         with tarfile.open(path) as archive:
             self.assertEqual({(each.uid, each.gid, each.uname) for each in archive}, {(0, 0, "")})
             archive.extractall(self.folder)
@@ -176,6 +182,70 @@ class Packages(unittest.TestCase):
         self.assertRegex(self.run_python(path, front, "--version"), wanted)
         self.assertIn("device_label", self.run_python(path, front, "pids", "label"))
 
+    def test_there_is_a_rig_to_try_the_commands_on(self) -> None:
+        wanted = (ROOT / "bindings/examples/five_fixtures.json").read_bytes()
+        for share in (self.unpacked("wurstlinen") / "usr/share", self.unpacked_archive() / "share"):
+            self.assertEqual((share / "doc/wurstlinen/examples/five_fixtures.json").read_bytes(), wanted)
+
+    def test_pages_are_there(self) -> None:
+        for share in (self.unpacked("wurstlinen") / "usr/share", self.unpacked_archive() / "share"):
+            folder = share / "doc/wurstlinen"
+            for name in ("ADAPTER.md", "COMMANDS.md", "LINES.md", "FORMATS.md"):
+                links = re.findall(r"\]\(([^)#]+)(?:#[^)]*)?\)", (folder / name).read_text())
+                self.assertEqual([link for link in links if not (folder / link).is_file()], [], name)
+        self.assertIn("of the C library.", (folder / "COMMANDS.md").read_text())
+        self.assertIn("[a log](FORMATS.md#the-log-as-text)", (folder / "COMMANDS.md").read_text())
+
+    def field(self, package: str, name: str) -> str:
+        """A field of a Debian package's control file."""
+        return subprocess.run(["dpkg-deb", "-f", self.package(f"{package}_"), name], check=True, text=True,
+                              capture_output=True).stdout.strip()
+
+    def test_what_packages_need(self) -> None:
+        for name in PACKAGES:
+            # Each has files in usr/share that name its architecture or its checksums.
+            self.assertNotEqual(self.field(name, "Multi-Arch"), "same", name)
+            self.assertEqual(self.field(name, "Recommends"), "", name)
+            self.assertEqual(self.field(name, "Version"), self.version, name)
+        self.assertIn(f"python3-wurstlinen (= {self.version})", self.field("wurstlinen", "Depends"))
+        self.assertEqual(self.field("wurstlinen-ola", "Enhances"), "ola")
+        needed = self.field("wurstlinen-ola", "Depends")
+        for package in ("libstdc++6", "libola1"):
+            query = ["dpkg-query", "-W", "-f", "${Version}", package]
+            found = subprocess.run(query, check=False, text=True, capture_output=True).stdout.partition("-")[0]
+            version = re.escape(re.match(r"[0-9.]*[0-9]|", found)[0])
+            self.assertRegex(needed, rf"{re.escape(package)} \(>= {version}\)" if version else re.escape(package))
+        self.assertRegex(needed, r"libola1 \(<< [0-9.]+~\)$|libola1$")
+
+    def test_a_removal_without_the_folder(self) -> None:
+        subprocess.run(["dpkg-deb", "-e", self.package("python3-wurstlinen_"), self.folder / "control"], check=True)
+        done = subprocess.run([self.folder / "control/prerm", "remove"], check=False, text=True, capture_output=True,
+                              env={"PATH": os.environ["PATH"], "DPKG_ROOT": str(self.folder / "none")})
+        self.assertEqual((done.returncode, done.stderr), (0, ""))
+
+    def test_the_wheel_is_for_one_kind_of_machine(self) -> None:
+        with zipfile.ZipFile(self.package(f"wurstlinen-{self.version}-py3")) as wheel:
+            name, = (each for each in wheel.namelist() if each.endswith(".dist-info/WHEEL"))
+            text = wheel.read(name).decode()
+        self.assertIn("Root-Is-Purelib: false\n", text)
+        self.assertIn(f"Tag: py3-none-linux_{os.uname().machine}\n", text)
+
+    def test_no_other_library_is_packed(self) -> None:
+        other = self.clone.root / "bindings/python/wurstlinen/libwurstlinen.so.0"
+        self.addCleanup(other.unlink)
+        other.write_text("another")
+        done = self.clone.run("./wurstlinen", "--package", str(self.folder))
+        self.assertEqual(done.returncode, 0, done.stderr)
+        found, = self.folder.glob("python3-wurstlinen_*.deb")
+        listed = subprocess.run(["dpkg-deb", "-c", found], check=True, text=True, capture_output=True).stdout
+        self.assertNotIn("libwurstlinen", listed)
+        for option in ("--install", "--install-library"):
+            self.assertEqual(self.clone.run("./wurstlinen", option, str(self.folder / option)).returncode, 0)
+        package = self.folder / "--install-library/lib/python3/site-packages/wurstlinen"
+        self.assertFalse((package / "libwurstlinen.so.0").exists())
+        with zipfile.ZipFile(self.folder / "--install/wurstlinen") as front:
+            self.assertEqual([name for name in front.namelist() if ".so" in name], [])
+
     def test_libraries(self) -> None:
         root = self.unpacked(*PACKAGES)
         where, = root.glob("usr/lib/*/libwurstlinen.so.0")
@@ -192,7 +262,7 @@ class Packages(unittest.TestCase):
         self.assertEqual(subprocess.run([self.folder / "user"], check=False).returncode, 0)
 
     def test_the_wheel_has_the_library(self) -> None:
-        with zipfile.ZipFile(self.package("wurstlinen-" + VERSION + "-py3")) as wheel:
+        with zipfile.ZipFile(self.package(f"wurstlinen-{self.version}-py3")) as wheel:
             wheel.extractall(self.folder)
         found = "from wurstlinen import _library; print(_library._load()._name)"
         self.assertEqual(self.run_python(self.folder, "-c", found), f"{self.folder}/wurstlinen/libwurstlinen.so.0\n")
@@ -201,6 +271,17 @@ class Packages(unittest.TestCase):
         modules = {str(path.relative_to(source)) for path in source.rglob("*.py")}
         self.assertEqual({name for name in files_below(self.folder / "wurstlinen") if name.endswith(".py")}, modules)
         self.assertTrue((self.folder / "wurstlinen/py.typed").is_file())
+
+    def test_the_wheel_has_the_program(self) -> None:
+        wheel = self.package(f"wurstlinen-{self.version}-py3")
+        self.call(["/usr/bin/python3", "-m", "pip", "install", "--quiet", "--no-index", "--no-deps", "--no-compile",
+                   "--disable-pip-version-check", "--root-user-action=ignore", "--target", str(self.folder),
+                   str(wheel)])
+        self.assertEqual(self.run_python(self.folder, "-m", "wurstlinen.tool", "decode", "00"),
+                         "the program: decode 00\n")
+        for name, wanted in (("rdm_port", "the program: --version\n"), ("wurstlinen", f"wurstlinen {VERSION} (proved")):
+            found = self.run_python(self.folder, str(self.folder / "bin" / name), "--version")
+            self.assertTrue(found.startswith(wanted), found)
 
     def test_others_have_the_whole_python_package(self) -> None:
         source = ROOT / "bindings/python/wurstlinen"
@@ -227,6 +308,14 @@ class Packages(unittest.TestCase):
         service = (root / "usr/share/doc/wurstlinen-ola/examples/wurstlinen.conf").read_text()
         self.assertIn(f"LD_PRELOAD=/{library.relative_to(root)} /usr/bin/olad", service)
         self.assertFalse((root / "etc").exists())
+
+    @unittest.skipUnless(shutil.which("lintian"), "lintian isn't installed")
+    def test_lintian_finds_no_errors(self) -> None:
+        packages = [str(self.package(f"{name}_")) for name in PACKAGES]
+        # The programs and libraries here are stand-ins.
+        done = subprocess.run(["lintian", "--allow-root", "--fail-on", "error", *packages], check=False, text=True,
+                              capture_output=True)
+        self.assertEqual(done.returncode, 0, done.stdout + done.stderr)
 
     @unittest.skipUnless(os.geteuid() == 0, "only root can install packages")
     def test_a_removal_leaves_nothing(self) -> None:

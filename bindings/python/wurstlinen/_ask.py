@@ -6,7 +6,7 @@ as the device says, and then takes messages until none is left. Here all of that
 from __future__ import annotations
 
 import time
-from dataclasses import dataclass
+from dataclasses import dataclass, field
 from typing import TYPE_CHECKING, Callable, Dict, List, Optional, Tuple, Union
 
 from ._types import (
@@ -36,12 +36,20 @@ MOST_MESSAGES = 256
 MOST_LOSSES = 5
 MOST_EXCHANGES = 1000
 FETCH_SECONDS = 5.0
+# What of that may be after the end of the wait.
+LAST_FETCH_SECONDS = 2.0
 
 Outcome = Union[Completion, Discovery]
 
 
 class Unserved(Exception):
     """The request wasn't sent in time: the queue is paused, or another thread has the line. It is still queued."""
+
+    def __init__(self, queued: Tuple[Completion, ...] = (), earlier: Tuple[Outcome, ...] = ()) -> None:
+        super().__init__("the request wasn't sent: the queue is paused, or another thread has the line")
+        # What was collected, as an Answer has it.
+        self.queued = queued
+        self.earlier = earlier
 
 
 @dataclass(frozen=True)
@@ -61,10 +69,26 @@ class Answer:
         return delay_of(self.completion) is not None
 
 
+@dataclass(frozen=True)
+class Kept:
+    """What was collected and isn't handed out yet, as an Answer has it."""
+
+    queued: List[Completion] = field(default_factory=list)
+    earlier: List[Outcome] = field(default_factory=list)
+
+    def take(self) -> Tuple[Tuple[Completion, ...], Tuple[Outcome, ...]]:
+        """All of it, once."""
+        taken = tuple(self.queued), tuple(self.earlier)
+        self.queued.clear()
+        self.earlier.clear()
+        return taken
+
+
 class Asker:
     """Asks devices over a client that has no other requests outstanding.
 
-    It waits at most `wait` seconds for each answer. `on_wait` is called before each wait, with its seconds.
+    It waits at most `wait` seconds for each answer; what a device has queued may take 2 seconds more. `on_wait` is
+    called before each wait, with the seconds that the device asked for.
     """
 
     def __init__(self, client: Client, line: Line, wait: float = DEFAULT_WAIT, *,
@@ -78,11 +102,14 @@ class Asker:
         self.on_wait = on_wait
         # The newest message of each device, which GET_LAST_MESSAGE repeats.
         self.newest: Dict[Uid, Tuple[Optional[ReplyHead], bytes]] = {}
+        # What an exception has left behind.
+        self.kept = Kept()
 
     def ask(self, request: Request) -> Answer:
         """The answer to a request.
 
-        Faults of the queue, and exceptions of the line other than LineFailed, pass through. Raises Unserved.
+        Faults of the queue, and exceptions of the line other than LineFailed, pass through, and the next answer has
+        what was collected until then. Raises Unserved, which has it itself.
         """
         return Asking(self, request).answer()
 
@@ -103,9 +130,11 @@ class Asking:
         self._request = request
         self._deadline = asker.clock() + asker.wait
         self._exchanges = 0
-        self._has_queue = True
-        self._queued: List[Completion] = []
-        self._earlier: List[Outcome] = []
+        # A queued message that isn't ready is asked for again.
+        self._has_queue = request.pid != QUEUED_MESSAGE
+        self._kept = asker.kept
+        # The newest answer among the messages of a device.
+        self._found: Optional[Completion] = None
 
     def answer(self) -> Answer:
         """Asks, waits, and fetches the answer.
@@ -113,41 +142,49 @@ class Asking:
         After every second wait without an answer, a GET is asked again. A SET isn't, since it may do something.
         """
         completion = self._exchange(self._request)
-        delay = None if self._request.pid == QUEUED_MESSAGE else delay_of(completion)
+        said = delay_of(completion)
+        delay = said or 0.0
         waits = 0
-        while delay is not None and self._pause(delay):
+        while said is not None and self._pause(delay, said):
             found = self._fetch() if self._has_queue else None
             if found is not None:
-                return self._ended(found)
+                return Answer(found, *self._kept.take())
             waits += 1
             delay = max(2 * delay, LEAST_DELAY)
             if self._request.request_class == RequestClass.GET and (waits % 2 == 0 or not self._has_queue):
                 completion = self._exchange(self._request)
                 said = delay_of(completion)
-                delay = None if said is None else max(said, LEAST_DELAY)
-        return self._ended(completion)
+                delay = max(said or 0.0, LEAST_DELAY)
+        return Answer(completion, *self._kept.take())
 
-    def _ended(self, completion: Completion) -> Answer:
-        return Answer(completion, tuple(self._queued), tuple(self._earlier))
-
-    def _pause(self, delay: float) -> bool:
+    def _pause(self, delay: float, said: float) -> bool:
         """Waits, but not beyond the deadline. False if there is nothing left to wait or to ask with."""
         left = self._deadline - self._asker.clock()
         if left <= 0 or self._exchanges >= MOST_EXCHANGES:
             return False
-        delay = min(delay, left)
         if self._asker.on_wait is not None:
-            self._asker.on_wait(delay)
-        self._asker.sleep(delay)
+            self._asker.on_wait(said)
+        self._asker.sleep(min(delay, left))
         return True
 
     def _fetch(self) -> Optional[Completion]:
         """Takes messages until none is left. The newest answer counts, since older ones may be to older requests.
 
-        None if no answer is among them.
+        None if no answer is among them. If the line fails, that counts, and an answer from before is kept.
         """
-        until = self._asker.clock() + FETCH_SECONDS
-        found: Optional[Completion] = None
+        try:
+            failed = self._take_messages()
+        except BaseException:
+            self._keep_found()
+            raise
+        if failed is not None:
+            self._keep_found()
+        return self._found if failed is None else failed
+
+    def _take_messages(self) -> Optional[Completion]:
+        """Takes those messages. Returns how the request for one ended, if the line failed."""
+        now = self._asker.clock()
+        until = min(now + FETCH_SECONDS, max(now + LAST_FETCH_SECONDS, self._deadline))
         losses = 0
         is_lost = False
         for _ in range(MOST_MESSAGES):
@@ -159,10 +196,10 @@ class Asking:
             if not is_lost and not was_lost and self._is_end(message):
                 break
             if not is_lost:
-                found = self._sorted(message, was_lost, found)
+                self._sort(message, was_lost)
             if losses >= MOST_LOSSES or self._exchanges >= MOST_EXCHANGES or self._asker.clock() > until:
                 break
-        return found
+        return None
 
     def _message(self, status_type: bytes) -> Completion:
         """The reply to a GET of QUEUED_MESSAGE."""
@@ -174,29 +211,39 @@ class Asking:
         if head.pid == QUEUED_MESSAGE:
             self._has_queue = head.ack != AckType.NACK
             return True
-        self._queued += [message] if is_report(message) else []
+        self._keep_report(message)
         return head.pid == STATUS_MESSAGES or head.ack == AckType.TIMER
 
-    def _sorted(self, message: Completion, is_repeated: bool, found: Optional[Completion]) -> Optional[Completion]:
-        """Keeps a message, and returns the newest answer so far.
+    def _keep_report(self, message: Completion) -> None:
+        """Keeps status messages."""
+        if is_report(message):
+            self._kept.queued.append(message)
+
+    def _sort(self, message: Completion, is_repeated: bool) -> None:
+        """Keeps a message, as the newest answer if it is one.
 
         If a reply was lost, the device was asked to repeat it. The repeated message is an answer only if it is known
         not to be an older one.
         """
         if is_repeated and head_of(message).pid in (STATUS_MESSAGES, QUEUED_MESSAGE):
-            self._queued += [message] if is_report(message) else []
-            return found
+            self._keep_report(message)
+            return
         before = self._asker.newest.get(self._request.target)
         newest = (message.head, message.data)
         if is_repeated and newest == before:
-            return found
+            return
         self._asker.newest[self._request.target] = newest
         if not self._is_answer(message) or (is_repeated and before is None):
-            self._queued.append(message)
-            return found
+            self._kept.queued.append(message)
+            return
+        self._keep_found()
+        self._found = message
+
+    def _keep_found(self) -> None:
+        """Keeps the newest answer so far as one of the other messages."""
+        found, self._found = self._found, None
         if found is not None:
-            self._queued.append(found)
-        return message
+            self._kept.queued.append(found)
 
     def _is_answer(self, message: Completion) -> bool:
         """Whether a message answers the request, as far as it shows."""
@@ -217,7 +264,8 @@ class Asking:
             if completion is not None:
                 return completion
             if self._asker.clock() >= until:
-                raise Unserved("the request wasn't sent: the queue is paused, or another thread has the line")
+                self._keep_found()
+                raise Unserved(*self._kept.take())
             self._asker.sleep(GLANCE)
 
     def _collected(self, number: int) -> Optional[Completion]:
@@ -226,7 +274,7 @@ class Asking:
             outcome = self._asker.client.next_outcome()
             if outcome is None or (isinstance(outcome, Completion) and outcome.number == number):
                 return outcome
-            self._earlier.append(outcome)
+            self._kept.earlier.append(outcome)
 
 
 def is_echoed(request: Request) -> bool:

@@ -162,7 +162,8 @@ def _load():
                 return ctypes.CDLL(os.path.abspath(place))
             except OSError as why:
                 raise LibraryNotFound(f"{place} can't be loaded: {why}") from None
-    raise LibraryNotFound(f"{NAME} is not at " + " or ".join(places) + "; WURSTLINEN_LIBRARY may name another file")
+    raise LibraryNotFound(f"{NAME} is not at {' or '.join(places)}; './wurstlinen --install-library PREFIX' in the "
+                          "repository makes it, and WURSTLINEN_LIBRARY may name another file")
 
 
 def _declared(library):

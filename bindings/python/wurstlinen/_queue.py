@@ -3,7 +3,7 @@
 import ctypes
 from typing import Optional, Tuple, Union
 
-from ._ask import DEFAULT_WAIT, Answer, Asker
+from ._ask import DEFAULT_WAIT, Answer, Asker, Kept
 from ._faults import check, given
 from ._held import Held
 from ._library import Calls, CompletionForm, DeviceForm, EndForm, Setup, buffer_of, room_for
@@ -167,6 +167,7 @@ class Client:
     def __init__(self, queue: Queue, number: int) -> None:
         self.queue = queue
         self.number = number
+        self._kept = Kept()
 
     def submit(self, request: Request) -> int:
         """Accepts a request, and returns its number."""
@@ -189,9 +190,12 @@ class Client:
             request_class: RequestClass = RequestClass.GET, *, line: Line, wait: float = DEFAULT_WAIT) -> Answer:
         """The answer to a request on this line, for which it waits at most `wait` seconds if the device needs time.
 
-        Outcomes of the client's earlier requests are collected too, and returned with it. Raises Unserved.
+        Outcomes of the client's earlier requests are collected too, and returned with it. Raises Unserved, which has
+        them then; if anything else is raised, the next answer has them.
         """
-        return Asker(self, line, wait).ask(Request(uid_of(target), pid, data_of(data), sub_device, request_class))
+        asker = Asker(self, line, wait)
+        asker.kept = self._kept
+        return asker.ask(Request(uid_of(target), pid, data_of(data), sub_device, request_class))
 
     def discover(self, kind: Kind = Kind.FULL) -> int:
         """Asks for a discovery, and returns its number."""

@@ -7,9 +7,10 @@ standard error.
 from __future__ import annotations
 
 import argparse
+import json
 import os
 import sys
-from typing import TYPE_CHECKING, List, Optional, Sequence, Tuple
+from typing import TYPE_CHECKING, List, Optional, Sequence, TextIO, Tuple
 
 from .line import Line, LineFailed
 from .lines import OpenLine, open_line, serve_text
@@ -69,7 +70,7 @@ def run(chosen: argparse.Namespace) -> int:
     except ImportError as error:
         return fail(f"the C library is needed for this: {error}")
     except (LineFailed, OSError, ValueError) as error:
-        return fail(str(error))
+        return fail_line(chosen, str(error))
     except KeyboardInterrupt:
         return INTERRUPTED
 
@@ -78,6 +79,19 @@ def fail(reason: str) -> int:
     """Says why a command failed."""
     print(f"wurstlinen: {reason}", file=sys.stderr)
     return FAILED
+
+
+def fail_line(chosen: argparse.Namespace, reason: str) -> int:
+    """Says why a line failed, as the command says things: only bridge and rig know JSON."""
+    if not vars(chosen).get("json"):
+        return fail(reason)
+    print(json.dumps({"error": {"text": reason, "reason": "line"}}), file=errors_of(chosen.command), flush=True)
+    return FAILED
+
+
+def errors_of(command: str) -> TextIO:
+    """Where a command's errors go as JSON: the replies of bridge have standard output for themselves."""
+    return sys.stderr if command == "bridge" else sys.stdout
 
 
 def parser() -> argparse.ArgumentParser:
@@ -109,15 +123,18 @@ def parser() -> argparse.ArgumentParser:
 
 def add_bridge(commands: argparse._SubParsersAction) -> None:  # type: ignore[type-arg]
     """The arguments of bridge."""
-    command(commands, "bridge", run_bridge, "be the far end of a line as text on the standard streams")
+    made = command(commands, "bridge", run_bridge, "be the far end of a line as text on the standard streams")
+    made.add_argument("--json", action="store_true", help="print errors as JSON objects, to standard error")
 
 
 def add_rig(commands: argparse._SubParsersAction) -> None:  # type: ignore[type-arg]
     """The arguments of rig."""
     made = command(commands, "rig", run_rig, "emulate an adapter on a pseudo terminal, and print its name",
                    needs_line=False)
+    made.set_defaults(error=made.error)
     made.add_argument("file", nargs="?", metavar="FILE", help="the rig's file; short for --line rig:FILE")
     made.add_argument("--firmware", type=version, default=(2, 4), metavar="N.N", help="of the adapter")
+    made.add_argument("--json", action="store_true", help="print one JSON object a line")
 
 
 def command(commands: argparse._SubParsersAction, name: str, run: object, text: str,  # type: ignore[type-arg]
@@ -196,15 +213,16 @@ def run_bridge(chosen: argparse.Namespace) -> int:
 def run_rig(chosen: argparse.Namespace) -> int:
     """Emulates an adapter until it is interrupted."""
     if (chosen.file is None) == (chosen.line is None):
-        parser().error("rig: one of FILE and --line is required")
+        chosen.error("one of FILE and --line is required")
     text = chosen.line or f"rig:{chosen.file}"
     with open_line(text, chosen.seconds) as line, Emulator(line, Widget(firmware=chosen.firmware)) as emulator:
         try:
-            print(f"enttec:{emulator.path}", flush=True)
+            name = f"enttec:{emulator.path}"
+            print(json.dumps({"line": name}) if chosen.json else name, flush=True)
             emulator.wait()
         except KeyboardInterrupt:
             return DONE
-    return fail(f"the adapter has ended: {emulator.failure!r}")
+    return fail_line(chosen, f"the adapter has ended: {emulator.failure!r}")
 
 
 def source_of(chosen: argparse.Namespace, line: OpenLine) -> int:

@@ -5,12 +5,14 @@ import contextlib
 import io
 import json
 from pathlib import Path
-from typing import Any, Dict, List, Tuple
+from typing import Any, Dict, List, Optional, Tuple
 from unittest import mock
 
 from common import ROOT, TestCase, folder
 from wurstlinen.front import main, work
 from wurstlinen.lines import Rig
+from wurstlinen.lines.numbers import ResponseType
+from wurstlinen.lines.packets import decode_packet, uid_text
 
 FIVE = ROOT / "bindings/examples/five_fixtures.json"
 LEFT = "1234:00000001"
@@ -38,6 +40,8 @@ class OneRig(TestCase):
     def use(self, file: Path) -> None:
         """The rig of a file becomes the line."""
         self.frames: List[bytes] = []
+        # What one device answers for some parameters, in the place of the rig; None is silence.
+        self.answers: Dict[int, Optional[Tuple[ResponseType, bytes]]] = {}
         self.rig = Rig(file)
         test = self
 
@@ -46,7 +50,7 @@ class OneRig(TestCase):
 
             def exchange(self, frame: bytes) -> bytes:
                 test.frames.append(frame)
-                return test.rig.exchange(frame)
+                return test.answer(frame)
 
             def __enter__(self) -> Any:
                 return self
@@ -56,6 +60,14 @@ class OneRig(TestCase):
         patch = mock.patch.object(work, "open_line", lambda text: Recorded())
         patch.start()
         self.addCleanup(patch.stop)
+
+    def answer(self, frame: bytes) -> bytes:
+        """What comes back after a frame."""
+        command = decode_packet(frame)
+        if command is None or uid_text(command.destination) != LEFT or command.pid not in self.answers:
+            return self.rig.exchange(frame)
+        answer = self.answers[command.pid]
+        return b"" if answer is None else command.answer(command.destination, *answer).encode()
 
     def scene(self, *devices: Dict[str, Any], **keys: Any) -> None:
         """The same for these devices."""

@@ -87,9 +87,26 @@ class Prompt(Asks):
         self.assertEqual(self.ask(Failing()).completion.status, Status.FAILED_TO_SEND)
 
     def test_a_queued_message_that_is_asked_for(self) -> None:
-        device = Device(lambda command: timer(QUEUED, 5))
-        answer = self.ask(device, QUEUED, ERROR)
-        self.assertEqual((answer.is_late, self.clock.naps, len(device.asked)), (True, [], 1))
+        answers = [timer(QUEUED, 5), timer(QUEUED, 7), LAMP]
+        device = Device(lambda command: answers.pop(0))
+        self.check(self.ask(device, QUEUED, ERROR), b"Lamp")
+        self.assertEqual((self.clock.naps, device.asked), ([0.5, 0.7], [(QUEUED, ERROR)] * 3))
+        self.clock.naps.clear()
+        self.assertTrue(self.ask(Device(lambda command: timer(QUEUED, 5)), QUEUED, ERROR).is_late)
+        self.assertAlmostEqual(sum(self.clock.naps), 10.0)
+
+
+class Interrupted(Device):
+    """A device on a line that is interrupted after so many exchanges, with this exception."""
+
+    def __init__(self, answer: Any, exchanges: int, fault: BaseException = KeyboardInterrupt()) -> None:
+        super().__init__(answer)
+        self.exchanges, self.fault = exchanges, fault
+
+    def exchange(self, frame: bytes) -> bytes:
+        if len(self.commands) == self.exchanges:
+            raise self.fault
+        return super().exchange(frame)
 
 
 class Waits(Asks):
@@ -119,6 +136,13 @@ class Waits(Asks):
         asker = Asker(self.client(), rig, clock=self.clock.time, sleep=self.clock.sleep, on_wait=waits.append)
         self.check(asker.get(DEVICE, LABEL), b"Lamp")
         self.assertEqual(waits, [0.3])
+        # It is what the device asked for, also if the wait is shorter or longer.
+        asker.line, asker.wait = Device(Queueing(65535)), 0.7
+        self.assertTrue(asker.get(DEVICE, LABEL).is_late)
+        asker.line = Device(Queueing(3))
+        self.assertTrue(asker.set(DEVICE, LABEL, b"x").is_late)
+        self.assertEqual(waits[1:], [6553.5, 0.3, 0.3])
+        self.assertEqual([round(nap, 9) for nap in self.clock.naps[:3]], [0.3, 0.7, 0.3])
 
     def test_a_device_that_wants_more_than_the_caller_waits(self) -> None:
         device = Device(Queueing(65535))
@@ -196,13 +220,8 @@ class Waits(Asks):
             self.clock.naps.clear()
 
     def test_another_exception_passes_through(self) -> None:
-        class Interrupted(Device):
-            def exchange(self, frame: bytes) -> bytes:
-                if self.commands:
-                    raise KeyboardInterrupt
-                return super().exchange(frame)
         with self.assertRaises(KeyboardInterrupt):
-            self.ask(Interrupted(Queueing(1, LAMP)))
+            self.ask(Interrupted(Queueing(1, LAMP), 1))
 
 
 class Others(Asks):
@@ -286,7 +305,7 @@ class Others(Asks):
             self.clock.now += 1.0
             return ack(HOURS) if command.pid == QUEUED else timer(LABEL, 1)
         self.assertTrue(self.ask(Device(answer)).is_late)
-        self.assertLess(self.clock.now, 100.0 + 10.0 + 10.0)
+        self.assertLess(self.clock.now, 100.0 + 10.0 + 3.5)
 
 
 class Losses(Asks):
@@ -373,6 +392,64 @@ class Queues(Asks):
         self.assertAlmostEqual(sum(self.clock.naps), 2.0, places=1)
 
 
+class Kept(Asks):
+    """What was collected before an exception."""
+
+    def test_earlier_outcomes_of_a_paused_queue(self) -> None:
+        client = self.client()
+        asker = Asker(client, Rig(one(label="Lamp")), 1.0, clock=self.clock.time, sleep=self.clock.sleep)
+        client.submit(Request(DEVICE, Pid.MANUFACTURER_LABEL))
+        client.queue.run(asker.line)
+        client.queue.pause()
+        with self.assertRaises(Unserved) as caught:
+            asker.get(DEVICE, LABEL)
+        self.assertEqual([each.number for each in caught.exception.earlier], [0])
+        self.assertEqual(caught.exception.queued, ())
+        # They are handed out once.
+        with self.assertRaises(Unserved) as caught:
+            asker.get(DEVICE, LABEL)
+        self.assertEqual(caught.exception.earlier, ())
+
+    def test_messages_of_a_device(self) -> None:
+        report = ack(Pid.STATUS_MESSAGES, bytes.fromhex("000004002100050000"))
+        for exchanges, kept in ((1, []), (2, [bytes(4)]), (3, [bytes(4), b"Lamp"])):
+            self.setUp()
+            with self.assertRaises(KeyboardInterrupt):
+                self.ask(Interrupted(Queueing(1, ack(HOURS, bytes(4)), LAMP, report), exchanges))
+            answer = self.ask(Device(lambda command: LAMP))
+            self.assertEqual([each.data for each in answer.queued], kept)
+            self.assertEqual(self.ask(Device(lambda command: LAMP)).queued, ())
+
+    def test_messages_before_the_queue_is_paused(self) -> None:
+        client = self.client()
+        answers = Queueing(1, ack(HOURS, bytes(4)), LAMP)
+
+        def answer(command: Packet) -> Any:
+            if len(device.commands) == 3:
+                client.queue.pause()
+            return answers(command)
+        device = Device(answer)
+        asker = Asker(client, device, 1.0, clock=self.clock.time, sleep=self.clock.sleep)
+        with self.assertRaises(Unserved) as caught:
+            asker.get(DEVICE, LABEL)
+        self.assertEqual([each.data for each in caught.exception.queued], [bytes(4), b"Lamp"])
+        self.assertEqual(asker.kept.queued, [])
+
+    def test_an_answer_before_the_line_fails(self) -> None:
+        line = Interrupted(Queueing(1, ack(HOURS, bytes(4)), LAMP), 3, LineFailed("unplugged"))
+        answer = self.ask(line)
+        self.assertEqual(answer.completion.status, Status.FAILED_TO_SEND)
+        self.assertEqual([each.data for each in answer.queued], [bytes(4), b"Lamp"])
+
+    def test_earlier_outcomes_of_an_interrupt(self) -> None:
+        client = self.client()
+        asker = Asker(client, Interrupted(Queueing(1), 2), clock=self.clock.time, sleep=self.clock.sleep)
+        client.submit(Request(OTHER_DEVICE, LABEL))
+        with self.assertRaises(KeyboardInterrupt):
+            asker.get(DEVICE, LABEL)
+        asker.line = Device(lambda command: LAMP)
+        self.assertEqual(asker.get(DEVICE, LABEL).earlier[0].number, 0)
+
 
 @needs_library
 class Proved(Asks):
@@ -385,6 +462,15 @@ class Proved(Asks):
             self.check(client.ask("1234:00000001", LABEL, line=rig), b"Lamp")
             self.check(client.ask("1234:00000001", LABEL, "Front", request_class=RequestClass.SET, line=rig), b"")
             self.check(client.ask("1234:00000001", LABEL, line=rig, wait=1.0), b"Front")
+
+    def test_a_client_keeps_what_was_collected(self) -> None:
+        with Controller("7a70:00000100") as controller:
+            client = controller.join(3)
+            number = client.get(OTHER_DEVICE, LABEL)
+            with self.assertRaises(KeyboardInterrupt):
+                client.ask(DEVICE, LABEL, line=Interrupted(Queueing(0, LAMP), 2))
+            answer = client.ask(DEVICE, LABEL, line=Device(lambda command: LAMP))
+            self.assertEqual(answer.earlier[0].number, number)
 
     def test_texts_are_taken(self) -> None:
         rig = Rig(one(label="Lamp"))

@@ -8,6 +8,7 @@ import os
 import signal
 import subprocess
 import sys
+import time
 import unittest
 from typing import Any, List, Optional
 from unittest import mock
@@ -16,7 +17,9 @@ from common import PACKAGE, ROOT, TestCase, folder, needs_library
 from fronts import FIVE, LEFT, SLOW, OneRig, called
 from wurstlinen import Session, Uid, commands, entries
 from wurstlinen.front import frames, naming, pids, work
+from wurstlinen.front.output import Output
 from wurstlinen.lines import open_line
+from wurstlinen.lines.numbers import ResponseType
 from wurstlinen.parameters import STANDARD, Parameter, ola
 from wurstlinen.parameters.fields import Message, Number, SubDevices
 
@@ -181,6 +184,35 @@ class Requests(OneRig):
             "text": f"{LEFT} refused it: unknown pid (NACK 0x0000)", "uid": LEFT, "reason": "nack",
             "nack": "unknown_pid"}}))
 
+    def test_refusals_of_another_form(self) -> None:
+        for reason, wanted in (("", "malformed reason (NACK 0x)"), ("7777", "unknown reason (NACK 0x7777)"),
+                               ("000600", "malformed reason (NACK 0x000600)")):
+            self.answers[0x0082] = (ResponseType.NACK_REASON, bytes.fromhex(reason))
+            self.assertEqual(self.run_command("get", LEFT, "device_label"),
+                             (3, "", f"wurstlinen: {LEFT} refused it: {wanted}\n"))
+            status, out, _ = self.run_command("fixtures")
+            self.assertIn(f"refuses device_label ({wanted.partition(' (')[0].replace(' ', '_')})", out)
+
+    def test_a_message_says_of_which_parameter_it_is(self) -> None:
+        for wanted in ("device_label: House lights", "status_messages: nothing"):
+            self.run_command("get", SLOW, "device_label", "--wait", "0")
+            if wanted.startswith("device"):
+                time.sleep(0.4)
+            self.assertEqual(self.run_command("get", SLOW, "queued_message", "error"), (0, f"{wanted}\n", ""))
+        self.run_command("get", SLOW, "device_label", "--wait", "0")
+        time.sleep(0.4)
+        out = self.run_command("get", SLOW, "queued_message", "error", "--json")[1]
+        self.assertEqual(json.loads(out), {"uid": SLOW, "parameter": "device_label", "pid": "0x0082",
+                                           "values": {"label": "House lights"}})
+
+    def test_an_output_for_people_that_is_full(self) -> None:
+        full = io.StringIO()
+        with mock.patch.object(full, "write", side_effect=OSError(28, "No space left on device")):
+            output = Output(False, io.StringIO(), full)
+            output.note("a")
+            output.frame("b")
+            output.remark("c")
+
     def test_nobody(self) -> None:
         self.assertEqual(self.run_command("get", "1234:00000009", "device_label"),
                          (1, "", "wurstlinen: 1234:00000009: no answer\n"))
@@ -189,7 +221,7 @@ class Requests(OneRig):
         self.scene({"uid": LEFT}, fails=[0])
         self.assertEqual(self.run_command("get", LEFT, "device_label", "--frames"),
                          (1, "", f"0000  GET {LEFT} device_label  -> the line failed\n"
-                                 f"wurstlinen: {LEFT}: the rig's file lets this exchange fail\n"))
+                                 "wurstlinen: the rig's file lets this exchange fail\n"))
 
     def test_a_broadcast(self) -> None:
         self.assertEqual(self.run_command("set", "ffff:ffffffff", "identify_device", "on"), (0, "", ""))
@@ -283,10 +315,12 @@ class Requests(OneRig):
             def dispose(self) -> None:
                 pass
         with mock.patch.object(work, "Controller", Logged), folder() as place:
-            for arguments in (["fixtures"], ["get", SLOW, "device_label"], ["save", str(place / "rig.csv")],
-                              ["apply", str(place / "rig.csv")], ["identify", LEFT]):
+            for arguments in (["fixtures"], ["get", SLOW, "device_label"], ["set", LEFT, "dmx_start_address", "3"],
+                              ["save", str(place / "rig.csv")], ["apply", str(place / "rig.csv")], ["identify", LEFT],
+                              ["identify", "--each"], ["get", LEFT, "0x8001", "--wait", "1"]):
                 self.frames.clear()
-                self.assertEqual(self.run_command(*arguments)[0], 0)
+                status = self.run_command(*arguments, text="\n" * 5)[0]
+                self.assertEqual(status, 3 if "0x8001" in arguments else 0)
                 logged = [sessions[-1].entry(index) for index in range(sessions[-1].entry_count())]
                 sent = [entry.frame for entry in logged if isinstance(entry, entries.Send)]
                 self.assertEqual(sent, self.frames, arguments)

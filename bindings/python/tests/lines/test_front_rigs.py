@@ -8,14 +8,18 @@ import json
 import os
 import re
 import unittest
+from dataclasses import replace
 from pathlib import Path
-from typing import Any, Dict, List, Tuple
+from typing import Any, Callable, Dict, Iterator, List, Set, Tuple
 from unittest import mock
 
 from common import PACKAGE, folder, needs_library
-from fronts import LEFT, SLOW, OneRig
-from wurstlinen.front import csv_files, main, requests, work
+from fronts import LEFT, SLOW, OneRig, called
+from wurstlinen.front import files, main, requests, work
 from wurstlinen.front.output import Failure, Output
+from wurstlinen.line import LineFailed
+from wurstlinen.lines.numbers import ResponseType
+from wurstlinen.lines.packets import decode_packet, uid_text
 
 FIVE_TABLE = """\
 UID            ADDRESS  SLOTS  LABEL         MAKER       MODEL                PERSONALITY  NOTE
@@ -81,7 +85,23 @@ class Fixtures(OneRig):
         last = self.end["frames"] - 1
         self.scene({"uid": "1234:00000001"}, fails=[last])
         self.assertEqual(self.run_command("fixtures"),
-                         (1, "", "wurstlinen: 1234:00000001: the rig's file lets this exchange fail\n"))
+                         (1, "", "wurstlinen: the rig's file lets this exchange fail\n"))
+        # What was asked before is shown.
+        self.scene({"uid": "1234:00000001"}, {"uid": "1234:00000002"})
+        self.rows()
+        self.scene({"uid": "1234:00000001"}, {"uid": "1234:00000002"}, fails=[self.end["frames"] - 2])
+        status, out, errors = self.run_command("fixtures")
+        self.assertEqual((status, errors), (1, "wurstlinen: the rig's file lets this exchange fail\n"))
+        self.assertEqual([line.split()[0] for line in out.splitlines()], ["UID", "1234:00000001"])
+
+    def test_a_device_that_is_silent_on_what_it_does_not_know(self) -> None:
+        self.answers = {0x0082: None}
+        self.assertEqual(self.rows()[LEFT], "no answer to device_label; overlaps 9abc:00000002, 9abc:00000003")
+        self.assertIn("Wash 7", self.run_command("fixtures")[1].splitlines()[1])
+        self.answers = {0x0082: None, 0x0081: None}
+        self.assertTrue(self.rows()[LEFT].startswith("no answer to device_label; no answer to manufacturer_label;"))
+        self.answers = {0x0060: None}
+        self.assertEqual(self.rows()[LEFT], "no answer to device_info")
 
     def test_a_fault_of_the_discovery(self) -> None:
         self.scene({"uid": "1234:00000001", "rig": {"lies": ["ignores mutes"]}}, {"uid": "1234:00000002"})
@@ -103,12 +123,16 @@ class Fixtures(OneRig):
         for other in ("1234:00000009", "1234:00000002"):
             self.scene({"uid": LEFT, "rig": {"spells": other}}, {"uid": "1234:00000002", "rig": {"address": 9}})
             self.assertEqual(self.rows(), {"1234:00000002": "", LEFT: wrong}, other)
-        # Nobody has the UID of this branch.
+        # Nobody has the UID of the last branch, but its replies spell one.
         self.scene({"uid": LEFT, "rig": {"lies": ["answers all"]}}, {"uid": "1234:00000002"})
+        self.assertEqual((self.rows(), self.status), ({LEFT: wrong}, 1))
+        self.scene({"uid": LEFT, "rig": {"lies": ["answers all"], "spells": "1234:00000009"}})
         self.assertEqual((self.rows(), self.status), ({}, 1))
-        for lie in ("every other", "unmutes late", "adds bytes"):
+
+    def test_lies_that_do_no_harm(self) -> None:
+        for lie, note in (("every other", ""), ("unmutes late", ""), ("adds bytes", "sends too much in discovery")):
             self.scene({"uid": LEFT, "rig": {"lies": [lie]}}, {"uid": "1234:00000002", "rig": {"address": 9}})
-            self.assertEqual((self.rows(), self.status), ({"1234:00000002": "", LEFT: ""}, 0), lie)
+            self.assertEqual((self.rows(), self.status), ({"1234:00000002": "", LEFT: note}, 0), lie)
 
     def test_nobody(self) -> None:
         self.scene()
@@ -155,6 +179,16 @@ class Progress(OneRig):
         self.assertEqual([int(count) for _, count in shown], list(range(1, discovery + 1)))
         self.assertEqual(re.findall(r"\rasking (\d) of 5", terminal.getvalue()), list("12345"))
         self.assertEqual(terminal.lines(), [f"wurstlinen: {SLOW} asks for 0.3 s", ""])
+
+    def test_of_changes(self) -> None:
+        with folder() as place:
+            file = place / "rig.csv"
+            file.write_text(f"uid,label,address\n{LEFT},Side,9\n1234:00000002,Front right,8\n")
+            terminal = self.on_terminal("apply", str(file))
+        self.assertEqual(self.out.splitlines()[-1], "2 changes")
+        self.assertEqual(re.findall(r"\r([a-z]+ing \d of \d)", terminal.getvalue()),
+                         ["asking 1 of 2", "asking 2 of 2", "changing 1 of 2", "changing 2 of 2"])
+        self.assertEqual(terminal.lines(), [""])
 
     def test_only_people_want_it(self) -> None:
         self.assertEqual(self.on_terminal("fixtures", "--json").getvalue(), "")
@@ -204,6 +238,59 @@ uid,label,address,personality
 """)
             self.assertEqual([each.name for each in place.iterdir()], ["rig.csv"])
 
+    def test_what_is_no_file_on_a_disk_is_written_to(self) -> None:
+        with folder() as place:
+            os.mkfifo(place / "fifo")
+            with open(os.open(place / "fifo", os.O_RDWR), "rb") as reader:
+                self.assertEqual(self.run_command("save", str(place / "fifo"))[0], 0)
+                self.assertTrue(reader.read1(4096).startswith(b"uid,label"))
+            self.assertTrue((place / "fifo").is_fifo())
+        self.assertEqual(self.run_command("save", "/dev/full")[0], 1)
+        self.assertTrue(Path("/dev/full").is_char_device())
+
+    def test_a_link_and_a_mode_stay(self) -> None:
+        with folder() as place:
+            (place / "target").write_text("old")
+            (place / "target").chmod(0o640)
+            (place / "link").symlink_to("target")
+            self.assertEqual(self.run_command("save", str(place / "link"))[0], 0)
+            self.assertTrue((place / "link").is_symlink())
+            self.assertEqual(((place / "target").read_text()[:9], (place / "target").stat().st_mode & 0o777),
+                             ("uid,label", 0o640))
+
+    def test_a_place_that_is_not_there_is_said_at_once(self) -> None:
+        for name, wanted in (("/nowhere/a.csv", "No such file or directory"), ("", "No such file or directory"),
+                             (".", "Is a directory")):
+            self.assertEqual(self.run_command("save", name), (1, "", f"wurstlinen: {name}: {wanted}\n"))
+        self.assertEqual(self.frames, [])
+
+    def test_a_file_is_not_replaced_by_empty_values(self) -> None:
+        with folder() as place:
+            file, text = self.saved(place)
+            self.answers = {0x0082: None}
+            status, out, errors = self.run_command("save", str(file))
+            self.assertEqual((status, out, file.read_text()), (1, "", text))
+            self.assertIn(f"wurstlinen: {file} stays as it is, since values are missing\n", errors)
+            # A new file has what is known.
+            status, out, _ = self.run_command("save", str(place / "new.csv"))
+            self.assertEqual((status, (place / "new.csv").read_text().splitlines()[1]), (1, f"{LEFT},,1,1"))
+            self.answers = {0x0082: (ResponseType.NACK_REASON, b"\0\0")}
+            self.assertEqual(self.run_command("save", str(file))[0], 0)
+            with mock.patch.object(self.rig, "exchange", self.failing_later()):
+                self.assertEqual(self.run_command("save", str(place / "later.csv"))[:2], (1, ""))
+            self.assertFalse((place / "later.csv").exists())
+
+    def failing_later(self) -> Callable[[bytes], bytes]:
+        """The rig's exchange, until the second device is asked."""
+        exchange = self.rig.exchange
+
+        def failing(frame: bytes) -> bytes:
+            command = decode_packet(frame)
+            if command is not None and command.command_class == 0x20 and uid_text(command.destination) != LEFT:
+                raise LineFailed("the device is gone")
+            return exchange(frame)
+        return failing
+
     def test_to_standard_output(self) -> None:
         status, out, _ = self.run_command("save", "-")
         self.assertEqual((status, out.splitlines()[1]), (0, "1234:00000001,Front left,1,1"))
@@ -227,15 +314,51 @@ uid,label,address,personality
             self.assertEqual(self.run_command("apply", str(file))[:2], (0, "0 changes\n"))
             self.assertEqual(self.run_command("get", "1234:00000002", "dmx_start_address")[1], "15\n")
 
+    def test_what_a_new_personality_changes(self) -> None:
+        moves = self.rig.exchange
+
+        def moving(frame: bytes) -> bytes:
+            reply = moves(frame)
+            command = decode_packet(frame)
+            if command is not None and (command.command_class, command.pid) == (0x30, 0x00E0):
+                moves(replace(command, pid=0x00F0, data=b"\0\xc8").encode())
+            return reply
+        with mock.patch.object(self.rig, "exchange", moving):
+            self.assertEqual(self.run_command("apply", "-", text=f"uid,address,personality\n{LEFT},1,2\n"),
+                             (0, f"{LEFT}  personality  1 -> 2\n{LEFT}  address  200 -> 1\n2 changes\n", ""))
+        self.assertEqual(self.run_command("get", LEFT, "dmx_start_address")[1], "1\n")
+
+    def test_a_value_that_is_refused_stops_no_other(self) -> None:
+        self.answers = {0x0082: (ResponseType.NACK_REASON, b"\0\0")}
+        self.assertEqual(self.run_command("apply", "-", text=f"uid,label,address\n{LEFT},Side,15\n"),
+                         (3, f"{LEFT}  address  1 -> 15\n1 change\n",
+                          f"wurstlinen: label: {LEFT} refused it: unknown pid (NACK 0x0000)\n"))
+
+    def test_a_line_that_fails_ends_it(self) -> None:
+        text = f"uid,label,address\n{LEFT},Side,15\n1234:00000002,Stage,30\n"
+        self.run_command("apply", "-", "--dry-run", text=text)
+        asked = len(self.frames)
+        fails = "wurstlinen: the rig's file lets this exchange fail\n"
+        devices = [{"uid": uid, "rig": {"label": "x"}} for uid in (LEFT, "1234:00000002")]
+        for failing, end in ((asked - 1, []), (asked + 2, ["1 of 4 changes made"])):
+            self.scene(*devices, fails=list(range(failing, failing + 9)))
+            status, out, errors = self.run_command("apply", "-", text=text)
+            self.assertEqual((status, out.splitlines()[4:], errors), (1, end, fails))
+
     def test_other_columns_and_empty_values(self) -> None:
+        self.assertEqual(self.run_command("apply", "-", text=f"UID, Label\n{LEFT},Front left\n")[:2],
+                         (0, "0 changes\n"))
         text = "\ufefflabel,uid\r\nSide,1234:00000002\r\n,1234:00000001\r\n"
         self.assertEqual(self.run_command("apply", "-", text=text)[:2],
                          (0, "1234:00000002  label  Front right -> Side\n1 change\n"))
 
     def test_files_that_are_wrong(self) -> None:
         for text, wanted in (
-                ("", "the first line has to name the columns, and one of them is uid"),
-                ("label,address\n", "the first line has to name the columns, and one of them is uid"),
+                ("", "the first line has to name the columns, with commas between them, and one of them is uid\n"),
+                ("uid;label\n", "the first line has to name the columns, with commas between them, and one of them is "
+                                "uid, but it is 'uid;label'\n"),
+                ("uid,label,Label\n", "the column 'label' is there more than once"),
+                ("uid,label,uid\n", "the column 'uid' is there more than once"),
                 ("uid,lable\n", "there is no column 'lable'; the columns are uid, label, address, personality"),
                 ("uid,address\n1234:00000001,513\n", "line 2: dmx_start_address: 513 is not from 1 to 512"),
                 ("uid,address\n1234:00000001,0017\n", "line 2: dmx_start_address: '0017' can be read in two ways"),
@@ -256,7 +379,7 @@ uid,label,address,personality
     def test_a_device_that_does_not_keep_a_value(self) -> None:
         self.scene({"uid": LEFT, "params": [{"pid": "00f0", "parts": ["0001"]}]})
         status, out, errors = self.run_command("apply", "-", text=f"uid,address\n{LEFT},15\n")
-        self.assertEqual((status, out), (1, f"{LEFT}  address  1 -> 15\n1 change\n"))
+        self.assertEqual((status, out), (1, f"{LEFT}  address  1 -> 15\n0 of 1 change made\n"))
         self.assertEqual(errors, f"wurstlinen: address: {LEFT} accepted 15, but has 1\n")
 
     def test_a_set_whose_answer_is_late(self) -> None:
@@ -273,7 +396,7 @@ uid,label,address,personality
 
     def test_a_device_that_refuses(self) -> None:
         status, out, errors = self.run_command("apply", "-", text=f"uid,personality,label\n{LEFT},9,Side\n")
-        self.assertEqual((status, out.splitlines()[-1]), (3, "2 changes"))
+        self.assertEqual((status, out.splitlines()[-1]), (3, "1 of 2 changes made"))
         self.assertEqual(errors, f"wurstlinen: personality: {LEFT} refused it: data out of range (NACK 0x0006)\n")
         self.assertEqual(self.run_command("get", LEFT, "device_label")[1], "Side\n")
 
@@ -301,7 +424,7 @@ uid,label,address,personality
             file, text = self.saved(place)
             full = OSError(errno.ENOSPC, os.strerror(errno.ENOSPC))
             for name in ("fsync", "replace"):
-                with mock.patch.object(csv_files.os, name, side_effect=full):
+                with mock.patch.object(files.os, name, side_effect=full):
                     status, out, errors = self.run_command("save", str(file))
                 self.assertEqual((status, out), (1, ""))
                 self.assertIn(f"wurstlinen: {file}: No space left on device\n", errors)
@@ -313,6 +436,36 @@ uid,label,address,personality
         with folder() as place:
             self.assertEqual(self.run_command("save", str(place / "rig.csv"))[0], 1)
             self.assertEqual(list(place.iterdir()), [])
+
+
+@needs_library
+class Keys(OneRig):
+    def test_each_is_on_the_page(self) -> None:
+        """The keys of JSON objects, all of which COMMANDS.md has."""
+        self.scene({"uid": LEFT}, {"uid": SLOW, "rig": {"timer": 2}})
+        self.run_command("get", SLOW, "device_label", "--wait", "0")
+        text = f"uid,label\n{LEFT},Side\n"
+        log = '{"frame":"00","reply":""}\n{"frame":"01","failed":true}\n'
+        found: Set[str] = set()
+        for words in (["fixtures"], ["save", "-"], ["apply", "-"], ["get", SLOW, "device_info"], ["set", LEFT],
+                      ["get", LEFT, "0x8001"], ["set", LEFT, "device_label", "x"], ["identify", LEFT],
+                      ["identify", "--each"]):
+            out = self.run_command(*words, "--json", text=text)[1]
+            found |= {key for line in out.splitlines() for key in keys_of(json.loads(line))}
+        for words, text in ((["pids", "device_label"], ""), (["trace", "-"], log)):
+            found |= {key for line in called(*words, "--json", text=text)[1].splitlines() for key in json.loads(line)}
+        wanted = {"values", "queued", "error", "text", "reason", "nack", "before", "dry_run", "fault", "get", "reply"}
+        self.assertLessEqual(wanted, found)
+        page = (PACKAGE / "COMMANDS.md").read_text(encoding="utf-8").partition("## JSON")[2].partition("\n## ")[0]
+        self.assertEqual({key for key in found if f"`{key}`" not in page}, set())
+
+
+def keys_of(made: Dict[str, Any]) -> Iterator[str]:
+    """An object's keys, and those of objects in it; a parameter's own fields are no keys of the front."""
+    for key, value in made.items():
+        yield key
+        if isinstance(value, dict) and key in ("error", "queued"):
+            yield from keys_of(value)
 
 
 @needs_library
@@ -335,6 +488,16 @@ class Identify(OneRig):
     def test_the_end_of_the_input_ends_it(self) -> None:
         self.assertEqual(self.run_command("identify", "--each", text="\n")[1].splitlines()[-1], "2 of 5: 1234:00000002")
         self.assertEqual([state for _, state in self.states()], ["01", "00"] * 2)
+
+    def test_an_interrupt_of_a_wait_switches_it_off(self) -> None:
+        with mock.patch.object(work.Work, "_waits", side_effect=KeyboardInterrupt):
+            self.assertEqual(self.run_command("identify", "--each", text="\n" * 5)[0], 130)
+        self.assertEqual(self.states()[-2:], [(SLOW, "01"), (SLOW, "00")])
+
+    def test_a_line_that_fails_ends_it(self) -> None:
+        with mock.patch.object(work.Work, "ask", side_effect=Failure(1, "gone", reason="failed_to_send")):
+            self.assertEqual(self.run_command("identify", "--each", text="\n")[::2],
+                             (1, "wurstlinen: each identifies itself until Enter is pressed\nwurstlinen: gone\n"))
 
     def test_an_interrupt_switches_it_off(self) -> None:
         with mock.patch.object(requests, "sys") as system:

@@ -4,9 +4,7 @@ from __future__ import annotations
 import argparse
 import csv
 import io
-import os
 import sys
-import tempfile
 from dataclasses import dataclass
 from pathlib import Path
 from typing import Dict, List, Mapping, Optional, Sequence, Tuple
@@ -14,11 +12,13 @@ from typing import Dict, List, Mapping, Optional, Sequence, Tuple
 from .. import Uid
 from ..lines.packets import is_broadcast, parse_uid
 from ..parameters import STANDARD, Parameter, WordFault, encode
-from .output import BAD_ARGUMENTS, DONE, FAILED, Failure, Output
+from .files import file_of
+from .output import BAD_ARGUMENTS, DONE, FAILED, REFUSED, Failure, Output
 from .work import Work, open_work
 
 STANDARD_STREAM = "-"
 UID = "uid"
+MISFIT = "misfit"
 # The columns with their parameters, in the order in which they are set: a personality may change an address.
 COLUMNS: Mapping[str, Parameter] = {
     "personality": STANDARD.named("dmx_personality"),
@@ -45,24 +45,36 @@ class Change:
 
 def run_save(chosen: argparse.Namespace, output: Output) -> int:
     """Discovers the devices, and writes their values."""
-    with open_work(chosen, output) as work:
-        devices, fault = work.discover()
-        if fault is not None:
-            raise Failure(FAILED, f"the discovery ended early, so nothing is written: {fault}", reason="discovery")
-        rows = []
-        for number, device in enumerate(devices, 1):
-            output.progress(f"asking {number} of {len(devices)}")
-            rows.append(row_of(work, device.uid, output))
     if chosen.file == STANDARD_STREAM:
+        rows, status = saved(chosen, output)
         print_rows(rows, output)
-        return DONE
+        return status
     try:
-        write(chosen.file, table_of(rows))
+        with file_of(chosen.file) as file:
+            rows, status = saved(chosen, output)
+            if status != DONE and file.is_replaced:
+                raise Failure(status, f"{chosen.file} stays as it is, since values are missing", reason="file")
+            file.write(table_of(rows))
     except OSError as fault:
         raise Failure(FAILED, f"{chosen.file}: {fault.strerror}", reason="file") from None
     count = "1 device" if len(rows) == 1 else f"{len(rows)} devices"
     output.result([f"{count}: {chosen.file}"], devices=len(rows), file=chosen.file)
-    return DONE
+    return status
+
+
+def saved(chosen: argparse.Namespace, output: Output) -> Tuple[List[Dict[str, str]], int]:
+    """The devices' values, and the status: whether each device answered. Raises Failure."""
+    with open_work(chosen, output) as work:
+        devices, fault = work.discover()
+        if fault is not None:
+            raise Failure(FAILED, f"the discovery ended early, so nothing is written: {fault}", reason="discovery")
+        rows, status = [], DONE
+        for number, device in enumerate(devices, 1):
+            output.progress(f"asking {number} of {len(devices)}")
+            row, is_whole = row_of(work, device.uid, output)
+            rows.append(row)
+            status = status if is_whole else FAILED
+    return rows, status
 
 
 def table_of(rows: Sequence[Mapping[str, str]]) -> str:
@@ -83,9 +95,10 @@ def print_rows(rows: Sequence[Mapping[str, str]], output: Output) -> None:
         output.result([], **row)
 
 
-def row_of(work: Work, uid: Uid, output: Output) -> Dict[str, str]:
-    """A device's values. What it doesn't return, or what can't be set, stays empty, and isn't changed later."""
+def row_of(work: Work, uid: Uid, output: Output) -> Tuple[Dict[str, str], bool]:
+    """A device's values, and whether it answered. What it refuses, or what can't be set, stays empty."""
     row = {UID: str(uid)}
+    is_whole = True
     for column, parameter in COLUMNS.items():
         row[column] = ""
         try:
@@ -93,41 +106,21 @@ def row_of(work: Work, uid: Uid, output: Output) -> Dict[str, str]:
             encode(parameter, True, [value])
             row[column] = value
         except Failure as failure:
+            if failure.is_of_line:
+                raise
             output.failure(Failure(failure.status, f"{column} isn't known: {failure}", **failure.keys))
+            is_whole = is_whole and (failure.status == REFUSED or failure.keys["reason"] == MISFIT)
         except WordFault:
             output.note(f"{uid}: {column} is {value}, and is left out")
-    return row
+    return row, is_whole
 
 
 def value_of(work: Work, uid: Uid, column: str) -> str:
     """A value of a device, as it is written. Raises Failure."""
     reading = work.read(uid, COLUMNS[column])
     if reading.values is None:
-        raise Failure(FAILED, f"{uid}: {reading.misfit}", uid=str(uid), reason="misfit")
+        raise Failure(FAILED, f"{uid}: {reading.misfit}", uid=str(uid), reason=MISFIT)
     return str(next(iter(reading.values.values())))
-
-
-def write(name: str, text: str) -> None:
-    """Writes a file as a whole, or not at all."""
-    path = Path(name)
-    handle, made = tempfile.mkstemp(prefix=f".{path.name}.", dir=path.parent)
-    try:
-        with open(handle, "w", encoding="utf-8") as file:
-            file.write(text)
-            file.flush()
-            os.fsync(file.fileno())
-        os.chmod(made, 0o666 & ~current_mask())
-        os.replace(made, path)
-    except BaseException:
-        os.unlink(made)
-        raise
-
-
-def current_mask() -> int:
-    """The mask of new files' permissions."""
-    mask = os.umask(0)
-    os.umask(mask)
-    return mask
 
 
 def run_apply(chosen: argparse.Namespace, output: Output) -> int:
@@ -136,27 +129,37 @@ def run_apply(chosen: argparse.Namespace, output: Output) -> int:
     with open_work(chosen, output) as work:
         changes, status = changes_of(work, rows, output)
         for change in changes:
-            output.result([change.text], uid=str(change.uid), column=change.column, before=change.before,
-                          after=change.after)
+            show(change, output)
+        applied = Applied(work, output, status)
         if not chosen.dry_run:
-            status = make_all(work, changes, output) or status
-    count = "1 change" if len(changes) == 1 else f"{len(changes)} changes"
-    output.result([f"{count}; nothing was sent" if chosen.dry_run else count], changes=len(changes),
-                  dry_run=chosen.dry_run)
-    return status
+            applied.make_all(changes, dict(rows))
+    count = applied.made + applied.failed if not chosen.dry_run else len(changes)
+    text = "1 change" if count == 1 else f"{count} changes"
+    if chosen.dry_run:
+        text = f"{text}; nothing was sent"
+    elif applied.failed:
+        text = f"{applied.made} of {text} made"
+    output.result([text], changes=count, made=applied.made, dry_run=chosen.dry_run)
+    return applied.status
+
+
+def show(change: Change, output: Output) -> None:
+    """Prints a change."""
+    output.result([change.text], uid=str(change.uid), column=change.column, before=change.before, after=change.after)
 
 
 def read(name: str) -> List[Tuple[Uid, Dict[str, str]]]:
     """The devices of a file, with the values that they are to have. Raises Failure."""
     try:
-        data = sys.stdin.buffer.read() if name == STANDARD_STREAM else Path(name).read_bytes()
+        data = standard_input() if name == STANDARD_STREAM else Path(name).read_bytes()
     except OSError as fault:
         raise wrong(f"{name}: {fault.strerror}") from None
     text = data.decode("utf-8-sig", "replace")
     reader = csv.DictReader(io.StringIO(text), strict=True)
     rows: List[Tuple[Uid, Dict[str, str]]] = []
     try:
-        check_columns(name, reader.fieldnames or ())
+        reader.fieldnames = [column.strip().lower() for column in reader.fieldnames or ()]
+        check_columns(name, reader.fieldnames)
         for row in reader:
             rows.append(checked(row, f"{name}: line {reader.line_num}"))
     except csv.Error as fault:
@@ -168,6 +171,11 @@ def read(name: str) -> List[Tuple[Uid, Dict[str, str]]]:
     return rows
 
 
+def standard_input() -> bytes:
+    """All of standard input; nothing if it is closed."""
+    return b"" if sys.stdin is None else sys.stdin.buffer.read()
+
+
 def wrong(text: str) -> Failure:
     """A file that can't be applied."""
     return Failure(BAD_ARGUMENTS, text, reason="file")
@@ -176,10 +184,14 @@ def wrong(text: str) -> Failure:
 def check_columns(name: str, columns: Sequence[str]) -> None:
     """Refuses a file whose columns aren't known."""
     if UID not in columns:
-        raise wrong(f"{name}: the first line has to name the columns, and one of them is uid")
+        first = f", but it is '{','.join(columns)}'" if columns else ""
+        raise wrong(f"{name}: the first line has to name the columns, with commas between them, and one of them is "
+                    f"uid{first}")
     for column in columns:
         if column not in (UID, *COLUMNS):
             raise wrong(f"{name}: there is no column '{column}'; the columns are {', '.join(WRITTEN)}")
+        if columns.count(column) > 1:
+            raise wrong(f"{name}: the column '{column}' is there more than once")
 
 
 def checked(row: Mapping[Optional[str], Optional[str]], place: str) -> Tuple[Uid, Dict[str, str]]:
@@ -199,17 +211,40 @@ def checked(row: Mapping[Optional[str], Optional[str]], place: str) -> Tuple[Uid
 
 
 def changes_of(work: Work, rows: Sequence[Tuple[Uid, Dict[str, str]]], output: Output) -> Tuple[List[Change], int]:
-    """What differs, and the status of those devices that couldn't be asked."""
+    """What differs, and the status of those devices that couldn't be asked. Raises Failure if the line failed."""
     changes: List[Change] = []
     status = DONE
-    for uid, values in rows:
+    for number, (uid, values) in enumerate(rows, 1):
+        output.progress(f"asking {number} of {len(rows)}")
         try:
-            changes += [Change(uid, column, before, values[column]) for column in COLUMNS if column in values
-                        for before in [value_of(work, uid, column)] if differs(column, before, values[column])]
+            for column in COLUMNS:
+                if column in values:
+                    change, failed = difference(work, uid, column, values[column], output)
+                    changes += [change] if change else []
+                    status = failed or status
         except Failure as failure:
+            if failure.is_of_line:
+                raise
             output.failure(failure)
             status = failure.status
     return changes, status
+
+
+def difference(work: Work, uid: Uid, column: str, after: str, output: Output) -> Tuple[Optional[Change], int]:
+    """How a value differs, if it does, and the status. Raises Failure if the device doesn't answer."""
+    try:
+        before = value_of(work, uid, column)
+    except Failure as failure:
+        if failure.status != REFUSED and failure.keys["reason"] != MISFIT:
+            raise
+        output.failure(named(column, failure))
+        return None, failure.status
+    return (Change(uid, column, before, after) if differs(column, before, after) else None), DONE
+
+
+def named(column: str, failure: Failure) -> Failure:
+    """A failure that says which column it is about."""
+    return Failure(failure.status, f"{column}: {failure}", **failure.keys)
 
 
 def differs(column: str, before: str, after: str) -> bool:
@@ -221,16 +256,55 @@ def differs(column: str, before: str, after: str) -> bool:
         return True
 
 
-def make_all(work: Work, changes: Sequence[Change], output: Output) -> int:
-    """Makes the changes, and returns the status of the last one that failed."""
-    status = DONE
-    for change in changes:
+class Applied:
+    """Changes as they are made, and the status of the last one that failed."""
+
+    def __init__(self, work: Work, output: Output, status: int) -> None:
+        self.status = status
+        self.made = self.failed = 0
+        self._work = work
+        self._output = output
+
+    def make_all(self, changes: Sequence[Change], values: Mapping[Uid, Dict[str, str]]) -> None:
+        """Makes the changes, until the line fails."""
+        for number, change in enumerate(changes, 1):
+            self._output.progress(f"changing {number} of {len(changes)}")
+            failure = self._try(change)
+            if failure is None and change.column == "personality":
+                failure = self._make_again(change.uid, values[change.uid], changes)
+            if failure is not None and failure.is_of_line:
+                self.failed = len(changes) - self.made
+                break
+
+    def _try(self, change: Change) -> Optional[Failure]:
+        """Makes a change, and counts it."""
         try:
-            make(work, change)
+            make(self._work, change)
         except Failure as failure:
-            output.failure(Failure(failure.status, f"{change.column}: {failure}", **failure.keys))
-            status = failure.status
-    return status
+            self._fail(failure if failure.is_of_line else named(change.column, failure))
+            self.failed += 1
+            return failure
+        self.made += 1
+        return None
+
+    def _make_again(self, uid: Uid, values: Mapping[str, str], changes: Sequence[Change]) -> Optional[Failure]:
+        """What a new personality has changed is set too, unless it will be set anyway."""
+        planned = {change.column for change in changes if change.uid == uid}
+        for column in (each for each in COLUMNS if each in values and each not in planned):
+            try:
+                change, status = difference(self._work, uid, column, values[column], self._output)
+            except Failure as failure:
+                self._fail(failure)
+                return failure
+            self.status = status or self.status
+            if change is not None:
+                show(change, self._output)
+                self._try(change)
+        return None
+
+    def _fail(self, failure: Failure) -> None:
+        self._output.failure(failure)
+        self.status = failure.status
 
 
 def make(work: Work, change: Change) -> None:

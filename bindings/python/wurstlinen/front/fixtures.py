@@ -15,7 +15,8 @@ HEADINGS = ("UID", "ADDRESS", "SLOTS", "LABEL", "MAKER", "MODEL", "PERSONALITY",
 NOTHING = "-"
 LAST_SLOT = 512
 UNKNOWN_PID = "unknown_pid"
-LINE_FAILED = "failed_to_send"
+# A device that doesn't answer so many times in a row isn't asked any more.
+MOST_SILENCES = 2
 REASONS = {"timeout": "no answer", "late": "no answer in time"}
 
 
@@ -32,7 +33,8 @@ class Fixture:
     notes: List[str] = field(default_factory=list)
     # The device that it is a part of, or itself.
     root: Optional[Uid] = None
-    # Whether it no longer answers.
+    # How many times in a row it didn't answer, and whether it isn't asked any more.
+    silences: int = 0
     is_gone: bool = False
 
     def number(self, name: str) -> Optional[int]:
@@ -51,40 +53,59 @@ def run_fixtures(chosen: argparse.Namespace, output: Output) -> int:
     """Discovers the devices, and prints what they say of themselves."""
     with open_work(chosen, output) as work:
         devices, fault = work.discover()
-        found = look_at_all(work, devices)
+        found, failure = look_at_all(work, devices)
         frames = work.line.frames
     print_all(found, output)
+    if failure is not None:
+        raise failure
     count = "1 fixture" if len(found) == 1 else f"{len(found)} fixtures"
     end = "discovery without a fault" if fault is None else f"the discovery ended early: {fault}"
-    output.result([f"{count}, {frames} frames; {end}"], fixtures=len(found), frames=frames, fault=fault)
+    sent = "1 frame" if frames == 1 else f"{frames} frames"
+    output.result([f"{count}, {sent}; {end}"], fixtures=len(found), frames=frames, fault=fault)
     return DONE if fault is None else FAILED
 
 
-def look_at_all(work: Work, devices: Sequence[Device]) -> List[Fixture]:
-    """Asks each device, and notes whose slots overlap."""
-    found = []
-    for number, device in enumerate(devices, 1):
-        work.output.progress(f"asking {number} of {len(devices)}")
-        found.append(look_at(work, device))
-    note_unmuted(work, found)
+def look_at_all(work: Work, devices: Sequence[Device]) -> Tuple[List[Fixture], Optional[Failure]]:
+    """Asks each device, until the line fails, and notes whose slots overlap."""
+    found: List[Fixture] = []
+    failed: Optional[Failure] = None
+    try:
+        for number, device in enumerate(devices, 1):
+            work.output.progress(f"asking {number} of {len(devices)}")
+            found.append(look_at(work, device))
+        note_unmuted(work, found)
+    except Failure as failure:
+        failed = failure
     for fixture in found:
         others = [str(other.uid) for other in found if overlap(fixture, other)]
         fixture.notes += [f"overlaps {', '.join(others)}"] if others else []
-    return found
+    return found, failed
 
 
 def note_unmuted(work: Work, found: List[Fixture]) -> None:
-    """Notes which device ended the discovery, if there is one that answers to this UID."""
-    uid = work.unmuted
-    if uid is None or uid.is_broadcast:
+    """Notes which device ended the discovery, if there is one.
+
+    That is the one whose branch was answered again and again, or else the one whose UID these answers had.
+    """
+    if work.unmuted is None:
         return
+    spelled = None if work.line.spelled is None else Uid.from_number(work.line.spelled)
+    for uid in (work.unmuted, spelled):
+        fixture = None if uid is None or uid.is_broadcast else found_or_asked(work, found, uid)
+        if fixture is not None:
+            fixture.notes.insert(0, "ended the discovery by wrong answers")
+            return
+
+
+def found_or_asked(work: Work, found: List[Fixture], uid: Uid) -> Optional[Fixture]:
+    """A device that was found, or else one that answers."""
     fixture = next((each for each in found if each.uid == uid), None)
     if fixture is None:
         fixture = look_at(work, Device(uid))
         if fixture.is_gone:
-            return
+            return None
         found.append(fixture)
-    fixture.notes.insert(0, "ended the discovery by wrong answers")
+    return fixture
 
 
 def overlap(first: Fixture, second: Fixture) -> bool:
@@ -99,6 +120,8 @@ def look_at(work: Work, device: Device) -> Fixture:
     fixture = Fixture(device.uid, root=device.binding or device.uid)
     if fixture.root != fixture.uid:
         fixture.notes.append(f"part of {fixture.root}")
+    if fixture.uid.number in work.line.talkative:
+        fixture.notes.append("sends too much in discovery")
     fixture.info = values_of(work, fixture, "device_info")
     fixture.label = text_of(work, fixture, "device_label")
     fixture.maker = text_of(work, fixture, "manufacturer_label")
@@ -120,11 +143,14 @@ def values_of(work: Work, fixture: Fixture, name: str, data: bytes = b"") -> Opt
     try:
         reading = work.read(fixture.uid, STANDARD.named(name), data)
     except Failure as failure:
-        if failure.keys.get("reason") == LINE_FAILED:
+        if failure.is_of_line:
             raise
-        fixture.is_gone = failure.status != REFUSED
+        fixture.silences = 0 if failure.status == REFUSED else fixture.silences + 1
+        # Some devices are silent if they don't know a parameter, but each has DEVICE_INFO.
+        fixture.is_gone = fixture.silences >= (1 if name == "device_info" else MOST_SILENCES)
         fixture.notes += note_of(name, failure)
         return None
+    fixture.silences = 0
     if reading.values is None:
         fixture.notes.append(f"wrong {name}: 0x{reading.data.hex()}")
     return reading.values

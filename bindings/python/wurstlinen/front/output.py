@@ -4,6 +4,7 @@ from __future__ import annotations
 import contextlib
 import json
 import sys
+from threading import RLock
 from typing import Any, Iterable, Optional, TextIO
 
 from ..parameters import Parameter, Reading
@@ -13,6 +14,7 @@ FAILED = 1
 BAD_ARGUMENTS = 2
 REFUSED = 3
 INTERRUPTED = 130
+LINE_FAILED = "failed_to_send"
 
 
 class Failure(Exception):
@@ -23,6 +25,11 @@ class Failure(Exception):
         self.status = status
         self.keys = keys
 
+    @property
+    def is_of_line(self) -> bool:
+        """Whether the line failed, so that nobody can be asked any more."""
+        return self.keys.get("reason") == LINE_FAILED
+
 
 class Output:
     """Results go to standard output; all else goes to standard error, and with JSON to standard output too."""
@@ -32,21 +39,22 @@ class Output:
         self._out = sys.stdout if out is None else out
         self._errors = sys.stderr if errors is None else errors
         self._progress = ""
+        self._lock = RLock()
 
     def progress(self, text: str) -> None:
         """How far a command is: on a terminal, until something else is printed."""
         if self.is_json or not self._errors.isatty():
             return
         # The work goes on, even if nobody can see it.
-        with contextlib.suppress(OSError):
-            print(f"\r{text.ljust(len(self._progress))}", end="", file=self._errors, flush=True)
-        self._progress = text
+        with self._lock, contextlib.suppress(OSError):
+            shown, self._progress = self._progress, text
+            print(f"\r{text.ljust(len(shown))}", end="", file=self._errors, flush=True)
 
     def end_progress(self) -> None:
         """Deletes that line."""
-        if self._progress:
-            self.progress("")
-            with contextlib.suppress(OSError):
+        with self._lock, contextlib.suppress(OSError):
+            if self._progress:
+                self.progress("")
                 print("\r", end="", file=self._errors, flush=True)
 
     def result(self, lines: Iterable[str], **keys: Any) -> None:
@@ -62,6 +70,11 @@ class Output:
         if reading.misfit:
             self.note(f"{uid}: {reading.misfit}")
 
+    def message(self, uid: str, parameter: Parameter, reading: Reading) -> None:
+        """What a device returned for another parameter than it was asked for."""
+        self.result([f"{parameter.name}: {'; '.join(reading.lines) or 'nothing'}"],
+                    **reading_keys(uid, parameter, reading))
+
     def queued(self, uid: str, parameter: Parameter, reading: Reading, nack: Optional[str]) -> None:
         """A message that a device had queued."""
         if self.is_json:
@@ -75,7 +88,18 @@ class Output:
         """A remark for people."""
         self.end_progress()
         if not self.is_json:
-            print(f"wurstlinen: {text}", file=self._errors, flush=True)
+            self._remark(f"wurstlinen: {text}\n")
+
+    def _remark(self, text: str) -> None:
+        """Standard error is only for people, so results don't depend on it."""
+        with contextlib.suppress(OSError):
+            print(text, end="", file=self._errors, flush=True)
+
+    def remark(self, line: str) -> None:
+        """A line of another program's, from another thread."""
+        with self._lock:
+            self.end_progress()
+            self._remark(line)
 
     def failure(self, failure: Failure) -> None:
         """Why something failed."""
@@ -87,7 +111,7 @@ class Output:
     def frame(self, line: str) -> None:
         """A frame with its reply, for those who want to see them."""
         self.end_progress()
-        print(line, file=self._errors, flush=True)
+        self._remark(f"{line}\n")
 
 
 def reading_keys(uid: str, parameter: Parameter, reading: Reading) -> dict[str, Any]:

@@ -6,7 +6,7 @@ import sys
 
 from .. import Uid
 from ..lines.numbers import Pid
-from ..lines.packets import uid_text
+from ..lines.packets import is_broadcast, uid_text
 from ..parameters import STANDARD, Parameter, WordFault, decode, encode
 from .naming import pid_of
 from .output import BAD_ARGUMENTS, DONE, FAILED, Failure, Output
@@ -29,21 +29,30 @@ def run_set(chosen: argparse.Namespace, output: Output) -> int:
 def request(chosen: argparse.Namespace, output: Output, is_set: bool) -> int:
     """Makes a request, and prints what it returns."""
     uid = Uid.from_number(chosen.uid)
-    if uid.is_broadcast and not is_set:
-        raise Failure(BAD_ARGUMENTS, f"{uid_text(chosen.uid)} is no device's own UID, and nobody answers a GET to it",
-                      reason="arguments")
-    pid = pid_of(uid.manufacturer, chosen.parameter)
+    pid = checked_pid(chosen, is_set)
     known = STANDARD.numbered(pid)
-    if known is not None:
-        data_of(known, chosen, is_set)
     with open_work(chosen, output) as work:
         parameter = known or work.described(uid, pid)
         completion = work.ask(uid, pid, data_of(parameter, chosen, is_set), chosen.sub, is_set)
-        if not is_set or completion.data:
+        if completion.head is not None and completion.head.pid != pid:
+            output.message(str(uid), *work.message(uid, completion))
+        elif not is_set or completion.data:
             output.reading(str(uid), parameter, decode(parameter, is_set, completion.data))
         elif output.is_json:
             output.result([], uid=str(uid), parameter=parameter.name, pid=f"0x{pid:04x}", done=True)
     return DONE
+
+
+def checked_pid(chosen: argparse.Namespace, is_set: bool) -> int:
+    """The number of the parameter that the arguments name. Raises Failure if they can't be right."""
+    if is_broadcast(chosen.uid) and not is_set:
+        raise Failure(BAD_ARGUMENTS, f"{uid_text(chosen.uid)} is no device's own UID, and nobody answers a GET to it",
+                      reason="arguments")
+    pid = pid_of(chosen.uid >> 32, chosen.parameter)
+    known = STANDARD.numbered(pid)
+    if known is not None:
+        data_of(known, chosen, is_set)
+    return pid
 
 
 def data_of(parameter: Parameter, chosen: argparse.Namespace, is_set: bool) -> bytes:
@@ -84,12 +93,15 @@ def identify(work: Work, uid: Uid, state: bytes) -> None:
 def identify_each(work: Work, output: Output) -> int:
     """Steps through the devices, whenever a line comes from standard input."""
     devices, fault = work.discover()
+    output.note("each identifies itself until Enter is pressed")
     status = DONE
     for number, device in enumerate(devices, 1):
         try:
             if not show(work, device.uid, f"{number} of {len(devices)}: {device.uid}", output):
                 break
         except Failure as failure:
+            if failure.is_of_line:
+                raise
             output.failure(failure)
             status = failure.status
     if fault is not None:
@@ -102,8 +114,8 @@ def show(work: Work, uid: Uid, text: str, output: Output) -> bool:
 
     False at the end of standard input. Raises Failure.
     """
-    identify(work, uid, ON)
     try:
+        identify(work, uid, ON)
         output.result([text], uid=str(uid))
         return sys.stdin.readline() != ""
     finally:

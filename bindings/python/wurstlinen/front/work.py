@@ -11,60 +11,20 @@ from .. import (
     Uid, Unserved,
 )
 from ..commands import RUN_FAULTS, source_of
-from ..line import Line, LineFailed
+from ..line import LineFailed
 from ..lines import open_line
 from ..lines.numbers import Pid
-from ..lines.packets import decode_packet, is_answer
 from ..parameters import Misfit, Parameter, Reading, decode, described
 from ..parameters.fields import Bytes, Message, SubDevices
 from ..parameters.names import NACK_REASONS
-from .frames import exchange_text
 from .naming import is_manufacturers, table_of
-from .output import BAD_ARGUMENTS, FAILED, REFUSED, Failure, Output
+from .output import BAD_ARGUMENTS, FAILED, LINE_FAILED, REFUSED, Failure, Output
+from .watched import WatchedLine
 
 LINE_VARIABLE = "WURSTLINEN_LINE"
 # More than one command has outstanding.
 PLACES = 4
-
-
-class WatchedLine:
-    """A line that counts its exchanges, shows them, and remembers why it failed."""
-
-    def __init__(self, line: Line, output: Output, shows_frames: bool) -> None:
-        self._line = line
-        self._output = output
-        self._shows_frames = shows_frames
-        self.frames = 0
-        self.failure: Optional[LineFailed] = None
-        # The devices that a discovery has muted so far; None if none runs.
-        self.found: Optional[Set[int]] = None
-
-    def exchange(self, frame: bytes) -> bytes:
-        """The line's exchange."""
-        number = self.frames
-        self.frames += 1
-        try:
-            reply = self._line.exchange(frame)
-        except LineFailed as failure:
-            self.failure = failure
-            self._show(number, frame, None)
-            raise
-        self._show(number, frame, reply)
-        if self.found is not None:
-            self._show_progress(self.found, frame, reply)
-        return reply
-
-    def _show_progress(self, found: Set[int], frame: bytes, reply: bytes) -> None:
-        command = decode_packet(frame)
-        if (command is not None and command.pid == Pid.DISC_MUTE and decode_packet(reply) is not None
-                and is_answer(reply, frame)):
-            found.add(command.destination)
-        if not self._shows_frames:
-            self._output.progress(f"{len(found)} found, {self.frames} frames")
-
-    def _show(self, number: int, frame: bytes, reply: Optional[bytes]) -> None:
-        if self._shows_frames:
-            self._output.frame(exchange_text(number, frame, reply))
+NACK_BYTES = 2
 
 
 class Work:
@@ -106,30 +66,35 @@ class Work:
         """A completion that is an acknowledgement. Raises Failure for any other."""
         if completion.status == Status.WAS_BROADCAST:
             return completion
+        if completion.status == Status.FAILED_TO_SEND:
+            raise Failure(FAILED, str(self.line.failure or "the line failed"), reason=LINE_FAILED)
         if completion.head is None:
             reason = completion.status.name.lower()
             raise Failure(FAILED, f"{uid}: {self._reason(completion.status)}", uid=str(uid), reason=reason)
         if completion.head.ack == AckType.NACK:
-            name, number = nack_of(completion.data)
-            raise Failure(REFUSED, f"{uid} refused it: {name.replace('_', ' ')} (NACK 0x{number:04x})", uid=str(uid),
-                          reason="nack", nack=name)
+            name = nack_of(completion.data)
+            raise Failure(REFUSED, f"{uid} refused it: {name.replace('_', ' ')} (NACK 0x{completion.data.hex()})",
+                          uid=str(uid), reason="nack", nack=name)
         return completion
 
     def _reason(self, status: Status) -> str:
         """Why nothing came back."""
         if status == Status.TIMEOUT:
             return "no answer"
-        if status == Status.FAILED_TO_SEND:
-            return str(self.line.failure or "the line failed")
         return f"no valid answer ({status.name.lower().replace('_', ' ')})"
 
     def _report(self, uid: Uid, message: Completion) -> None:
         """Prints a message that the device had queued."""
         assert message.head is not None
+        nack = nack_of(message.data) if message.head.ack == AckType.NACK else None
+        self.output.queued(str(uid), *self.message(uid, message), nack)
+
+    @staticmethod
+    def message(uid: Uid, message: Completion) -> Tuple[Parameter, Reading]:
+        """What a message of a device says, whose parameter only the message names."""
+        assert message.head is not None
         parameter = known_or_raw(uid, message.head.pid)
-        nack = nack_of(message.data)[0] if message.head.ack == AckType.NACK else None
-        reading = decode(parameter, message.head.response_class == ResponseClass.SET, message.data)
-        self.output.queued(str(uid), parameter, reading, nack)
+        return parameter, decode(parameter, message.head.response_class == ResponseClass.SET, message.data)
 
     def read(self, uid: Uid, parameter: Parameter, data: bytes = b"", sub_device: int = 0) -> Reading:
         """What a GET returns. Raises Failure."""
@@ -188,10 +153,11 @@ def open_work(chosen: argparse.Namespace, output: Output) -> Iterator[Work]:
             yield Work(watched, controller.join(PLACES), chosen.wait, output)
 
 
-def nack_of(data: bytes) -> Tuple[str, int]:
-    """The name and the number of a refusal's reason."""
-    number = int.from_bytes(data[:2], "big")
-    return NACK_REASONS.get(number, "unknown reason"), number
+def nack_of(data: bytes) -> str:
+    """The name of a refusal's reason."""
+    if len(data) != NACK_BYTES:
+        return "malformed_reason"
+    return NACK_REASONS.get(int.from_bytes(data, "big"), "unknown_reason")
 
 
 def raw_parameter(pid: int) -> Parameter:

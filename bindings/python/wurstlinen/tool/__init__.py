@@ -6,7 +6,7 @@ from __future__ import annotations
 
 import sys
 
-from .main import main, run
+from .main import main, run, run_program
 
 
 def call() -> None:
@@ -14,4 +14,4 @@ def call() -> None:
     sys.exit(run())
 
 
-__all__ = ["call", "main", "run"]
+__all__ = ["call", "main", "run", "run_program"]

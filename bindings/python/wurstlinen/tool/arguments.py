@@ -72,6 +72,7 @@ def add_line(command: Parser) -> None:
     """Where the frames go."""
     command.add_argument("--line", metavar="LINE", help=f"{FORMS}; or a stream that another program serves")
     command.add_argument("--replies", metavar="IN", help="the stream of that program's replies")
+    command.add_argument("--frames", action="store_true", help=f"show the frames and replies, on {FORMS}")
 
 
 def add_adapters(made: Any, name: str) -> None:
@@ -83,6 +84,8 @@ def add_adapters(made: Any, name: str) -> None:
 def add_doctor(made: Any, name: str) -> None:
     """The arguments of doctor."""
     command = add_command(made, name, "say what is missing on this machine", "doctor", "", needs_line=False)
+    # What the script in the repository adds.
+    command.add_argument("--also", nargs=2, action="append", default=[], help=argparse.SUPPRESS)
     command.set_defaults(run=run_doctor)
 
 

@@ -11,8 +11,9 @@ from .adapters import chips, look_at
 
 
 def run_doctor(chosen: argparse.Namespace, output: Output) -> int:
-    """Prints what is there."""
-    for name, text in [*parts(), *adapters()]:
+    """Prints what the caller says, and what is there. What the caller says of a part takes its place."""
+    said = {name for name, _ in chosen.also}
+    for name, text in [*chosen.also, *(part for part in parts() if part[0] not in said), *adapters()]:
         output.result([f"{name:<11}{text}"], part=name, text=text)
     return DONE
 

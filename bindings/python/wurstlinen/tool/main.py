@@ -21,6 +21,7 @@ VERSION_WORDS = ("version", "--version", "-V")
 HELP_WORDS = ("-h", "--help")
 # The options with a value.
 VALUED = ("--line", "--replies", "--source", "--known", "--budget", "--port", "--log")
+FRAMES = "--frames"
 NO_PROGRAM = 127
 
 
@@ -34,7 +35,8 @@ def run() -> int:
     try:
         return main(sys.argv[1:])
     except Failure as failure:
-        Output("--json" in sys.argv).failure(failure)
+        command = sys.argv[1] if len(sys.argv) > 1 else ""
+        Output("--json" in sys.argv, commands.errors_of(command)).failure(failure)
         return failure.status
     except KeyboardInterrupt:
         return INTERRUPTED
@@ -79,17 +81,28 @@ def run_proved(words: List[str]) -> int:
     """Runs a command of the proved program: on a line that is served here, or else in the place of this process."""
     program = places.program()
     if program is None:
-        print(f"wurstlinen: '{words[0]}' needs the proved program, which isn't installed here: it is in the Debian "
-              f"package wurstlinen and in the .tar.gz, but not in the wheel; {places.PROGRAM_VARIABLE} may name it",
-              file=sys.stderr)
-        return NO_PROGRAM
+        return no_program(f"'{words[0]}'")
     line = option(words, "--line")
     if words[0] == "discover" and line is None and not has_file(words):
-        return serving.serve(program, words, default_line())
-    if words[0] in ("discover", "run") and serving.is_served(line):
-        assert line is not None
-        return serving.serve(program, without(words, "--line"), line)
-    return become(program, words)
+        line = default_line()
+    elif words[0] not in ("discover", "run") or not serving.is_served(line):
+        return become(program, words)
+    assert line is not None
+    shows_frames = place_of(words, FRAMES) is not None
+    return serving.serve(program, without(without(words, "--line"), FRAMES), line, shows_frames)
+
+
+def no_program(what: str) -> int:
+    """Says that the proved program isn't there."""
+    print(f"wurstlinen: {what} needs the proved program, which isn't installed here: it is in the Debian package "
+          f"wurstlinen, in the wheel and in the .tar.gz; {places.PROGRAM_VARIABLE} may name it", file=sys.stderr)
+    return NO_PROGRAM
+
+
+def run_program() -> int:
+    """The proved program alone, with the arguments of this process."""
+    program = places.program()
+    return no_program("rdm_port") if program is None else become(program, sys.argv[1:])
 
 
 def become(program: Path, words: Sequence[str]) -> int:
@@ -136,7 +149,8 @@ def without(words: Sequence[str], name: str) -> List[str]:
     at = place_of(words, name)
     if at is None:
         return list(words)
-    return [*words[:at], *words[at + (1 if "=" in words[at] else 2):]]
+    has_value = name in VALUED and "=" not in words[at]
+    return [*words[:at], *words[at + (2 if has_value else 1):]]
 
 
 def has_file(words: Sequence[str]) -> bool:

@@ -14,7 +14,10 @@ PACKAGE = Path(__file__).resolve().parent.parent
 # The package is in PREFIX/lib/python3/site-packages/wurstlinen, or in one file with all of it.
 PROGRAM_BELOW_PREFIX = "libexec/wurstlinen/wurstlinen"
 PROGRAM_BESIDE_FILE = "rdm_port"
+# A wheel has it inside.
+PROGRAM_IN_PACKAGE = "rdm_port"
 LIBRARY_BESIDE_FILE = "../lib/libwurstlinen.so.0"
+UNKNOWN = "unknown"
 
 
 def one_file() -> Optional[Path]:
@@ -26,12 +29,12 @@ def program() -> Optional[Path]:
     """The proved program: where the environment says, or else where it is installed with the package."""
     named, file = os.environ.get(PROGRAM_VARIABLE), one_file()
     if named:
-        place = Path(named)
+        places = [Path(named)]
     elif file is not None:
-        place = file.with_name(PROGRAM_BESIDE_FILE)
+        places = [file.with_name(PROGRAM_BESIDE_FILE)]
     else:
-        place = PACKAGE.joinpath("../../../..", PROGRAM_BELOW_PREFIX)
-    return place if place.is_file() else None
+        places = [PACKAGE / PROGRAM_IN_PACKAGE, PACKAGE.joinpath("../../../..", PROGRAM_BELOW_PREFIX)]
+    return next((place for place in places if place.is_file()), None)
 
 
 def name_library() -> None:
@@ -46,6 +49,8 @@ def version_line() -> str:
     facts = proof() or repository()
     kit = facts.get("kit of the program", "").partition(" logic ")[0]
     state = f"proved with {kit}" if kit else "not proved here yet"
+    if kit == UNKNOWN:
+        state = "it isn't known what proved it"
     commit = re.sub(r"^([0-9a-f]{8})[0-9a-f]+", r"\1", facts.get("commit", "unknown"))
     return f"wurstlinen {facts.get('version', 'unknown')} ({state}, commit {commit})"
 

@@ -2,20 +2,25 @@
 from __future__ import annotations
 
 import os
+import re
 import subprocess
 import sys
 from contextlib import ExitStack
 from pathlib import Path
-from typing import List, Optional, Sequence
+from threading import Thread
+from typing import IO, Dict, List, Optional, Sequence
 
-from ..commands import SOURCE, WatchedLine
-from ..front.output import BAD_ARGUMENTS, FAILED, Failure
+from ..commands import SOURCE
+from ..front.output import BAD_ARGUMENTS, FAILED, Failure, Output
+from ..front.watched import WatchedLine
 from ..line import LineFailed
 from ..lines import OpenLine, open_line, serve_text
 from ..lines.packets import uid_text
 
 KINDS = ("enttec", "text", "exec", "rig")
 SECONDS_TO_END = 1.0
+# What the program reports every two seconds. A terminal shows more than that all the time.
+REPORT = re.compile(r"wurstlinen: \d+ exchanges after \d+ seconds\n")
 
 
 def is_served(text: Optional[str]) -> bool:
@@ -35,27 +40,58 @@ def opened(text: str) -> OpenLine:
         raise Failure(FAILED, f"{fault.filename}: {fault.strerror}", reason="line") from None
 
 
-def serve(program: Path, words: Sequence[str], text: str) -> int:
+def serve(program: Path, words: Sequence[str], text: str, shows_frames: bool) -> int:
     """Runs the program with these words on a line, and returns its status."""
+    output = Output(False)
     with opened(text) as line, ExitStack() as stack:
         words = [words[0], *source_words(words, line), *words[1:]]
-        watched = WatchedLine(line)
+        watched = WatchedLine(line, output, shows_frames)
+        shows_progress = words[0] == "discover" and not shows_frames and sys.stderr.isatty()
+        watched.found = set() if shows_progress else None
         from_program, frames = os.pipe()
         theirs = stack.enter_context(os.fdopen(from_program, "rb", 0))
         replies, to_program = os.pipe()
         ours = stack.enter_context(os.fdopen(to_program, "wb", 0))
         try:
             streams = ["--line", f"/dev/fd/{frames}", "--replies", f"/dev/fd/{replies}"]
-            child = subprocess.Popen([program, words[0], *streams, *words[1:]], pass_fds=(frames, replies))
+            child = subprocess.Popen([program, words[0], *streams, *words[1:]], pass_fds=(frames, replies),
+                                     encoding="utf-8", errors="backslashreplace",
+                                     **(relayed_streams() if shows_progress else {}))
         finally:
             os.close(frames)
             os.close(replies)
+        for stream in (child.stdout, child.stderr):
+            if stream is not None:
+                relay(stack.enter_context(stream), output, stack)
         stack.callback(end, child)
         serve_text(watched, theirs, ours)
+        output.end_progress()
         status = child.wait()
     if watched.failure is not None:
         print(f"wurstlinen: {watched.failure}", file=sys.stderr)
     return status if status >= 0 else 128 - status
+
+
+def relayed_streams() -> Dict[str, int]:
+    """Those streams of the program that go to the terminal on which the progress is shown."""
+    if os.path.samestat(os.fstat(sys.stdout.fileno()), os.fstat(sys.stderr.fileno())):
+        return {"stdout": subprocess.PIPE, "stderr": subprocess.STDOUT}
+    return {"stderr": subprocess.PIPE}
+
+
+def relay(stream: IO[str], output: Output, stack: ExitStack) -> None:
+    """Prints what the program writes in the place of the progress, until it ends."""
+    stack.callback(output.end_progress)
+    thread = Thread(target=print_remarks, args=(stream, output), daemon=True)
+    thread.start()
+    stack.callback(thread.join, SECONDS_TO_END)
+
+
+def print_remarks(stream: IO[str], output: Output) -> None:
+    """Prints a stream's lines, except for the program's own reports."""
+    for line in stream:
+        if not REPORT.fullmatch(line):
+            output.remark(line)
 
 
 def source_words(words: Sequence[str], line: OpenLine) -> List[str]:
@@ -66,7 +102,7 @@ def source_words(words: Sequence[str], line: OpenLine) -> List[str]:
     return ["--source", uid_text(SOURCE if line.source is None else line.source)]
 
 
-def end(child: "subprocess.Popen[bytes]") -> None:
+def end(child: "subprocess.Popen[str]") -> None:
     """Ends the program if it still runs, after a second by force."""
     if child.poll() is None:
         child.terminate()

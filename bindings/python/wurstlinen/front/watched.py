@@ -1,0 +1,58 @@
+"""A line that counts and shows what goes over it."""
+from __future__ import annotations
+
+from typing import Optional, Set
+
+from ..line import Line, LineFailed
+from ..lines.numbers import Pid
+from ..lines.packets import BRANCH_SEPARATOR, ENCODED_BYTES, decode_branch_reply, decode_packet, is_answer
+from .frames import exchange_text
+from .output import Output
+
+
+class WatchedLine:
+    """A line that counts its exchanges, shows them, and remembers why it failed."""
+
+    def __init__(self, line: Line, output: Output, shows_frames: bool) -> None:
+        self._line = line
+        self._output = output
+        self._shows_frames = shows_frames
+        self.frames = 0
+        self.failure: Optional[LineFailed] = None
+        # The devices that a discovery has muted so far; None if none runs.
+        self.found: Optional[Set[int]] = None
+        # The devices that sent more after a branch than E1.20 allows, and what the last branch's reply spelled.
+        self.talkative: Set[int] = set()
+        self.spelled: Optional[int] = None
+
+    def exchange(self, frame: bytes) -> bytes:
+        """The line's exchange."""
+        number = self.frames
+        self.frames += 1
+        try:
+            reply = self._line.exchange(frame)
+        except LineFailed as failure:
+            self.failure = failure
+            self._show(number, frame, None)
+            raise
+        self._show(number, frame, reply)
+        if self.found is not None:
+            self._note(self.found, frame, reply)
+        return reply
+
+    def _note(self, found: Set[int], frame: bytes, reply: bytes) -> None:
+        """What a discovery's frame and reply say of devices."""
+        command = decode_packet(frame)
+        if command is not None and command.is_branch:
+            self.spelled = decode_branch_reply(reply)
+            if self.spelled is not None and len(reply) > reply.index(BRANCH_SEPARATOR) + 1 + ENCODED_BYTES:
+                self.talkative.add(self.spelled)
+        elif (command is not None and command.pid == Pid.DISC_MUTE and decode_packet(reply) is not None
+                and is_answer(reply, frame)):
+            found.add(command.destination)
+        if not self._shows_frames:
+            self._output.progress(f"{len(found)} found, {self.frames} frames")
+
+    def _show(self, number: int, frame: bytes, reply: Optional[bytes]) -> None:
+        if self._shows_frames:
+            self._output.frame(exchange_text(number, frame, reply))
