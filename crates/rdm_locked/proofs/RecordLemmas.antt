@@ -163,7 +163,7 @@ exchanges_split (s ∷ ss) (e ∷ es) (x ∷ xs) few same =
           (ap (λ p. p.0) first) later.1,
     )
 
-exchanges_joined : (ss : List Sending) (es : List LineEvent) (xs : List Exchange) → es ≡ map (λ x. x.event) xs
+pub exchanges_joined : (ss : List Sending) (es : List LineEvent) (xs : List Exchange) → es ≡ map (λ x. x.event) xs
     → Begins (map (λ x. x.frame) xs) (map (λ s. s.frame) ss) → map exchange_of (map traded_of (zip ss es)) ≡ recorded xs
 exchanges_joined [] [] [] same begins = refl
 exchanges_joined (s ∷ ss) [] [] same begins = refl

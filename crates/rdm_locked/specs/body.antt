@@ -1,2 +1,3 @@
 -- What only proofs need. Nothing here has to be trusted: no promise speaks of it.
+pub mod Compared
 pub mod Frames

@@ -5,6 +5,7 @@ ghost use Rattle.rdm_locked.specs.Calls.{refused_submits, refused_asks};
 ghost use Rattle.rdm_locked.specs.Collects.{Collects, CollectsRequest, CollectsDiscovery};
 
 use crate::fault::DiscoverFault;
+use crate::pages::{NoPages, PageRing};
 use crate::port::Port;
 use crate::share::CallShare;
 use crate::spares::reserve_set;
@@ -22,8 +23,8 @@ use std::sync::ledger::Ledger;
 /// calls wait for the mutex; a callback runs after the mutex is released.
 ///
 /// It isn't [`Drop`]: [`LockedClient::leave`] returns what it holds.
-pub struct LockedClient<'a, L: Ledger, C = Callback, A = AskCallback> {
-    port: &'a Port<L>,
+pub struct LockedClient<'a, L: Ledger, C = Callback, A = AskCallback, J: PageRing = NoPages> {
+    port: &'a Port<L, J>,
     number: ClientId,
     desk: Desk<C, A>,
     calls: CallShare<L>,
@@ -43,15 +44,15 @@ pub struct Left<L: Ledger, C = Callback, A = AskCallback> {
     pub calls: CallShare<L>,
 }
 
-impl<'a, L: Ledger, C: Tells, A: TellsAsk> LockedClient<'a, L, C, A> {
+impl<'a, L: Ledger, C: Tells, A: TellsAsk, J: PageRing> LockedClient<'a, L, C, A, J> {
     // A client that has made no call, with a desk without discoveries' callbacks.
     pub(crate) fn new(
         alloc: Global,
-        port: &'a Port<L>,
+        port: &'a Port<L, J>,
         number: ClientId,
         desk: Desk<C, A>,
         calls: CallShare<L>,
-    ) -> LockedClient<'a, L, C, A>
+    ) -> LockedClient<'a, L, C, A, J>
         requires { desk.asks ≡ [] }
         ensures holds { (result.desk ≡ desk) × (result.calls ≡ calls) }
         ensures is_new { (result.number ≡ number) × (result.stranded ≡ false) }

@@ -69,13 +69,13 @@ fn begins_with_frames(entries: &[Entry], exchanges: &[Exchange]) -> bool
     left.is_empty()
 }
 
-fn is_same_frame(one: &Frame, other: &Frame) -> bool
+pub(crate) fn is_same_frame(one: &Frame, other: &Frame) -> bool
     ensures { Decides result (one.now ≡ other.now) }
 {
     one.as_slice() == other.as_slice()
 }
 
-fn is_same_event(one: &LineEvent, other: &LineEvent) -> bool
+pub(crate) fn is_same_event(one: &LineEvent, other: &LineEvent) -> bool
     ensures { Decides result (one.now ≡ other.now) }
 {
     match (one, other) {

@@ -1,5 +1,5 @@
 //! Why a discovery isn't accepted, and why a port can't be ended.
-use rdm_queue::AskFault;
+use rdm_queue::{AskFault, LogFull};
 use thiserror::Error;
 
 /// Why a client's discovery isn't accepted; nothing has changed but the log.
@@ -13,13 +13,30 @@ pub enum DiscoverFault {
     Refused(AskFault),
 }
 
+/// A page's exchanges aren't the oldest of the record.
+#[derive(Clone, Copy, Debug, PartialEq, Eq, Error)]
+#[error("the page's exchanges aren't those of the record")]
+pub struct ExchangesDiffer;
+
+/// Why a drained page doesn't go to the record; nothing has changed.
+#[derive(Clone, Copy, Debug, PartialEq, Eq, Error)]
+pub enum DrainFault {
+    /// The last page wasn't taken yet.
+    #[error("the last page wasn't taken yet")]
+    PageWaits,
+    /// The memory has too little capacity, or there would be too many entries.
+    #[error("{0}")]
+    Refused(LogFull),
+}
+
 /// Why a port can't be ended; nothing has changed. They are tested in this order.
 #[derive(Clone, Copy, Debug, PartialEq, Eq, Error)]
 pub enum FinishFault {
     /// 1: the share of a client that joined is missing.
     #[error("a client's share is missing")]
     SharesMissing,
-    /// 3, which is tested before 2: entries of the log were handed out, so that its exchanges can't be compared.
+    /// 3, which is tested before 2: entries of the log were handed out, so that its exchanges can't be compared. With a
+    /// record: it hasn't returned the last page.
     #[error("entries of the log were handed out")]
     HandedOut,
     /// 2: the log's exchanges aren't those of the record.

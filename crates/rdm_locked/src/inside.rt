@@ -1,6 +1,7 @@
 //! What a port's mutex holds.
 ghost use Rattle.std.specs.Prelude.{◌≡◌, ◌≢◌, ◌≤◌, ◌<◌, ◌+◌, ℕ, [], length, Ok, Err, Some, OnOk, OnErr, IfOk, IfErr};
 ghost use Rattle.std.specs.Prelude.{IfSome, IfNone, OnSome, nat_lt, if◌then◌else◌, vec_capacity};
+ghost use Rattle.std.specs.Option.{ForSome};
 ghost use Rattle.rdm_log.specs.log.LogState.{stored, drained, MayGoOn};
 ghost use Rattle.rdm_log.specs.log.Config.{steady};
 ghost use Rattle.rdm_log.specs.log.History.{next_client};
@@ -15,9 +16,14 @@ ghost use Rattle.rdm_log.specs.declared.outcome.OutcomeKind.TheVariants as kinds
 ghost use Rattle.rdm_locked.specs.Calls.{count_calls, submits_logged, discovers_logged};
 ghost use Rattle.rdm_locked.specs.Openings.{MayOpen, IsOpened};
 ghost use Rattle.rdm_locked.specs.Turns.{TurnLogs};
+ghost use Rattle.rdm_locked.specs.Pages.{IsOf};
+ghost use Rattle.rdm_locked.specs.body.Compared.{HandedOut};
+ghost use Rattle.rtrb.specs.Ring.{sent};
 
 mod finish;
+mod recorded;
 
+use crate::pages::{NoPages, PageRing};
 use crate::share::CallShare;
 use crate::turn::Turn;
 pub use finish::SessionEnd;
@@ -29,7 +35,9 @@ use rdm_queue::{
     NotAsked, OutcomeKind, Page, Session, Setup, SubmitFault,
 };
 use rdm_wire::{DeviceSet, Request};
+use rtrb::Producer;
 use std::alloc::Global;
+use std::marker::PhantomData;
 use std::sync::ledger::{Blank, Book, Ledger, Share};
 
 /// A session with a book of its clients' calls: what the mutex of a [`Port`](crate::Port) holds. Each of its calls is
@@ -41,19 +49,25 @@ use std::sync::ledger::{Blank, Book, Ledger, Share};
 ///   fault unless the queue is closed.
 /// - The book has as many calls as the log. An Accept, an Ask, a Collect, and a Refuse of a client's call are one each.
 /// - The book has 17 parts: each client that joined has one, and the others are here.
+/// - If it has the end of the ring that `J` names, the pages that went into it are all that the log handed out.
 #[derive(Drop)]
-pub struct Inside<L: Ledger> {
+pub struct Inside<L: Ledger, J: PageRing = NoPages> {
     session: Session,
     calls: Book<L>,
     rest: Share<L>,
     joined: u8,
     left: u8,
+    // The end of the ring that all pages went into.
+    pages: Option<Producer<Page>>,
+    of: PhantomData<J>,
     ghost counted: { count_calls session.entries ≡ calls.total },
     ghost clients: { next_client session.opening session.entries ≡ joined },
     ghost one_part_each: { rest.parts + joined ≡ 17 },
     ghost few: { joined ≤ 16 },
     ghost unused: { rest.amount ≡ 0 },
     ghost left_once: { left ≤ joined },
+    ghost named: { ForSome pages (λ p. IsOf J.ring p.end) },
+    ghost sent: { ForSome pages (λ p. HandedOut session (sent p)) },
 }
 
 impl<L: Ledger> Inside<L> {
@@ -84,6 +98,27 @@ impl<L: Ledger> Inside<L> {
         ensures opened { IfOk result (λ i. IsOpened setup log i.session i.joined i.left) }
         ensures back { IfErr result (λ e. (e.1 ≡ blank) × (e.2 ≡ log)) }
     {
+        Inside::opened(alloc, blank, setup, log, None)
+    }
+}
+
+impl<L: Ledger, J: PageRing> Inside<L, J> {
+    // The same, with the end of a ring that no page went into.
+    fn opened(
+        alloc: Global,
+        blank: Blank,
+        setup: Setup,
+        log: Log,
+        pages: Option<Producer<Page>>,
+    ) -> Result<Inside<L, J>, (NoMemory, Blank, Log)>
+        requires may_open { MayOpen L.name L.parts blank setup.config log }
+        requires named { ForSome pages (λ p. IsOf J.ring p.end) }
+        requires unused { ForSome pages (λ p. sent p ≡ []) }
+        ensures opened { IfOk result (λ i. IsOpened setup log i.session i.joined i.left) }
+        ensures back { IfErr result (λ e. (e.1 ≡ blank) × (e.2 ≡ log)) }
+    {
+        // Only for the proof: no entry was handed out.
+        log.gone();
         let session = match Session::new_with(alloc, setup, log) {
             Ok(session) => session,
             Err((fault, log)) => return Err((fault, blank, log)),
@@ -95,6 +130,8 @@ impl<L: Ledger> Inside<L> {
             rest,
             joined: 0,
             left: 0,
+            pages,
+            of: PhantomData,
         })
     }
 
@@ -176,6 +213,8 @@ impl<L: Ledger> Inside<L> {
     {
         let first = self.session.log().gone();
         let entries = self.session.drain(next)?;
+        // The ring doesn't have this page.
+        self.pages = None;
         Ok(Page { first, entries })
     }
 

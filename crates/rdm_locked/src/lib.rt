@@ -4,22 +4,31 @@
 //! the log. A [`Port`] and its clients take the mutex, make one such call, and release it. Their contracts are about
 //! what the caller holds: its callbacks, its count of calls, and the record of exchanges. At the end, [`Port::finish`]
 //! compares the counts and the record with the log.
+//!
+//! A port that is to run for years has a [`Record`]. Its log is drained at any time, and the pages go through a ring to
+//! the record, which compares them and forgets its own exchanges. [`Port::finish_recorded`] covers the whole history.
 #![tactic(auto)]
 
 mod client;
 mod exchange;
 mod fault;
 mod inside;
+mod pages;
 mod port;
+mod record;
+mod recorded;
 mod share;
 mod spares;
 mod turn;
+mod walk;
 
 pub use client::{Left, LockedClient};
 pub use exchange::Exchange;
-pub use fault::{DiscoverFault, FinishFault};
+pub use fault::{DiscoverFault, DrainFault, ExchangesDiffer, FinishFault};
 pub use inside::{Inside, SessionEnd};
+pub use pages::{NoPages, PageEnds, PageRing};
 pub use port::Port;
 pub use rdm_client::WorkerEnd;
+pub use record::Record;
 pub use share::CallShare;
 pub use turn::Turn;

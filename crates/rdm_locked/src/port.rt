@@ -13,6 +13,7 @@ use crate::client::LockedClient;
 use crate::exchange::Exchange;
 use crate::fault::FinishFault;
 use crate::inside::{Inside, SessionEnd};
+use crate::pages::{NoPages, PageRing};
 use crate::share::CallShare;
 use crate::turn::Turn;
 use rdm_client::{Desk, Tells, TellsAsk, WorkerEnd};
@@ -28,10 +29,12 @@ use std::thread;
 /// session at a time, and never during an exchange with the line. `client`, `pause`, `resume`, `close` and `work` wait
 /// for it. `finish` doesn't, since whoever owns the port has it exclusively.
 ///
-/// `L` names the book of the clients' calls. The program picks it as `Brand` in the call that opens the port.
+/// `L` names the book of the clients' calls. The program picks it as `Brand` in the call that opens the port. `J` names
+/// the ring that the log's pages go through to a [`Record`](crate::Record). Only a port that
+/// [`Port::new_recorded`] opens has one.
 #[derive(Drop)]
-pub struct Port<L: Ledger> {
-    pub(crate) inside: Mutex<Inside<L>>,
+pub struct Port<L: Ledger, J: PageRing = NoPages> {
+    pub(crate) inside: Mutex<Inside<L, J>>,
 }
 
 impl<L: Ledger> Port<L> {
@@ -65,8 +68,53 @@ impl<L: Ledger> Port<L> {
         Ok(Port::holding(inside))
     }
 
+    /// Hands out all entries that the log stores, as [`Session::drain`](rdm_queue::Session::drain) does, with the
+    /// number of the first. From then on [`finish`](Port::finish) refuses the port. Drain when half of the log is used:
+    /// a full one refuses the clients' calls.
+    /// Err: as `Session::drain` returns; nothing has changed, and the memory is returned.
+    pub fn drain<R: Wait>(&self, rt: &R, next: Vec<Entry>) -> Result<Page, (LogFull, Vec<Entry>)>
+        requires { next.items ≡ [] }
+        ensures back { IfErr result (λ e. e.1 ≡ next) }
+    {
+        self.inside.lock(rt).drain(next)
+    }
+
+    /// Ends the port, if the share of each client that joined is there, and the log's exchanges are those of the
+    /// record. Then these hold, whatever the threads did:
+    /// - The shares' sum is the number of calls in the log.
+    /// - The log keeps all that clients are promised.
+    /// - A run on an honest line that didn't fail, with a sufficient budget, was answered without fault unless the
+    ///   queue was closed before.
+    ///
+    /// A frame whose reply is awaited is no exchange yet.
+    /// Err: SharesMissing, or else HandedOut, or else ExchangesDiffer, as [`Inside::finish`] returns. The port, which
+    /// is as open as before, and the shares are returned.
+    pub fn finish(
+        self,
+        shares: Vec<CallShare<L>>,
+        exchanges: &[Exchange],
+    ) -> Result<SessionEnd, (FinishFault, Port<L>, Vec<CallShare<L>>)>
+        requires { L.parts ≡ 17 }
+        ensures each { IfOk result (λ e. length shares.items ≡ next_client e.session.opening e.session.entries) }
+        ensures calls { IfOk result (λ e. e.calls ≡ sum_by (λ s. s.count) shares.items) }
+        ensures counted { IfOk result (λ e. e.calls ≡ count_calls e.session.entries) }
+        ensures exchanges { IfOk result (λ e. log_exchanges e.session.entries ≡ recorded exchanges.now) }
+        ensures whole { IfOk result (λ e. e.session.gone ≡ 0) }
+        ensures legal { IfOk result (λ e. Legal e.session.opening e.session.entries) }
+        ensures promised { IfOk result (λ e. Promised e.session) }
+        ensures back { IfErr result (λ e. e.2 ≡ shares) }
+    {
+        let Port { inside } = self;
+        match inside.into_inner().finish(shares, exchanges) {
+            Ok(end) => Ok(end),
+            Err((fault, inside, shares)) => Err((fault, Port::holding(inside), shares)),
+        }
+    }
+}
+
+impl<L: Ledger, J: PageRing> Port<L, J> {
     // Puts it into a mutex.
-    fn holding(inside: Inside<L>) -> Port<L> {
+    pub(crate) fn holding(inside: Inside<L, J>) -> Port<L, J> {
         Port {
             inside: Mutex::new(inside),
         }
@@ -80,7 +128,7 @@ impl<L: Ledger> Port<L> {
         rt: &R,
         alloc: Global,
         places: u8,
-    ) -> Result<LockedClient<'_, L, C, A>, JoinFault>
+    ) -> Result<LockedClient<'_, L, C, A, J>, JoinFault>
         ensures desk { IfOk result (λ c. c.desk ≡ record { requests = []; asks = []; places = places }) }
         ensures calls { IfOk result (λ c. c.calls.count ≡ 0) }
         ensures collects { IfOk result (λ c. c.stranded ≡ false) }
@@ -113,17 +161,6 @@ impl<L: Ledger> Port<L> {
     /// Closes: nothing more is accepted, and what waits is ended. It has no effect if the session is closed already.
     pub fn close<R: Wait>(&self, rt: &R) {
         self.inside.lock(rt).close();
-    }
-
-    /// Hands out all entries that the log stores, as [`Session::drain`](rdm_queue::Session::drain) does, with the
-    /// number of the first. From then on [`finish`](Port::finish) refuses the port. Drain when half of the log is used:
-    /// a full one refuses the clients' calls.
-    /// Err: as `Session::drain` returns; nothing has changed, and the memory is returned.
-    pub fn drain<R: Wait>(&self, rt: &R, next: Vec<Entry>) -> Result<Page, (LogFull, Vec<Entry>)>
-        requires { next.items ≡ [] }
-        ensures back { IfErr result (λ e. e.1 ≡ next) }
-    {
-        self.inside.lock(rt).drain(next)
     }
 
     /// Serves the line for this many turns. It ends earlier if each client that has joined has left and no frame may be
@@ -161,37 +198,5 @@ impl<L: Ledger> Port<L> {
             }
         }
         WorkerEnd::Turns
-    }
-
-    /// Ends the port, if the share of each client that joined is there, and the log's exchanges are those of the
-    /// record. Then these hold, whatever the threads did:
-    /// - The shares' sum is the number of calls in the log.
-    /// - The log keeps all that clients are promised.
-    /// - A run on an honest line that didn't fail, with a sufficient budget, was answered without fault unless the
-    ///   queue was closed before.
-    ///
-    /// A frame whose reply is awaited is no exchange yet.
-    /// Err: SharesMissing, or else HandedOut, or else ExchangesDiffer, as [`Inside::finish`] returns. The port, which
-    /// is as open as before, and the shares are returned.
-    pub fn finish(
-        self,
-        shares: Vec<CallShare<L>>,
-        exchanges: &[Exchange],
-    ) -> Result<SessionEnd, (FinishFault, Port<L>, Vec<CallShare<L>>)>
-        requires { L.parts ≡ 17 }
-        ensures each { IfOk result (λ e. length shares.items ≡ next_client e.session.opening e.session.entries) }
-        ensures calls { IfOk result (λ e. e.calls ≡ sum_by (λ s. s.count) shares.items) }
-        ensures counted { IfOk result (λ e. e.calls ≡ count_calls e.session.entries) }
-        ensures exchanges { IfOk result (λ e. log_exchanges e.session.entries ≡ recorded exchanges.now) }
-        ensures whole { IfOk result (λ e. e.session.gone ≡ 0) }
-        ensures legal { IfOk result (λ e. Legal e.session.opening e.session.entries) }
-        ensures promised { IfOk result (λ e. Promised e.session) }
-        ensures back { IfErr result (λ e. e.2 ≡ shares) }
-    {
-        let Port { inside } = self;
-        match inside.into_inner().finish(shares, exchanges) {
-            Ok(end) => Ok(end),
-            Err((fault, inside, shares)) => Err((fault, Port::holding(inside), shares)),
-        }
     }
 }

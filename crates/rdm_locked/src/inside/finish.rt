@@ -11,6 +11,7 @@ ghost use Rattle.rdm_locked.specs.Exchanges.{recorded};
 use crate::exchange::{Exchange, has_exchanges};
 use crate::fault::FinishFault;
 use crate::inside::Inside;
+use crate::pages::PageRing;
 use crate::share::CallShare;
 use rdm_queue::Session;
 use std::sync::ledger::{Book, Ledger, Share};
@@ -24,7 +25,7 @@ pub struct SessionEnd {
     pub calls: u64,
 }
 
-impl<L: Ledger> Inside<L> {
+impl<L: Ledger, J: PageRing> Inside<L, J> {
     /// Ends it, if the share of each client that joined is there, and the log's exchanges are those of the record. Then
     /// these hold:
     /// - there is one share for each client;
@@ -37,7 +38,7 @@ impl<L: Ledger> Inside<L> {
         self,
         shares: Vec<CallShare<L>>,
         exchanges: &[Exchange],
-    ) -> Result<SessionEnd, (FinishFault, Inside<L>, Vec<CallShare<L>>)>
+    ) -> Result<SessionEnd, (FinishFault, Inside<L, J>, Vec<CallShare<L>>)>
         requires { L.parts ≡ 17 }
         ensures session { IfOk result (λ e. e.session ≡ self.session) }
         ensures joined { OnOk result (length shares.items ≡ self.joined) }
@@ -83,7 +84,7 @@ impl<L: Ledger> Inside<L> {
     }
 
     // Adds up the shares, of which there is one for each client.
-    fn add_up(self, shares: Vec<CallShare<L>>) -> SessionEnd
+    pub(super) fn add_up(self, shares: Vec<CallShare<L>>) -> SessionEnd
         requires parts { L.parts ≡ 17 }
         requires each { self.joined ≤ length shares.items }
         ensures session { result.session ≡ self.session }
@@ -101,6 +102,8 @@ impl<L: Ledger> Inside<L> {
             mut rest,
             joined: _,
             left: _,
+            pages: _,
+            of: _,
         } = self;
         let calls = gather(&mut book, &mut rest, shares, most);
         book.audit(&mut rest);

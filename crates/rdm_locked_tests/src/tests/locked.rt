@@ -5,6 +5,7 @@ mod calls;
 mod drained;
 mod faults;
 mod kinds;
+mod recorded;
 mod refusals;
 mod runs;
 mod sessions;

@@ -1,4 +1,5 @@
 use Rattle.std.proofs.Common.{arith}
+use Rattle.rdm_locked.proofs.PageLemmas.{sent_grown}
 use Rattle.rdm_locked.proofs.CallLemmas.{grown_counts, collect_brings, calls_few}
 use Rattle.rdm_locked.proofs.inside.Inside.collect_discovery.Goals as goal
 
@@ -25,4 +26,6 @@ invariant_of-self-2 g c =
       few = me.few;
       unused = me.unused;
       left_once = me.left_once;
+      named = me.named;
+      sent = sent_grown me.pages k _ c.next_discovery.new.self c.in_ok-end.ensures.adds me.sent;
     }

@@ -1,4 +1,5 @@
 use Rattle.std.proofs.Common.{arith}
+use Rattle.rdm_locked.proofs.PageLemmas.{sent_grown}
 use Rattle.rdm_locked.proofs.CallLemmas.{grown_counts, deliver_brings}
 use Rattle.rdm_locked.proofs.inside.Inside.deliver.Goals as goal
 
@@ -15,4 +16,6 @@ invariant_of-self g c =
       few = me.few;
       unused = me.unused;
       left_once = me.left_once;
+      named = me.named;
+      sent = sent_grown me.pages k _ c.deliver.new.self c.deliver.ensures.adds me.sent;
     }

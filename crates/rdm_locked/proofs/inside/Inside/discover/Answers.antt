@@ -1,4 +1,5 @@
 use Rattle.std.proofs.Common.{arith}
+use Rattle.rdm_locked.proofs.PageLemmas.{sent_grown}
 use Rattle.rdm_locked.proofs.CallLemmas.{grown_counts, discover_brings, calls_few}
 use Rattle.rdm_locked.proofs.inside.Inside.discover.Goals as goal
 
@@ -26,4 +27,6 @@ invariant_of-self g c =
       few = me.few;
       unused = me.unused;
       left_once = me.left_once;
+      named = me.named;
+      sent = sent_grown me.pages k _ c.discover-answer.new.self c.discover-answer.ensures.adds me.sent;
     }

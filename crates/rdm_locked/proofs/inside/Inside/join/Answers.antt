@@ -1,6 +1,7 @@
 use Rattle.std.proofs.Common.{arith}
 use Rattle.rdm_log.proofs.LogLemmas.RefusalLemmas.{join_passes}
 use Rattle.rdm_log.proofs.PromiseLemmas.BlockLemmas.{join_ok}
+use Rattle.rdm_locked.proofs.PageLemmas.{sent_grown}
 use Rattle.rdm_locked.proofs.CallLemmas.{grown_counts, join_brings, join_refused_brings}
 use Rattle.rdm_locked.proofs.inside.Inside.join.Goals as goal
 
@@ -17,6 +18,8 @@ invariant_of-self g c =
       few = me.few;
       unused = me.unused;
       left_once = me.left_once;
+      named = me.named;
+      sent = sent_grown me.pages k _ c.join_client.new.self c.in_err-client.ensures.adds me.sent;
     }
 
 pub invariant_of-self-2 : goal.invariant_of-self-2
@@ -35,4 +38,6 @@ invariant_of-self-2 g c =
       few = omega (arith, passes.few_clients, me.clients);
       unused = omega (arith, c.split_off.ensures.amount_left, me.unused);
       left_once = omega (arith, me.left_once);
+      named = me.named;
+      sent = sent_grown me.pages k _ c.join_client.new.self adds me.sent;
     }

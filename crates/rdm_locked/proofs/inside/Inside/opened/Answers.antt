@@ -1,7 +1,8 @@
-use Rattle.std.proofs.Common.{arith, refl, ◌∙◌}
+use Rattle.std.proofs.Common.{arith, refl, ap, length, ◌∙◌}
 use Rattle.rdm_log.specs.log.Entries.{joins}
 use Rattle.rdm_locked.specs.Calls.{count_calls}
-use Rattle.rdm_locked.proofs.inside.Inside.new_with.Goals as goal
+use Rattle.rdm_locked.proofs.PageLemmas.{sent_begun}
+use Rattle.rdm_locked.proofs.inside.Inside.opened.Goals as goal
 
 pub invariant_of-result : goal.invariant_of-result
 unfolding count_calls joins
@@ -15,4 +16,7 @@ invariant_of-result g c =
       few = omega arith;
       unused = c.open-calls.ensures.amount;
       left_once = omega arith;
+      named = c.requires.named;
+      sent = sent_begun c.args.pages _
+          (rw session (omega (arith, c.gone.ensures.within, ap length c.requires.may_open.empty))) c.requires.unused;
     }

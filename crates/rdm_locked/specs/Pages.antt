@@ -1,0 +1,24 @@
+-- The pages that a port's log hands out, and the ring that they go through.
+use Rattle.std.specs.Prelude.{◌≡◌, List, flat_map}
+use denote.RawPtr.{Ptr}
+use Rattle.std.specs.declared.alloc.Global.{Global}
+use Rattle.rtrb.specs.Shared.{Names}
+use Rattle.rtrb.specs.declared.end.End.{End}
+use Rattle.rdm_log.specs.declared.entry.Entry.{Entry}
+use Rattle.rdm_log.specs.declared.page.Page.{Page}
+
+-- which ring: where its words and its slots are, and its name in proofs
+pub record RingName : Type 0 where
+  pub words : Ptr
+  pub slots : Ptr
+  pub names : Names
+
+-- an end is of this ring
+pub record IsOf {T P : Type 0} (name : RingName) (end : End T Global P) : Type 0 where
+  pub words : end.words ≡ name.words
+  pub slots : end.slots ≡ name.slots
+  pub names : end.names ≡ name.names
+
+-- the entries of these pages, in order
+abbrev pub entries_of : List Page → List Entry
+entries_of pages = flat_map (λ p. p.entries.items) pages
