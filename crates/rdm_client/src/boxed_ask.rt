@@ -78,7 +78,7 @@ impl BoxedAsk {
         }
     }
 
-    // For the proof alone: its numbers are in the ranges of their types.
+    // Only for the proof: its numbers are in the ranges of their types.
     pub(crate) fn fits(&self)
         ensures { AskFits self.now }
     {
@@ -88,12 +88,12 @@ impl BoxedAsk {
     }
 }
 
-// For the proof alone: the fault's UID is in the range of its type.
+// Only for the proof: the fault's UID is in the range of its type.
 fn fault_fits(fault: Option<AgentFault>)
     ensures { FaultFits fault }
 {}
 
-// For the proof alone: each device's numbers are in the ranges of their types.
+// Only for the proof: each device's numbers are in the ranges of their types.
 fn devices_fit(devices: &[Device])
     ensures { All DeviceFits devices.now }
 {
@@ -102,7 +102,7 @@ fn devices_fit(devices: &[Device])
     }
 }
 
-// For the proof alone: this device's numbers are.
+// Only for the proof: this device's numbers are.
 fn device_fits(device: &Device)
     ensures { DeviceFits device.now }
 {

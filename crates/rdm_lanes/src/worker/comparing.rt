@@ -72,7 +72,7 @@ fn compare<J: ViewHistory, C: Tells, A: TellsAsk>(lane: &mut Lane, end: &mut Cli
     end.calls.slots_beside(&mut lane.calls);
 }
 
-/// Shows in proofs that this session's log is legal, and keeps all that clients are promised.
+/// Only for the proof: this session's log is legal, and keeps all that clients are promised.
 pub fn shows_legal(session: &Session)
     ensures legal { Legal session.now.opening session.now.entries }
     ensures promised { Promised session.now }
