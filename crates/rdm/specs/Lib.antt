@@ -30,6 +30,7 @@ pub use Rattle.rdm_agent.specs.Calls
 pub use Rattle.rdm_agent.specs.Bound
 pub use Rattle.rdm_agent.specs.OpFrames
 pub use Rattle.rdm_line.specs.Events
+pub use Rattle.rdm_line.specs.Counting
 pub use Rattle.rdm_line.specs.Parameters
 pub use Rattle.rdm_line.specs.Overlays
 pub use Rattle.rdm_line.specs.Scenes

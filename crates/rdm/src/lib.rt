@@ -8,7 +8,7 @@
 pub use rdm_agent::{Agent, AgentFault, DEFAULT_BUDGET, Kind, Op, OpReply, Search};
 pub use rdm_join::{LineEvent, LineReply, ReplyHead, Status};
 pub use rdm_line::{
-    AddFault, Collision, CollisionBytes, LATEST_ARRIVAL, Line, LineFault, Parameter, ParameterPart,
+    AddFault, Asks, Collision, CollisionBytes, Counted, LATEST_ARRIVAL, Line, LineFault, Parameter, ParameterPart,
     Parameters, Scene, SceneDevice, SceneDevices, SimLine, StreamLine, TapeLine,
 };
 pub use rdm_queue::{

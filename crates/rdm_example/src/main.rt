@@ -8,7 +8,7 @@ mod rig;
 use crate::rig::{DEVICE_LABEL, rig};
 use arrayvec::ArrayVec;
 use rdm::{
-    AgentFault, Config, DEFAULT_BUDGET, Kind, Line, LineEvent, Log, Outcome, ReqClass, Request,
+    AgentFault, Config, DEFAULT_BUDGET, Kind, Line, Log, Outcome, ReqClass, Request,
     Session, SimLine, Uid,
 };
 use std::alloc::Global;
@@ -54,10 +54,7 @@ fn serve(alloc: Global, session: &mut Session, line: &mut SimLine) -> Option<()>
         let Some(frame) = session.take().ok()? else {
             return Some(());
         };
-        let event = line
-            .exchange(&frame)
-            .map_or(LineEvent::Failed, LineEvent::Reply);
-        session.deliver(alloc, event).ok()?;
+        session.deliver(alloc, line.exchange(&frame).into()).ok()?;
     }
     None
 }

@@ -11,7 +11,7 @@ use crate::state::{State, state_of};
 use crate::wrong::Wrong;
 use rdm_agent::Kind;
 use rdm_join::LineEvent;
-use rdm_line::{Line, LineFault};
+use rdm_line::Line;
 use rdm_queue::{ClientId, Config, Log, LogFull, NoMemory, NotAsked, Session};
 use rdm_wire::Frame;
 use std::alloc::Global;
@@ -130,11 +130,7 @@ impl<X: Line + Drop> SessionStage<X> {
         let Some(frame) = self.awaited.take() else {
             return self.delivers_nothing(alloc);
         };
-        let event = match self.line.exchange(&frame) {
-            Ok(reply) => LineEvent::Reply(reply),
-            Err(LineFault) => LineEvent::Failed,
-        };
-        match self.session.deliver(alloc, event) {
+        match self.session.deliver(alloc, self.line.exchange(&frame).into()) {
             Ok(()) => Heard::Done,
             Err(_) => Heard::Mixed,
         }
