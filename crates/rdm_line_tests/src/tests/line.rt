@@ -1,5 +1,6 @@
-//! Simulated lines and tapes: which bytes come after which frame.
+//! Lines of each kind: which bytes come after which frame.
 
+mod counted;
 mod faults;
 mod rig;
 mod rules;
