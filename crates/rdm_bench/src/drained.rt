@@ -1,7 +1,6 @@
 //! One session that never ends: sixteen clients, a log of 1,000 entries that is drained all the time, and a line that
 //! loses and fails. Each request and each discovery has to be reported once, to its client, in order. Each page
 //! has to follow the one before it. Clients take turns drawn at random, the same in each run.
-ghost use Rattle.std.specs.Prelude.{⊤};
 
 use crate::bench::{Bench, holds};
 use crate::lines::Random;
@@ -11,8 +10,8 @@ use crate::served::{CLIENTS, Ending, Job, PLACES, Served, config};
 use crate::soak::{resident, tag_of};
 use rdm_agent::Kind;
 use rdm_client::Told;
-use rdm_join::{LineEvent, LineReply, Status};
-use rdm_line::{Line, LineFault, SimLine};
+use rdm_join::{LineReply, Status};
+use rdm_line::{Asks, Counted, Line, SimLine};
 use rdm_queue::{AskFault, Entry, OutcomeKind, Page, Session, SubmitFault};
 use rdm_rig::{
     Heard, LONG, LineOf, Meeting, TimedDevice, Who, completion_told, line_of, log, request,
@@ -48,11 +47,10 @@ pub fn print<R: Files + AllocGlobal + Print + Eprint + Wait>(
     requests: u64,
 ) -> Option<()> {
     let alloc = bench.alloc;
-    let line = Drawn {
+    let line = Counted::new(Drawn {
         line: line_for(alloc)?,
         random: Random::new(1),
-        failures: 0,
-    };
+    });
     let mut soak = Soak {
         bench,
         name: name_of(port),
@@ -128,28 +126,18 @@ fn line_for(alloc: Global) -> Option<SimLine> {
 struct Drawn {
     line: SimLine,
     random: Random,
-    failures: u64,
 }
 
-impl Line for Drawn {
-    ghost step = { λ old exchange new. ⊤ };
-
-    ghost failures_of = { λ line. line.failures };
-
-    fn exchange(&mut self, frame: &Frame) -> Result<LineReply, LineFault> {
-        if self.random.below(100) == 0 && self.failures < u64::MAX {
-            self.failures += 1;
-            return Err(LineFault);
+impl Asks for Drawn {
+    fn ask(&mut self, frame: &Frame) -> Option<LineReply> {
+        if self.random.below(100) == 0 {
+            return None;
         }
         let reply = self.line.exchange(frame).unwrap_or(LineReply::new());
         if self.random.below(50) == 0 {
-            return Ok(LineReply::new());
+            return Some(LineReply::new());
         }
-        Ok(reply)
-    }
-
-    fn failures(&self) -> u64 {
-        self.failures
+        Some(reply)
     }
 }
 
@@ -158,7 +146,7 @@ impl Line for Drawn {
 struct Alone {
     alloc: Global,
     session: Session,
-    line: Drawn,
+    line: Counted<Drawn>,
 }
 
 impl Served for Alone {
@@ -175,10 +163,7 @@ impl Served for Alone {
             let Some(frame) = self.session.take().ok()? else {
                 continue;
             };
-            let event = match self.line.exchange(&frame) {
-                Ok(reply) => LineEvent::Reply(reply),
-                Err(LineFault) => LineEvent::Failed,
-            };
+            let event = self.line.exchange(&frame).into();
             holds(self.session.deliver(self.alloc, event).is_ok())?;
         }
         Some(())

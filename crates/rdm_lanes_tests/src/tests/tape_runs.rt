@@ -1,7 +1,7 @@
 //! Discoveries with ring buffers over a line with stored replies.
 use rdm_agent::Kind;
 use rdm_join::LineReply;
-use rdm_line::{Line, LineFault};
+use rdm_line::{Asks, Counted, Line};
 use rdm_rig::{
     Act, Came, Ending, Found, Heard, Move, Said, Step, Stop, Who, says_at, says_run, tape_of,
 };
@@ -104,21 +104,13 @@ struct Watched<'a, X: Drop> {
     right: &'a AtomicUsize,
 }
 
-impl<X: Line + Drop> Line for Watched<'_, X> {
-    ghost step = { λ old x new. X.step old.line x new.line };
-
-    ghost failures_of = { λ line. X.failures_of line.line };
-
-    fn exchange(&mut self, frame: &Frame) -> Result<LineReply, LineFault> {
+impl<X: Line + Drop> Asks for Watched<'_, X> {
+    fn ask(&mut self, frame: &Frame) -> Option<LineReply> {
         if WANTED.get(self.made).copied() == Some(asked_by(frame)) {
             self.right.fetch_add(1, Ordering::SeqCst);
         }
         self.made = self.made.saturating_add(1);
-        self.line.exchange(frame)
-    }
-
-    fn failures(&self) -> u64 {
-        self.line.failures()
+        self.line.exchange(frame).ok()
     }
 }
 
@@ -171,11 +163,11 @@ fn an_incremental_run_over_rings_has_the_frames_12_to_28(rt: HostRuntime) -> Res
     static AFTER: [Said; 2] = [Said::Answer(1, 2, Ending::Faultless), Said::Collect(0)];
     let setup = Setup::new(100, 4, &[1]);
     let right = AtomicUsize::new(0);
-    let line = Watched {
+    let line = Counted::new(Watched {
         line: tape_of(rt.alloc(), &BOTH_RUNS)?,
         made: 0,
         right: &right,
-    };
+    });
     let over = play_lanes(&rt, rt.alloc(), setup, line, &MOVES)?;
     counts_are(&over.left, &[(2, 2, 0)])?;
     assert_eq!(rt; (over.log.len(), right.load(Ordering::SeqCst)), (65, 29));

@@ -3,7 +3,7 @@
 use super::checks::check;
 use rdm_agent::Kind;
 use rdm_join::{LineReply, Status};
-use rdm_line::{Line, LineFault};
+use rdm_line::{Asks, Counted, Line};
 use rdm_rig::{Act, Driver, Ending, Found, Heard, Stage, Step, silent};
 use rdm_stage::{Failed, LanesOver, Setup, drive_lanes};
 use rdm_wire::Frame;
@@ -18,25 +18,17 @@ const LOOK: Act = Act::Client(0, Step::Look);
 
 const COLLECT: Act = Act::Client(0, Step::Collect);
 
-// A line that counts its exchanges.
+// A line that says how many exchanges it has made.
 #[derive(Drop)]
-struct Counted<'a, X: Drop> {
+struct Observed<'a, X: Drop> {
     line: X,
     made: &'a AtomicU64,
 }
 
-impl<X: Line + Drop> Line for Counted<'_, X> {
-    ghost step = { λ old x new. X.step old.line x new.line };
-
-    ghost failures_of = { λ line. X.failures_of line.line };
-
-    fn exchange(&mut self, frame: &Frame) -> Result<LineReply, LineFault> {
+impl<X: Line + Drop> Asks for Observed<'_, X> {
+    fn ask(&mut self, frame: &Frame) -> Option<LineReply> {
         self.made.fetch_add(1, Ordering::SeqCst);
-        self.line.exchange(frame)
-    }
-
-    fn failures(&self) -> u64 {
-        self.line.failures()
+        self.line.exchange(frame).ok()
     }
 }
 
@@ -93,10 +85,10 @@ fn collects<S: Stage>(alloc: Global, stage: &mut S) -> Heard {
 // Drives lanes over that line. Returns whether all was right, and what is left.
 fn drives<R: Wait>(rt: &R, alloc: Global) -> Result<(bool, LanesOver), Failed> {
     let made = AtomicU64::new(0);
-    let line = Counted {
+    let line = Counted::new(Observed {
         line: silent(alloc, 8)?,
         made: &made,
-    };
+    });
     let mut patient = Patient {
         made: &made,
         is_right: false,
