@@ -27,11 +27,10 @@ pub use crate::serving::logged::{all_entries, are_logged};
 pub use crate::serving::playing::{Player, play};
 use crate::serving::progress_line::ProgressLine;
 use crate::serving::rings::serve_rings;
-use rdm_agent::Search;
 use rdm_client::Told;
 use rdm_files::{ClientCall, ClientFile, LineSessionFile, SceneFile, SessionFile};
 use rdm_line::{Line, SimLine};
-use rdm_queue::{Config, LEAST_FREE, Log, MOST_PLACES, Session, laws};
+use rdm_queue::{Config, LEAST_FREE, Log, MOST_PLACES, Session, Setup, laws};
 use rdm_reports::{Discovered, Outcomes, Progress};
 use rdm_wire::Uid;
 use rdm_words::PortKind;
@@ -51,13 +50,11 @@ pub enum ServeFault {
     Turns,
 }
 
-/// How a session is set up.
+/// What a session starts with.
 #[derive(Drop)]
-pub struct SetUp {
-    /// How its discoveries search.
-    pub search: Search,
-    /// How its queue is set up.
-    pub config: Config,
+pub struct Start {
+    /// How it is set up.
+    pub setup: Setup,
     /// Its log, which is empty.
     pub log: Log,
     /// How many turns the worker and each client may make.
@@ -157,15 +154,14 @@ pub fn serve_on_line<
         return Err(ServeFault::Memory);
     };
     let line = ProgressLine::new(line, progress);
-    let set_up = SetUp {
-        search,
-        config,
+    let start = Start {
+        setup: Setup { config, search },
         log,
         turns,
     };
     let served = match port {
-        PortKind::Locked => serve_locked::<L, _, R>(rt, alloc, blank, set_up, &clients, line),
-        PortKind::Rings => serve_rings(rt, alloc, set_up, ring, &clients, line),
+        PortKind::Locked => serve_locked::<L, _, R>(rt, alloc, blank, start, &clients, line),
+        PortKind::Rings => serve_rings(rt, alloc, start, ring, &clients, line),
     };
     match served {
         Ok(served) => settled(alloc, &clients, turns, served),

@@ -7,13 +7,13 @@ ghost use Rattle.rdm_lanes.specs.Lines.{exchange_count};
 use crate::serving::calls::cancel_all;
 use crate::serving::playing::{Player, play};
 use crate::serving::ticket::{AskTicket, RequestTicket};
-use crate::serving::{ServeFault, Served, SetUp};
+use crate::serving::{ServeFault, Served, Start};
 use rdm_agent::Kind;
 use rdm_client::{Collected, Tells, TellsAsk};
 use rdm_files::{ClientCall, ClientFile};
 use rdm_line::Line;
 use rdm_locked::{CallShare, DiscoverFault, Exchange, Left, LockedClient, Port};
-use rdm_queue::{AskFault, JoinFault, Setup, SubmitFault};
+use rdm_queue::{AskFault, JoinFault, SubmitFault};
 use rdm_reports::Outcomes;
 use rdm_wire::Request;
 use std::alloc::Global;
@@ -32,24 +32,18 @@ pub fn serve_locked<L: Ledger + Send + Sync, X: Line + Send + Drop, R: Threads +
     rt: &R,
     alloc: Global,
     blank: Blank,
-    set_up: SetUp,
+    start: Start,
     clients: &[ClientFile],
     mut line: X,
 ) -> Result<Served, ServeFault>
     requires name { blank.name ≡ L.name }
     requires parts { (blank.parts ≡ L.parts) × (L.parts ≡ 17) }
-    requires config_is { IsConfig set_up.config }
-    requires empty { set_up.log.entries ≡ [] }
-    ensures in_turns { IfOk result (λ s. exchange_count s.session ≤ set_up.turns) }
+    requires config_is { IsConfig start.setup.config }
+    requires empty { start.log.entries ≡ [] }
+    ensures in_turns { IfOk result (λ s. exchange_count s.session ≤ start.turns) }
     ensures slots { IfOk result (λ s. (s.slots ≡ None) × (s.ran_out ≡ None)) }
 {
-    let SetUp {
-        search,
-        config,
-        log,
-        turns,
-    } = set_up;
-    let setup = Setup { config, search };
+    let Start { setup, log, turns } = start;
     let port = match Port::<L>::new_with(alloc, blank, setup, log) {
         Ok(port) => port,
         Err(_) => return Err(ServeFault::Memory),

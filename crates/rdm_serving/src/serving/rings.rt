@@ -14,7 +14,7 @@ ghost use Rattle.rdm_serving.specs.body.Scripts.{ran_out_by};
 use crate::serving::calls::cancel_all;
 use crate::serving::playing::{Player, play};
 use crate::serving::ticket::{AskTicket, RequestTicket};
-use crate::serving::{ServeFault, Served, SetUp};
+use crate::serving::{ServeFault, Served, Start};
 use rdm_client::{Collected, Tells, TellsAsk, WorkerEnd};
 use rdm_files::{ClientCall, ClientFile};
 use rdm_lanes::views::{BlankHistory, ViewHistory};
@@ -22,7 +22,6 @@ use rdm_lanes::{
     Body, ClientEnd, Gate, LanesEnd, OpenFault, RingClient, WORKER_STOPPED, run_session_with,
 };
 use rdm_line::Line;
-use rdm_queue::Setup;
 use rdm_reports::Outcomes;
 use std::alloc::Global;
 use std::marker::Brand;
@@ -38,20 +37,20 @@ type Client<J> = RingClient<J, RequestTicket, AskTicket>;
 pub fn serve_rings<X: Line + Send + Drop, R: Threads + Wait + Sync>(
     rt: &R,
     alloc: Global,
-    set_up: SetUp,
+    start: Start,
     ring: u8,
     clients: &[ClientFile],
     line: X,
 ) -> Result<Served, ServeFault>
-    requires config_is { IsConfig set_up.config }
-    requires empty { set_up.log.entries ≡ [] }
+    requires config_is { IsConfig start.setup.config }
+    requires empty { start.log.entries ≡ [] }
     requires slots { 1 ≤ ring }
-    ensures in_turns { IfOk result (λ s. exchange_count s.session ≤ set_up.turns) }
+    ensures in_turns { IfOk result (λ s. exchange_count s.session ≤ start.turns) }
     ensures slots { IfOk result (λ s. s.slots ≡ slots_by Rings ring clients.now) }
-    ensures ran_out { IfOk result (λ s. IfSome s.ran_out (λ made. made ≡ set_up.turns)) }
+    ensures ran_out { IfOk result (λ s. IfSome s.ran_out (λ made. made ≡ start.turns)) }
 {
     let history = BlankHistory::new();
-    serve_views::<Brand, X, R>(rt, alloc, history, set_up, ring, clients, line)
+    serve_views::<Brand, X, R>(rt, alloc, history, start, ring, clients, line)
 }
 
 // The same, with this history of the views that the worker publishes.
@@ -59,30 +58,24 @@ fn serve_views<J: ViewHistory + Send + Sync, X: Line + Send + Drop, R: Threads +
     rt: &R,
     alloc: Global,
     history: BlankHistory,
-    set_up: SetUp,
+    start: Start,
     ring: u8,
     clients: &[ClientFile],
     line: X,
 ) -> Result<Served, ServeFault>
     requires name { book_of history ≡ J.book }
-    requires config_is { IsConfig set_up.config }
-    requires empty { set_up.log.entries ≡ [] }
+    requires config_is { IsConfig start.setup.config }
+    requires empty { start.log.entries ≡ [] }
     requires slots { 1 ≤ ring }
-    ensures in_turns { IfOk result (λ s. exchange_count s.session ≤ set_up.turns) }
+    ensures in_turns { IfOk result (λ s. exchange_count s.session ≤ start.turns) }
     ensures slots { IfOk result (λ s. s.slots ≡ slots_by Rings ring clients.now) }
-    ensures ran_out { IfOk result (λ s. IfSome s.ran_out (λ made. made ≡ set_up.turns)) }
+    ensures ran_out { IfOk result (λ s. IfSome s.ran_out (λ made. made ≡ start.turns)) }
 {
-    let SetUp {
-        search,
-        config,
-        log,
-        turns,
-    } = set_up;
+    let Start { setup, log, turns } = start;
     let Some((places, callers)) = seats_of(alloc, clients, turns) else {
         return Err(ServeFault::Memory);
     };
     let gate = Stop(AtomicBool::new(false));
-    let setup = Setup { config, search };
     let ended = run_session_with::<J, _, _, _, _, X, R>(
         rt, alloc, history, setup, log, ring, &places, callers, &gate, line, turns,
     );

@@ -16,6 +16,6 @@ pub returns-in-Ok-clause-ran_out : goal.returns-in-Ok-clause-ran_out
 returns-in-Ok-clause-ran_out g c =
     let end = c.in-Ok.end in
     IfOk-weaker c.served.result (λ s. s.ran_out ≡ ran_out_by end.worker end.turns)
-    (λ s. IfSome s.ran_out (λ made. made ≡ c.args.set_up.turns))
-    (λ s is. made_all end.worker end.turns c.args.set_up.turns s.ran_out c.in-Ok.ensures.over.all_turns is)
+    (λ s. IfSome s.ran_out (λ made. made ≡ c.args.start.turns))
+    (λ s is. made_all end.worker end.turns c.args.start.turns s.ran_out c.in-Ok.ensures.over.all_turns is)
     c.served.ensures.ran_out
