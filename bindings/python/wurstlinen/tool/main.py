@@ -45,6 +45,8 @@ def run() -> int:
         return FAILED
     except OSError as fault:
         Output(False).note(str(fault.strerror))
+        # What is left to write is lost, without another word.
+        os.dup2(os.open(os.devnull, os.O_WRONLY), sys.stdout.fileno())
         return FAILED
 
 
