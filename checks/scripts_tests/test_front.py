@@ -224,7 +224,7 @@ class Commands(Place):
             self.assertEqual(json.loads(done.stdout)["error"]["reason"], "arguments")
 
     def test_the_commands_for_lines_as_json(self) -> None:
-        wanted = {"error": {"text": "[Errno 2] No such file or directory: 'nowhere'", "reason": "line"}}
+        wanted = {"error": {"text": "nowhere: No such file or directory", "reason": "line"}}
         for words in (["rig", "nowhere"], ["rig", "--line", "rig:nowhere"], ["bridge", "--line", "rig:nowhere"]):
             done = self.call(*words, "--json")
             # Standard output of bridge is for replies.
@@ -251,6 +251,21 @@ class Commands(Place):
             self.assertRegex(json.loads(process.stdout.readline())["line"], "^enttec:/dev/pts/[0-9]+$")
             process.send_signal(signal.SIGINT)
             self.assertEqual(process.wait(10), 0)
+
+    def test_streams_that_are_full_or_closed(self) -> None:
+        command = [sys.executable, "-m", "wurstlinen.tool"]
+        with open("/dev/full", "wb") as full:
+            done = subprocess.run([*command, "--version"], stdout=full, stderr=subprocess.PIPE, check=False, text=True,
+                                  env=self.environment())
+        self.assertEqual((done.returncode, done.stderr), (1, "wurstlinen: No space left on device\n"))
+        for words, status in ((["trace", "-"], 0), (["apply", "-", "--line", f"rig:{FIXTURES}"], 2)):
+            done = subprocess.run(["sh", "-c", 'exec "$@" <&-', "sh", *command, *words], env=self.environment(),
+                                  capture_output=True, check=False, text=True)
+            self.assertEqual((done.returncode, "Traceback" in done.stderr), (status, False), done.stderr)
+
+    def test_options_come_after_the_command(self) -> None:
+        self.expect(["--hlep"], 2, "", "wurstlinen: there is no option '--hlep'; options come after the command; try "
+                    "'wurstlinen --help'\n")
 
     def test_an_interrupt_of_the_commands_for_bytes(self) -> None:
         with mock.patch("wurstlinen.commands.run_bridge", side_effect=KeyboardInterrupt):

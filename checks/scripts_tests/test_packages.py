@@ -298,7 +298,11 @@ class Packages(unittest.TestCase):
         script = f'. "{share}/bash-completion/completions/wurstlinen"; COMP_WORDS=("$@"); COMP_CWORD=$(($# - 1)); ' \
                  '_wurstlinen; echo "${COMPREPLY[@]}"'
         for words, wanted in ((["wurstlinen", "fi"], "fixtures"), (["wurstlinen", "apply", "--dr"], "--dry-run"),
-                              (["wurstlinen", "apply", "x", "--dr"], "--dry-run")):
+                              (["wurstlinen", "apply", "x", "--dr"], "--dry-run"), (["wurstlinen", "save", ""], ""),
+                              (["wurstlinen", "--v"], "--version"), (["wurstlinen", "help", "fi"], "fixtures"),
+                              (["wurstlinen", "get", "1234", ":", "00000001", "device_lab"], "device_label"),
+                              (["wurstlinen", "identify", "1234", ":", "00000001", "o"], "on off"),
+                              (["wurstlinen", "completion", ""], "bash")):
             done = subprocess.run(["bash", "-c", script, "bash", *words], check=True, capture_output=True, text=True)
             self.assertEqual((done.stdout, done.stderr), (f"{wanted}\n", ""))
 

@@ -69,8 +69,11 @@ def run(chosen: argparse.Namespace) -> int:
         return status
     except ImportError as error:
         return fail(f"the C library is needed for this: {error}")
-    except (LineFailed, OSError, ValueError) as error:
+    except (LineFailed, ValueError) as error:
         return fail_line(chosen, str(error))
+    except OSError as error:
+        name = "" if error.filename is None else f"{error.filename}: "
+        return fail_line(chosen, f"{name}{error.strerror or error}")
     except KeyboardInterrupt:
         return INTERRUPTED
 

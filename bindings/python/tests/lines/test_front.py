@@ -10,6 +10,7 @@ import subprocess
 import sys
 import time
 import unittest
+from dataclasses import replace
 from typing import Any, List, Optional
 from unittest import mock
 
@@ -20,6 +21,7 @@ from wurstlinen.front import frames, naming, pids, work
 from wurstlinen.front.output import Output
 from wurstlinen.lines import open_line
 from wurstlinen.lines.numbers import ResponseType
+from wurstlinen.lines.packets import decode_packet
 from wurstlinen.parameters import STANDARD, Parameter, ola
 from wurstlinen.parameters.fields import Message, Number, SubDevices
 
@@ -91,7 +93,18 @@ class Arguments(TestCase):
                 (["get", LEFT, "device_label", "--wait", "nan"],
                  "argument --wait: 'nan' isn't a number of seconds from 0 to 3600; try 'wurstlinen get --help'"),
                 (["get", LEFT, "device_lable"], "there is no parameter 'device_lable'; did you mean device_label? "
-                                                "'wurstlinen pids' lists all"),
+                                                "'wurstlinen pids' lists those of the standards"),
+                (["get", LEFT, "zzz"], "there is no parameter 'zzz'; 'wurstlinen pids' lists those of the standards"),
+                (["get", LEFT, "f0"],
+                 "'f0' isn't a decimal number; as a hexadecimal one it is written 0xf0, and is 240"),
+                (["get", LEFT, "0001"], "'0001' has a leading zero: write 1"),
+                (["get", LEFT], "the following arguments are required: PARAMETER; try 'wurstlinen get --help'"),
+                (["set", LEFT, "device_label", "-x"], "unrecognized arguments: -x; a value that begins with - comes "
+                                                      "after --; try 'wurstlinen set --help'"),
+                (["set", LEFT, "240", "17", "--ra"], "unrecognized arguments: --ra; a value that begins with - comes "
+                                                     "after --; try 'wurstlinen set --help'"),
+                (["set", LEFT, "dmx_fail_mode", "off", "6553.5", "0", "255"],
+                 "loss_of_signal_delay: 6553.5 would be 'infinite', and is written like that"),
                 (["get", LEFT, "0082"], "'0082' can be read in two ways: write 82 for the decimal number, or 0x0082 "
                                         "for the hexadecimal one, which is 130"),
                 (["set", LEFT, "dmx_start_address", "00f0"],
@@ -150,6 +163,11 @@ class Requests(OneRig):
         self.assertEqual(self.run_command("get", "454e:0a000017", "sensor_definition", "0")[1].splitlines()[:2],
                          ["sensor_number: 0", "type: temperature"])
         self.assertEqual(len(self.frames), 7)
+
+    def test_a_value_that_begins_like_an_option(self) -> None:
+        self.assertEqual(self.run_command("get", LEFT, "device_label"), (0, "Front left\n", ""))
+        self.assertEqual(called("set", LEFT, "device_label", "--line", "rig:it", "--", "-x"), (0, "", ""))
+        self.assertEqual(self.run_command("get", LEFT, "device_label"), (0, "-x\n", ""))
 
     def test_a_wait_is_said(self) -> None:
         self.assertEqual(self.run_command("get", SLOW, "device_label"),
@@ -245,11 +263,11 @@ class Requests(OneRig):
 
     def test_frames_are_shown(self) -> None:
         self.assertEqual(self.run_command("set", LEFT, "dmx_start_address", "17", "--frames"),
-                         (0, "", f"0000  SET {LEFT} dmx_start_address 0x0011  -> ACK\n"))
+                         (0, "", f"0000  SET {LEFT} dmx_start_address 17  -> ACK\n"))
         shown = self.run_command("get", SLOW, "device_label", "--frames")[2].splitlines()
         self.assertEqual(shown[1:], [f"wurstlinen: {SLOW} asks for 0.3 s",
-                                     f"0001  GET {SLOW} queued_message 0x04  -> ACK device_label House lights",
-                                     f"0002  GET {SLOW} queued_message 0x04  -> ACK"])
+                                     f"0001  GET {SLOW} queued_message error  -> ACK device_label House lights",
+                                     f"0002  GET {SLOW} queued_message error  -> ACK status_messages"])
 
     def test_raw_is_as_it_was(self) -> None:
         for arguments in (["get", LEFT, "0082"], ["set", LEFT, "00f0", "0017"], ["get", LEFT, "0400"],
@@ -349,6 +367,15 @@ class Frames(TestCase):
             data = bytes.fromhex(frame)
             data += (sum(data) % 0x10000).to_bytes(2, "big")
             self.assertEqual(frames.exchange_text(7, data, scene.exchange(data)), f"0007  {wanted}")
+        frame = bytes.fromhex(f"cc0118{LEFT.replace(':', '')}7ff0000000010001000000200082 00")
+        frame += (sum(frame) % 0x10000).to_bytes(2, "big")
+        command = decode_packet(frame)
+        assert command is not None
+        for kind, data, wanted in ((7, b"\x08", "response type 0x07, 0x08"), (2, b"\0\6\0", "NACK 0x000600"),
+                                   (2, b"\0\6", "NACK data_out_of_range")):
+            reply = replace(command.answer(command.destination, ResponseType.ACK, data), port_or_type=kind)
+            self.assertEqual(frames.exchange_text(0, frame, reply.encode()),
+                             f"0000  GET {LEFT} device_label  -> {wanted}")
         self.assertEqual(frames.exchange_text(0, b"\x01", b"\x02"), "0000  0x01  -> damaged, 0x02")
         self.assertEqual(frames.exchange_text(0, b"\x01", None), "0000  0x01  -> the line failed")
 
@@ -380,7 +407,8 @@ class Frames(TestCase):
             {"number": 1, "text": f"GET {LEFT} device_info", "frame": get, "reply": ""}])
 
     def test_files_that_are_no_logs(self) -> None:
-        for text in ("x\n", "7\n", "null\n", '{"frame":"0"}\n', '{"frame":7}\n', '{"frame":"00","reply":[]}\n', "\n"):
+        for text in ("[" * 100_000, "x\n", "7\n", "null\n",
+                     '{"frame":"0"}\n', '{"frame":7}\n', '{"frame":"00","reply":[]}\n', "\n"):
             self.assertEqual(called("trace", "-", text=text),
                              (2, "", "wurstlinen: -: line 1 isn't an entry of a log\n"), text)
         self.assertEqual(called("trace", "/nowhere.log"),

@@ -5,10 +5,12 @@ from typing import Optional
 
 from ..lines.numbers import CommandClass, Pid, ResponseType
 from ..lines.packets import Packet, decode_branch_reply, decode_packet, uid_text
-from ..parameters import STANDARD, decode
+from ..parameters import STANDARD, Misfit, decode
+from ..parameters.decoding import lines_of, values_of
 from ..parameters.names import NACK_REASONS
 
 UID_BYTES = 6
+NACK_BYTES = 2
 TENTHS = 10
 
 
@@ -20,7 +22,7 @@ def exchange_text(number: int, frame: bytes, reply: Optional[bytes]) -> str:
     elif command is not None and command.is_branch:
         answer = branch_text(reply)
     else:
-        answer = reply_text(reply)
+        answer = reply_text(reply, command)
     return f"{number:04d}  {command_of(frame)}  -> {answer}"
 
 
@@ -40,8 +42,22 @@ def command_text(command: Packet) -> str:
         return f"{'MUTE' if command.pid == Pid.DISC_MUTE else 'UNMUTE'} {target}"
     kind = "SET" if command.command_class == CommandClass.SET else "GET"
     sub_device = f"/{command.sub_device}" if command.sub_device else ""
-    data = f" 0x{command.data.hex()}" if command.data else ""
-    return f"{kind} {target}{sub_device} {STANDARD.name(command.pid)}{data}"
+    return f"{kind} {target}{sub_device} {STANDARD.name(command.pid)}{data_text(command)}"
+
+
+def data_text(command: Packet) -> str:
+    """The data of a GET or a SET."""
+    if not command.data:
+        return ""
+    parameter = STANDARD.numbered(command.pid)
+    is_set = command.command_class == CommandClass.SET
+    message = None if parameter is None else parameter.set if is_set else parameter.get
+    try:
+        if message is not None:
+            return f" {'; '.join(lines_of(message.request, values_of(message.request, command.data)))}"
+    except Misfit:
+        pass
+    return f" 0x{command.data.hex()}"
 
 
 def branch_text(reply: bytes) -> str:
@@ -52,8 +68,8 @@ def branch_text(reply: bytes) -> str:
     return f"collision, {len(reply)} bytes" if found is None else uid_text(found)
 
 
-def reply_text(reply: bytes) -> str:
-    """A response."""
+def reply_text(reply: bytes, command: Optional[Packet]) -> str:
+    """A response to a command."""
     if not reply:
         return "silence"
     response = decode_packet(reply)
@@ -61,18 +77,22 @@ def reply_text(reply: bytes) -> str:
         return f"damaged, 0x{reply.hex()}"
     number = int.from_bytes(response.data, "big")
     if response.port_or_type == ResponseType.NACK_REASON:
-        return f"NACK {NACK_REASONS.get(number, f'0x{number:04x}')}"
+        known = NACK_REASONS.get(number) if len(response.data) == NACK_BYTES else None
+        return f"NACK {known or f'0x{response.data.hex()}'}"
     if response.port_or_type == ResponseType.ACK_TIMER:
         return f"ACK_TIMER {number / TENTHS:g} s"
     if response.port_or_type == ResponseType.ACK_OVERFLOW:
         return f"ACK_OVERFLOW, {len(response.data)} bytes"
-    return f"ACK{acknowledged_text(response)}"
+    if response.port_or_type != ResponseType.ACK:
+        return f"response type 0x{response.port_or_type:02x}, 0x{response.data.hex()}"
+    is_other = command is not None and command.pid != response.pid
+    return f"ACK{acknowledged_text(response, is_other)}"
 
 
-def acknowledged_text(response: Packet) -> str:
-    """The data of an acknowledgement."""
+def acknowledged_text(response: Packet, is_other: bool) -> str:
+    """The data of an acknowledgement, and its parameter if that is another than the command's."""
     if not response.data:
-        return ""
+        return f" {STANDARD.name(response.pid)}" if is_other else ""
     if response.command_class == CommandClass.DISCOVERY_RESPONSE:
         return f" 0x{response.data.hex()}"
     is_set = response.command_class == CommandClass.SET_RESPONSE

@@ -26,6 +26,21 @@ Runner = Callable[[argparse.Namespace, Output], int]
 class Parser(argparse.ArgumentParser):
     """A parser that says what is wrong on one line."""
 
+    def __init__(self, **keys: Any) -> None:
+        super().__init__(allow_abbrev=False, **keys)
+
+    def parse_args(self, args: Any = None, namespace: Any = None) -> Any:
+        """The arguments. Raises Failure."""
+        chosen, rest = self.parse_known_args(args, namespace)
+        # If options stand before, argparse gives values after -- to nobody.
+        if rest[:1] == ["--"] and "values" in chosen and not chosen.values:
+            chosen.values, rest = rest[1:], []
+        if rest:
+            dash = "; a value that begins with - comes after --" if "values" in chosen else ""
+            raise Failure(BAD_ARGUMENTS, f"unrecognized arguments: {' '.join(rest)}{dash}; try '{self.prog} "
+                                         f"{chosen.command} --help'", reason="arguments")
+        return chosen
+
     def error(self, message: str) -> NoReturn:
         """Raises Failure."""
         raise Failure(BAD_ARGUMENTS, f"{message}; try '{self.prog} --help'", reason="arguments")
@@ -126,7 +141,7 @@ def add_get(made: Any, name: str) -> None:
     """The arguments of get."""
     command = add_command(made, name, "read a parameter of a device", "get 1234:00000001 device_label",
                           "requests.run_get")
-    add_request(command, "what some parameters are read by, as a sensor's number")
+    add_request(command, "for parameters that are read by a number, such as a sensor's")
 
 
 def add_set(made: Any, name: str) -> None:
@@ -140,7 +155,7 @@ def add_request(command: Parser, text: str) -> None:
     """What get and set have in common."""
     command.add_argument("uid", type=commands.uid, metavar="UID")
     command.add_argument("parameter", metavar="PARAMETER", help=f"a name or a number; '{PROGRAM} pids' lists them")
-    command.add_argument("values", nargs="*", metavar="VALUE", help=text)
+    command.add_argument("values", nargs="*", default=[], metavar="VALUE", help=text)
     command.add_argument("--sub", type=commands.sub_device, default=0, metavar="N", help="the sub-device, 0 to 65535")
     command.add_argument("--raw", action="store_true",
                          help="PARAMETER and VALUE are bytes in hexadecimal, and so is what is printed")

@@ -5,7 +5,7 @@ import functools
 from typing import Mapping
 
 from ..parameters import STANDARD, Table, WordFault, ola
-from ..parameters.words import is_name, name_of
+from ..parameters.words import is_name, is_only_a_name, name_of
 from .output import BAD_ARGUMENTS, Failure
 
 FIRST_MANUFACTURERS_PID = 0x8000
@@ -40,5 +40,7 @@ def pid_of(manufacturer: int, word: str) -> int:
             return STANDARD.pid(word)
         return table_of(manufacturer, FIRST_MANUFACTURERS_PID).pid(word)
     except WordFault as fault:
-        end = " 'wurstlinen pids' lists all" if is_name(word) else ""
-        raise Failure(BAD_ARGUMENTS, f"{fault}{end}", reason="parameter") from None
+        text = str(fault)
+        if is_only_a_name(word):
+            text += f"{'' if text.endswith('?') else ';'} 'wurstlinen pids' lists those of the standards"
+        raise Failure(BAD_ARGUMENTS, text, reason="parameter") from None

@@ -117,6 +117,6 @@ def show(work: Work, uid: Uid, text: str, output: Output) -> bool:
     try:
         identify(work, uid, ON)
         output.result([text], uid=str(uid))
-        return sys.stdin.readline() != ""
+        return sys.stdin is not None and sys.stdin.readline() != ""
     finally:
         identify(work, uid, OFF)

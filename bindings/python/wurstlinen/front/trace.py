@@ -2,6 +2,7 @@
 from __future__ import annotations
 
 import argparse
+import io
 import json
 import sys
 from typing import Any, Dict, Iterable, Iterator, Optional, TextIO, Tuple
@@ -17,7 +18,7 @@ Exchange = Tuple[bytes, Optional[bytes]]
 def run_trace(chosen: argparse.Namespace, output: Output) -> int:
     """Prints the exchanges of a log, as they are read."""
     if chosen.file == STANDARD_STREAM:
-        return trace(chosen.file, sys.stdin, output)
+        return trace(chosen.file, sys.stdin or io.StringIO(), output)
     try:
         file = open(chosen.file, encoding="utf-8", errors="replace")
     except OSError as fault:
@@ -46,5 +47,5 @@ def exchanges(name: str, lines: Iterable[str]) -> Iterator[Exchange]:
             if frame is not None and ("reply" in entry or "failed" in entry):
                 yield frame, bytes.fromhex(entry["reply"]) if "reply" in entry else None
                 frame = None
-        except (ValueError, TypeError):
+        except (ValueError, TypeError, RecursionError):
             raise Failure(BAD_ARGUMENTS, f"{name}: line {number} isn't an entry of a log", reason="file") from None

@@ -139,6 +139,9 @@ def number_of(field: Number, word: str) -> int:
     number = spelled(field, word, by_label)
     if not field.allows(number):
         raise WordFault(f"{word} is not {valid_text(field)}")
+    if number and field.power and number in field.labels:
+        # It isn't a time, say, of this length.
+        raise WordFault(f"{word} would be '{field.labels[number]}', and is written like that")
     return number
 
 

@@ -5,7 +5,7 @@ from typing import Dict, Iterable, Mapping, Optional, Tuple
 
 from . import e1_20, e1_37_1, e1_37_2
 from .fields import Parameter
-from .words import WordFault, hint, is_name, name_of, whole
+from .words import WordFault, hint, is_only_a_name, name_of, whole
 
 STANDARDS: Mapping[str, Tuple[Parameter, ...]] = {
     "E1.20": e1_20.PARAMETERS,
@@ -42,7 +42,7 @@ class Table:
         """The number of a parameter, by its name, or as a decimal or hexadecimal number. Raises WordFault."""
         if name_of(word) in self._by_name:
             return self.named(word).number
-        if is_name(word) and len(word) > 4:
+        if is_only_a_name(word):
             return self.named(word).number
         number = whole(word)
         if not 0 <= number <= MOST_PID:

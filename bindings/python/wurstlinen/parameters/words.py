@@ -21,6 +21,8 @@ def whole(word: str) -> int:
         return int(word)
     if HEXADECIMAL.fullmatch(word):
         return int(word, 16)
+    if BARE_DECIMAL.fullmatch(word) and int(word) == int(word, 16):
+        raise WordFault(f"'{word}' has a leading zero: write {int(word)}")
     if BARE_DECIMAL.fullmatch(word):
         raise WordFault(f"'{word}' can be read in two ways: write {int(word)} for the decimal number, "
                         f"or 0x{word} for the hexadecimal one, which is {int(word, 16)}")
@@ -33,6 +35,11 @@ def whole(word: str) -> int:
 def is_name(word: str) -> bool:
     """Whether a word is a name rather than a number."""
     return bool(word) and not word[0].isdigit() and word[0] != "-"
+
+
+def is_only_a_name(word: str) -> bool:
+    """Whether a word is a name, and can't be meant as a number in hexadecimal."""
+    return is_name(word) and not BARE_HEXADECIMAL.fullmatch(word)
 
 
 def name_of(word: str) -> str:

@@ -44,7 +44,12 @@ class Adapter:
         if self.fault is not None:
             return self.fault
         version = "" if self.firmware is None else ", firmware {}.{}".format(*self.firmware)
-        return f"{self.maker}, serial {self.serial:08x}{version}, RDM"
+        return f"{self.maker}, serial {self.serial_text}{version}, RDM"
+
+    @property
+    def serial_text(self) -> Optional[str]:
+        """The serial number as it is printed on adapters."""
+        return None if self.serial is None else f"{self.serial:08x}"
 
 
 def chips(sys: Path = SYS, dev: Path = DEV) -> List[Path]:
@@ -102,7 +107,7 @@ def run_adapters(chosen: argparse.Namespace, output: Output) -> int:
 def show(found: List[Adapter], output: Output) -> int:
     """Prints these adapters. The status is 0 if one can be used."""
     for each in found:
-        output.result([f"{each.line}  {each.text}"], line=each.line, serial=each.serial, firmware=each.firmware,
+        output.result([f"{each.line}  {each.text}"], line=each.line, serial=each.serial_text, firmware=each.firmware,
                       fault=each.fault)
     if not found:
         output.failure(Failure(FAILED, "no adapter is plugged in", reason="adapter"))

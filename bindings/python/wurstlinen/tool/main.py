@@ -11,7 +11,7 @@ from typing import Iterator, List, Optional, Sequence, Tuple
 from .. import commands
 from ..front import main as front
 from ..front.main import run as run_chosen
-from ..front.output import DONE, INTERRUPTED, Failure, Output
+from ..front.output import DONE, FAILED, INTERRUPTED, Failure, Output
 from ..front.work import LINE_VARIABLE
 from ..parameters.words import hint
 from . import arguments, places, serving
@@ -40,6 +40,13 @@ def run() -> int:
         return failure.status
     except KeyboardInterrupt:
         return INTERRUPTED
+    except BrokenPipeError:
+        return FAILED
+    except OSError as fault:
+        Output(False).note(str(fault.strerror))
+        # What is left to write is lost, without another word.
+        os.dup2(os.open(os.devnull, os.O_WRONLY), sys.stdout.fileno())
+        return FAILED
 
 
 def end(number: int, frame: Optional[FrameType]) -> None:
@@ -51,7 +58,7 @@ def main(words: Sequence[str]) -> int:
     """Runs a command, and returns its status. Raises Failure."""
     command = words[0] if words else ""
     if command in VERSION_WORDS:
-        print(places.version_line())
+        print(places.version_line(), flush=True)
         return DONE
     if command == "help":
         words = [*words[1:2], "--help"]
@@ -60,7 +67,9 @@ def main(words: Sequence[str]) -> int:
         return run_proved(list(words))
     if command in arguments.OF_LINES and not asks_for_help(words):
         return commands.run(arguments.parser().parse_args(words))
-    if command and not command.startswith("-") and command not in arguments.COMMANDS:
+    if command.startswith("-") and command not in HELP_WORDS:
+        arguments.parser().error(f"there is no option '{command}'; options come after the command")
+    if command and command not in HELP_WORDS and command not in arguments.COMMANDS:
         arguments.parser().error(f"there is no command '{command}'{hint(command, arguments.COMMANDS)}")
     if "--raw" in words:
         os.environ[LINE_VARIABLE] = option(words, "--line") or default_line()

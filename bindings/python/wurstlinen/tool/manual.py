@@ -10,12 +10,15 @@ import sys
 from pathlib import Path
 from typing import Dict, List
 
+from ..parameters import STANDARD
 from . import arguments
 
 STATUSES = (("0", "It was done."), ("1", "The line failed, or no device answered."), ("2", "The arguments are wrong."),
             ("3", "A device refused it."), ("130", "It was interrupted."))
 ENVIRONMENT = (("WURSTLINEN_LINE", "The line that is used without --line."),
                ("WURSTLINEN_LIBRARY", "The C library, if it isn't where it is installed."))
+# The commands that take the name of a parameter.
+NAMING = ("get", "set", "pids")
 
 
 def subcommands() -> Dict[str, argparse.ArgumentParser]:
@@ -76,21 +79,28 @@ def program_page() -> str:
     lines = ['.TH RDM_PORT 1 "" "Wurstlinen" "User Commands"', ".SH NAME",
              "rdm_port \\- the proved program of wurstlinen", ".SH SYNOPSIS", ".B rdm_port", "COMMAND ARGUMENT ..",
              ".SH DESCRIPTION", "It has the commands decode, encode, discover and run, with lines that are streams.",
-             "Each other answer than a result has the status 1 or 2. wurstlinen calls it.", ".SH SEE ALSO",
+             "If it has no result, its status is 1 or 2. wurstlinen calls it.", ".SH SEE ALSO",
              "wurstlinen(1)"]
     return "\n".join(lines) + "\n"
 
 
 def completion() -> str:
-    """The completion for bash."""
-    cases = []
-    for name, command in subcommands().items():
+    """The completion for bash. Where nothing fits, bash completes files."""
+    commands = subcommands()
+    parameters = " ".join(each.name for each in STANDARD.parameters)
+    cases = [f"        help) words='{' '.join(commands)}' ;;"]
+    for name, command in commands.items():
         options = [option for action in command._actions for option in action.option_strings]
-        cases.append(f"        {name}) words='{' '.join(options)}' ;;")
+        named = (action for action in command._actions if not action.option_strings)
+        choices = [choice for action in named for choice in action.choices or ()]
+        words = '"$parameters"' if name in NAMING else f"'{' '.join(choices)}'"
+        cases.append(f"        {name}) words={words} options='{' '.join(options)}' ;;")
     return "\n".join([
         "# Completes the arguments of wurstlinen in bash.", "_wurstlinen() {",
-        '    local words="" word="${COMP_WORDS[COMP_CWORD]}"', '    case "${COMP_WORDS[1]}" in', *cases, "    esac",
-        f'    [ "$COMP_CWORD" -gt 1 ] || words=\'{" ".join(subcommands())}\'',
+        '    local words="" options="" word="${COMP_WORDS[COMP_CWORD]}"', f"    local parameters='{parameters}'",
+        '    case "${COMP_WORDS[1]}" in', *cases, "    esac",
+        f"    [ \"$COMP_CWORD\" -gt 1 ] || words='{' '.join(commands)} help version' options='--help --version'",
+        '    [[ "$word" != -* ]] || words="$options"',
         '    mapfile -t COMPREPLY < <(compgen -W "$words" -- "$word")', "}",
         "complete -o default -F _wurstlinen wurstlinen"]) + "\n"
 
