@@ -8,8 +8,8 @@
 pub use rdm_agent::{Agent, AgentFault, DEFAULT_BUDGET, Kind, Op, OpReply, Search};
 pub use rdm_join::{LineEvent, LineReply, ReplyHead, Status};
 pub use rdm_line::{
-    AddFault, Asks, Collision, CollisionBytes, Counted, LATEST_ARRIVAL, Line, LineFault, Parameter, ParameterPart,
-    Parameters, Scene, SceneDevice, SceneDevices, SimLine, StreamLine, TapeLine,
+    AddFault, Asks, Collision, CollisionBytes, Counted, LATEST_ARRIVAL, Line, LineFault, Parameter,
+    ParameterPart, Parameters, Scene, SceneDevice, SceneDevices, SimLine, StreamLine, TapeLine,
 };
 pub use rdm_queue::{
     Answer, AskCompletion, AskFault, BoxedOutcome, Call, Cause, ClientId, Completion, Config,

@@ -8,8 +8,8 @@ mod rig;
 use crate::rig::{DEVICE_LABEL, rig};
 use arrayvec::ArrayVec;
 use rdm::{
-    AgentFault, Config, DEFAULT_BUDGET, Kind, Line, Log, Outcome, ReqClass, Request,
-    Session, SimLine, Uid,
+    AgentFault, Config, DEFAULT_BUDGET, Kind, Line, Log, Outcome, ReqClass, Request, Session,
+    SimLine, Uid,
 };
 use std::alloc::Global;
 use std::process::ExitCode;

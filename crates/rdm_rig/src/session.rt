@@ -130,7 +130,10 @@ impl<X: Line + Drop> SessionStage<X> {
         let Some(frame) = self.awaited.take() else {
             return self.delivers_nothing(alloc);
         };
-        match self.session.deliver(alloc, self.line.exchange(&frame).into()) {
+        match self
+            .session
+            .deliver(alloc, self.line.exchange(&frame).into())
+        {
             Ok(()) => Heard::Done,
             Err(_) => Heard::Mixed,
         }

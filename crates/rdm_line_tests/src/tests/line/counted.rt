@@ -35,7 +35,11 @@ fn counts_each_failure_once(rt: HostRuntime) {
         (None, 2),
     ] {
         let wanted = wanted.map(|byte: u8| [byte]);
-        meets(&rt, &mut line, wanted.as_ref().map(|bytes| bytes.as_slice()));
+        meets(
+            &rt,
+            &mut line,
+            wanted.as_ref().map(|bytes| bytes.as_slice()),
+        );
         check(&rt, line.failures() == failures);
     }
     check(&rt, line.into_inner().received == 6);
