@@ -9,3 +9,10 @@ pub mod EndLemmas
 pub mod RuleLemmas
 pub mod WatchLemmas
 pub mod StrayLemmas
+pub mod ReadLemmas
+pub mod TriedLemmas
+pub mod UntriedLemmas
+pub mod ElementLemmas
+pub mod NamedLemmas
+pub mod OrderLemmas
+pub mod PartLemmas

@@ -4,3 +4,8 @@ pub mod Watching
 pub mod FrameTests
 pub mod Covering
 pub mod Straying
+pub mod Trees
+pub mod Trying
+pub mod Naming
+pub mod Leasts
+pub mod Firsts
