@@ -1,5 +1,6 @@
 -- The first element of a list without something.
-use Rattle.std.proofs.Common.{◌≡◌, ℕ, ◌+◌, ◌<◌, ◌≤◌, Bool, true, false, ◌&&◌, ◌||◌, not, List, [], ◌∷◌, ◌++◌, Option, Some, None}
+use Rattle.std.proofs.Common.{◌≡◌, ℕ, ◌+◌, ◌<◌, ◌≤◌, Bool, true, false, ◌&&◌, ◌||◌, not, List}
+use Rattle.std.proofs.Common.{[], ◌∷◌, ◌++◌, Option, Some, None}
 use Rattle.std.proofs.Common.{refl, sym, ap, ◌∙◌, subst, inl, inr, true≢false, arith, rules, take, drop, length, get_or}
 use Rattle.std.specs.Prelude.{◌==◌, if◌then◌else◌}
 use Rattle.std.specs.List.{AllByRecursion}
@@ -135,7 +136,8 @@ unlike false true e p = true≢false (sym p)
 unlike false false e p = true≢false (sym e)
 
 pub misreported : (s : List ℕ) (xs : List Exchange) (r : Option ℕ) → IsAscending s
-    → Least (λ u. (has s u && not (has (acked_in (seen_all xs)) u)) || (has (acked_in (seen_all xs)) u && not (has s u))) r
+    → Least (λ u. (has s u && not (has (acked_in (seen_all xs)) u))
+    || (has (acked_in (seen_all xs)) u && not (has s u))) r
     → FirstMisreported s xs r
 misreported s xs None asc least =
     same_members s (set_of (acked_in (seen_all xs))) asc (ascending-set_of (acked_in (seen_all xs)))

@@ -16,3 +16,4 @@ pub mod ElementLemmas
 pub mod NamedLemmas
 pub mod OrderLemmas
 pub mod PartLemmas
+pub mod HonestLemmas

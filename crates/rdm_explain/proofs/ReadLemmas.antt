@@ -1,5 +1,6 @@
 -- What is read off exchanges, one after another.
-use Rattle.std.proofs.Common.{◌≡◌, ℕ, ◌+◌, ◌<◌, Bool, true, false, ◌||◌, List, [], ◌∷◌, ◌++◌, Option, Some, None, length, take}
+use Rattle.std.proofs.Common.{◌≡◌, ℕ, ◌+◌, ◌<◌, Bool, true, false, ◌||◌, List, [], ◌∷◌}
+use Rattle.std.proofs.Common.{◌++◌, Option, length, take}
 use Rattle.std.proofs.Common.{drop, refl, sym, ap, ◌∙◌, subst, get_or}
 use Rattle.std.specs.Prelude.{◌==◌, filter_map}
 use Rattle.std.proofs.lemmas.List.{map-append, take_more, drop_more, take-append-drop}
@@ -9,7 +10,6 @@ use Rattle.rdm_explain.specs.declared.uids.Uids.{Uids}
 use Rattle.rdm_explain.specs.body.Trees.{in_tree, Holds, Gains}
 use Rattle.rdm_wire.specs.Uid.{has}
 use Rattle.rdm_wire.specs.Honest.{Seen}
-use Rattle.rdm_agent.proofs.Pushes.{read-push_none, read-push_some}
 use Rattle.rdm_explain.specs.declared.exchange.Exchange.{Exchange}
 use Rattle.rdm_explain.specs.Exchanges.{seen_of, seen_all}
 use Rattle.rdm_explain.specs.Certificates.{IsFirstWithout}
@@ -20,41 +20,6 @@ pub seen_more : (xs : List Exchange) (i : ℕ) (e : Exchange) → i < length xs 
 seen_more xs i e within read =
     ap seen_all (take_more xs i e within ∙ ap (λ x. take i xs ++ x ∷ []) (sym read))
     ∙ map-append seen_of (take i xs) (e ∷ [])
-
-last_or : (a b : Bool) → (a || (b || false)) ≡ (b || a)
-last_or true true = refl
-last_or true false = refl
-last_or false true = refl
-last_or false false = refl
-
--- a list has what it had, and the UID that is added
-pub has_push : (us : List ℕ) (v u : ℕ) → has (us ++ v ∷ []) u ≡ ((u == v) || has us u)
-has_push us v u = list_any-append (λ w. u == w) us (v ∷ []) ∙ last_or (has us u) (u == v)
-
-pub has_more : (us : List ℕ) (i v : ℕ) → i < length us → v ≡ get_or us i v → (u : ℕ)
-    → has (take (i + 1) us) u ≡ ((u == v) || has (take i us) u)
-has_more us i v within read u =
-    ap (λ l. has l u) (take_more us i v within ∙ ap (λ x. take i us ++ x ∷ []) (sym read))
-    ∙ has_push (take i us) v u
-
-module _ (f : Seen → Option ℕ) where
-  -- an exchange off which nothing is read
-  pub reads_none : (xs : List Exchange) (i : ℕ) (e : Exchange) → i < length xs → e ≡ get_or xs i e
-      → f (seen_of e) ≡ None → filter_map f (seen_all (take (i + 1) xs)) ≡ filter_map f (seen_all (take i xs))
-  reads_none xs i e within read none =
-      ap (filter_map f) (seen_more xs i e within read) ∙ read-push_none f (seen_all (take i xs)) (seen_of e) none
-
-  -- an exchange off which v is read
-  pub reads_some : (xs : List Exchange) (i : ℕ) (e : Exchange) (v : ℕ) → i < length xs → e ≡ get_or xs i e
-      → f (seen_of e) ≡ Some v → filter_map f (seen_all (take (i + 1) xs)) ≡ filter_map f (seen_all (take i xs)) ++ v ∷ []
-  reads_some xs i e v within read some =
-      ap (filter_map f) (seen_more xs i e within read) ∙ read-push_some f (seen_all (take i xs)) (seen_of e) v some
-
-  pub has_read : (xs : List Exchange) (i : ℕ) (e : Exchange) (v : ℕ) → i < length xs → e ≡ get_or xs i e
-      → f (seen_of e) ≡ Some v → (u : ℕ) → has (filter_map f (seen_all (take (i + 1) xs))) u
-      ≡ ((u == v) || has (filter_map f (seen_all (take i xs))) u)
-  has_read xs i e v within read some u =
-      ap (λ l. has l u) (reads_some xs i e v within read some) ∙ has_push (filter_map f (seen_all (take i xs))) v u
 
 -- what all exchanges have, and their fronts too
 pub fronts_have : (P : List Seen → Type 0) → ((x y : List Seen) → P (x ++ y) → P x) → (xs : List Exchange) (n : ℕ)

@@ -2,12 +2,12 @@
 use Rattle.std.proofs.Common.{◌≡◌, ℕ, zero, suc, ◌+◌, ◌<◌, ◌≤◌, Bool, true, false, not, List, [], ◌∷◌, ◌++◌, refl, sym}
 use Rattle.std.proofs.Common.{ap, ◌∙◌, subst, inl, inr, true≢false, arith, length, take, drop, Option, Some, None}
 use Rattle.std.proofs.Common.{get_or, length-append}
-use Rattle.std.specs.Prelude.{◌⊎◌, ◌≢◌, MatchOption, fold, if◌then◌else◌}
+use Rattle.std.specs.Prelude.{◌⊎◌, ◌≢◌, ◌==◌, ◌||◌, MatchOption, fold, if◌then◌else◌}
 use Rattle.std.specs.List.{AllByRecursion}
 use Rattle.std.proofs.lemmas.List.{map-append, take_more, take_at}
 use Rattle.std.proofs.lemmas.List.{get_or_at, drop_more, take-append-drop, length-take-le}
 use Rattle.std.proofs.lemmas.Bool.{cases_Bool, or_cases, and_parts, and_from, cases_lt}
-use Rattle.rdm_wire.specs.Uid.{is_within}
+use Rattle.rdm_wire.specs.Uid.{has, is_within}
 use Rattle.rdm_wire.specs.Honest.{Asked, Heard, Seen, LineState, before_run, is_silent}
 use Rattle.rdm_wire.specs.Honest.Asked.{Unmute, Branch, Mute, Other}
 use Rattle.rdm_wire.specs.Honest.Heard.{Failed, Silent, One, Acked, Noise}
@@ -17,10 +17,10 @@ use Rattle.rdm_explain.specs.declared.rule.Watched.{Watched}
 use Rattle.rdm_explain.specs.declared.standing.Standing.{Standing}
 use Rattle.rdm_explain.specs.Exchanges.{seen_of, seen_all}
 use Rattle.rdm_explain.specs.Rules.{IsFirstBreach}
-use Rattle.rdm_explain.specs.Strays.{Leads, MayBeUnmuted, IsMuted, IsStray}
+use Rattle.rdm_explain.specs.Strays.{Leads, MayBeUnmuted, IsMuted, NobodyIsDue, IsStray}
 use Rattle.rdm_explain.specs.body.Standings.{is_alive, after, after_asked, at_start, standing}
 use Rattle.rdm_explain.specs.body.Watching.{Watches}
-use Rattle.rdm_explain.specs.body.Straying.{is_muted, is_quiet_one, is_quiet, is_stray_by, is_stray}
+use Rattle.rdm_explain.specs.body.Straying.{is_muted, is_quiet_one, is_listed, is_quiet, is_stray_by, is_stray}
 use Rattle.rdm_explain.proofs.StandingLemmas.{Allows, keeps, back, after_other, goes_on, start_allows, at_start_is}
 use Rattle.rdm_explain.proofs.StandingLemmas.{state_of, unmuted_state, alive_honest, or_left}
 use Rattle.rdm_explain.proofs.EndLemmas.{all_append}
@@ -133,24 +133,33 @@ nobody_quiet xs lo hi (w ∷ ws) ok all none =
     by_within true muted = muted_known xs w ok all.0 (muted refl)
     by_within false muted = refl
 
+-- whether a UID is in the list
+listed : (u : ℕ) (ws : List Watched) → is_listed u ws ≡ has (uids_watched ws) u
+listed u [] = refl
+listed u (w ∷ ws) = ap (λ b. (u == w.uid) || b) (listed u ws)
+
 -- an exchange that is stray by what is known
-record StrayBy (ws : List Watched) (a : Asked) (h : Heard) : Type 0 where
-  lo : ℕ
-  hi : ℕ
-  asked : a ≡ Branch lo hi
+record StrayBy (xs : List Exchange) (ws : List Watched) (a : Asked) (h : Heard) : Type 0 where
   not_silent : h ≢ Silent
-  quiet : is_quiet lo hi ws ≡ true
+  nobody : NobodyIsDue (uids_watched ws) (seen_all xs) a
+
+not_is : (b : Bool) → not b ≡ true → b ≡ false
+not_is true e = absurd (true≢false (sym e))
+not_is false e = refl
 
 loud : (h : Heard) → not (is_silent h) ≡ true → h ≢ Silent
 loud h holds silent = not_true (is_silent h) holds (ap is_silent silent)
 
-stray_by : (ws : List Watched) (a : Asked) (h : Heard) → is_stray_by ws a h ≡ true → StrayBy ws a h
-stray_by ws Unmute h holds = absurd (true≢false (sym holds))
-stray_by ws (Mute u) h holds = absurd (true≢false (sym holds))
-stray_by ws Other h holds = absurd (true≢false (sym holds))
-stray_by ws (Branch lo hi) h holds =
+stray_by : (xs : List Exchange) (ws : List Watched) (a : Asked) (h : Heard) → NoFailure (seen_all xs)
+    → AllByRecursion (Watches xs) ws → is_stray_by ws a h ≡ true → StrayBy xs ws a h
+stray_by xs ws Unmute h ok all holds = absurd (true≢false (sym holds))
+stray_by xs ws Other h ok all holds = absurd (true≢false (sym holds))
+stray_by xs ws (Mute u) h ok all holds =
+    let both = and_parts (not (is_silent h)) (not (is_listed u ws)) holds in
+    record { not_silent = loud h both.0; nobody = sym (listed u ws) ∙ not_is (is_listed u ws) both.1 }
+stray_by xs ws (Branch lo hi) h ok all holds =
     let both = and_parts (not (is_silent h)) (is_quiet lo hi ws) holds in
-    record { lo = lo; hi = hi; asked = refl; not_silent = loud h both.0; quiet = both.1 }
+    record { not_silent = loud h both.0; nobody = quiet_nobody xs lo hi ws ok all both.1 }
 
 silence_of : (h : Heard) → h ≢ Silent → is_silent h ≡ false
 silence_of Failed other = refl
@@ -159,18 +168,24 @@ silence_of (One u) other = refl
 silence_of (Acked ack) other = refl
 silence_of Noise other = refl
 
-by_stray : (ws : List Watched) (lo hi : ℕ) (a : Asked) (h : Heard) → a ≡ Branch lo hi → h ≢ Silent
-    → is_quiet lo hi ws ≡ true → is_stray_by ws a h ≡ true
-by_stray ws lo hi a h asked other quiet =
-    ap (λ b. is_stray_by ws b h) asked
-    ∙ and_from (not (is_silent h)) (is_quiet lo hi ws) (not_of (is_silent h) (silence_of h other)) quiet
+by_stray : (xs : List Exchange) (ws : List Watched) (a : Asked) (h : Heard) → NoFailure (seen_all xs)
+    → AllByRecursion (Watches xs) ws → h ≢ Silent → NobodyIsDue (uids_watched ws) (seen_all xs) a
+    → is_stray_by ws a h ≡ true
+by_stray xs ws Unmute h ok all other nobody = absurd nobody
+by_stray xs ws Other h ok all other nobody = absurd nobody
+by_stray xs ws (Mute u) h ok all other nobody =
+    and_from (not (is_silent h)) (not (is_listed u ws)) (not_of (is_silent h) (silence_of h other))
+    (not_of (is_listed u ws) (listed u ws ∙ nobody))
+by_stray xs ws (Branch lo hi) h ok all other nobody =
+    and_from (not (is_silent h)) (is_quiet lo hi ws) (not_of (is_silent h) (silence_of h other))
+    (nobody_quiet xs lo hi ws ok all nobody)
 
 -- at an index
 pub stray_at : (us : List ℕ) (xs : List Exchange) (at : ℕ) (e : Exchange) (ws : List Watched) → at < length xs
     → e ≡ get_or xs at e → NoFailure (seen_all (take at xs)) → WatchesAll (take at xs) us ws
     → (seen_of e).heard ≢ Failed → is_stray ws (seen_of e) ≡ true → IsStray us xs at
 stray_at us xs at e ws within read ok all fine holds =
-    let s = stray_by ws (seen_of e).asked (seen_of e).heard holds in record {
+    let s = stray_by (take at xs) ws (seen_of e).asked (seen_of e).heard ok all.0 holds in record {
       front = take at xs;
       exchange = e;
       back = drop (at + 1) xs;
@@ -178,12 +193,9 @@ stray_at us xs at e ws within read ok all fine holds =
           ∙ ap (λ l. take at xs ++ l) (drop_more xs at e within ∙ ap (λ x. x ∷ drop (at + 1) xs) (sym read));
       index = length-take-le at xs (omega arith);
       no_failure = ok;
-      lo = s.lo;
-      hi = s.hi;
-      asked = s.asked;
       not_failed = fine;
       not_silent = s.not_silent;
-      nobody = subst (Nobody (take at xs) s.lo s.hi) all.1 (quiet_nobody (take at xs) s.lo s.hi ws ok all.0 s.quiet);
+      nobody = subst (λ l. NobodyIsDue l (seen_all (take at xs)) (seen_of e).asked) all.1 s.nobody;
     }
 
 pub at_stray : (us : List ℕ) (xs : List Exchange) (at : ℕ) (e : Exchange) (ws : List Watched) → e ≡ get_or xs at e
@@ -191,8 +203,8 @@ pub at_stray : (us : List ℕ) (xs : List Exchange) (at : ℕ) (e : Exchange) (w
     → is_stray ws (seen_of e) ≡ true
 at_stray us xs at e ws read ok all s =
     subst (λ x. is_stray ws (seen_of x) ≡ true) same
-    (by_stray ws s.lo s.hi (seen_of s.exchange).asked (seen_of s.exchange).heard s.asked s.not_silent
-    (nobody_quiet (take at xs) s.lo s.hi ws ok all.0 (subst (Nobody (take at xs) s.lo s.hi) (sym all.1) nobody)))
+    (by_stray (take at xs) ws (seen_of s.exchange).asked (seen_of s.exchange).heard ok all.0 s.not_silent
+    (subst (λ l. NobodyIsDue l (seen_all (take at xs)) (seen_of s.exchange).asked) (sym all.1) nobody))
   where
     same : s.exchange ≡ e
     same = sym (read ∙ ap (λ l. get_or l at e) s.whole ∙ get_or_at s.front s.exchange s.back e at s.index)
@@ -200,8 +212,8 @@ at_stray us xs at e ws read ok all s =
     front : s.front ≡ take at xs
     front = sym (ap (take at) s.whole ∙ take_at s.front (s.exchange ∷ s.back) at s.index)
 
-    nobody : Nobody (take at xs) s.lo s.hi us
-    nobody = subst (λ l. Nobody l s.lo s.hi us) front s.nobody
+    nobody : NobodyIsDue us (seen_all (take at xs)) (seen_of s.exchange).asked
+    nobody = subst (λ l. NobodyIsDue us (seen_all l) (seen_of s.exchange).asked) front s.nobody
 
 -- a stray exchange is within the list
 pub stray_within : (us : List ℕ) (xs : List Exchange) (at : ℕ) → IsStray us xs at → at < length xs

@@ -210,7 +210,8 @@ lows_in (s ∷ ss) u all h =
     ]
 
 pub tried_is : (x : List Seen) (u : ℕ) → has (lows (tried_points x)) u ≡ true → WasTried x u
-tried_is x u h = covered_tried x u (in_covered (map alone x) u (lows_in (tried_points x) u (points_fold x cover_start tt) h))
+tried_is x u h =
+    covered_tried x u (in_covered (map alone x) u (lows_in (tried_points x) u (points_fold x cover_start tt) h))
 
 pub is_tried : (x : List Seen) (u : ℕ) → WasTried x u → has (lows (tried_points x)) u ≡ true
 is_tried x u t =

@@ -1,5 +1,6 @@
 -- The parts of a certificate, and the first place where each of them fails.
-use Rattle.std.specs.Prelude.{◌≡◌, ◌≢◌, ℕ, ◌+◌, ◌<◌, true, List, ◌∷◌, ◌++◌, length, take, map, replicate, Option, Some, None}
+use Rattle.std.specs.Prelude.{◌≡◌, ◌≢◌, ℕ, ◌+◌, ◌<◌, true, List, ◌∷◌, ◌++◌, length}
+use Rattle.std.specs.Prelude.{take, map, replicate, Option, Some, None}
 use Rattle.std.specs.List.{AllByRecursion, before_first}
 use Rattle.rdm_wire.specs.Uid.{has, set_of}
 use Rattle.rdm_wire.specs.Devices.{uids_of, device_with}

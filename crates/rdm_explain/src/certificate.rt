@@ -21,7 +21,8 @@ pub struct RunFinding {
     pub missing_unmute: Option<usize>,
     /// No exchange fails. This one did.
     pub failure: Option<usize>,
-    /// The set is that of the acknowledged UIDs. This one is in the set alone, or was acknowledged and isn't in the set.
+    /// The set is that of the acknowledged UIDs. This one is in the set alone, or was acknowledged and isn't in the
+    /// set.
     pub misreported: Option<Uid>,
     /// Each muted UID is a device's, and was acknowledged, or was muted five times in a row without acknowledgement.
     /// This exchange mutes another one.

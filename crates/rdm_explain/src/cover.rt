@@ -4,7 +4,8 @@ ghost use Rattle.rdm_explain.specs.declared.cover.Stretch.{Stretch};
 ghost use Rattle.std.specs.List.Sorted.{IsNonDecreasingBy};
 ghost use Rattle.rdm_explain.specs.Exchanges.{seen_of};
 ghost use Rattle.rdm_explain.specs.Covers.{FirstUncovered};
-ghost use Rattle.rdm_explain.specs.body.Covering.{cover_of, cover_start, covered_after, silence_after, acked_after, FirstGap};
+ghost use Rattle.rdm_explain.specs.body.Covering.{cover_of, cover_start, covered_after, silence_after};
+ghost use Rattle.rdm_explain.specs.body.Covering.{acked_after, FirstGap};
 
 use crate::exchange::{Asked, Exchange};
 use rdm_wire::{NoMemory, Uid};

@@ -12,8 +12,8 @@ use crate::uids::Uids;
 use rdm_wire::{NoMemory, Uid};
 use std::alloc::Global;
 
-/// A part of a certificate: the known UIDs are muted before the first branch. The first of these that isn't. `None`: all
-/// are. A full run mutes none first, so for it the list is empty. The only error: out of memory.
+/// A part of a certificate: the known UIDs are muted before the first branch. The first of these that isn't. `None`:
+/// all are. A full run mutes none first, so for it the list is empty. The only error: out of memory.
 pub fn first_not_muted_first(
     alloc: Global,
     known: &[Uid],
@@ -60,9 +60,9 @@ fn add_muted(muted: &mut Uids, exchange: &Exchange) -> Result<(), NoMemory>
     }
 }
 
-/// A part of a certificate: each muted UID is one of the known ones, or was read from the reply to an earlier branch. The
-/// index of the first exchange that mutes another one. `None`: there is none. A full run mutes no known UIDs, so for it
-/// the list is empty. The only error: out of memory.
+/// A part of a certificate: each muted UID is one of the known ones, or was read from the reply to an earlier branch.
+/// The index of the first exchange that mutes another one. `None`: there is none. A full run mutes no known UIDs, so
+/// for it the list is empty. The only error: out of memory.
 pub fn first_unread(
     alloc: Global,
     known: &[Uid],

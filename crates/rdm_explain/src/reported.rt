@@ -157,8 +157,8 @@ fn first_acknowledgements(
 
 // Adds the device whose mute an exchange finds acknowledged, if it is in the set and has no acknowledgement yet.
 fn add_first(first: &mut Firsts, set: &DeviceSet, exchange: &Exchange) -> Result<(), NoMemory>
-    ensures { OnOk result ((u : ℕ) → has (uids_of set.now) u ≡ true
-        → first_in first.new u ≡ or_else (first_in first.old u) (device_with (devices_in (seen_of exchange.now ∷ [])) u)) }
+    ensures { OnOk result ((u : ℕ) → has (uids_of set.now) u ≡ true → first_in first.new u
+        ≡ or_else (first_in first.old u) (device_with (devices_in (seen_of exchange.now ∷ [])) u)) }
 {
     match acknowledgement(exchange) {
         Some(device) if set.contains(device.uid) => first.add(device),

@@ -2,16 +2,19 @@
 ghost use Rattle.std.specs.Prelude.{◌≡◌, IfOk};
 ghost use Rattle.rdm_explain.specs.Exchanges.{seen_of};
 ghost use Rattle.rdm_explain.specs.Strays.{FirstStray};
-ghost use Rattle.rdm_explain.specs.body.Straying.{is_stray, is_quiet, is_quiet_one};
+ghost use Rattle.rdm_explain.specs.body.Straying.{is_stray, is_listed, is_quiet, is_quiet_one};
 
 use crate::exchange::{Asked, Exchange};
 use crate::rule::{Watched, hear_all, watch};
 use rdm_wire::{NoMemory, Uid};
 use std::alloc::Global;
 
-/// The index of the first branch that was answered although each device of a list was outside of its range, or muted. A
-/// device is muted if it followed the rules so far, and can't be unmuted by these rules. `None`: there is no such
-/// branch before the line fails. The only error: out of memory.
+/// The index of the first exchange that was answered although no device of a list was due:
+/// - a branch, and each device was outside of its range, or muted;
+/// - a mute of a UID that isn't in the list.
+///
+/// A device is muted if it followed the rules so far, and can't be unmuted by these rules. `None`: there is no such
+/// exchange before the line fails. The only error: out of memory.
 pub fn first_stray(
     alloc: Global,
     uids: &[Uid],
@@ -32,14 +35,27 @@ pub fn first_stray(
     Ok(None)
 }
 
-// Whether an exchange is a branch that was answered although nobody was due.
+// Whether an exchange was answered although nobody was due.
 fn is_stray(watched: &[Watched], exchange: &Exchange) -> bool
     ensures { result ≡ is_stray watched.now (seen_of exchange.now) }
 {
     match exchange.asked {
         Asked::Branch { lo, hi } if !exchange.heard.is_silent() => is_quiet(watched, lo, hi),
+        Asked::Mute(uid) if !exchange.heard.is_silent() => !is_listed(watched, uid),
         _ => false,
     }
+}
+
+// Whether a device has this UID.
+fn is_listed(watched: &[Watched], uid: Uid) -> bool
+    ensures { result ≡ is_listed uid watched.now }
+{
+    for device in watched {
+        if uid == device.uid {
+            return true;
+        }
+    }
+    false
 }
 
 // Whether each device is outside of a range, or muted.
