@@ -4,7 +4,7 @@ pub mod GapLemmas
 pub mod CoverLemmas
 pub mod SortedLemmas
 pub mod StandingLemmas
-pub mod CountLemmas
+pub mod EndingLemmas
 pub mod EndLemmas
 pub mod RuleLemmas
 pub mod WatchLemmas

@@ -1,5 +1,6 @@
 -- What only the proofs need.
 pub mod Standings
+pub mod Endings
 pub mod Watching
 pub mod FrameTests
 pub mod Covering

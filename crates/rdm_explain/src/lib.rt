@@ -4,6 +4,7 @@
 
 mod certificate;
 mod cover;
+mod ends;
 mod exchange;
 mod firsts;
 mod frame;
@@ -12,7 +13,6 @@ pub mod laws;
 mod order;
 mod reported;
 mod rule;
-mod standing;
 mod stray;
 mod tried;
 mod uids;

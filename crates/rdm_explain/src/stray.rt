@@ -4,6 +4,7 @@ ghost use Rattle.rdm_explain.specs.Exchanges.{seen_of};
 ghost use Rattle.rdm_explain.specs.Strays.{FirstStray};
 ghost use Rattle.rdm_explain.specs.body.Straying.{is_stray, is_listed, is_quiet, is_quiet_one};
 
+use crate::ends::Ends;
 use crate::exchange::{Asked, Exchange};
 use crate::rule::{Watched, hear_all, watch};
 use rdm_wire::{NoMemory, Uid};
@@ -23,6 +24,7 @@ pub fn first_stray(
     ensures { IfOk result (λ found. FirstStray uids.now exchanges.now found) }
 {
     let mut watched = watch(alloc, uids)?;
+    let mut ends = Ends::start();
     for (at, exchange) in exchanges.iter().enumerate() {
         if exchange.heard.is_failed() {
             return Ok(None);
@@ -30,7 +32,8 @@ pub fn first_stray(
         if is_stray(&watched, exchange) {
             return Ok(Some(at));
         }
-        hear_all(&mut watched, at, exchange);
+        ends = ends.after(exchange);
+        hear_all(&mut watched, &ends, at, exchange);
     }
     Ok(None)
 }
@@ -75,7 +78,7 @@ fn is_quiet_one(device: &Watched, lo: Uid, hi: Uid) -> bool
     ensures { result ≡ is_quiet_one lo hi device.now }
 {
     if lo <= device.uid && device.uid <= hi {
-        device.standing.muted && !device.standing.unmuted
+        device.muted && !device.unmuted
     } else {
         true
     }

@@ -54,17 +54,14 @@ fn alone(exchange: &Exchange) -> Exchange
 {
     match exchange.asked {
         Asked::Mute(_) if exchange.heard.is_acked() => *exchange,
-        Asked::Mute(uid) => silence(Asked::Branch { lo: uid, hi: uid }),
-        _ => silence(Asked::Other),
-    }
-}
-
-fn silence(asked: Asked) -> Exchange
-    ensures { seen_of result ≡ seen (asked_of asked) Silent }
-{
-    Exchange {
-        asked,
-        heard: Heard::Silent,
+        Asked::Mute(uid) => Exchange {
+            asked: Asked::Branch { lo: uid, hi: uid },
+            heard: Heard::Silent,
+        },
+        _ => Exchange {
+            asked: Asked::Other,
+            heard: Heard::Silent,
+        },
     }
 }
 

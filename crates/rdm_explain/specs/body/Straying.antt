@@ -7,7 +7,7 @@ use Rattle.rdm_explain.specs.declared.rule.Watched.{Watched}
 
 -- whether the device is known to be muted
 abbrev pub is_muted : Watched → Bool
-is_muted w = w.standing.muted && not w.standing.unmuted
+is_muted w = w.muted && not w.unmuted
 
 -- whether the device is outside of the range, or known to be muted
 abbrev pub is_quiet_one : ℕ → ℕ → Watched → Bool
