@@ -4,8 +4,16 @@ pub mod GapLemmas
 pub mod CoverLemmas
 pub mod SortedLemmas
 pub mod StandingLemmas
-pub mod CountLemmas
+pub mod EndingLemmas
 pub mod EndLemmas
 pub mod RuleLemmas
 pub mod WatchLemmas
 pub mod StrayLemmas
+pub mod ReadLemmas
+pub mod TriedLemmas
+pub mod UntriedLemmas
+pub mod ElementLemmas
+pub mod NamedLemmas
+pub mod OrderLemmas
+pub mod PartLemmas
+pub mod HonestLemmas

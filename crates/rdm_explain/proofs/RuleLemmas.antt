@@ -7,7 +7,7 @@ use Rattle.rdm_wire.specs.Uid.{is_within}
 use Rattle.rdm_wire.specs.Honest.{Asked, Heard, Seen, is_acked, is_silent}
 use Rattle.rdm_wire.specs.Honest.Asked.{Unmute, Branch, Mute, Other}
 use Rattle.rdm_wire.specs.Honest.Heard.{Failed, Silent, One, Acked, Noise}
-use Rattle.rdm_explain.specs.declared.standing.Standing.{Standing}
+use Rattle.rdm_explain.specs.body.Standings.{Standing}
 use Rattle.rdm_explain.specs.Rules.{EndsWith, EndsBy, IsSilentAround, IsSilentMute, IsGarbledMute}
 use Rattle.rdm_explain.specs.body.Standings.{is_alive, with_counts, after_branch, after_mute, after_asked}
 use Rattle.rdm_explain.specs.body.Standings.{after}

@@ -11,7 +11,7 @@ use Rattle.rdm_wire.specs.Honest.{Asked, Heard, Seen, LineState, HonestToStep, H
 use Rattle.rdm_wire.specs.Honest.{lost_after, KeepsMuted, MuteMoves, UnmuteMoves, is_acked, is_silent, before_run}
 use Rattle.rdm_wire.specs.Honest.Asked.{Unmute, Branch, Mute, Other}
 use Rattle.rdm_wire.specs.Honest.Heard.{Failed, Silent, One, Acked, Noise}
-use Rattle.rdm_explain.specs.declared.standing.Standing.{Standing}
+use Rattle.rdm_explain.specs.body.Standings.{Standing}
 use Rattle.rdm_explain.specs.declared.exchange.Exchange.{Exchange}
 use Rattle.rdm_explain.specs.Exchanges.{seen_of, seen_all}
 use Rattle.rdm_explain.specs.body.Standings.{is_alive, with_counts, after_branch, after_mute, after_unmute, after_asked}

@@ -1,5 +1,5 @@
 -- What is known of the devices of a list stays right with each exchange.
-use Rattle.std.proofs.Common.{◌≡◌, ℕ, ◌+◌, ◌<◌, Bool, true, false, List, [], ◌∷◌, ◌++◌, refl, sym, ap, ◌∙◌, subst}
+use Rattle.std.proofs.Common.{◌≡◌, ℕ, ◌+◌, ◌<◌, Bool, true, false, ◌||◌, List, [], ◌∷◌, ◌++◌, refl, sym, ap, ◌∙◌, subst}
 use Rattle.std.proofs.Common.{append-nil, append_assoc, true≢false, arith, length, take, drop, map}
 use Rattle.std.proofs.Common.{Option, Some, None, get_or}
 use Rattle.std.specs.Prelude.{MatchOption, fold, if◌then◌else◌}
@@ -11,15 +11,18 @@ use Rattle.rdm_wire.specs.Honest.{Seen, HonestTo}
 use Rattle.rdm_explain.specs.declared.exchange.Exchange.{Exchange}
 use Rattle.rdm_explain.specs.declared.rule.Breach.{Breach}
 use Rattle.rdm_explain.specs.declared.rule.Watched.{Watched}
-use Rattle.rdm_explain.specs.declared.standing.Standing.{Standing}
 use Rattle.rdm_explain.specs.Exchanges.{seen_of, seen_all}
 use Rattle.rdm_explain.specs.Rules.{FirstBreach, IsFirstBreach, EndsBy, AreFirstBreaches, uids_of_findings}
-use Rattle.rdm_explain.specs.body.Standings.{is_alive, after, at_start, standing}
-use Rattle.rdm_explain.specs.body.Watching.{watched_by, watched_with, watch_of, finding_of, rule_by}
-use Rattle.rdm_explain.specs.body.Watching.{CountsAtMost, Watches}
+use Rattle.rdm_explain.specs.body.Standings.{Standing, is_alive, after, at_start, standing}
+use Rattle.rdm_explain.specs.body.Watching.{watched_by, watched_with, with_flags, heard_by, watch_of, finding_of}
+use Rattle.rdm_explain.specs.body.Watching.{rule_by, muted_by_change, unmuted_by_change, Fits, FitsCounts, Watches}
+use Rattle.rdm_explain.specs.declared.ends.Ends.{Ends}
+use Rattle.rdm_explain.specs.declared.ends.Change.{Change}
+use Rattle.rdm_explain.specs.declared.ends.Change.TheVariants as changes
+use Rattle.rdm_explain.specs.body.Endings.{ended_after, is_nothing, change_after, at_first}
+use Rattle.rdm_explain.proofs.EndingLemmas.{steps_after, first_fits}
 use Rattle.rdm_explain.proofs.StandingLemmas.{honest_alive, alive_honest, alive_through}
 use Rattle.rdm_explain.proofs.MapLemmas.{written_back}
-use Rattle.rdm_explain.proofs.CountLemmas.{counts_grow}
 use Rattle.rdm_explain.proofs.EndLemmas.{ends_none}
 use Rattle.rdm_explain.proofs.RuleLemmas.{EndsUnlessStopped, ends_after, breaks_rule}
 
@@ -83,85 +86,144 @@ new_breach u xs e alive dead = record {
     never h = true≢false (sym (honest_alive u _ (subst (HonestTo u) (seen_push xs e) h))
         ∙ ap is_alive (standing_push u (seen_all xs) (seen_of e)) ∙ dead)
 
-pub watches_more : (xs : List Exchange) (e : Exchange) (w : Watched) → Watches xs w
-    → Watches (xs ++ e ∷ []) (watched_by (length xs) (seen_of e) w)
-watches_more xs e w is = by_breach w.breach refl is.known
+-- what is known of a device after one more exchange
+abbrev Known : List Exchange → Ends → Watched → Option Breach → Type 0
+Known xs l w o =
+    MatchOption o (Fits l w (standing w.uid (seen_all xs)) × (is_alive (standing w.uid (seen_all xs)) ≡ true))
+    (λ b. IsFirstBreach w.uid xs b × ((w.muted ≡ false) × (w.unmuted ≡ false)))
+
+neither : (m n : Bool) → (m || n) ≡ false → (m ≡ false) × (n ≡ false)
+neither true n e = absurd (true≢false e)
+neither false n e = (refl, e)
+
+nothing_is : (c : Change) → is_nothing c ≡ true → c ≡ changes.Nothing
+nothing_is changes.Nothing is = refl
+nothing_is changes.Unmute is = absurd (true≢false (sym is))
+nothing_is changes.UnmuteAll is = absurd (true≢false (sym is))
+nothing_is (changes.Silence s) is = absurd (true≢false (sym is))
+nothing_is (changes.Acked u) is = absurd (true≢false (sym is))
+nothing_is (changes.Lost u) is = absurd (true≢false (sym is))
+nothing_is (changes.Broken u) is = absurd (true≢false (sym is))
+
+pub watches_more : (xs : List Exchange) (e : Exchange) (l : Ends) (w : Watched) → Watches xs l w
+    → Watches (xs ++ e ∷ []) (ended_after l (seen_of e))
+    (heard_by (ended_after l (seen_of e)) (length xs) (seen_of e) w)
+watches_more xs e l w is = by_nothing (is_nothing (change_after (ended_after l (seen_of e)) (seen_of e))) refl
   where
-    more : length (xs ++ e ∷ []) ≡ length xs + 1
-    more = length_push xs e
+    s : Seen
+    s = seen_of e
 
-    after_is : w.standing ≡ standing w.uid (seen_all xs)
-        → after w.uid w.standing (seen_of e) ≡ standing w.uid (seen_all (xs ++ e ∷ []))
-    after_is same = ap (λ p. after w.uid p (seen_of e)) same ∙ sym (standing_push w.uid (seen_all xs) (seen_of e))
-        ∙ ap (standing w.uid) (sym (seen_push xs e))
+    b : Breach
+    b = record { at = length xs; rule = rule_by s }
 
-    known_after : (b : Bool) → w.standing ≡ standing w.uid (seen_all xs) → is_alive w.standing ≡ true
-        → is_alive (after w.uid w.standing (seen_of e)) ≡ b
-        → MatchOption (if b then None else Some (record { at = length xs; rule = rule_by (seen_of e) }))
-        ((after w.uid w.standing (seen_of e) ≡ standing w.uid (seen_all (xs ++ e ∷ [])))
-        × (is_alive (after w.uid w.standing (seen_of e)) ≡ true))
-        (λ b. IsFirstBreach w.uid (xs ++ e ∷ []) b × (is_alive (after w.uid w.standing (seen_of e)) ≡ false))
-    known_after true same alive now = (after_is same, now)
-    known_after false same alive now = (
-      new_breach w.uid xs e (ap is_alive (sym same) ∙ alive)
-          (ap (λ p. is_alive (after w.uid p (seen_of e))) (sym same) ∙ now),
-      now,
-    )
+    m : Bool
+    m = muted_by_change (change_after (ended_after l s) s) w.uid w.muted w.unmuted
 
-    by_breach : (o : Option Breach) → w.breach ≡ o
-        → MatchOption o ((w.standing ≡ standing w.uid (seen_all xs)) × (is_alive w.standing ≡ true))
-        (λ b. IsFirstBreach w.uid xs b × (is_alive w.standing ≡ false))
-        → Watches (xs ++ e ∷ []) (watched_with (length xs) (seen_of e) w o)
-    by_breach (Some b) has known = record {
-      counts = record {
-        branches = omega (arith, more, is.counts.branches);
-        mutes = omega (arith, more, is.counts.mutes);
-        unmutes = omega (arith, more, is.counts.unmutes);
-      };
-      known = rw has (breach_stays w.uid xs e b known.0, known.1);
-    }
-    by_breach None has known =
-        let grown = counts_grow w.uid w.standing (seen_of e) in record {
-          counts = record {
-            branches = omega (arith, more, is.counts.branches, grown.0);
-            mutes = omega (arith, more, is.counts.mutes, grown.1);
-            unmutes = omega (arith, more, is.counts.unmutes, grown.2);
-          };
-          known = known_after (is_alive (after w.uid w.standing (seen_of e))) known.0 known.1 refl;
-        }
+    n : Bool
+    n = unmuted_by_change (change_after (ended_after l s) s) w.uid w.muted w.unmuted
 
-pub watches_start : (u : ℕ) → Watches [] (watch_of u)
-watches_start u = record {
-  counts = record { branches = omega arith; mutes = omega arith; unmutes = omega arith };
-  known = (refl, refl);
-}
+    p : Standing
+    p = standing w.uid (seen_all xs)
+
+    next : after w.uid p s ≡ standing w.uid (seen_all (xs ++ e ∷ []))
+    next = sym (standing_push w.uid (seen_all xs) s) ∙ ap (standing w.uid) (sym (seen_push xs e))
+
+    known_after : (t : Bool) → (m || n) ≡ t → Fits l w p → is_alive p ≡ true
+        → Known (xs ++ e ∷ []) (ended_after l s) (with_flags b w m n) (if t then None else Some b)
+    known_after true now fits alive =
+        let steps = steps_after l w.uid w.muted w.unmuted p s fits.muted fits.unmuted fits.counts in
+        let live : is_alive (after w.uid p s) ≡ true
+        = sym (ap (λ k. k || (after w.uid p s).unmuted) steps.muted) ∙ ap (λ k. m || k) (sym steps.unmuted) ∙ now in (
+          record {
+            muted = steps.muted ∙ ap (λ q. q.muted) next;
+            unmuted = steps.unmuted ∙ ap (λ q. q.unmuted) next;
+            counts = subst (FitsCounts (ended_after l s) w.uid) next (steps.counts live);
+          },
+          ap is_alive (sym next) ∙ live,
+        )
+    known_after false now fits alive =
+        let steps = steps_after l w.uid w.muted w.unmuted p s fits.muted fits.unmuted fits.counts in
+        let dead : is_alive (after w.uid p s) ≡ false
+        = sym (ap (λ k. k || (after w.uid p s).unmuted) steps.muted) ∙ ap (λ k. m || k) (sym steps.unmuted) ∙ now in
+        (new_breach w.uid xs e alive dead, neither m n now)
+
+    same_known : change_after (ended_after l s) s ≡ changes.Nothing → (o : Option Breach) → Known xs l w o
+        → Known (xs ++ e ∷ []) (ended_after l s) w o
+    same_known none (Some c) known = (breach_stays w.uid xs e c known.0, known.1)
+    same_known none None known =
+        let fits = known.0 in
+        let steps = steps_after l w.uid w.muted w.unmuted p s fits.muted fits.unmuted fits.counts in
+        let muted : w.muted ≡ (after w.uid p s).muted
+        = sym (ap (λ k. muted_by_change k w.uid w.muted w.unmuted) none) ∙ steps.muted in
+        let unmuted : w.unmuted ≡ (after w.uid p s).unmuted
+        = sym (ap (λ k. unmuted_by_change k w.uid w.muted w.unmuted) none) ∙ steps.unmuted in
+        let live : is_alive (after w.uid p s) ≡ true
+        = ap (λ k. k || (after w.uid p s).unmuted) (sym muted ∙ fits.muted)
+        ∙ ap (λ k. p.muted || k) (sym unmuted ∙ fits.unmuted) ∙ known.1 in (
+          record {
+            muted = muted ∙ ap (λ q. q.muted) next;
+            unmuted = unmuted ∙ ap (λ q. q.unmuted) next;
+            counts = subst (FitsCounts (ended_after l s) w.uid) next (steps.counts live);
+          },
+          ap is_alive (sym next) ∙ live,
+        )
+
+    by_breach : (o : Option Breach) → w.breach ≡ o → Known xs l w o
+        → Watches (xs ++ e ∷ []) (ended_after l s) (watched_with (change_after (ended_after l s) s) b w o)
+    by_breach (Some c) has known = rw has (breach_stays w.uid xs e c known.0, known.1)
+    by_breach None has known = known_after (m || n) refl known.0 known.1
+
+    by_nothing : (t : Bool) → is_nothing (change_after (ended_after l s) s) ≡ t
+        → Watches (xs ++ e ∷ []) (ended_after l s)
+        (if t then w else watched_with (change_after (ended_after l s) s) b w w.breach)
+    by_nothing true now = same_known (nothing_is (change_after (ended_after l s) s) now) w.breach is
+    by_nothing false now = by_breach w.breach refl is
+
+fits_start : (u : ℕ) → Fits at_first (watch_of u) at_start
+fits_start u = record { muted = refl; unmuted = refl; counts = first_fits u }
+
+pub watches_start : (u : ℕ) → Watches [] at_first (watch_of u)
+watches_start u = (fits_start u, refl)
 
 -- the same of all devices
-pub all_watch_more : (xs : List Exchange) (e : Exchange) (ws : List Watched) → AllByRecursion (Watches xs) ws
-    → AllByRecursion (Watches (xs ++ e ∷ [])) (map (watched_by (length xs) (seen_of e)) ws)
-all_watch_more xs e [] all = tt
-all_watch_more xs e (w ∷ ws) all = (watches_more xs e w all.0, all_watch_more xs e ws all.1)
+pub all_watch_more : (xs : List Exchange) (e : Exchange) (l : Ends) (ws : List Watched)
+    → AllByRecursion (Watches xs l) ws → AllByRecursion (Watches (xs ++ e ∷ []) (ended_after l (seen_of e)))
+    (map (heard_by (ended_after l (seen_of e)) (length xs) (seen_of e)) ws)
+all_watch_more xs e l [] all = tt
+all_watch_more xs e l (w ∷ ws) all = (watches_more xs e l w all.0, all_watch_more xs e l ws all.1)
 
-pub all_watch_start : (us : List ℕ) → AllByRecursion (Watches []) (map watch_of us)
+pub all_watch_start : (us : List ℕ) → AllByRecursion (Watches [] at_first) (map watch_of us)
 all_watch_start [] = tt
 all_watch_start (u ∷ us) = (watches_start u, all_watch_start us)
-
-pub all_counts : (xs : List Exchange) (ws : List Watched) → AllByRecursion (Watches xs) ws
-    → AllByRecursion (CountsAtMost (length xs)) ws
-all_counts xs [] all = tt
-all_counts xs (w ∷ ws) all = (all.0.counts, all_counts xs ws all.1)
 
 -- the devices stay the same
 abbrev pub uids_watched : List Watched → List ℕ
 uids_watched ws = map (λ (w : Watched). w.uid) ws
 
-same_uid : (at : ℕ) (e : Seen) (w : Watched) (o : Option Breach) → (watched_with at e w o).uid ≡ w.uid
-same_uid at e w None = refl
-same_uid at e w (Some b) = refl
+same_uid : (t : Bool) (c : Change) (b : Breach) (w : Watched) (o : Option Breach)
+    → (if t then w else watched_with c b w o).uid ≡ w.uid
+same_uid true c b w o = refl
+same_uid false c b w None = refl
+same_uid false c b w (Some _) = refl
 
-pub same_uids : (at : ℕ) (e : Seen) (ws : List Watched) → uids_watched (map (watched_by at e) ws) ≡ uids_watched ws
-same_uids at e [] = refl
-same_uids at e (w ∷ ws) = rw (same_uid at e w w.breach, same_uids at e ws) refl
+pub same_uids : (l : Ends) (at : ℕ) (e : Seen) (ws : List Watched)
+    → uids_watched (map (heard_by l at e) ws) ≡ uids_watched ws
+same_uids l at e [] = refl
+same_uids l at e (w ∷ ws) =
+    rw (
+      same_uid (is_nothing (change_after l e)) (change_after l e) (record { at = at; rule = rule_by e }) w w.breach,
+      same_uids l at e ws,
+    ) refl
+
+-- if nothing changes
+pub unchanged : (l : Ends) (at : ℕ) (e : Seen) (ws : List Watched) → is_nothing (change_after l e) ≡ true
+    → map (heard_by l at e) ws ≡ ws
+unchanged l at e [] none = refl
+unchanged l at e (w ∷ ws) none = rw none (ap (λ k. w ∷ k) (unchanged l at e ws none))
+
+pub changed : (l : Ends) (at : ℕ) (e : Seen) (ws : List Watched)
+    → map (watched_by (change_after l e) (record { at = at; rule = rule_by e })) ws ≡ map (heard_by l at e) ws
+changed l at e ws = refl
 
 pub start_uids : (us : List ℕ) → uids_watched (map watch_of us) ≡ us
 start_uids [] = refl
@@ -172,37 +234,38 @@ finding_uids [] = refl
 finding_uids (w ∷ ws) = ap (λ l. w.uid ∷ l) (finding_uids ws)
 
 -- what is found is what is known
-found : (xs : List Exchange) (w : Watched) (o : Option Breach)
-    → MatchOption o ((w.standing ≡ standing w.uid (seen_all xs)) × (is_alive w.standing ≡ true))
-    (λ b. IsFirstBreach w.uid xs b × (is_alive w.standing ≡ false)) → FirstBreach w.uid xs o
-found xs w None known = alive_honest w.uid (seen_all xs) (ap is_alive (sym known.0) ∙ known.1)
-found xs w (Some b) known = known.0
+found : (xs : List Exchange) (l : Ends) (w : Watched) (o : Option Breach) → Known xs l w o → FirstBreach w.uid xs o
+found xs l w None known = alive_honest w.uid (seen_all xs) known.1
+found xs l w (Some b) known = known.0
 
-pub all_found : (xs : List Exchange) (ws : List Watched) → AllByRecursion (Watches xs) ws
+pub all_found : (xs : List Exchange) (l : Ends) (ws : List Watched) → AllByRecursion (Watches xs l) ws
     → AreFirstBreaches xs (map finding_of ws)
-all_found xs [] all = tt
-all_found xs (w ∷ ws) all = (found xs w w.breach all.0.known, all_found xs ws all.1)
+all_found xs l [] all = tt
+all_found xs l (w ∷ ws) all = (found xs l w w.breach all.0, all_found xs l ws all.1)
 
 -- what is known of the devices of a list is right
-abbrev pub WatchesAll : List Exchange → List ℕ → List Watched → Type 0
-WatchesAll xs us ws = AllByRecursion (Watches xs) ws × (uids_watched ws ≡ us)
+abbrev pub WatchesAll : List Exchange → Ends → List ℕ → List Watched → Type 0
+WatchesAll xs l us ws = AllByRecursion (Watches xs l) ws × (uids_watched ws ≡ us)
 
 -- after one more exchange
-pub heard : (xs : List Exchange) (us : List ℕ) (at : ℕ) (e : Exchange) (old new : List Watched) → at < length xs
-    → e ≡ get_or xs at e → WatchesAll (take at xs) us old → new ≡ map (watched_by at (seen_of e)) old
-    → WatchesAll (take (at + 1) xs) us new
-heard xs us at e old new within read all is =
+pub heard : (xs : List Exchange) (us : List ℕ) (at : ℕ) (e : Exchange) (l k : Ends) (old new : List Watched)
+    → at < length xs → e ≡ get_or xs at e → WatchesAll (take at xs) l us old → k ≡ ended_after l (seen_of e)
+    → new ≡ map (heard_by k at (seen_of e)) old → WatchesAll (take (at + 1) xs) k us new
+heard xs us at e l k old new within read all ends is =
     let long : length (take at xs) ≡ at = length-take-le at xs (omega arith) in
     let whole : take (at + 1) xs ≡ take at xs ++ e ∷ []
     = take_more xs at e within ∙ ap (λ x. take at xs ++ x ∷ []) (sym read) in
-    subst (WatchesAll (take (at + 1) xs) us) (sym is) (
-      subst (λ l. AllByRecursion (Watches l) (map (watched_by at (seen_of e)) old)) (sym whole)
-          (subst (λ n. AllByRecursion (Watches (take at xs ++ e ∷ [])) (map (watched_by n (seen_of e)) old)) long
-          (all_watch_more (take at xs) e old all.0)),
-      same_uids at (seen_of e) old ∙ all.1,
-    )
+    let k2 = ended_after l (seen_of e) in
+    subst (λ d. WatchesAll (take (at + 1) xs) d us new) (sym ends)
+    (subst (WatchesAll (take (at + 1) xs) k2 us)
+    (sym (is ∙ ap (λ d. map (heard_by d at (seen_of e)) old) ends)) (
+      subst (λ x. AllByRecursion (Watches x k2) (map (heard_by k2 at (seen_of e)) old)) (sym whole)
+          (subst (λ j. AllByRecursion (Watches (take at xs ++ e ∷ []) k2) (map (heard_by k2 j (seen_of e)) old)) long
+          (all_watch_more (take at xs) e l old all.0)),
+      same_uids k2 at (seen_of e) old ∙ all.1,
+    ))
 
 -- as a slice writes them back
-pub written : (xs : List Exchange) (us : List ℕ) (n : ℕ) (old new : List Watched) → n ≡ length old
-    → length new ≡ length old → WatchesAll xs us new → WatchesAll xs us (take n (new ++ drop (length new) old))
-written xs us n old new long same all = subst (WatchesAll xs us) (sym (written_back old new n long same)) all
+pub written : (xs : List Exchange) (l : Ends) (us : List ℕ) (n : ℕ) (old new : List Watched) → n ≡ length old
+    → length new ≡ length old → WatchesAll xs l us new → WatchesAll xs l us (take n (new ++ drop (length new) old))
+written xs l us n old new long same all = subst (WatchesAll xs l us) (sym (written_back old new n long same)) all

@@ -2,4 +2,5 @@ pub mod Exchanges
 pub mod Rules
 pub mod Covers
 pub mod Strays
+pub mod Certificates
 pub mod body

@@ -1,9 +1,9 @@
 -- Bytes that came although no device of a list was due to send any.
 use Rattle.std.specs.Prelude.{◌≡◌, ◌≢◌, ℕ, ◌<◌, Bool, true, false, List, [], ◌∷◌, ◌++◌, length, Option, Some, None}
 use Rattle.std.specs.List.{AllByRecursion}
-use Rattle.rdm_wire.specs.Uid.{is_within}
-use Rattle.rdm_wire.specs.Honest.{LineState, Seen, HonestTo, HonestToStep, before_run}
-use Rattle.rdm_wire.specs.Honest.Asked.{Branch}
+use Rattle.rdm_wire.specs.Uid.{has, is_within}
+use Rattle.rdm_wire.specs.Honest.{Asked, LineState, Seen, HonestTo, HonestToStep, before_run}
+use Rattle.rdm_wire.specs.Honest.Asked.{Unmute, Branch, Mute, Other}
 use Rattle.rdm_wire.specs.Honest.Heard.{Failed, Silent}
 use Rattle.rdm_explain.specs.declared.exchange.Exchange.{Exchange}
 use Rattle.rdm_explain.specs.Exchanges.{seen_of, seen_all}
@@ -25,8 +25,15 @@ pub record IsMuted (u : ℕ) (x : List Seen) : Type 0 where
   pub honest : HonestTo u x
   pub muted : MayBeUnmuted u x → ⊥
 
--- this exchange is a branch that was answered although each device of the list was outside of its range, or muted. The
--- line hasn't failed before
+-- no device of the list is due to answer after these exchanges: each is outside of the range of a branch, or muted; the
+-- UID that is to be muted isn't in the list
+abbrev pub NobodyIsDue : List ℕ → List Seen → Asked → Type 0
+NobodyIsDue us x (Branch lo hi) = AllByRecursion (λ u. is_within lo hi u ≡ true → IsMuted u x) us
+NobodyIsDue us x (Mute u) = has us u ≡ false
+NobodyIsDue us x Unmute = ⊥
+NobodyIsDue us x Other = ⊥
+
+-- this branch or mute was answered although no device of the list was due. The line hasn't failed before
 pub record IsStray (us : List ℕ) (xs : List Exchange) (at : ℕ) : Type 0 where
   pub front : List Exchange
   pub exchange : Exchange
@@ -34,12 +41,9 @@ pub record IsStray (us : List ℕ) (xs : List Exchange) (at : ℕ) : Type 0 wher
   pub whole : xs ≡ front ++ exchange ∷ back
   pub index : length front ≡ at
   pub no_failure : AllByRecursion (λ e. e.heard ≢ Failed) (seen_all front)
-  pub lo : ℕ
-  pub hi : ℕ
-  pub asked : (seen_of exchange).asked ≡ Branch lo hi
   pub not_failed : (seen_of exchange).heard ≢ Failed
   pub not_silent : (seen_of exchange).heard ≢ Silent
-  pub nobody : AllByRecursion (λ u. is_within lo hi u ≡ true → IsMuted u (seen_all front)) us
+  pub nobody : NobodyIsDue us (seen_all front) (seen_of exchange).asked
 
 -- no exchange is stray, or this is the first that is
 abbrev pub FirstStray : List ℕ → List Exchange → Option ℕ → Type 0

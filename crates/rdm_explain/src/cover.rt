@@ -4,7 +4,8 @@ ghost use Rattle.rdm_explain.specs.declared.cover.Stretch.{Stretch};
 ghost use Rattle.std.specs.List.Sorted.{IsNonDecreasingBy};
 ghost use Rattle.rdm_explain.specs.Exchanges.{seen_of};
 ghost use Rattle.rdm_explain.specs.Covers.{FirstUncovered};
-ghost use Rattle.rdm_explain.specs.body.Covering.{cover_of, covered_after, silence_after, acked_after, FirstGap};
+ghost use Rattle.rdm_explain.specs.body.Covering.{cover_of, cover_start, covered_after, silence_after};
+ghost use Rattle.rdm_explain.specs.body.Covering.{acked_after, FirstGap};
 
 use crate::exchange::{Asked, Exchange};
 use rdm_wire::{NoMemory, Uid};
@@ -16,24 +17,40 @@ const TRIES: u64 = 5;
 // The number after the greatest UID.
 const END: u64 = 0x1_0000_0000_0000;
 
-// The UIDs from `lo` to `hi`.
+/// The UIDs from `lo` to `hi`.
 #[derive(Clone, Copy, Drop)]
-struct Stretch {
-    lo: Uid,
-    hi: Uid,
+pub(crate) struct Stretch {
+    /// The least.
+    pub(crate) lo: Uid,
+    /// The greatest.
+    pub(crate) hi: Uid,
 }
 
-// What the exchanges so far show: the last `count` of them were silent branches of `lo` to `hi`, and what they cover.
+/// What the exchanges so far show: the last `count` of them were silent branches of `lo` to `hi`, and what they cover.
 #[derive(Drop)]
-struct Cover {
+pub(crate) struct Cover {
     lo: Uid,
     hi: Uid,
     count: u64,
-    covered: Vec<Stretch>,
+    /// What they cover.
+    pub(crate) covered: Vec<Stretch>,
 }
 
 impl Cover {
-    fn after(self, exchange: &Exchange) -> Result<Cover, NoMemory>
+    /// Before the first exchange.
+    pub(crate) fn new(alloc: Global) -> Cover
+        ensures { cover_of result ≡ cover_start }
+    {
+        Cover {
+            lo: Uid::ALL,
+            hi: Uid::ALL,
+            count: 0,
+            covered: Vec::new(alloc),
+        }
+    }
+
+    /// After an exchange.
+    pub(crate) fn after(self, exchange: &Exchange) -> Result<Cover, NoMemory>
         requires { self.count < 2 ^ 63 }
         ensures next { IfOk result (λ c. cover_of c ≡ covered_after (cover_of self) (seen_of exchange.now)) }
         ensures count { IfOk result (λ c. c.count ≤ self.count + 1) }
@@ -133,12 +150,7 @@ fn first_gap(stretches: &[Stretch]) -> Option<Uid>
 pub fn first_uncovered(alloc: Global, exchanges: &[Exchange]) -> Result<Option<Uid>, NoMemory>
     ensures { IfOk result (λ found. FirstUncovered exchanges.now found) }
 {
-    let mut cover = Cover {
-        lo: Uid::ALL,
-        hi: Uid::ALL,
-        count: 0,
-        covered: Vec::new(alloc),
-    };
+    let mut cover = Cover::new(alloc);
     for exchange in exchanges {
         cover = cover.after(exchange)?;
     }

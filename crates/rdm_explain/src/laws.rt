@@ -1,24 +1,53 @@
 //! Laws of findings, each the contract of a function that does nothing. The definitions are in `specs`.
-ghost use Rattle.std.specs.Prelude.{◌≡◌, ◌⊎◌, ℕ, ◌<◌, ◌^◌, true, List, None, Some};
+ghost use Rattle.std.specs.Prelude.{◌≡◌, ◌↔◌, ◌⊎◌, ℕ, ◌<◌, ◌^◌, true, List, None, Some};
 ghost use Rattle.std.specs.List.{AllByRecursion};
 ghost use Rattle.rdm_wire.specs.Uid.{has, set_of};
 ghost use Rattle.rdm_wire.specs.Devices.{uids_of};
 ghost use Rattle.rdm_wire.specs.declared.device.Device.{Device};
+ghost use Rattle.rdm_wire.specs.Honest.{HonestTrace};
 ghost use Rattle.rdm_agent.specs.Run.{acked_in};
-ghost use Rattle.rdm_agent.specs.Certificate.{Certificate, IsCleared};
+ghost use Rattle.rdm_agent.specs.Certificate.{Certificate, IsCleared, known_of};
 ghost use Rattle.rdm_agent.specs.declared.kind.Kind.{Kind};
 ghost use Rattle.rdm_explain.specs.declared.exchange.Exchange.{Exchange};
 ghost use Rattle.rdm_explain.specs.declared.rule.DeviceFinding.{DeviceFinding};
 ghost use Rattle.rdm_explain.specs.Exchanges.{seen_all};
 ghost use Rattle.rdm_explain.specs.Rules.{AreFirstBreaches, Followed};
 ghost use Rattle.rdm_explain.specs.Covers.{FirstUncovered};
+ghost use Rattle.rdm_explain.specs.Strays.{IsStray};
+ghost use Rattle.rdm_explain.specs.Certificates.{ExplainsRun, ExplainsKnown, IsComplete, IsKnownComplete};
+ghost use Rattle.rdm_explain.specs.declared.certificate.RunFinding.{RunFinding};
+ghost use Rattle.rdm_explain.specs.declared.certificate.KnownFinding.{KnownFinding};
 
 /// If the exchanges have the certificate of a set, and by their findings some devices followed the rules, the set has
 /// each of these devices.
 pub fn followers_are_reported()
-    ensures { (kind : Kind) (known : List ℕ) (xs : List Exchange) (s : List Device) (found : List DeviceFinding) →
+    ensures certified { (kind : Kind) (known : List ℕ) (xs : List Exchange) (s : List Device)
+        (found : List DeviceFinding) →
         Certificate kind known (seen_all xs) s → AreFirstBreaches xs found → AllByRecursion Followed found
         → AllByRecursion (λ (f : DeviceFinding). has (uids_of s) f.uid ≡ true) found }
+    // The same by the findings about the certificate.
+    ensures explained { (kind : Kind) (known : List ℕ) (xs : List Exchange) (s : List Device) (run : RunFinding)
+        (names : KnownFinding) (found : List DeviceFinding) →
+        ExplainsRun s xs run → IsComplete run → ExplainsKnown (known_of kind known) xs names → IsKnownComplete names
+        → AreFirstBreaches xs found → AllByRecursion Followed found
+        → AllByRecursion (λ (f : DeviceFinding). has (uids_of s) f.uid ≡ true) found }
+{}
+
+/// The findings about the parts of a certificate together decide whether the exchanges have it: they have it if and
+/// only if no part fails.
+pub fn parts_are_the_certificate()
+    ensures decided { (kind : Kind) (known : List ℕ) (xs : List Exchange) (s : List Device) (run : RunFinding)
+        (names : KnownFinding) → ExplainsRun s xs run → ExplainsKnown (known_of kind known) xs names
+        → (IsComplete run × IsKnownComplete names) ↔ Certificate kind known (seen_all xs) s }
+    // A part that fails excludes the certificate, whatever was known.
+    ensures incomplete { (kind : Kind) (known : List ℕ) (xs : List Exchange) (s : List Device) (run : RunFinding)
+        → ExplainsRun s xs run → (IsComplete run → ⊥) → Certificate kind known (seen_all xs) s → ⊥ }
+{}
+
+/// If an exchange is stray for a list, the line wasn't honest for these devices, nor for some of them.
+pub fn stray_is_not_honest()
+    ensures { (us present : List ℕ) (xs : List Exchange) (at : ℕ) → IsStray us xs at
+        → ((u : ℕ) → has present u ≡ true → has us u ≡ true) → HonestTrace present (seen_all xs) → ⊥ }
 {}
 
 /// If no UID is uncovered, the exchanges have that part of the certificate of the acknowledged UIDs. If one is, they

@@ -1,12 +1,12 @@
 //! Which devices broke a rule of an honest line, where first, and which rule.
-ghost use Rattle.std.specs.Prelude.{◌≡◌, ◌<◌, ◌≤◌, ◌^◌, ◌+◌, IfOk, map, length};
-ghost use Rattle.std.specs.List.{AllByRecursion};
+ghost use Rattle.std.specs.Prelude.{◌≡◌, IfOk, map};
 ghost use Rattle.rdm_explain.specs.Exchanges.{seen_of};
 ghost use Rattle.rdm_explain.specs.Rules.{AreFirstBreaches, uids_of_findings};
-ghost use Rattle.rdm_explain.specs.body.Watching.{rule_by, watched_by, finding_of, CountsAtMost, watch_of};
+ghost use Rattle.rdm_explain.specs.body.Watching.{rule_by, watched_by, heard_by, finding_of, watch_of};
+ghost use Rattle.rdm_explain.specs.body.Watching.{muted_by_change, unmuted_by_change};
 
+use crate::ends::{Change, Ends};
 use crate::exchange::{Asked, Exchange, Heard};
-use crate::standing::Standing;
 use rdm_wire::{NoMemory, Uid};
 use std::alloc::Global;
 
@@ -44,8 +44,10 @@ pub struct DeviceFinding {
 pub(crate) struct Watched {
     /// The device.
     pub(crate) uid: Uid,
-    /// What is known of its state. It may be in none after its first breach.
-    pub(crate) standing: Standing,
+    /// It may be muted.
+    pub(crate) muted: bool,
+    /// It may be unmuted. After its first breach it may be neither.
+    pub(crate) unmuted: bool,
     breach: Option<Breach>,
 }
 
@@ -55,42 +57,58 @@ impl Watched {
     {
         Watched {
             uid,
-            standing: Standing::start(),
+            muted: true,
+            unmuted: true,
             breach: None,
         }
     }
 
-    // After the exchange with this index.
-    fn after(self, at: usize, exchange: &Exchange) -> Watched
-        requires counts { CountsAtMost at self }
-        requires few { at < 2 ^ 63 }
-        ensures next { result ≡ watched_by at (seen_of exchange.now) self }
+    // After a change. If the device may be neither muted nor unmuted then, this is its breach.
+    fn after(self, change: &Change, breach: Breach) -> Watched
+        ensures { result ≡ watched_by change.now breach self }
     {
-        if self.breach.is_some() {
+        if change.is_nothing() || self.breach.is_some() {
             return self;
         }
-        let standing = self.standing.after(self.uid, exchange);
-        let breach = if standing.is_alive() {
-            None
-        } else {
-            Some(Breach {
-                at,
-                rule: rule_by(exchange),
-            })
-        };
+        let muted = self.muted_by(change);
+        let unmuted = self.unmuted_by(change);
         Watched {
             uid: self.uid,
-            standing,
-            breach,
+            muted,
+            unmuted,
+            breach: if muted || unmuted { None } else { Some(breach) },
         }
     }
 
-    fn finding(self) -> DeviceFinding
-        ensures { result ≡ finding_of self }
+    // Whether it may be muted after a change.
+    fn muted_by(self, change: &Change) -> bool
+        ensures { result ≡ muted_by_change change.now self.uid self.muted self.unmuted }
     {
-        DeviceFinding {
-            uid: self.uid,
-            breach: self.breach,
+        match change {
+            Change::Nothing | Change::Unmute | Change::Silence(_) => self.muted,
+            Change::UnmuteAll => false,
+            Change::Acked(uid) | Change::Lost(uid) => {
+                if self.uid == *uid {
+                    self.muted || self.unmuted
+                } else {
+                    self.muted
+                }
+            }
+            Change::Broken(uid) => self.uid != *uid && self.muted,
+        }
+    }
+
+    // Whether it may be unmuted after a change.
+    fn unmuted_by(self, change: &Change) -> bool
+        ensures { result ≡ unmuted_by_change change.now self.uid self.muted self.unmuted }
+    {
+        match change {
+            Change::Nothing | Change::Lost(_) => self.unmuted,
+            Change::Unmute | Change::UnmuteAll => self.muted || self.unmuted,
+            Change::Silence(range) => {
+                self.unmuted && !(range.lo <= self.uid && self.uid <= range.hi)
+            }
+            Change::Acked(uid) | Change::Broken(uid) => self.uid != *uid && self.unmuted,
         }
     }
 }
@@ -106,14 +124,26 @@ fn rule_by(exchange: &Exchange) -> Rule
     }
 }
 
-/// All devices hear an exchange.
-pub(crate) fn hear_all(watched: &mut [Watched], at: usize, exchange: &Exchange)
-    requires counts { AllByRecursion (CountsAtMost at) watched.old }
-    requires few { at < 2 ^ 63 }
-    ensures next { watched.new ≡ map (watched_by at (seen_of exchange.now)) watched.old }
+/// All devices hear an exchange, with which the exchanges end like this.
+pub(crate) fn hear_all(watched: &mut [Watched], ends: &Ends, at: usize, exchange: &Exchange)
+    ensures next { watched.new ≡ map (heard_by ends.now at (seen_of exchange.now)) watched.old }
+{
+    let change = ends.change(exchange);
+    if !change.is_nothing() {
+        let breach = Breach {
+            at,
+            rule: rule_by(exchange),
+        };
+        change_all(watched, &change, breach);
+    }
+}
+
+// All devices after a change.
+fn change_all(watched: &mut [Watched], change: &Change, breach: Breach)
+    ensures next { watched.new ≡ map (watched_by change.now breach) watched.old }
 {
     for device in watched.iter_mut() {
-        *device = device.after(at, exchange);
+        *device = device.after(change, breach);
     }
 }
 
@@ -135,7 +165,11 @@ fn findings(alloc: Global, watched: &[Watched]) -> Result<Vec<DeviceFinding>, No
 {
     let mut found = Vec::new(alloc);
     for device in watched {
-        if found.push(device.finding()).is_err() {
+        let finding = DeviceFinding {
+            uid: device.uid,
+            breach: device.breach,
+        };
+        if found.push(finding).is_err() {
             return Err(NoMemory);
         }
     }
@@ -153,8 +187,10 @@ pub fn first_breaches(
     ensures first { IfOk result (λ found. AreFirstBreaches exchanges.now found.items) }
 {
     let mut watched = watch(alloc, uids)?;
+    let mut ends = Ends::start();
     for (at, exchange) in exchanges.iter().enumerate() {
-        hear_all(&mut watched, at, exchange);
+        ends = ends.after(exchange);
+        hear_all(&mut watched, &ends, at, exchange);
     }
     findings(alloc, &watched)
 }

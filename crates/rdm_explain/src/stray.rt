@@ -2,16 +2,20 @@
 ghost use Rattle.std.specs.Prelude.{◌≡◌, IfOk};
 ghost use Rattle.rdm_explain.specs.Exchanges.{seen_of};
 ghost use Rattle.rdm_explain.specs.Strays.{FirstStray};
-ghost use Rattle.rdm_explain.specs.body.Straying.{is_stray, is_quiet, is_quiet_one};
+ghost use Rattle.rdm_explain.specs.body.Straying.{is_stray, is_listed, is_quiet, is_quiet_one};
 
+use crate::ends::Ends;
 use crate::exchange::{Asked, Exchange};
 use crate::rule::{Watched, hear_all, watch};
 use rdm_wire::{NoMemory, Uid};
 use std::alloc::Global;
 
-/// The index of the first branch that was answered although each device of a list was outside of its range, or muted. A
-/// device is muted if it followed the rules so far, and can't be unmuted by these rules. `None`: there is no such
-/// branch before the line fails. The only error: out of memory.
+/// The index of the first exchange that was answered although no device of a list was due:
+/// - a branch, and each device was outside of its range, or muted;
+/// - a mute of a UID that isn't in the list.
+///
+/// A device is muted if it followed the rules so far, and can't be unmuted by these rules. `None`: there is no such
+/// exchange before the line fails. The only error: out of memory.
 pub fn first_stray(
     alloc: Global,
     uids: &[Uid],
@@ -20,6 +24,7 @@ pub fn first_stray(
     ensures { IfOk result (λ found. FirstStray uids.now exchanges.now found) }
 {
     let mut watched = watch(alloc, uids)?;
+    let mut ends = Ends::start();
     for (at, exchange) in exchanges.iter().enumerate() {
         if exchange.heard.is_failed() {
             return Ok(None);
@@ -27,19 +32,33 @@ pub fn first_stray(
         if is_stray(&watched, exchange) {
             return Ok(Some(at));
         }
-        hear_all(&mut watched, at, exchange);
+        ends = ends.after(exchange);
+        hear_all(&mut watched, &ends, at, exchange);
     }
     Ok(None)
 }
 
-// Whether an exchange is a branch that was answered although nobody was due.
+// Whether an exchange was answered although nobody was due.
 fn is_stray(watched: &[Watched], exchange: &Exchange) -> bool
     ensures { result ≡ is_stray watched.now (seen_of exchange.now) }
 {
     match exchange.asked {
         Asked::Branch { lo, hi } if !exchange.heard.is_silent() => is_quiet(watched, lo, hi),
+        Asked::Mute(uid) if !exchange.heard.is_silent() => !is_listed(watched, uid),
         _ => false,
     }
+}
+
+// Whether a device has this UID.
+fn is_listed(watched: &[Watched], uid: Uid) -> bool
+    ensures { result ≡ is_listed uid watched.now }
+{
+    for device in watched {
+        if uid == device.uid {
+            return true;
+        }
+    }
+    false
 }
 
 // Whether each device is outside of a range, or muted.
@@ -59,7 +78,7 @@ fn is_quiet_one(device: &Watched, lo: Uid, hi: Uid) -> bool
     ensures { result ≡ is_quiet_one lo hi device.now }
 {
     if lo <= device.uid && device.uid <= hi {
-        device.standing.muted && !device.standing.unmuted
+        device.muted && !device.unmuted
     } else {
         true
     }

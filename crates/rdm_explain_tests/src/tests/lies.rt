@@ -1,7 +1,7 @@
 //! A run for each lie, alone on the line.
 use super::rig::{
-    acked, add, breaks, check, covers, follows, has_no_stray, leaves, liar, lower, mute, opening,
-    strays, upper, whole,
+    acked, add, breaks, check, covers, follows, has_no_stray, leaves, liar, lower, mute, mute_of,
+    opening, strays, upper, whole,
 };
 use rdm_explain::{Heard, Rule};
 use rdm_wire::Uid;
@@ -64,6 +64,17 @@ fn bytes_come_from_a_range_without_a_listed_device(rt: HostRuntime) {
     check(&rt, has_no_stray(rt.alloc(), &run));
     add(&rt, &mut run, &upper(Heard::Noise), 1);
     check(&rt, strays(rt.alloc(), &run, 4));
+}
+
+#[test]
+fn bytes_come_after_the_mute_of_an_unlisted_uid(rt: HostRuntime) {
+    let mut run = opening(&rt, rt.alloc());
+    let other = Uid::new(0x1234, 8);
+    add(&rt, &mut run, &mute(Heard::Noise), 1);
+    add(&rt, &mut run, &mute_of(other, Heard::Silent), 1);
+    check(&rt, has_no_stray(rt.alloc(), &run));
+    add(&rt, &mut run, &mute_of(other, Heard::Noise), 1);
+    check(&rt, strays(rt.alloc(), &run, 5));
 }
 
 #[test]

@@ -62,8 +62,13 @@ fn branch(lo: Uid, hi: Uid, heard: Heard) -> Exchange {
 
 /// A mute of the liar.
 pub fn mute(heard: Heard) -> Exchange {
+    mute_of(liar(), heard)
+}
+
+/// A mute of this UID.
+pub fn mute_of(uid: Uid, heard: Heard) -> Exchange {
     Exchange {
-        asked: Asked::Mute(liar()),
+        asked: Asked::Mute(uid),
         heard,
     }
 }

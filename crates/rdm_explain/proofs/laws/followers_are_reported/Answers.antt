@@ -10,6 +10,7 @@ use Rattle.rdm_explain.specs.declared.exchange.Exchange.{Exchange}
 use Rattle.rdm_explain.specs.declared.rule.DeviceFinding.{DeviceFinding}
 use Rattle.rdm_explain.specs.Exchanges.{seen_all}
 use Rattle.rdm_explain.specs.Rules.{AreFirstBreaches, FirstBreach, Followed}
+use Rattle.rdm_explain.proofs.PartLemmas.{certificate_of}
 use Rattle.rdm_explain.proofs.laws.followers_are_reported.Goals as goal
 
 reported : (kind : Kind) (known : List ℕ) (xs : List Exchange) (s : List Device) (found : List DeviceFinding)
@@ -23,4 +24,9 @@ reported kind known xs s (f ∷ found) certificate findings followed = (
 )
 
 pub returns : goal.returns
-returns c = reported
+returns c = record {
+  certified = reported;
+  explained = λ kind known xs s run names found parts complete naming named findings followed.
+      reported kind known xs s found (certificate_of kind known xs s run names parts naming complete named)
+      findings followed;
+}

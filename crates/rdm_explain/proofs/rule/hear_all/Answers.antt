@@ -1,11 +1,11 @@
-use Rattle.std.proofs.Common.{arith}
+use Rattle.std.proofs.Common.{◌∙◌, sym, ap}
 use Rattle.rdm_explain.specs.Exchanges.{seen_of}
-use Rattle.rdm_explain.specs.body.Watching.{watched_by}
-use Rattle.rdm_explain.proofs.MapLemmas.{map_step}
+use Rattle.rdm_explain.specs.body.Endings.{is_nothing}
+use Rattle.rdm_explain.proofs.WatchLemmas.{unchanged}
 use Rattle.rdm_explain.proofs.rule.hear_all.Goals as goal
 
-pub loop-device-preserved : goal.loop-device-preserved
-loop-device-preserved c =
-    map_step (watched_by c.args.at (seen_of c.args.exchange.now)) c.args.watched.now c.loop-device.watched
-    c.loop-device.device-index c.device-item.result c.after.result (omega arith) c.loop-device.invariant
-    c.after.ensures.next
+pub returns-else-not-is_nothing : goal.returns-else-not-is_nothing
+returns-else-not-is_nothing c = record {
+  next = sym (unchanged c.args.ends.now c.args.at (seen_of c.args.exchange.now) c.args.watched.now
+      (ap is_nothing (sym c.change-change.ensures) ∙ sym c.is_nothing.ensures ∙ c.if-not-is_nothing.false));
+}

@@ -1,4 +1,4 @@
-use Rattle.std.proofs.Common.{ℕ, ◌<◌, take}
+use Rattle.std.proofs.Common.{ℕ, ◌<◌, ◌≤◌, take}
 use Rattle.rdm_explain.specs.Exchanges.{seen_all}
 use Rattle.rdm_explain.specs.Strays.{IsStray}
 use Rattle.rdm_explain.proofs.WatchLemmas.{WatchesAll}
@@ -8,5 +8,7 @@ use Rattle.rdm_explain.proofs.stray.first_stray.Given as goal
 abbrev pub invariant-loop-at : goal.invariant-loop-at
 invariant-loop-at l =
     NoFailure (seen_all (take l.at l.exchanges))
-    × WatchesAll (take l.at l.exchanges) l.uids l.watched.items
+    × WatchesAll (take l.at l.exchanges) l.ends l.uids l.watched.items
     × ((j : ℕ) → j < l.at → IsStray l.uids l.exchanges j → ⊥)
+    × (l.ends.lost_mutes ≤ l.at)
+    × (l.ends.unmutes ≤ l.at)

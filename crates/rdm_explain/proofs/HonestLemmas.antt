@@ -1,0 +1,118 @@
+-- On a line that is honest to devices, one of them is due if an exchange is answered.
+use Rattle.std.proofs.Common.{◌≡◌, ℕ, Bool, true, false, ◌&&◌, not, List, [], ◌∷◌, ◌++◌, refl, sym, ap, ◌∙◌, subst}
+use Rattle.std.proofs.Common.{inl, inr, true≢false, arith}
+use Rattle.std.specs.Prelude.{◌⊎◌, ◌≢◌, MatchBool, filter}
+use Rattle.std.proofs.lemmas.List.{map-append}
+use Rattle.std.proofs.lemmas.Bool.{cases_Bool, and_parts}
+use Rattle.rdm_wire.specs.Uid.{has, is_within}
+use Rattle.rdm_wire.specs.Honest.{Asked, Heard, Seen, LineState, HonestStep, HonestTrace, Chain, Counts}
+use Rattle.rdm_wire.specs.Honest.{MayReply, MuteMoves, KeepsMuted, due_in, before_run}
+use Rattle.rdm_wire.specs.Honest.Asked.{Unmute, Branch, Mute, Other}
+use Rattle.rdm_wire.specs.Honest.Heard.{Silent}
+use Rattle.rdm_agent.proofs.AllDevices.{IsBelow, below_step}
+use Rattle.rdm_agent.proofs.Members.{member}
+use Rattle.rdm_agent.proofs.Sets.{has-head, has-rest}
+use Rattle.rdm_explain.specs.declared.exchange.Exchange.{Exchange}
+use Rattle.rdm_explain.specs.Exchanges.{seen_of, seen_all}
+use Rattle.rdm_explain.specs.Strays.{Leads, IsMuted, NobodyIsDue, IsStray}
+use Rattle.rdm_explain.specs.Certificates.{NoFailure}
+
+-- the state after some exchanges, and a way to it for each device
+record Led (present : List ℕ) (s : LineState) (front rest : List Seen) : Type 0 where
+  state : LineState
+  chain : Chain (HonestStep present) state rest
+  way : (u : ℕ) (t : LineState) → has present u ≡ true → IsBelow u t s
+      → (end : LineState) × IsBelow u end state × Leads u t front end
+
+led : (present : List ℕ) (s : LineState) (front rest : List Seen) → NoFailure front
+    → Chain (HonestStep present) s (front ++ rest) → Led present s front rest
+led present s [] rest ok chain = record { state = s; chain = chain; way = λ u t here below. (t, below, refl) }
+led present s (e ∷ front) rest ok chain =
+    elim chain [
+      | inl failed ↦ absurd (ok.0 failed)
+      | inr step ↦
+          let r = led present step.0 front rest ok.1 step.2 in record {
+            state = r.state;
+            chain = r.chain;
+            way = λ u t here below.
+                let b = below_step present u s t step.0 e.asked e.heard here below step.1 in
+                let w = r.way u b.state here b.below in (w.0, w.1, (b.state, b.step, w.2));
+          }
+    ]
+
+-- a device that passes a test
+record Passing (f : ℕ → Bool) (us : List ℕ) : Type 0 where
+  uid : ℕ
+  there : has us uid ≡ true
+  passes : f uid ≡ true
+
+some_pass : (f : ℕ → Bool) (us : List ℕ) → (filter f us ≡ [] → ⊥) → Passing f us
+some_pass f [] none = absurd (none refl)
+some_pass f (u ∷ us) none = by_test (cases_Bool (f u)) (λ rest. some_pass f us rest)
+  where
+    by_test : (f u ≡ true) ⊎ (f u ≡ false) → ((filter f us ≡ [] → ⊥) → Passing f us) → Passing f (u ∷ us)
+    by_test (inl passes) later = record { uid = u; there = has-head u us; passes = passes }
+    by_test (inr fails) later =
+        let p = later (λ empty. none (rw fails empty)) in
+        record { uid = p.uid; there = has-rest u us p.uid p.there; passes = p.passes }
+
+silent_of : (due : List ℕ) (h : Heard) → due ≡ [] → MayReply due h → h ≡ Silent
+silent_of due h empty may = subst (λ l. MayReply l h) empty may
+
+not_false : (b : Bool) → not b ≡ true → b ≡ false
+not_false true e = absurd (true≢false (sym e))
+not_false false e = refl
+
+-- nobody of these devices is due, and yet the exchange is answered
+no_step : (us present : List ℕ) (x rest : List Seen) (muted : ℕ → Bool) (l : Led present (before_run muted) x rest)
+    (new : LineState) (a : Asked) (h : Heard) → ((u : ℕ) → has present u ≡ true → has us u ≡ true) → h ≢ Silent
+    → NobodyIsDue us x a → HonestStep present l.state a h new → ⊥
+no_step us present x rest muted l new Unmute h listed loud nobody step = nobody
+no_step us present x rest muted l new Other h listed loud nobody step = nobody
+no_step us present x rest muted l new (Mute u) h listed loud nobody step = by_present (has present u) refl step.1
+  where
+    by_present : (b : Bool) → has present u ≡ b
+        → MatchBool b (MuteMoves u l.state h new) ((h ≡ Silent) × KeepsMuted u l.state new × Counts new 0 0 0) → ⊥
+    by_present true here moves = true≢false (sym (listed u here) ∙ nobody)
+    by_present false here silent = loud silent.0
+no_step us present x rest muted l new (Branch lo hi) h listed loud nobody step = by_due due
+  where
+    test : ℕ → Bool
+    test v = is_within lo hi v && not (l.state.muted v)
+
+    due : Passing test present
+    due = some_pass test present (λ empty. loud (silent_of (due_in present l.state.muted lo hi) h empty step.0))
+
+    by_due : Passing test present → ⊥
+    by_due p =
+        let both = and_parts (is_within lo hi p.uid) (not (l.state.muted p.uid)) p.passes in
+        let w = l.way p.uid (before_run muted) p.there (record {
+          muted = refl;
+          branches = omega arith;
+          lost = omega arith;
+          unmutes = refl;
+        }) in
+        (member (λ v. is_within lo hi v ≡ true → IsMuted v x) us p.uid nobody (listed p.uid p.there) both.0).muted
+        (record {
+          muted = muted;
+          end = w.0;
+          leads = w.2;
+          unmuted = w.1.muted ∙ not_false (l.state.muted p.uid) both.1;
+        })
+
+pub stray_dishonest : (us present : List ℕ) (xs : List Exchange) (at : ℕ) → IsStray us xs at
+    → ((u : ℕ) → has present u ≡ true → has us u ≡ true) → HonestTrace present (seen_all xs) → ⊥
+stray_dishonest us present xs at s listed honest = by_chain l.chain
+  where
+    whole : seen_all xs ≡ seen_all s.front ++ seen_of s.exchange ∷ seen_all s.back
+    whole = ap seen_all s.whole ∙ map-append seen_of s.front (s.exchange ∷ s.back)
+
+    l : Led present (before_run honest.1) (seen_all s.front) (seen_of s.exchange ∷ seen_all s.back)
+    l = led present (before_run honest.1) (seen_all s.front) (seen_of s.exchange ∷ seen_all s.back) s.no_failure
+        (subst (λ k. Chain (HonestStep present) (before_run honest.1) k) whole honest.2)
+
+    by_chain : Chain (HonestStep present) l.state (seen_of s.exchange ∷ seen_all s.back) → ⊥
+    by_chain (inl failed) = s.not_failed failed
+    by_chain (inr step) =
+        no_step us present (seen_all s.front) (seen_of s.exchange ∷ seen_all s.back) honest.1 l step.0
+        (seen_of s.exchange).asked (seen_of s.exchange).heard listed s.not_silent s.nobody step.1

@@ -1,0 +1,10 @@
+use Rattle.std.proofs.Common.{◌≡◌, ◌≤◌, take, map}
+use Rattle.rdm_explain.specs.Exchanges.{seen_all}
+use Rattle.rdm_explain.specs.body.Covering.{cover_of, cover_state}
+use Rattle.rdm_explain.specs.body.Trying.{alone}
+use Rattle.rdm_explain.proofs.tried.tried_points.Given as goal
+
+abbrev pub invariant-loop-exchange : goal.invariant-loop-exchange
+invariant-loop-exchange l =
+    (cover_of l.cover ≡ cover_state (map alone (seen_all (take l.exchange-index l.exchanges))))
+    × (l.cover.count ≤ l.exchange-index)
