@@ -14,7 +14,8 @@ use Rattle.rdm_lanes.specs.Sessions.{SessionOver}
 
 module _ {J B X C A : Type 0} {h : Ghosts J} where
   -- The same as `IsSessionEnd`, but the log's capacity may have changed, since it continued in other memory whenever a
-  -- page was handed out. The pages and what is stored are the whole history.
+  -- page was handed out: nothing is said of the capacity at the end. `before` are the pages that were out before the
+  -- session, `after` those that are out at its end. Its pages and what is stored are the whole history.
   pub record IsPagedEnd (step : X → Exchange → X → Type 0) (setup : Setup) (room slots : ℕ) (places : List ℕ)
       (line : X) (turns : ℕ) (before after : List Page) (end : LanesEnd J B X C A h) : Type 0 where
     pub session : SessionOver step setup room places line end.line (with_memory room 0 end.session)

@@ -52,16 +52,16 @@ Follow before (page ∷ pages) =
     (page.first ≡ length before) × (awaited (before ++ entries_in page) ≡ false)
     × Follow (before ++ entries_in page) pages
 
--- From one state of a log to a later one more pages were handed out, after these and up to those. They follow each
--- other, and have all entries that were handed out since.
+-- From one state of a log to a later one further pages were handed out: `after` is `before` and then these. They follow
+-- each other, and have all entries that were handed out since.
 pub record HandsOut (old new : LogState) (before after : List Page) : Type 0 where
   pub pages : List Page
   pub are : after ≡ before ++ pages
   pub follow : Follow (handed_out old) pages
   pub handed : handed_out new ≡ handed_out old ++ entries_of pages
 
--- All pages that a log has handed out since its beginning, after these and up to those. They follow each other. Their
--- entries, and then those that are stored, are the whole history: each entry once, in order.
+-- All pages that a log has handed out since its beginning: `after` is `before` and then these. They follow each other.
+-- Their entries, and then those that are stored, are the whole history: each entry once, in order.
 pub record AreHandedOut (before after : List Page) (k : LogState) : Type 0 where
   pub pages : List Page
   pub are : after ≡ before ++ pages
