@@ -9,28 +9,28 @@ ghost use Rattle.rdm_agent.specs.Run.{acked_in};
 ghost use Rattle.rdm_agent.specs.Certificate.{Certificate, IsCleared, known_of};
 ghost use Rattle.rdm_agent.specs.declared.kind.Kind.{Kind};
 ghost use Rattle.rdm_explain.specs.declared.exchange.Exchange.{Exchange};
+ghost use Rattle.rdm_explain.specs.declared.rule.Breach.{Breach};
 ghost use Rattle.rdm_explain.specs.declared.rule.DeviceFinding.{DeviceFinding};
 ghost use Rattle.rdm_explain.specs.Exchanges.{seen_all};
-ghost use Rattle.rdm_explain.specs.Rules.{AreFirstBreaches, Followed};
+ghost use Rattle.rdm_explain.specs.Rules.{AreFirstBreaches, FirstBreach, Followed};
 ghost use Rattle.rdm_explain.specs.Covers.{FirstUncovered};
 ghost use Rattle.rdm_explain.specs.Strays.{IsStray};
 ghost use Rattle.rdm_explain.specs.Certificates.{ExplainsRun, ExplainsKnown, IsComplete, IsKnownComplete};
 ghost use Rattle.rdm_explain.specs.declared.certificate.RunFinding.{RunFinding};
 ghost use Rattle.rdm_explain.specs.declared.certificate.KnownFinding.{KnownFinding};
 
-/// If the exchanges have the certificate of a set, and by their findings some devices followed the rules, the set has
-/// each of these devices.
+/// If the exchanges have the certificate of a set, the set has each device that followed the rules by its finding.
 pub fn followers_are_reported()
     ensures certified { (kind : Kind) (known : List ℕ) (xs : List Exchange) (s : List Device)
         (found : List DeviceFinding) →
-        Certificate kind known (seen_all xs) s → AreFirstBreaches xs found → AllByRecursion Followed found
-        → AllByRecursion (λ (f : DeviceFinding). has (uids_of s) f.uid ≡ true) found }
+        Certificate kind known (seen_all xs) s → AreFirstBreaches xs found
+        → AllByRecursion (λ (f : DeviceFinding). Followed f → has (uids_of s) f.uid ≡ true) found }
     // The same by the findings about the certificate.
     ensures explained { (kind : Kind) (known : List ℕ) (xs : List Exchange) (s : List Device) (run : RunFinding)
         (names : KnownFinding) (found : List DeviceFinding) →
         ExplainsRun s xs run → IsComplete run → ExplainsKnown (known_of kind known) xs names → IsKnownComplete names
-        → AreFirstBreaches xs found → AllByRecursion Followed found
-        → AllByRecursion (λ (f : DeviceFinding). has (uids_of s) f.uid ≡ true) found }
+        → AreFirstBreaches xs found
+        → AllByRecursion (λ (f : DeviceFinding). Followed f → has (uids_of s) f.uid ≡ true) found }
 {}
 
 /// The findings about the parts of a certificate together decide whether the exchanges have it: they have it if and
@@ -44,7 +44,13 @@ pub fn parts_are_the_certificate()
         → ExplainsRun s xs run → (IsComplete run → ⊥) → Certificate kind known (seen_all xs) s → ⊥ }
 {}
 
-/// If an exchange is stray for a list, the line wasn't honest for these devices, nor for some of them.
+/// If a device broke a rule, the line wasn't honest for any devices among which it is.
+pub fn breach_is_not_honest()
+    ensures { (u : ℕ) (present : List ℕ) (xs : List Exchange) (b : Breach) → FirstBreach u xs (Some b)
+        → has present u ≡ true → HonestTrace present (seen_all xs) → ⊥ }
+{}
+
+/// If an exchange is stray for a list, the line wasn't honest for these devices, nor for any part of them.
 pub fn stray_is_not_honest()
     ensures { (us present : List ℕ) (xs : List Exchange) (at : ℕ) → IsStray us xs at
         → ((u : ℕ) → has present u ≡ true → has us u ≡ true) → HonestTrace present (seen_all xs) → ⊥ }

@@ -10,14 +10,15 @@ use crate::exchange::{Asked, Exchange, Heard};
 use rdm_wire::{NoMemory, Uid};
 use std::alloc::Global;
 
-/// A rule of a line that is honest to a device. An honest line loses at most four replies in a row.
+/// A rule of a line that is honest to a device. Such a line loses at most four replies of that device in a row. On an
+/// honest line the losses of all devices count together, so a line may not be honest although each followed the rules.
 #[derive(Clone, Copy, Debug, PartialEq, Eq)]
 pub enum Rule {
     /// Five branches in a row of ranges with its UID were silent, although it was unmuted.
     SilentBranches,
     /// Five mutes of it in a row were silent.
     SilentMutes,
-    /// A mute of it was answered by bytes that don't acknowledge it.
+    /// A mute of it was answered by bytes that don't acknowledge it. They may be another device's.
     GarbledMute,
 }
 
@@ -30,7 +31,7 @@ pub struct Breach {
     pub rule: Rule,
 }
 
-/// What the exchanges show of a device.
+/// What the exchanges show of a device that is on the line during the whole run. About others it says nothing.
 #[derive(Clone, Copy, Debug)]
 pub struct DeviceFinding {
     /// The device.
@@ -178,6 +179,10 @@ fn findings(alloc: Global, watched: &[Watched]) -> Result<Vec<DeviceFinding>, No
 
 /// For each device of a list, in order, the first exchange that breaks a rule towards it. One pass serves all devices.
 /// Nothing that follows a failure of the line breaks a rule. The only error: out of memory.
+///
+/// The list has UIDs of devices that are on the line during the whole run. A finding says nothing about a device that
+/// came or left. This is for runs of this project's agent, or of another that sends no mute to several devices and no
+/// unmute to one.
 pub fn first_breaches(
     alloc: Global,
     uids: &[Uid],

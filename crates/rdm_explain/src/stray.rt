@@ -10,12 +10,16 @@ use crate::rule::{Watched, hear_all, watch};
 use rdm_wire::{NoMemory, Uid};
 use std::alloc::Global;
 
-/// The index of the first exchange that was answered although no device of a list was due:
+/// The index of the first exchange that was answered, be it by an acknowledgement, although no device of a list was
+/// due:
 /// - a branch, and each device was outside of its range, or muted;
 /// - a mute of a UID that isn't in the list.
 ///
-/// A device is muted if it followed the rules so far, and can't be unmuted by these rules. `None`: there is no such
-/// exchange before the line fails. The only error: out of memory.
+/// What comes after other frames isn't counted. A device is muted if it followed the rules so far, and by these rules
+/// must be muted now. `None`: there is no such exchange before the line fails. The only error: out of memory.
+///
+/// The list has UIDs of devices that are on the line during the whole run. This is for runs of this project's agent,
+/// or of another that sends no mute to several devices and no unmute to one.
 pub fn first_stray(
     alloc: Global,
     uids: &[Uid],

@@ -14,19 +14,18 @@ use Rattle.rdm_explain.proofs.PartLemmas.{certificate_of}
 use Rattle.rdm_explain.proofs.laws.followers_are_reported.Goals as goal
 
 reported : (kind : Kind) (known : List ℕ) (xs : List Exchange) (s : List Device) (found : List DeviceFinding)
-    → Certificate kind known (seen_all xs) s → AreFirstBreaches xs found → AllByRecursion Followed found
-    → AllByRecursion (λ (f : DeviceFinding). has (uids_of s) f.uid ≡ true) found
-reported kind known xs s [] certificate findings followed = tt
-reported kind known xs s (f ∷ found) certificate findings followed = (
-  device_found kind known (seen_all xs) (uids_of s) f.uid followed.0.device certificate.search
-      (subst (FirstBreach f.uid xs) followed.0.honest findings.0),
-  reported kind known xs s found certificate findings.1 followed.1,
+    → Certificate kind known (seen_all xs) s → AreFirstBreaches xs found
+    → AllByRecursion (λ (f : DeviceFinding). Followed f → has (uids_of s) f.uid ≡ true) found
+reported kind known xs s [] certificate findings = tt
+reported kind known xs s (f ∷ found) certificate findings = (
+  (λ followed. device_found kind known (seen_all xs) (uids_of s) f.uid followed.device certificate.search
+      (subst (FirstBreach f.uid xs) followed.honest findings.0)),
+  reported kind known xs s found certificate findings.1,
 )
 
 pub returns : goal.returns
 returns c = record {
   certified = reported;
-  explained = λ kind known xs s run names found parts complete naming named findings followed.
-      reported kind known xs s found (certificate_of kind known xs s run names parts naming complete named)
-      findings followed;
+  explained = λ kind known xs s run names found parts complete naming named findings.
+      reported kind known xs s found (certificate_of kind known xs s run names parts naming complete named) findings;
 }
