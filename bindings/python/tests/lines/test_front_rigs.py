@@ -234,7 +234,7 @@ uid,label,address,personality
 1234:00000002,Front right,8,1
 454e:0a000017,Back truss,100,1
 9abc:00000002,House lights,1,1
-9abc:00000003,,1,1
+9abc:00000003,(empty),1,1
 """)
             self.assertEqual([each.name for each in place.iterdir()], ["rig.csv"])
 
@@ -352,6 +352,22 @@ uid,label,address,personality
         self.assertEqual(self.run_command("apply", "-", text=text)[:2],
                          (0, "1234:00000002  label  Front right -> Side\n1 change\n"))
 
+    def test_a_label_that_is_emptied(self) -> None:
+        self.assertEqual(self.run_command("apply", "-", text=f"uid,label\n{LEFT},(empty)\n"),
+                         (0, f"{LEFT}  label  Front left -> (empty)\n1 change\n", ""))
+        self.assertEqual(self.run_command("get", LEFT, "device_label")[1], "\n")
+        empty = self.run_command("save", "-")[1]
+        self.assertEqual(empty.splitlines()[1], f"{LEFT},(empty),1,1")
+        self.assertEqual(self.run_command("apply", "-", text=empty)[1], "0 changes\n")
+        # A label that is that word.
+        self.assertEqual(self.run_command("apply", "-", text=f"uid,label\n{LEFT},\\x28empty)\n")[1],
+                         f"{LEFT}  label  (empty) -> \\x28empty)\n1 change\n")
+        word = self.run_command("save", "-")[1]
+        self.assertEqual(word.splitlines()[1], f"{LEFT},\\x28empty),1,1")
+        self.assertEqual(self.run_command("apply", "-", text=word)[1], "0 changes\n")
+        self.assertEqual(self.run_command("apply", "-", text=empty)[1],
+                         f"{LEFT}  label  \\x28empty) -> (empty)\n1 change\n")
+
     def test_files_that_are_wrong(self) -> None:
         for text, wanted in (
                 ("", "the first line has to name the columns, with commas between them, and one of them is uid\n"),
@@ -362,6 +378,7 @@ uid,label,address,personality
                 ("uid,lable\n", "there is no column 'lable'; the columns are uid, label, address, personality"),
                 ("uid,address\n1234:00000001,513\n", "line 2: dmx_start_address: 513 is not from 1 to 512"),
                 ("uid,address\n1234:00000001,0017\n", "line 2: dmx_start_address: '0017' can be read in two ways"),
+                ("uid,address\n1234:00000001,(empty)\n", "line 2: dmx_start_address: '(empty)' "),
                 ("uid,label\n1234:00000001,\xe9\n", "line 2: label: '\xe9' isn't printable ASCII"),
                 ("uid,label\n1234,x\n", "line 2: '1234' isn't a UID, such as 7a70:00000001"),
                 ("uid,label\nffff:ffffffff,x\n", "line 2: ffff:ffffffff is no device's own UID"),
@@ -409,7 +426,7 @@ uid,label,address,personality
     def test_a_device_without_an_address(self) -> None:
         self.scene({"uid": LEFT, "params": [{"pid": "00f0", "parts": ["ffff"]}]})
         status, out, errors = self.run_command("save", "-")
-        self.assertEqual((status, out.splitlines()[1]), (0, f"{LEFT},,,1"))
+        self.assertEqual((status, out.splitlines()[1]), (0, f"{LEFT},(empty),,1"))
         self.assertIn(f"wurstlinen: {LEFT}: address is none, and is left out\n", errors)
         self.assertEqual(self.run_command("apply", "-", text=out)[:2], (0, "0 changes\n"))
 

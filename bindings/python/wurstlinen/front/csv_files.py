@@ -18,14 +18,18 @@ from .work import Work, open_work
 
 STANDARD_STREAM = "-"
 UID = "uid"
+LABEL = "label"
 MISFIT = "misfit"
+# What an empty text is in a file, where an empty value changes nothing. A text that says so has an escape.
+EMPTY = "(empty)"
+ESCAPED = "\\x28empty)"
 # The columns with their parameters, in the order in which they are set: a personality may change an address.
 COLUMNS: Mapping[str, Parameter] = {
     "personality": STANDARD.named("dmx_personality"),
     "address": STANDARD.named("dmx_start_address"),
-    "label": STANDARD.named("device_label"),
+    LABEL: STANDARD.named("device_label"),
 }
-WRITTEN = (UID, "label", "address", "personality")
+WRITTEN = (UID, LABEL, "address", "personality")
 
 
 @dataclass(frozen=True)
@@ -40,7 +44,7 @@ class Change:
     @property
     def text(self) -> str:
         """The change, for people."""
-        return f"{self.uid}  {self.column}  {self.before or '(empty)'} -> {self.after or '(empty)'}"
+        return f"{self.uid}  {self.column}  {written(self.before)} -> {written(self.after)}"
 
 
 def run_save(chosen: argparse.Namespace, output: Output) -> int:
@@ -95,6 +99,11 @@ def print_rows(rows: Sequence[Mapping[str, str]], output: Output) -> None:
         output.result([], **row)
 
 
+def written(value: str) -> str:
+    """A value of a device, as it is in a file."""
+    return ESCAPED if value == EMPTY else value or EMPTY
+
+
 def row_of(work: Work, uid: Uid, output: Output) -> Tuple[Dict[str, str], bool]:
     """A device's values, and whether it answered. What it refuses, or what can't be set, stays empty."""
     row = {UID: str(uid)}
@@ -104,7 +113,7 @@ def row_of(work: Work, uid: Uid, output: Output) -> Tuple[Dict[str, str], bool]:
         try:
             value = value_of(work, uid, column)
             encode(parameter, True, [value])
-            row[column] = value
+            row[column] = written(value)
         except Failure as failure:
             if failure.is_of_line:
                 raise
@@ -195,10 +204,12 @@ def check_columns(name: str, columns: Sequence[str]) -> None:
 
 
 def checked(row: Mapping[Optional[str], Optional[str]], place: str) -> Tuple[Uid, Dict[str, str]]:
-    """A row whose values can be set. An empty value stays as it is."""
+    """A row whose values can be set, without those that stay as they are."""
     if None in row or None in row.values():
         raise wrong(f"{place}: it has more or fewer values than the first line")
     values = {column: str(row[column]) for column in COLUMNS if row.get(column)}
+    if values.get(LABEL) == EMPTY:
+        values[LABEL] = ""
     try:
         number = parse_uid(str(row[UID]).strip())
         for column, value in values.items():
