@@ -1,4 +1,5 @@
--- The rules of a line that is honest to one device, and where a device breaks one first.
+-- The rules of a line that is honest to one device, and where a device breaks one first. The device is on the line
+-- during the whole run. Losses are counted for it alone.
 use Rattle.std.specs.Prelude.{◌≡◌, ◌≢◌, ℕ, ◌+◌, ◌<◌, true, false, List, ◌++◌, length, take, map, Option, Some, None}
 use Rattle.std.specs.List.{AllByRecursion}
 use Rattle.rdm_wire.specs.Uid.{is_within, IsDevice}
@@ -40,7 +41,8 @@ pub record IsGarbledMute (u : ℕ) (e : Seen) : Type 0 where
   pub not_acked : is_acked e.heard ≡ false
 
 -- the last exchanges are those that the rule forbids: five silent branches in a row around u, five silent mutes of u in
--- a row, or a mute of u that was answered by other bytes
+-- a row, or a mute of u that was answered by other bytes, maybe another device's. That u was unmuted in the silent
+-- branches follows, since the line is no longer honest to u
 abbrev pub EndsBy : ℕ → Rule → List Seen → Type 0
 EndsBy u SilentBranches x = EndsWith 5 (IsSilentAround u) x
 EndsBy u SilentMutes x = EndsWith 5 (IsSilentMute u) x

@@ -26,7 +26,7 @@ pub record IsMuted (u : ℕ) (x : List Seen) : Type 0 where
   pub muted : MayBeUnmuted u x → ⊥
 
 -- no device of the list is due to answer after these exchanges: each is outside of the range of a branch, or muted; the
--- UID that is to be muted isn't in the list
+-- UID that is to be muted isn't in the list. What comes after other frames is never counted
 abbrev pub NobodyIsDue : List ℕ → List Seen → Asked → Type 0
 NobodyIsDue us x (Branch lo hi) = AllByRecursion (λ u. is_within lo hi u ≡ true → IsMuted u x) us
 NobodyIsDue us x (Mute u) = has us u ≡ false
