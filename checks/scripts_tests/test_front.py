@@ -385,7 +385,8 @@ class Repository(unittest.TestCase):
     def test_wrong_words_build_nothing(self) -> None:
         rig, uid = f"--line=rig:{FIXTURES}", "1234:00000001"
         for words, status, reason in (
-                (["get", "foo", rig], 2, "'foo' isn't a UID"), (["fixtures", "--lin"], 2, "argument --line: "),
+                (["get", "foo", rig], 2, "'foo' isn't a UID"), (["fixtures", "--line"], 2, "argument --line: "),
+                (["fixtures", "--lin"], 2, "unrecognized arguments: --lin; "),
                 (["set", uid, "dmx_start_address", "0017", rig], 2, "'0017' can be read in two ways"),
                 (["get", uid, "device_lable", rig], 2, "did you mean device_label?"),
                 (["get", "--raw", rig], 2, "required: "), (["get", "--raw", uid, "0082", "--line=rig:no"], 1, "'no'"),
