@@ -9,7 +9,7 @@ ghost use Rattle.rdm_log.specs.promises.Promised.{Promised};
 ghost use Rattle.rdm_locked.specs.Calls.{count_calls};
 ghost use Rattle.rdm_locked.specs.Exchanges.{recorded};
 ghost use Rattle.rdm_locked.specs.Openings.{MayOpen, IsOpened};
-ghost use Rattle.rdm_locked.specs.Pages.{entries_of};
+ghost use Rattle.rdm_locked.specs.Pages.{entries_of, Numbered};
 ghost use Rattle.rdm_locked.specs.Recorded.{ring_of, exchanges_of, pages_of};
 
 use crate::fault::{DrainFault, FinishFault};
@@ -85,6 +85,7 @@ impl<L: Ledger, J: PageRing> Inside<L, J> {
         ensures exchanges { IfOk result (λ e. log_exchanges e.session.entries ≡ recorded (exchanges_of kept.old)) }
         ensures pages { IfOk result (λ e.
             e.session.entries ≡ entries_of (pages_of kept.old) ++ stored e.session) }
+        ensures numbered { OnOk result (Numbered (pages_of kept.old)) }
         ensures legal { IfOk result (λ e. Legal e.session.opening e.session.entries) }
         ensures promised { IfOk result (λ e. Promised e.session) }
         ensures same { (exchanges_of kept.new ≡ exchanges_of kept.old)
@@ -108,6 +109,7 @@ impl<L: Ledger, J: PageRing> Inside<L, J> {
             (log_exchanges self.old.session.entries ≡ recorded (exchanges_of kept.old)) }
         ensures pages { IfNone result
             (self.old.session.entries ≡ entries_of (pages_of kept.old) ++ stored self.old.session) }
+        ensures numbered { IfNone result (Numbered (pages_of kept.old)) }
     {
         if shares < usize::from(self.joined) {
             return Some(FinishFault::SharesMissing);
