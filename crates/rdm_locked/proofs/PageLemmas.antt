@@ -1,6 +1,6 @@
 -- Pages, and the record that is compared with them.
 use Rattle.std.proofs.Common.{◌≡◌, ℕ, ◌+◌, ◌≤◌, List, [], ◌∷◌, ◌++◌, length, map, drop, take, refl, ap, sym, ◌∙◌}
-use Rattle.std.proofs.Common.{None, Some, arith, get_or, ◌<◌, inl, inr}
+use Rattle.std.proofs.Common.{None, Some, arith, get_or, ◌<◌, ◌≢◌, inl, inr}
 use Rattle.std.specs.Prelude.{Option, is_some, false, ◌⊎◌}
 use Rattle.std.proofs.lemmas.Bool.{false≢true}
 use Rattle.std.specs.Option.{ForSome}
@@ -265,6 +265,10 @@ sent_on (Some f) e owner frame none is = absurd (false≢true (sym none))
 pub came_on : (a : Option (ArrayVec ℕ)) (e : Entry) (event : LineEvent) (x : Exchange) → e ≡ Came event
     → (a ≡ Some x.frame) × (event ≡ x.event) → Matches a (e ∷ []) (x ∷ []) None
 came_on a e event x is same = rw same.0 (matches_came e event x is same.1)
+
+-- all were received only if nothing waits
+pub none_waits : (got known all : List Page) → got ++ known ≡ all → length known ≢ 0 → got ≢ all
+none_waits got known all is some same = some (omega (arith, ap length is, length-append got known, ap length same))
 
 -- the page that is looked at is the one that is taken next
 pub peeked_is : (peeked page : Page) (known rest : List Page) → IsPrefix (peeked ∷ []) known → known ≡ page ∷ rest

@@ -47,8 +47,10 @@ impl<L: Ledger, J: PageRing> Port<L, J> {
 
     /// Hands all entries that the log stores to the record, whose [`next_page`](Record::next_page) returns them. Any
     /// thread may call it. Drain when half of the log is used: a full one refuses the clients' calls.
-    /// Err: PageWaits if the record hasn't returned the last page yet. Otherwise Refused, as
-    /// [`Session::drain`](rdm_queue::Session::drain) returns. Nothing has changed, and the memory is returned.
+    /// A log that stores nothing hands over a page without entries, which has to be taken too.
+    /// Err: NotRecorded if the port has no record. Otherwise PageWaits if the record hasn't returned the last page yet.
+    /// Otherwise Refused, as [`Session::drain`](rdm_queue::Session::drain) returns. Nothing has changed, and the memory
+    /// is returned.
     pub fn drain_recorded<R: Wait>(
         &self,
         rt: &R,

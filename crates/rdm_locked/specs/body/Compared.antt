@@ -27,7 +27,7 @@ pub record Walked (before : Option (ArrayVec ℕ)) (h : List Entry) (xs left : L
   pub whole : xs ≡ done ++ left
   pub matches : Matches before h done after
 
--- the same, whatever is left; `count` of them are those of these entries
+-- The first `count` of the record's exchanges are those of these entries.
 pub record Finds (before : Option (ArrayVec ℕ)) (h : List Entry) (xs : List Exchange) (count : ℕ)
     (after : Option (ArrayVec ℕ)) : Type 0 where
   pub left : List Exchange
