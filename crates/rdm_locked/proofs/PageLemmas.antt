@@ -185,17 +185,22 @@ split_last (p ∷ pages) last (b ∷ before) page later is =
 
 -- no pages have the right numbers, and so have these with one more
 pub numbered_none : Numbered []
-numbered_none before page later is = absurd (omega (arith, ap length is, length-append before (page ∷ later)))
+numbered_none = record {
+  each = λ before page later is. absurd (omega (arith, ap length is, length-append before (page ∷ later)));
+}
 
 pub numbered_more : (pages : List Page) (last : Page) → Numbered pages → last.first ≡ length (entries_of pages)
     → Numbered (pages ++ last ∷ [])
-numbered_more pages last numbered first before page later is = by_place (split_last pages last before page later is)
+numbered_more pages last numbered first = record {
+  each = λ before page later is. by_place before page (split_last pages last before page later is);
+}
   where
-    by_place : ((before ≡ pages) × (last ≡ page)) ⊎ ((rest : List Page) × (pages ≡ before ++ page ∷ rest))
+    by_place : (before : List Page) (page : Page)
+        → ((before ≡ pages) × (last ≡ page)) ⊎ ((rest : List Page) × (pages ≡ before ++ page ∷ rest))
         → page.first ≡ length (entries_of before)
-    by_place (inl same) =
+    by_place before page (inl same) =
         sym (ap (λ p. p.first) same.1) ∙ first ∙ sym (ap (λ ps. length (entries_of ps)) same.0)
-    by_place (inr within) = numbered before page within.0 within.1
+    by_place before page (inr within) = numbered.each before page within.0 within.1
 
 -- the pages of a log that grew, and of one that was drained
 pub out_by : (k : LogState) (pages : List Page) (rest : List Entry) → k.entries ≡ entries_of pages ++ rest

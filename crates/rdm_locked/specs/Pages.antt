@@ -24,6 +24,6 @@ abbrev pub entries_of : List Page → List Entry
 entries_of pages = flat_map (λ p. p.entries.items) pages
 
 -- The number of each page's first entry is how many entries the pages before it have.
-abbrev pub Numbered : List Page → Type 0
-Numbered pages = (before : List Page) (page : Page) (later : List Page) → pages ≡ before ++ page ∷ later
-    → page.first ≡ length (entries_of before)
+pub record Numbered (pages : List Page) : Type 0 where
+  pub each : (before : List Page) (page : Page) (later : List Page) → pages ≡ before ++ page ∷ later
+      → page.first ≡ length (entries_of before)

@@ -108,7 +108,7 @@ impl<J: PageRing> Record<J> {
             → log_exchanges (entries_of (pages_of self.now) ++ entries.now) ≡ recorded (exchanges_of self.now) }
     {
         match self.found(entries) {
-            Some(found) => found.count == self.recent.len(),
+            Some(found) => found.count == self.recent.as_slice().len(),
             None => false,
         }
     }
