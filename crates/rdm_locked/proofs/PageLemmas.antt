@@ -1,7 +1,7 @@
 -- Pages, and the record that is compared with them.
 use Rattle.std.proofs.Common.{◌≡◌, ℕ, ◌+◌, ◌≤◌, List, [], ◌∷◌, ◌++◌, length, map, drop, take, refl, ap, sym, ◌∙◌}
-use Rattle.std.proofs.Common.{None, Some, arith, get_or, ◌<◌}
-use Rattle.std.specs.Prelude.{Option, is_some, false}
+use Rattle.std.proofs.Common.{None, Some, arith, get_or, ◌<◌, ◌≢◌, inl, inr}
+use Rattle.std.specs.Prelude.{Option, is_some, false, ◌⊎◌}
 use Rattle.std.proofs.lemmas.Bool.{false≢true}
 use Rattle.std.specs.Option.{ForSome}
 use Rattle.std.proofs.lemmas.List.{append_assoc, append-nil, map-append}
@@ -23,7 +23,7 @@ use Rattle.rdm_log.proofs.LogLemmas.PushLemmas.{sends-append}
 use Rattle.rdm_log.specs.promises.Blocks.{GrowsBy}
 use Rattle.rdm_line.specs.Events.{Exchange as LineExchange}
 use Rattle.rdm_locked.specs.Exchanges.{recorded, Records}
-use Rattle.rdm_locked.specs.Pages.{entries_of}
+use Rattle.rdm_locked.specs.Pages.{entries_of, Numbered}
 use Rattle.rdm_locked.specs.body.Compared.{awaited, Matches, Walked, Finds, HandedOut}
 use Rattle.rdm_locked.specs.body.Frames.{frames_in}
 use Rattle.rdm_locked.specs.declared.exchange.Exchange.{Exchange}
@@ -156,14 +156,60 @@ records_behind L step a past old b new turns r = record {
   few = r.few;
 }
 
+abbrev pages_behind : List Page → List Page
+pages_behind [] = []
+pages_behind (p ∷ pages) = pages
+
+cons_same : (p q : Page) (ps qs : List Page) → p ≡ q → ps ≡ qs → (p ∷ ps) ≡ (q ∷ qs)
+cons_same p q ps qs first later = rw (first, later) refl
+
+-- a page in a list that ends with another: it is that one, or stands before it
+split_last : (pages : List Page) (last : Page) (before : List Page) (page : Page) (later : List Page)
+    → pages ++ last ∷ [] ≡ before ++ page ∷ later
+    → ((before ≡ pages) × (last ≡ page)) ⊎ ((rest : List Page) × (pages ≡ before ++ page ∷ rest))
+split_last [] last [] page later is = inl (refl, same_heads last page _ _ is)
+split_last [] last (b ∷ before) page later is =
+    absurd (omega (arith, ap length is, length-append before (page ∷ later)))
+split_last (p ∷ pages) last [] page later is = inr (pages, cons_same p page _ _ (same_heads p page _ _ is) refl)
+split_last (p ∷ pages) last (b ∷ before) page later is =
+    by_later (split_last pages last before page later (ap pages_behind is))
+  where
+    first : p ≡ b
+    first = same_heads p b _ _ is
+
+    by_later : ((before ≡ pages) × (last ≡ page)) ⊎ ((rest : List Page) × (pages ≡ before ++ page ∷ rest))
+        → (((b ∷ before) ≡ (p ∷ pages)) × (last ≡ page))
+        ⊎ ((rest : List Page) × ((p ∷ pages) ≡ (b ∷ before) ++ page ∷ rest))
+    by_later (inl same) = inl (cons_same b p _ _ (sym first) same.0, same.1)
+    by_later (inr within) = inr (within.0, cons_same p b _ _ first within.1)
+
+-- no pages have the right numbers, and so have these with one more
+pub numbered_none : Numbered []
+numbered_none = record {
+  each = λ before page later is. absurd (omega (arith, ap length is, length-append before (page ∷ later)));
+}
+
+pub numbered_more : (pages : List Page) (last : Page) → Numbered pages → last.first ≡ length (entries_of pages)
+    → Numbered (pages ++ last ∷ [])
+numbered_more pages last numbered first = record {
+  each = λ before page later is. by_place before page (split_last pages last before page later is);
+}
+  where
+    by_place : (before : List Page) (page : Page)
+        → ((before ≡ pages) × (last ≡ page)) ⊎ ((rest : List Page) × (pages ≡ before ++ page ∷ rest))
+        → page.first ≡ length (entries_of before)
+    by_place before page (inl same) =
+        sym (ap (λ p. p.first) same.1) ∙ first ∙ sym (ap (λ ps. length (entries_of ps)) same.0)
+    by_place before page (inr within) = numbered.each before page within.0 within.1
+
 -- the pages of a log that grew, and of one that was drained
 pub out_by : (k : LogState) (pages : List Page) (rest : List Entry) → k.entries ≡ entries_of pages ++ rest
-    → k.gone ≡ length (entries_of pages) → HandedOut k pages
-out_by k pages rest whole gone =
+    → k.gone ≡ length (entries_of pages) → Numbered pages → HandedOut k pages
+out_by k pages rest whole gone numbered =
     let same : stored k ≡ rest =
     ap (λ n. drop n k.entries) gone ∙ ap (drop (length (entries_of pages))) whole
     ∙ drop-append_seam (entries_of pages) rest in
-    record { whole = whole ∙ ap (λ h. entries_of pages ++ h) (sym same); gone = gone }
+    record { whole = whole ∙ ap (λ h. entries_of pages ++ h) (sym same); gone = gone; numbered = numbered }
 
 pub grown_pages : (old : LogState) (Adds : List Entry → Type 0) (new : LogState) (pages : List Page)
     → GrowsBy old Adds new → HandedOut old pages → HandedOut new pages
@@ -172,21 +218,21 @@ grown_pages old Adds new pages grows out =
     let gone : new.gone ≡ old.gone = ap (λ k. k.gone) grows.grows in
     out_by new pages (stored old ++ grows.block)
     (entries ∙ ap (λ h. h ++ grows.block) out.whole ∙ append_assoc (entries_of pages) (stored old) grows.block)
-    (gone ∙ out.gone)
+    (gone ∙ out.gone) out.numbered
 
 pub drained_pages : (k : LogState) (room : ℕ) (pages : List Page) (page : Page) → HandedOut k pages
-    → page.entries.items ≡ stored k → HandedOut (drained k room) (pages ++ page ∷ [])
-drained_pages k room pages page out is =
+    → page.entries.items ≡ stored k → page.first ≡ k.gone → HandedOut (drained k room) (pages ++ page ∷ [])
+drained_pages k room pages page out is first =
     let all : entries_of (pages ++ page ∷ []) ≡ k.entries =
     flat_map-append (λ (p : Page). p.entries.items) pages (page ∷ [])
     ∙ ap (λ h. entries_of pages ++ h) (append-nil page.entries.items ∙ is)
     ∙ sym out.whole in
     out_by (drained k room) (pages ++ page ∷ []) [] (sym all ∙ sym (append-nil (entries_of (pages ++ page ∷ []))))
-    (ap length (sym all))
+    (ap length (sym all)) (numbered_more pages page out.numbered (first ∙ out.gone))
 
 -- those of a log that begins
 pub begun_pages : (k : LogState) (pages : List Page) → pages ≡ [] → k.gone ≡ 0 → HandedOut k pages
-begun_pages k pages none gone = rw none (out_by k [] k.entries refl gone)
+begun_pages k pages none gone = rw none (out_by k [] k.entries refl gone numbered_none)
 
 -- the same for the end of a ring, if there is one
 pub sent_grown : {A P : Type 0} (ends : Option (Producer Page A P)) (old : LogState) (Adds : List Entry → Type 0)
@@ -224,6 +270,10 @@ sent_on (Some f) e owner frame none is = absurd (false≢true (sym none))
 pub came_on : (a : Option (ArrayVec ℕ)) (e : Entry) (event : LineEvent) (x : Exchange) → e ≡ Came event
     → (a ≡ Some x.frame) × (event ≡ x.event) → Matches a (e ∷ []) (x ∷ []) None
 came_on a e event x is same = rw same.0 (matches_came e event x is same.1)
+
+-- all were received only if nothing waits
+pub none_waits : (got known all : List Page) → got ++ known ≡ all → length known ≢ 0 → got ≢ all
+none_waits got known all is some same = some (omega (arith, ap length is, length-append got known, ap length same))
 
 -- the page that is looked at is the one that is taken next
 pub peeked_is : (peeked page : Page) (known rest : List Page) → IsPrefix (peeked ∷ []) known → known ≡ page ∷ rest

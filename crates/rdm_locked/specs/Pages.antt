@@ -1,5 +1,5 @@
 -- The pages that a port's log hands out, and the ring that they go through.
-use Rattle.std.specs.Prelude.{◌≡◌, List, flat_map}
+use Rattle.std.specs.Prelude.{◌≡◌, List, [], ◌∷◌, ◌++◌, length, flat_map}
 use denote.RawPtr.{Ptr}
 use Rattle.std.specs.declared.alloc.Global.{Global}
 use Rattle.rtrb.specs.Shared.{Names}
@@ -22,3 +22,8 @@ pub record IsOf {T P : Type 0} (name : RingName) (end : End T Global P) : Type 0
 -- the entries of these pages, in order
 abbrev pub entries_of : List Page → List Entry
 entries_of pages = flat_map (λ p. p.entries.items) pages
+
+-- The number of each page's first entry is how many entries the pages before it have.
+pub record Numbered (pages : List Page) : Type 0 where
+  pub each : (before : List Page) (page : Page) (later : List Page) → pages ≡ before ++ page ∷ later
+      → page.first ≡ length (entries_of before)

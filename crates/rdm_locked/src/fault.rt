@@ -13,7 +13,7 @@ pub enum DiscoverFault {
     Refused(AskFault),
 }
 
-/// A page's exchanges aren't the oldest of the record.
+/// A page's exchanges aren't the oldest of the record, or those of an earlier page weren't.
 #[derive(Clone, Copy, Debug, PartialEq, Eq, Error)]
 #[error("the page's exchanges aren't those of the record")]
 pub struct ExchangesDiffer;
@@ -21,6 +21,9 @@ pub struct ExchangesDiffer;
 /// Why a drained page doesn't go to the record; nothing has changed.
 #[derive(Clone, Copy, Debug, PartialEq, Eq, Error)]
 pub enum DrainFault {
+    /// The port has no record.
+    #[error("the port has no record")]
+    NotRecorded,
     /// The last page wasn't taken yet.
     #[error("the last page wasn't taken yet")]
     PageWaits,
@@ -35,9 +38,9 @@ pub enum FinishFault {
     /// 1: the share of a client that joined is missing.
     #[error("a client's share is missing")]
     SharesMissing,
-    /// 3, which is tested before 2: entries of the log were handed out, so that its exchanges can't be compared. With a
-    /// record: it hasn't returned the last page.
-    #[error("entries of the log were handed out")]
+    /// 3, which is tested before 2: entries of the log were handed out that the record doesn't have, so that its
+    /// exchanges can't be compared. A slice has no pages; a record has those that it returned.
+    #[error("entries of the log were handed out that the record doesn't have")]
     HandedOut,
     /// 2: the log's exchanges aren't those of the record.
     #[error("the log's exchanges aren't those of the record")]

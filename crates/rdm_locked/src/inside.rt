@@ -213,7 +213,7 @@ impl<L: Ledger, J: PageRing> Inside<L, J> {
     {
         let first = self.session.log().gone();
         let entries = self.session.drain(next)?;
-        // The ring doesn't have this page.
+        // The ring doesn't get this page, so from now on it is a port without a ring.
         self.pages = None;
         Ok(Page { first, entries })
     }

@@ -170,6 +170,9 @@ impl<L: Ledger, J: PageRing> Port<L, J> {
     ///
     /// A full record doubles its capacity, which copies it. If you know how many exchanges come, reserve as many first:
     /// each has 552 bytes, and then no turn allocates for it.
+    ///
+    /// A port with a record has [`work_recorded`](Port::work_recorded): what is recorded elsewhere makes the record
+    /// differ from the log.
     pub fn work<X: Line, R: Wait>(
         &self,
         rt: &R,

@@ -1,5 +1,5 @@
 //! The record of a port that is drained.
-ghost use Rattle.std.specs.Prelude.{◌≡◌, None};
+ghost use Rattle.std.specs.Prelude.{◌≡◌, false, None};
 ghost use Rattle.rtrb.specs.Ring.{received};
 ghost use Rattle.rdm_locked.specs.Pages.{IsOf, entries_of};
 ghost use Rattle.rdm_locked.specs.body.Compared.{Matches};
@@ -24,6 +24,8 @@ pub struct Record<J: PageRing> {
     pub(crate) recent: Vec<Exchange>,
     // The frame that was sent in the last page, and whose reply wasn't in it.
     awaited: Option<Frame>,
+    // Whether a page was returned whose exchanges weren't the oldest of the record.
+    differs: bool,
     ghost named: { IsOf J.ring pages.end },
-    ghost compared: { Matches None (entries_of (received pages)) past.items awaited },
+    ghost compared: { differs ≡ false → Matches None (entries_of (received pages)) past.items awaited },
 }

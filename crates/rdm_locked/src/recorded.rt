@@ -1,5 +1,5 @@
 //! A port that is drained, and its record.
-ghost use Rattle.std.specs.Prelude.{◌≡◌, ◌++◌, [], length, IfOk, IfErr};
+ghost use Rattle.std.specs.Prelude.{◌≡◌, ◌++◌, [], length, OnOk, IfOk, IfErr};
 ghost use Rattle.std.specs.List.{sum_by};
 ghost use Rattle.rdm_log.specs.log.Entries.{exchanges as log_exchanges};
 ghost use Rattle.rdm_log.specs.log.History.{next_client};
@@ -9,7 +9,7 @@ ghost use Rattle.rdm_log.specs.promises.Promised.{Promised};
 ghost use Rattle.rdm_locked.specs.Calls.{count_calls};
 ghost use Rattle.rdm_locked.specs.Exchanges.{recorded, Records};
 ghost use Rattle.rdm_locked.specs.Openings.{MayOpen};
-ghost use Rattle.rdm_locked.specs.Pages.{entries_of};
+ghost use Rattle.rdm_locked.specs.Pages.{entries_of, Numbered};
 ghost use Rattle.rdm_locked.specs.Recorded.{ring_of, exchanges_of, pages_of};
 
 use crate::fault::{DrainFault, FinishFault};
@@ -47,8 +47,10 @@ impl<L: Ledger, J: PageRing> Port<L, J> {
 
     /// Hands all entries that the log stores to the record, whose [`next_page`](Record::next_page) returns them. Any
     /// thread may call it. Drain when half of the log is used: a full one refuses the clients' calls.
-    /// Err: PageWaits if the record hasn't returned the last page yet. Otherwise Refused, as
-    /// [`Session::drain`](rdm_queue::Session::drain) returns. Nothing has changed, and the memory is returned.
+    /// A log that stores nothing hands over a page without entries, which has to be taken too.
+    /// Err: NotRecorded if the port has no record. Otherwise PageWaits if the record hasn't returned the last page yet.
+    /// Otherwise Refused, as [`Session::drain`](rdm_queue::Session::drain) returns. Nothing has changed, and the memory
+    /// is returned.
     pub fn drain_recorded<R: Wait>(
         &self,
         rt: &R,
@@ -78,7 +80,7 @@ impl<L: Ledger, J: PageRing> Port<L, J> {
 
     /// Ends the port, as [`Port::finish`] does, with a record that has returned all pages of the log. The log's
     /// exchanges and the record's are compared over the whole history. The pages, one after another, and then what the
-    /// log stores, are all its entries.
+    /// log stores, are all its entries. Each page has the right number.
     /// Err: SharesMissing, or else HandedOut if the record hasn't returned the last page, or else ExchangesDiffer. The
     /// port, which is as open as before, and the shares are returned.
     pub fn finish_recorded(
@@ -93,6 +95,7 @@ impl<L: Ledger, J: PageRing> Port<L, J> {
         ensures exchanges { IfOk result (λ e. log_exchanges e.session.entries ≡ recorded (exchanges_of kept.old)) }
         ensures pages { IfOk result (λ e.
             e.session.entries ≡ entries_of (pages_of kept.old) ++ stored e.session) }
+        ensures numbered { OnOk result (Numbered (pages_of kept.old)) }
         ensures legal { IfOk result (λ e. Legal e.session.opening e.session.entries) }
         ensures promised { IfOk result (λ e. Promised e.session) }
         ensures same { (exchanges_of kept.new ≡ exchanges_of kept.old)

@@ -6,7 +6,7 @@ use Rattle.rdm_log.specs.declared.page.Page.{Page}
 use Rattle.rdm_log.specs.log.Entries.{cames}
 use Rattle.rdm_log.specs.log.LogState.{LogState, stored}
 use Rattle.rdm_locked.specs.declared.exchange.Exchange.{Exchange}
-use Rattle.rdm_locked.specs.Pages.{entries_of}
+use Rattle.rdm_locked.specs.Pages.{entries_of, Numbered}
 use Rattle.rdm_locked.specs.body.Frames.{frames_in}
 
 -- a frame whose reply is awaited, as a list
@@ -27,14 +27,15 @@ pub record Walked (before : Option (ArrayVec ℕ)) (h : List Entry) (xs left : L
   pub whole : xs ≡ done ++ left
   pub matches : Matches before h done after
 
--- the same, whatever is left; `count` of them are those of these entries
+-- The first `count` of the record's exchanges are those of these entries.
 pub record Finds (before : Option (ArrayVec ℕ)) (h : List Entry) (xs : List Exchange) (count : ℕ)
     (after : Option (ArrayVec ℕ)) : Type 0 where
   pub left : List Exchange
   pub walked : Walked before h xs left after
   pub counted : count + length left ≡ length xs
 
--- these pages are all that the log handed out
+-- these pages are all that the log handed out, and have the right numbers
 pub record HandedOut (k : LogState) (pages : List Page) : Type 0 where
   pub whole : k.entries ≡ entries_of pages ++ stored k
   pub gone : k.gone ≡ length (entries_of pages)
+  pub numbered : Numbered pages

@@ -1,15 +1,18 @@
 //! A session in a mutex whose pages go to a record.
-ghost use Rattle.std.specs.Prelude.{◌≡◌, ◌++◌, ◌≤◌, [], length, OnOk, OnErr, IfOk, IfErr, IfNone, vec_capacity};
+ghost use Rattle.std.specs.Prelude.{◌≡◌, ◌≢◌, ◌++◌, ◌≤◌, ◌<◌, [], length, Some, None, OnOk, OnErr, IfOk, IfErr, IfNone};
+ghost use Rattle.std.specs.Prelude.{vec_capacity};
 ghost use Rattle.std.specs.List.{sum_by};
+ghost use Rattle.std.specs.Option.{ForSome};
+ghost use Rattle.rtrb.specs.Ring.{sent};
 ghost use Rattle.rdm_log.specs.log.Entries.{exchanges as log_exchanges};
 ghost use Rattle.rdm_log.specs.log.History.{next_client};
 ghost use Rattle.rdm_log.specs.log.Legal.{Legal};
-ghost use Rattle.rdm_log.specs.log.LogState.{stored, drained};
+ghost use Rattle.rdm_log.specs.log.LogState.{stored, drained, MayGoOn};
 ghost use Rattle.rdm_log.specs.promises.Promised.{Promised};
 ghost use Rattle.rdm_locked.specs.Calls.{count_calls};
 ghost use Rattle.rdm_locked.specs.Exchanges.{recorded};
 ghost use Rattle.rdm_locked.specs.Openings.{MayOpen, IsOpened};
-ghost use Rattle.rdm_locked.specs.Pages.{entries_of};
+ghost use Rattle.rdm_locked.specs.Pages.{entries_of, Numbered};
 ghost use Rattle.rdm_locked.specs.Recorded.{ring_of, exchanges_of, pages_of};
 
 use crate::fault::{DrainFault, FinishFault};
@@ -17,7 +20,7 @@ use crate::inside::{Inside, SessionEnd};
 use crate::pages::{PageEnds, PageRing};
 use crate::record::Record;
 use crate::share::CallShare;
-use rdm_queue::{Entry, Log, NoMemory, Page, Setup};
+use rdm_queue::{Entry, Log, LogFull, NoMemory, Page, Setup};
 use std::alloc::Global;
 use std::sync::ledger::{Blank, Ledger};
 
@@ -43,7 +46,8 @@ impl<L: Ledger, J: PageRing> Inside<L, J> {
     }
 
     // Hands all entries that the log stores to the record.
-    // Err: PageWaits, or else Refused as `Session::drain` returns; nothing has changed, and the memory is returned.
+    // Err: NotRecorded, or else PageWaits, or else Refused as `Session::drain` returns; nothing has changed, and the
+    // memory is returned.
     pub(crate) fn drain_recorded(
         &mut self,
         next: Vec<Entry>,
@@ -51,12 +55,15 @@ impl<L: Ledger, J: PageRing> Inside<L, J> {
         requires { next.items ≡ [] }
         ensures log { OnOk result (self.new.session ≡ drained self.old.session (vec_capacity next)) }
         ensures back { IfErr result (λ e. e.1 ≡ next) }
+        ensures not_recorded { IfErr result (λ e. e.0 ≡ DrainFault.NotRecorded → self.old.pages ≡ None) }
+        ensures refused { IfErr result (λ e. (fault : LogFull) → e.0 ≡ DrainFault.Refused fault
+            → MayGoOn self.old.session (vec_capacity next) → ⊥) }
         ensures unchanged { OnErr result (self.new.session ≡ self.old.session) }
         ensures clients { (self.new.joined ≡ self.old.joined) × (self.new.left ≡ self.old.left) }
     {
         let Inside { session, pages, .. } = self;
         let Some(pages) = pages else {
-            return Err((DrainFault::PageWaits, next));
+            return Err((DrainFault::NotRecorded, next));
         };
         if pages.is_full() {
             return Err((DrainFault::PageWaits, next));
@@ -85,11 +92,15 @@ impl<L: Ledger, J: PageRing> Inside<L, J> {
         ensures exchanges { IfOk result (λ e. log_exchanges e.session.entries ≡ recorded (exchanges_of kept.old)) }
         ensures pages { IfOk result (λ e.
             e.session.entries ≡ entries_of (pages_of kept.old) ++ stored e.session) }
+        ensures numbered { OnOk result (Numbered (pages_of kept.old)) }
         ensures legal { IfOk result (λ e. Legal e.session.opening e.session.entries) }
         ensures promised { IfOk result (λ e. Promised e.session) }
         ensures same { (exchanges_of kept.new ≡ exchanges_of kept.old)
             × (pages_of kept.new ≡ pages_of kept.old) }
         ensures back { IfErr result (λ e. e.2 ≡ shares) }
+        ensures missing { IfErr result (λ e. e.0 ≡ FinishFault.SharesMissing → length shares.items < self.joined) }
+        ensures handed_out { IfErr result (λ e. e.0 ≡ FinishFault.HandedOut
+            → ForSome self.pages (λ p. pages_of kept.old ≢ sent p)) }
     {
         let mut inside = self;
         if let Some(fault) = inside.recorded_fault(shares.len(), kept) {
@@ -103,11 +114,15 @@ impl<L: Ledger, J: PageRing> Inside<L, J> {
         ensures same_session { (self.new.session ≡ self.old.session) × (self.new.joined ≡ self.old.joined) }
         ensures same_record { (exchanges_of kept.new ≡ exchanges_of kept.old)
             × (pages_of kept.new ≡ pages_of kept.old) }
+        ensures missing { result ≡ Some FinishFault.SharesMissing → shares < self.old.joined }
+        ensures handed_out { result ≡ Some FinishFault.HandedOut
+            → ForSome self.old.pages (λ p. pages_of kept.old ≢ sent p) }
         ensures enough { IfNone result (self.old.joined ≤ shares) }
         ensures exchanges { IfNone result
             (log_exchanges self.old.session.entries ≡ recorded (exchanges_of kept.old)) }
         ensures pages { IfNone result
             (self.old.session.entries ≡ entries_of (pages_of kept.old) ++ stored self.old.session) }
+        ensures numbered { IfNone result (Numbered (pages_of kept.old)) }
     {
         if shares < usize::from(self.joined) {
             return Some(FinishFault::SharesMissing);

@@ -1,16 +1,18 @@
 //! How a record gets the pages of its port, and is compared with them.
-ghost use Rattle.std.specs.Prelude.{◌≡◌, ◌≤◌, [], ◌∷◌, ◌++◌, length, drop, true, OnErr, IfOk, IfSome, IfNone};
-ghost use Rattle.rtrb.specs.Ring.{sent, received, ProducerLooked};
+ghost use Rattle.std.specs.Prelude.{◌≡◌, ◌≢◌, ◌≤◌, ◌<◌, [], ◌∷◌, ◌++◌, length, drop, true, false, IfOk, IfErr};
+ghost use Rattle.std.specs.Prelude.{IfSome, IfNone, OnSome};
+ghost use Rattle.rtrb.specs.Ring.{sent, received, known_items, ProducerLooked};
 ghost use Rattle.rdm_log.specs.log.Entries.{exchanges as log_exchanges};
 ghost use Rattle.rdm_locked.specs.Exchanges.{recorded};
 ghost use Rattle.rdm_locked.specs.Pages.{IsOf, entries_of};
 ghost use Rattle.rdm_locked.specs.Recorded.{exchanges_of, pages_of};
+ghost use Rattle.rdm_locked.specs.body.Compared.{Finds};
 
 use crate::exchange::Exchange;
 use crate::fault::ExchangesDiffer;
 use crate::pages::PageRing;
 use crate::record::Record;
-use crate::walk::{find, with_all};
+use crate::walk::{Found, find, with_all};
 use rdm_past::Past;
 use rdm_queue::{Entry, Page};
 use rtrb::{Consumer, Producer};
@@ -32,24 +34,27 @@ impl<J: PageRing> Record<J> {
             past: Past::new(),
             recent: Vec::new(alloc),
             awaited: None,
+            differs: false,
         }
     }
 
     /// The next page that the port handed out. Its exchanges are compared with the oldest in the record, and removed
     /// from memory. None: there is no page.
-    /// Err: the exchanges differ; nothing has changed, and the page stays where it is.
-    pub fn next_page(&mut self) -> Result<Option<Page>, ExchangesDiffer>
+    /// Err: the exchanges differ, or those of an earlier page did. The page is returned too, and nothing stays in
+    /// memory. From then on [`Port::finish_recorded`](crate::Port::finish_recorded) answers ExchangesDiffer once the
+    /// record has returned all pages.
+    pub fn next_page(&mut self) -> Result<Option<Page>, (ExchangesDiffer, Page)>
         ensures page { IfOk result (λ next. IfSome next (λ page. pages_of self.new ≡ pages_of self.old ++ page ∷ [])) }
         ensures none { IfOk result (λ next. IfNone next (pages_of self.new ≡ pages_of self.old)) }
-        ensures differs { OnErr result (pages_of self.new ≡ pages_of self.old) }
+        ensures differs { IfErr result (λ e. pages_of self.new ≡ pages_of self.old ++ e.1 ∷ []) }
         ensures exchanges { exchanges_of self.new ≡ exchanges_of self.old }
     {
         if self.pages.is_empty() {
             return Ok(None);
         }
         let entries = self.pages.peek_known().entries.as_slice();
-        let Some(found) = find(entries, &self.awaited, self.recent.as_slice()) else {
-            return Err(ExchangesDiffer);
+        let Some(found) = self.found(entries) else {
+            return Err((ExchangesDiffer, self.pop_differing()));
         };
         let page = self.pages.pop_known();
         let past = mem::replace(&mut self.past, Past::new());
@@ -59,29 +64,59 @@ impl<J: PageRing> Record<J> {
         Ok(Some(page))
     }
 
+    // The next page, with which the record differs from now on. Nothing stays in memory.
+    fn pop_differing(&mut self) -> Page
+        requires { 0 < length (known_items self.old.pages) }
+        ensures page { pages_of self.new ≡ pages_of self.old ++ result ∷ [] }
+        ensures exchanges { exchanges_of self.new ≡ exchanges_of self.old }
+    {
+        let page = self.pages.pop_known();
+        let past = mem::replace(&mut self.past, Past::new());
+        self.past = with_all(past, self.recent.as_slice());
+        self.recent.clear();
+        self.differs = true;
+        page
+    }
+
+    // What is found in the entries that follow its pages.
+    // None: their exchanges aren't the oldest that are recent, or those of a page weren't.
+    fn found(&self, entries: &[Entry]) -> Option<Found>
+        ensures found { IfSome result (λ f.
+            Finds self.now.awaited entries.now self.now.recent.items f.count f.awaited) }
+        ensures same { OnSome result (self.now.differs ≡ false) }
+    {
+        if self.differs {
+            return None;
+        }
+        find(entries, &self.awaited, self.recent.as_slice())
+    }
+
     // Whether it has returned all pages that went into the ring.
     pub(crate) fn has_all(&mut self, pages: &mut Producer<Page>) -> bool
         requires { IsOf J.ring pages.old.end }
         ensures all { result ≡ true → pages_of self.new ≡ sent pages.new }
+        ensures waits { result ≡ false → pages_of self.new ≢ sent pages.new }
         ensures same { (exchanges_of self.new ≡ exchanges_of self.old) × (pages_of self.new ≡ pages_of self.old) }
         ensures looked { ProducerLooked pages.old pages.new }
     {
         self.pages.slots_beside(pages) == 0
     }
 
-    // Whether its exchanges are those of its pages, and then those of these entries.
+    // True only if its exchanges are those of its pages, and then those of these entries.
     pub(crate) fn ends_with(&self, entries: &[Entry]) -> bool
         ensures { result ≡ true
             → log_exchanges (entries_of (pages_of self.now) ++ entries.now) ≡ recorded (exchanges_of self.now) }
     {
-        match find(entries, &self.awaited, self.recent.as_slice()) {
-            Some(found) => found.count == self.recent.len(),
+        match self.found(entries) {
+            Some(found) => found.count == self.recent.as_slice().len(),
             None => false,
         }
     }
 
     /// The exchanges that ended after the last page that it returned.
-    pub fn recent(&self) -> &[Exchange] {
+    pub fn recent(&self) -> &[Exchange]
+        ensures { exchanges_of self.now ≡ self.now.past.items ++ result.now }
+    {
         self.recent.as_slice()
     }
 }

@@ -7,7 +7,10 @@ use std::test::Fail;
 fn tells_why_a_port_is_not_ended(rt: HostRuntime) -> Result<(), Fail> {
     let rows = [
         (FinishFault::SharesMissing, "a client's share is missing"),
-        (FinishFault::HandedOut, "entries of the log were handed out"),
+        (
+            FinishFault::HandedOut,
+            "entries of the log were handed out that the record doesn't have",
+        ),
         (
             FinishFault::ExchangesDiffer,
             "the log's exchanges aren't those of the record",

@@ -241,7 +241,7 @@ fn differs_if<R: Wait>(
 fn a_record_without_an_exchange_refuses_its_page(rt: HostRuntime) -> Result<(), Fail> {
     assert_eq!(rt;
         differs_if(&rt, rt.alloc(), true)?,
-        (true, Some(FinishFault::HandedOut))
+        (true, Some(FinishFault::ExchangesDiffer))
     );
     assert_eq!(rt;
         differs_if(&rt, rt.alloc(), false)?,
