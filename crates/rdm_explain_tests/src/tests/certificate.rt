@@ -1,5 +1,5 @@
 //! Runs that certify a set, and runs in which one part of the certificate fails.
-use super::rig::{add, check, mute_of, opening, whole};
+use super::rig::{add, check, mute_of, opening, unmutes, whole};
 use rdm_agent::Kind;
 use rdm_explain::{Exchange, Heard, KnownFinding, RunFinding, explain_known, explain_run};
 use rdm_wire::{Device, DeviceSet, MuteAck, Uid};
@@ -106,7 +106,10 @@ fn a_run_certifies_what_it_found(rt: HostRuntime) {
 #[test]
 fn a_run_with_two_unmutes_certifies_nothing(rt: HostRuntime) {
     let run = incremental(&rt, rt.alloc(), 5);
-    let found = explained(&rt, rt.alloc(), &run[1..], 2);
+    let Some((_, later)) = run.split_first() else {
+        return check(&rt, false);
+    };
+    let found = explained(&rt, rt.alloc(), later, 2);
     check(
         &rt,
         matches!(
@@ -121,7 +124,7 @@ fn a_run_with_two_unmutes_certifies_nothing(rt: HostRuntime) {
             })
         ),
     );
-    let short = explained(&rt, rt.alloc(), &run[..1], 2);
+    let short = explained(&rt, rt.alloc(), &unmutes(&rt, rt.alloc(), 1), 2);
     check(
         &rt,
         matches!(

@@ -22,12 +22,17 @@ pub fn liar() -> Uid {
 
 /// Three unmutes, with which a run begins.
 pub fn opening(rt: &impl Abort, alloc: Global) -> Vec<Exchange> {
+    unmutes(rt, alloc, 3)
+}
+
+/// This many unmutes.
+pub fn unmutes(rt: &impl Abort, alloc: Global, times: usize) -> Vec<Exchange> {
     let mut run = Vec::new(alloc);
     let unmute = Exchange {
         asked: Asked::Unmute,
         heard: Heard::Silent,
     };
-    add(rt, &mut run, &unmute, 3);
+    add(rt, &mut run, &unmute, times);
     run
 }
 
