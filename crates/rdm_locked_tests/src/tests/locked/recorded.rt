@@ -102,6 +102,27 @@ fn opened<L: Ledger, J: PageRing>(
     }
 }
 
+// Makes two exchanges, each with a drain in it. In between, a further drain is refused, and the record gets a page.
+fn works<'a, L: Ledger, J: PageRing, R: Wait, X: Line + Drop>(
+    rt: &'a R,
+    alloc: Global,
+    port: &'a Port<L, J>,
+    line: X,
+    kept: &mut Record<J>,
+) -> (Option<DrainFault>, Option<(u64, usize)>) {
+    let mut line = DrainingLine {
+        rt,
+        alloc,
+        port,
+        line,
+    };
+    port.work_recorded(rt, alloc, &mut line, 1, kept);
+    let waits = drains(rt, alloc, port);
+    let first = next(kept);
+    port.work_recorded(rt, alloc, &mut line, 1, kept);
+    (waits, first)
+}
+
 // A request with two replies is answered, and the log is drained during both exchanges.
 fn plays<L: Ledger, J: PageRing, R: Wait>(
     rt: &R,
@@ -116,20 +137,11 @@ fn plays<L: Ledger, J: PageRing, R: Wait>(
     let came = [Came::Empty(AckType::Overflow), Came::Empty(AckType::Ack)];
     let tape = tape_of(alloc, &came)?;
     let (port, mut kept) = opened::<L, J>(alloc, blank, ends)?;
-    let mut line = DrainingLine {
-        rt,
-        alloc,
-        port: &port,
-        line: tape,
-    };
     let Ok(mut client) = port.client::<Note, AskNote, R>(rt, alloc, 1) else {
         return Err(Wrong::NoMemory);
     };
     let _ = client.submit(rt, request(0), Note(1));
-    port.work_recorded(rt, alloc, &mut line, 1, &mut kept);
-    let waits = drains(rt, alloc, &port);
-    let first = next(&mut kept);
-    port.work_recorded(rt, alloc, &mut line, 1, &mut kept);
+    let (waits, first) = works(rt, alloc, &port, tape, &mut kept);
     let _ = client.collect(rt);
     let Left { unspent, calls } = client.leave(rt);
     cancels(alloc, unspent);
