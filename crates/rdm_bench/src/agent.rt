@@ -7,10 +7,10 @@ use crate::bench::{Bench, Sample, holds};
 use crate::lines::{Spread, Taped, TestLine, Wrong, devices};
 use crate::packets::TRANSACTION_NUMBER;
 use rdm_agent::{Agent, DEFAULT_BUDGET, Kind, Op, OpReply, Search};
-use rdm_rig::controller;
 use rdm_wire::UidSet;
 use std::alloc::Global;
 use std::time::CpuClock;
+use test_rig::controller;
 
 /// Times runs over this many devices: a start and an end alone; and all frames of a run, with branch replies read from
 /// their bytes or not, and with each frame written too or not.

@@ -1,32 +1,34 @@
 //! One session that never ends: sixteen clients, a log of 1,000 entries that is drained all the time, and a line that
 //! loses and fails. Each request and each discovery has to be reported once, to its client, in order. Each page
-//! has to follow the one before it. Clients take turns drawn at random, the same in each run.
+//! has to follow the one before it. A port's pages go through its record. Clients take turns drawn at random, the same
+//! in each run.
 
 use crate::bench::{Bench, holds};
+use crate::checked::{Held, History, Tally};
 use crate::lines::Random;
-use crate::ports::on_session;
+use crate::ports::{on_recorded_port, on_session};
 use crate::queue::id_of;
 use crate::served::{CLIENTS, Ending, Job, PLACES, Served, config};
 use crate::soak::{resident, tag_of};
 use rdm_agent::Kind;
 use rdm_client::Told;
-use rdm_join::{LineReply, Status};
+use rdm_join::LineReply;
 use rdm_line::{Asks, Counted, Line, SimLine};
-use rdm_queue::{AskFault, Entry, OutcomeKind, Page, Session, SubmitFault};
-use rdm_rig::{
-    Heard, LONG, LineOf, Meeting, TimedDevice, Who, completion_told, line_of, log, request,
-};
+use rdm_log::{AskFault, Entry, Log, OutcomeKind, Page, SubmitFault};
+use rdm_queue::Session;
 use rdm_wire::{DeviceSet, Frame};
 use std::alloc::Global;
 use std::collections::VecDeque;
 use std::mem;
 use std::rt::Files;
 use std::sync::Wait;
+use test_rig::{LONG, LineOf, Meeting, TimedDevice, Who, line_of, log, request};
 
-// How many entries the log has free, beside one for a close.
-const ENTRIES: usize = 1_000;
+/// How many entries the log has free, beside one for a close.
+pub const ENTRIES: usize = 1_000;
 
-// How many rounds there are between two drains.
+// How many rounds there are between two drains. In one round of as many, drawn at random, there is one more, before the
+// reply to a frame.
 const ROUNDS: u64 = 8;
 
 /// Which session it is.
@@ -47,10 +49,7 @@ pub fn print<R: Files + AllocGlobal + Print + Eprint + Wait>(
     requests: u64,
 ) -> Option<()> {
     let alloc = bench.alloc;
-    let line = Counted::new(Drawn {
-        line: line_for(alloc)?,
-        random: Random::new(1),
-    });
+    let line = drawn_line(alloc)?;
     let mut soak = Soak {
         bench,
         name: name_of(port),
@@ -65,7 +64,8 @@ pub fn print<R: Files + AllocGlobal + Print + Eprint + Wait>(
         },
         next: Vec::with_capacity(alloc, ENTRIES).ok()?,
         told: Tally::default(),
-        pages: Pages::default(),
+        history: History::default(),
+        held: Held::default(),
     };
     let log = log(alloc, ENTRIES).ok()?;
     match port {
@@ -74,13 +74,15 @@ pub fn print<R: Files + AllocGlobal + Print + Eprint + Wait>(
             for _ in 0..CLIENTS {
                 session.join_client(alloc, PLACES).ok()?;
             }
-            soak.perform(&mut Alone {
+            let mut alone = Alone {
                 alloc,
                 session,
                 line,
-            })
+            };
+            soak.perform(&mut alone)?;
+            soak.end(alone.session.log())
         }
-        Port::Locked => on_session(bench, true, CLIENTS, log, Vec::new(alloc), line, &mut soak),
+        Port::Locked => on_recorded_port(bench, CLIENTS, log, line, &mut soak),
         Port::Rings => on_session(bench, false, CLIENTS, log, Vec::new(alloc), line, &mut soak),
     }
 }
@@ -105,7 +107,15 @@ fn name_of(port: Port) -> &'static str {
     }
 }
 
-// A line with two devices, one of which answers requests.
+/// A line with two devices, one of which answers requests, that draws its losses and failures.
+pub fn drawn_line(alloc: Global) -> Option<Counted<Drawn>> {
+    Some(Counted::new(Drawn {
+        line: line_for(alloc)?,
+        random: Random::new(1),
+    }))
+}
+
+// The line without losses and failures.
 fn line_for(alloc: Global) -> Option<SimLine> {
     let devices = [
         TimedDevice::stays(Who::First),
@@ -120,10 +130,10 @@ fn line_for(alloc: Global) -> Option<SimLine> {
     line_of(alloc, line).ok()
 }
 
-// A line whose losses and failures are drawn as it goes: one exchange in 100 fails, and of the others the reply of one
-// in 50 is lost.
+/// A line whose losses and failures are drawn as it goes: one exchange in 100 fails, and of the others the reply of one
+/// in 50 is lost.
 #[derive(Drop)]
-struct Drawn {
+pub struct Drawn {
     line: SimLine,
     random: Random,
 }
@@ -149,6 +159,14 @@ struct Alone {
     line: Counted<Drawn>,
 }
 
+impl Alone {
+    // Makes the exchange with this frame.
+    fn answer(&mut self, frame: &Frame) -> Option<()> {
+        let event = self.line.exchange(frame).into();
+        holds(self.session.deliver(self.alloc, event).is_ok())
+    }
+}
+
 impl Served for Alone {
     fn submit(&mut self, client: usize, tag: u64) -> Option<bool> {
         match self.session.submit(id_of(client), request(tag)) {
@@ -160,11 +178,9 @@ impl Served for Alone {
 
     fn work(&mut self, turns: u64) -> Option<()> {
         for _ in 0..turns {
-            let Some(frame) = self.session.take().ok()? else {
-                continue;
-            };
-            let event = self.line.exchange(&frame).into();
-            holds(self.session.deliver(self.alloc, event).is_ok())?;
+            if let Some(frame) = self.session.take().ok()? {
+                self.answer(&frame)?;
+            }
         }
         Some(())
     }
@@ -227,6 +243,15 @@ impl Served for Alone {
         let entries = self.session.drain(next).ok()?;
         Some(Page { first, entries })
     }
+
+    fn work_drained(&mut self, next: Vec<Entry>) -> Option<Page> {
+        let frame = self.session.take().ok()?;
+        let page = self.drain(next)?;
+        if let Some(frame) = frame {
+            self.answer(&frame)?;
+        }
+        Some(page)
+    }
 }
 
 // The calls that clients wait for, oldest first, by client. Nothing else of a call is kept.
@@ -249,53 +274,6 @@ fn queues(alloc: Global) -> Option<Vec<VecDeque<u64>>> {
     Some(queues)
 }
 
-// What was reported to clients.
-#[derive(Clone, Copy, Default, Drop)]
-struct Tally {
-    completed: u64,
-    timeouts: u64,
-    failed: u64,
-    discovered: u64,
-    aborted: u64,
-}
-
-// What the pages so far have.
-#[derive(Clone, Copy, Default, Drop)]
-struct Pages {
-    entries: u64,
-    accepts: u64,
-    finishes: u64,
-    asks: u64,
-    answers: u64,
-    collects: u64,
-}
-
-impl Pages {
-    // The page has to follow those before it.
-    fn follow(&mut self, page: &Page) -> Option<()> {
-        holds(page.first == self.entries)?;
-        for entry in page.entries.as_slice() {
-            self.entries = self.entries.wrapping_add(1);
-            match entry {
-                Entry::Accept { number, .. } => follows(&mut self.accepts, *number)?,
-                Entry::Finish { number, .. } => follows(&mut self.finishes, *number)?,
-                Entry::Ask { number, .. } => follows(&mut self.asks, *number)?,
-                Entry::Answer { number, .. } => follows(&mut self.answers, *number)?,
-                Entry::Collect { .. } => self.collects = self.collects.wrapping_add(1),
-                _ => {}
-            }
-        }
-        Some(())
-    }
-}
-
-// The number has to be the next one.
-fn follows(next: &mut u64, number: u64) -> Option<()> {
-    holds(number == *next)?;
-    *next = number.wrapping_add(1);
-    Some(())
-}
-
 #[derive(Drop)]
 struct Soak<'a, R> {
     bench: &'a Bench<'a, R>,
@@ -306,7 +284,8 @@ struct Soak<'a, R> {
     calls: Calls,
     next: Vec<Entry>,
     told: Tally,
-    pages: Pages,
+    history: History,
+    held: Held,
 }
 
 impl<R: Files + AllocGlobal + Print + Eprint> Job for Soak<'_, R> {
@@ -319,12 +298,16 @@ impl<R: Files + AllocGlobal + Print + Eprint> Job for Soak<'_, R> {
         for client in 0..usize::from(CLIENTS) {
             self.collect(served, client)?;
         }
+        // The second page is empty, and has the number of all entries.
         self.drain(served)?;
-        self.holds_together()
+        self.drain(served)?;
+        self.history
+            .holds_all(self.calls.submitted, self.calls.asked)
     }
 
-    fn drains(&self) -> bool {
-        true
+    fn end(&mut self, log: &Log) -> Option<()> {
+        self.history
+            .end(log, self.calls.submitted, self.calls.asked)
     }
 }
 
@@ -347,15 +330,7 @@ impl<R: Files + AllocGlobal + Print + Eprint> Soak<'_, R> {
 
     // Whether each call was told.
     fn is_told(&self) -> bool {
-        let Tally {
-            completed,
-            timeouts,
-            failed,
-            discovered,
-            aborted,
-        } = self.told;
-        let requests = completed.wrapping_add(timeouts).wrapping_add(failed);
-        requests == self.calls.submitted && discovered.wrapping_add(aborted) == self.calls.asked
+        self.told.requests() == self.calls.submitted && self.told.discoveries() == self.calls.asked
     }
 
     // A client submits up to four requests, or asks for a discovery, as far as its queue has places.
@@ -386,7 +361,7 @@ impl<R: Files + AllocGlobal + Print + Eprint> Soak<'_, R> {
     }
 
     // The worker makes up to four turns, and a client collects up to seven outcomes. One round in 200 has a pause, in
-    // which the log is drained.
+    // which the log is drained. In some rounds it is drained between a frame and its reply.
     fn serve<S: Served>(&mut self, served: &mut S) -> Option<()> {
         if self.random.below(200) == 0 {
             served.pause(true)?;
@@ -395,6 +370,9 @@ impl<R: Files + AllocGlobal + Print + Eprint> Soak<'_, R> {
             served.pause(false)?;
         }
         served.work(self.random.below(4).wrapping_add(1))?;
+        if self.random.below(ROUNDS) == 0 {
+            self.work_drained(served)?;
+        }
         let client = self.random.below(u64::from(CLIENTS)) as usize;
         for _ in 0..self.random.below(8) {
             self.collect(served, client)?;
@@ -409,63 +387,37 @@ impl<R: Files + AllocGlobal + Print + Eprint> Soak<'_, R> {
             Some(Ending::Request(told)) => {
                 let number = self.calls.requests.get_mut(client)?.pop_front()?;
                 holds(told.tag % LONG == number)?;
-                self.count(told)
+                self.told.count(told)
             }
             Some(Ending::Discovery(tag, devices)) => {
                 let number = self.calls.discoveries.get_mut(client)?.pop_front()?;
                 holds(tag == number)?;
-                self.count_discovery(devices)
+                self.told.count_discovery(devices)
             }
         }
     }
 
-    fn count(&mut self, told: Told) -> Option<()> {
-        match completion_told(&Some((told.tag, told.done))) {
-            Heard::Answered(_, 1, 2) | Heard::Data(_, 231 | 462 | 693) => {
-                self.told.completed = self.told.completed.wrapping_add(1);
-            }
-            Heard::Request(_, Status::Timeout) => self.told.timeouts = self
-                .told
-                .timeouts
-                .wrapping_add(1),
-            Heard::Request(_, Status::FailedToSend) => self.told.failed = self
-                .told
-                .failed
-                .wrapping_add(1),
-            _ => return None,
-        }
-        Some(())
-    }
-
-    // A run finds both devices, or ends as the line fails.
-    fn count_discovery(&mut self, devices: Option<usize>) -> Option<()> {
-        match devices {
-            Some(2) => self.told.discovered = self.told.discovered.wrapping_add(1),
-            None => self.told.aborted = self.told.aborted.wrapping_add(1),
-            Some(_) => return None,
-        }
-        Some(())
-    }
-
-    // The page that was drained before is the memory of the next.
     fn drain<S: Served>(&mut self, served: &mut S) -> Option<()> {
         let mut next = mem::replace(&mut self.next, Vec::new(self.bench.alloc));
         next.clear();
-        let page = served.drain(next)?;
-        self.pages.follow(&page)?;
+        self.follow(served.drain(next)?)
+    }
+
+    // A turn in which the log is drained.
+    fn work_drained<S: Served>(&mut self, served: &mut S) -> Option<()> {
+        let mut next = mem::replace(&mut self.next, Vec::new(self.bench.alloc));
+        next.clear();
+        self.follow(served.work_drained(next)?)
+    }
+
+    // The page that was drained before is the memory of the next.
+    fn follow(&mut self, page: Page) -> Option<()> {
+        self.history.follow(&page)?;
         self.next = page.entries;
         Some(())
     }
 
-    // The pages have each call once.
-    fn holds_together(&self) -> Option<()> {
-        let (pages, calls) = (&self.pages, &self.calls);
-        holds(pages.accepts == calls.submitted && pages.finishes == calls.submitted)?;
-        holds(pages.asks == calls.asked && pages.answers == calls.asked)?;
-        holds(pages.collects == calls.submitted.wrapping_add(calls.asked))
-    }
-
-    fn print(&self) -> Option<()> {
+    fn print(&mut self) -> Option<()> {
         let rt = self.bench.rt;
         let name = self.name;
         let Tally {
@@ -475,10 +427,12 @@ impl<R: Files + AllocGlobal + Print + Eprint> Soak<'_, R> {
             discovered,
             aborted,
         } = self.told;
+        let (entries, awaited) = (self.history.entries, self.history.awaited);
         println!(rt; "{name}: {completed} completed, {timeouts} timeouts, {failed} failed").ok()?;
         println!(rt; "{name}: {discovered} discovered, {aborted} failed").ok()?;
-        println!(rt; "{name}: {} entries", self.pages.entries).ok()?;
+        println!(rt; "{name}: {entries} entries, {awaited} drains before a reply").ok()?;
         let kilobytes = resident(rt).unwrap_or(0);
-        eprintln!(rt; "{name}: {kilobytes} kB").ok()
+        eprintln!(rt; "{name}: {kilobytes} kB").ok()?;
+        self.held.stays(self.calls.submitted, kilobytes)
     }
 }

@@ -4,10 +4,11 @@ use crate::packets::{TAG, numbered, reply};
 use crate::queue::{id_of, session};
 use crate::served::CLIENTS;
 use rdm_join::{LineEvent, LineReply};
-use rdm_queue::{Answer, BoxedOutcome, Event, Session};
-use rdm_rig::request;
+use rdm_log::{Answer, BoxedOutcome, Event};
+use rdm_queue::Session;
 use std::alloc::Global;
 use std::time::CpuClock;
+use test_rig::request;
 
 /// Times requests while this many wait: by one `run` for the four events of a request, or by an `answer` for each.
 pub fn time<R: CpuClock + Print + Eprint>(

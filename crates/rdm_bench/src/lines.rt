@@ -5,17 +5,16 @@ ghost use Rattle.rdm_agent.specs.declared.op.Op.TheVariants.{End};
 
 use crate::bench::{Bench, holds};
 use rdm_agent::{Agent, AgentFault, DEFAULT_BUDGET, Kind, Op, OpReply, Search};
-use rdm_join::LineReply;
+use rdm_join::{LineFault, LineReply};
 use rdm_line::{
-    Collision, CollisionBytes, Line, LineFault, Parameters, Scene, SceneDevice, SceneDevices,
-    SimLine,
+    Collision, CollisionBytes, Line, Parameters, Scene, SceneDevice, SceneDevices, SimLine,
 };
-use rdm_rig::controller;
 use rdm_wire::{
     Device, MuteAck, Uid, UidRange, UidSet, encode_response, mute_response, read_branch_reply,
     write_branch_reply,
 };
 use std::alloc::Global;
+use test_rig::controller;
 
 /// What is wrong with a line.
 #[derive(Clone, Copy, Debug)]

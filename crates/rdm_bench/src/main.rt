@@ -4,10 +4,12 @@
 
 mod agent;
 mod bench;
+mod checked;
 mod drained;
 mod events;
 mod lines;
 mod packets;
+mod paged;
 mod ports;
 mod queue;
 mod served;
@@ -21,6 +23,7 @@ use std::env::{self, Env};
 use std::process::ExitCode;
 use std::rt::Files;
 use std::sync::Wait;
+use std::thread::Threads;
 use std::time::CpuClock;
 
 const USAGE: &str = "\
@@ -45,9 +48,10 @@ usage: rdm_bench SUBJECT SIZE ROUNDS
   soak_rings      the same with ring buffers
   drained         those that follow, without discoveries and with them
   drained_session SIZE requests, 1 to 100000, ROUNDS times, of sixteen clients of one session whose log is drained
-  drained_port    the same with a mutex
+  drained_port    the same with a mutex, and with a record that is drained too
   drained_rings   the same with ring buffers
-  runs_session, runs_port, runs_rings  the same with discoveries among them
+  drained_threads the same in threads, with a sink for the pages
+  runs_session, runs_port, runs_rings, runs_threads  the same with discoveries among them
   all             all of these with SIZE, 1 to 8; soaks with a hundred times as many requests
 ROUNDS: 1 to 1000; else how often each of the 21 samples repeats its work";
 
@@ -78,7 +82,9 @@ fn main(rt: HostRuntime) -> ExitCode {
 
 // None: the arguments ask for nothing, a call didn't return what it should, an allocation failed, or a line couldn't be
 // written.
-fn perform<R: Env + Files + AllocGlobal + CpuClock + Print + Eprint + Wait>(rt: &R) -> Option<()> {
+fn perform<R: Env + Files + AllocGlobal + CpuClock + Print + Eprint + Threads + Wait + Sync>(
+    rt: &R,
+) -> Option<()> {
     let words = env::args(rt)
         .ok()?
         .skip(1)
@@ -100,7 +106,7 @@ fn perform<R: Env + Files + AllocGlobal + CpuClock + Print + Eprint + Wait>(rt: 
     }
 }
 
-fn measure_all<R: Files + AllocGlobal + CpuClock + Print + Eprint + Wait>(
+fn measure_all<R: Files + AllocGlobal + CpuClock + Print + Eprint + Threads + Wait + Sync>(
     bench: &Bench<'_, R>,
     size: usize,
 ) -> Option<()> {
@@ -124,7 +130,7 @@ fn within(number: usize, most: usize) -> Option<usize> {
     Some(number)
 }
 
-fn measure<R: Files + AllocGlobal + CpuClock + Print + Eprint + Wait>(
+fn measure<R: Files + AllocGlobal + CpuClock + Print + Eprint + Threads + Wait + Sync>(
     bench: &Bench<'_, R>,
     subject: &str,
     size: usize,
@@ -146,20 +152,37 @@ fn measure<R: Files + AllocGlobal + CpuClock + Print + Eprint + Wait>(
         "views" => views::time(bench, within(size, 1_024)?),
         "frames" => lines::honest(bench, within(size, 1_024)?),
         "scenes" => lines::dishonest(bench, within(size, 1_000)?),
-        "soak_locked" => soak::print(bench, true, within(size, 100_000)? as u64),
-        "soak_rings" => soak::print(bench, false, within(size, 100_000)? as u64),
-        "drained" => drained::print_all(bench, within(size, 100_000)? as u64),
-        "drained_session" => drained::print(
-            bench,
-            Port::Alone,
-            false,
-            within(size, 100_000)? as u64,
-        ),
-        "drained_port" => drained::print(bench, Port::Locked, false, within(size, 100_000)? as u64),
-        "drained_rings" => drained::print(bench, Port::Rings, false, within(size, 100_000)? as u64),
-        "runs_session" => drained::print(bench, Port::Alone, true, within(size, 100_000)? as u64),
-        "runs_port" => drained::print(bench, Port::Locked, true, within(size, 100_000)? as u64),
-        "runs_rings" => drained::print(bench, Port::Rings, true, within(size, 100_000)? as u64),
+        soak => print_soak(bench, soak, within(size, 100_000)? as u64),
+    }
+}
+
+fn print_soak<R: Files + AllocGlobal + Print + Eprint + Threads + Wait + Sync>(
+    bench: &Bench<'_, R>,
+    soak: &str,
+    requests: u64,
+) -> Option<()> {
+    match soak {
+        "soak_locked" => soak::print(bench, true, requests),
+        "soak_rings" => soak::print(bench, false, requests),
+        "drained" => print_drained(bench, requests),
+        "drained_session" => drained::print(bench, Port::Alone, false, requests),
+        "drained_port" => drained::print(bench, Port::Locked, false, requests),
+        "drained_rings" => drained::print(bench, Port::Rings, false, requests),
+        "drained_threads" => paged::print(bench, false, requests),
+        "runs_session" => drained::print(bench, Port::Alone, true, requests),
+        "runs_port" => drained::print(bench, Port::Locked, true, requests),
+        "runs_rings" => drained::print(bench, Port::Rings, true, requests),
+        "runs_threads" => paged::print(bench, true, requests),
         _ => None,
     }
+}
+
+// All of those whose log is drained.
+fn print_drained<R: Files + AllocGlobal + Print + Eprint + Threads + Wait + Sync>(
+    bench: &Bench<'_, R>,
+    requests: u64,
+) -> Option<()> {
+    drained::print_all(bench, requests)?;
+    paged::print(bench, false, requests)?;
+    paged::print(bench, true, requests)
 }

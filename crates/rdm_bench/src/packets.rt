@@ -4,9 +4,8 @@ ghost use Rattle.std.specs.Prelude.{⊤};
 use crate::bench::{Bench, Sample, holds};
 use crate::lines::bytes_of;
 use arrayvec::ArrayVec;
-use rdm_join::{Judged, LineEvent, LineReply, Sent, judge};
-use rdm_line::{Line, LineFault};
-use rdm_rig::{Who, controller, device_of, request};
+use rdm_join::{Judged, LineEvent, LineFault, LineReply, Sent, judge};
+use rdm_line::Line;
 use rdm_wire::{
     AckType, BranchReply, Frame, LONGEST_PREAMBLE, MOST_PARAMETER_BYTES, Request, RespClass,
     Response, decode_response, encode_request, encode_response, read_branch_reply,
@@ -14,6 +13,7 @@ use rdm_wire::{
 };
 use std::alloc::Global;
 use std::time::CpuClock;
+use test_rig::{Who, controller, device_of, request};
 
 /// Where a packet's transaction number is (E1.20, packet format).
 pub const TRANSACTION_NUMBER: usize = 15;

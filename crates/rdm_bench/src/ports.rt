@@ -1,27 +1,28 @@
 //! Clients of a port, which has a mutex, and clients with ring buffers.
 ghost use Rattle.std.specs.Prelude.{◌≡◌, []};
 ghost use Rattle.rdm_lanes.specs.Workers.{book_of};
+ghost use Rattle.rdm_locked.specs.Recorded.{ring_of};
 
 use crate::bench::{Bench, holds};
 use crate::packets::Replay;
 use crate::queue::replay_of;
 use crate::served::{CLIENTS, Ending, FREE, Job, PLACES, Served, Timing, config, written_log};
 use left_right::Absorb;
-use rdm_agent::Kind;
-use rdm_client::{AskTold, Collected, DeviceView, Told};
-use rdm_join::LineEvent;
+use rdm_agent::{Kind, Search};
+use rdm_client::{AskTold, Collected, DeviceView, Told, WorkerEnd};
+use rdm_join::{LineEvent, LineFault, LineReply};
 use rdm_lanes::views::{BlankHistory, Shown, ViewHistory};
-use rdm_lanes::{Lanes, RingFault, WorkerEnd, open_lanes};
+use rdm_lanes::{Lanes, RingFault, open_lanes};
 use rdm_line::Line;
-use rdm_locked::{CallShare, DiscoverFault, Exchange, Left, LockedClient, Port};
-use rdm_queue::{AskFault, Entry, Log, Page, SubmitFault};
-use rdm_rig::{AskNote, Note, cancels, log, request};
+use rdm_locked::{CallShare, Exchange, Left, LockedClient, PageEnds, PageRing, Port, Record};
+use rdm_log::{AskFault, Entry, Log, Page, Setup, SubmitFault};
 use rdm_wire::Frame;
 use std::alloc::Global;
 use std::marker::Brand;
 use std::sync::Wait;
 use std::sync::ledger::{Blank, Ledger};
 use std::time::CpuClock;
+use test_rig::{AskNote, Note, cancels, log, request};
 
 /// Times requests of one client and of sixteen while this many wait.
 pub fn time<R: CpuClock + Print + Eprint + Wait>(
@@ -84,8 +85,8 @@ pub fn time_discoveries<R: CpuClock + Print + Eprint + Wait>(
     on_session(bench, with_mutex, 1, log, record, line, &mut timing)
 }
 
-// What a client collected.
-fn ending_of(collected: Collected) -> Ending {
+/// What a client collected.
+pub fn ending_of(collected: Collected) -> Ending {
     match collected {
         Collected::Request(told) => Ending::Request(told),
         Collected::Ask(told) => Ending::Discovery(told.tag, count_of(&told)),
@@ -105,18 +106,55 @@ fn count_in(collected: &Option<Collected>) -> Option<usize> {
     }
 }
 
-type PortClient<'a, L> = LockedClient<'a, L, Note, AskNote>;
+type PortClient<'a, L, J> = LockedClient<'a, L, Note, AskNote, J>;
 
-// A port with its clients, its worker and its line.
-struct Locked<'a, L: Ledger, R, X> {
-    bench: &'a Bench<'a, R>,
-    port: &'a Port<L>,
-    clients: Vec<PortClient<'a, L>>,
-    line: X,
-    record: Vec<Exchange>,
+// Where a port's worker notes its exchanges.
+#[derive(Drop)]
+enum Kept<J: PageRing> {
+    Exchanges(Vec<Exchange>),
+    Record(Record<J>),
 }
 
-impl<L: Ledger, R: Wait, X: Line> Served for Locked<'_, L, R, X> {
+// A line that drains the log of a port during an exchange, before it answers. Another thread may do so.
+#[derive(Drop)]
+struct DrainingLine<'a, L: Ledger, J: PageRing, R, X: Drop> {
+    rt: &'a R,
+    port: &'a Port<L, J>,
+    line: X,
+    // The memory in which the log goes on, if it is to be drained during the next exchange.
+    next: Option<Vec<Entry>>,
+}
+
+impl<L: Ledger, J: PageRing, R: Wait, X: Line + Drop> Line for DrainingLine<'_, L, J, R, X> {
+    ghost step = { λ old x new. X.step old.line x new.line };
+
+    ghost failures_of = { λ line. X.failures_of line.line };
+
+    fn exchange(&mut self, frame: &Frame) -> Result<LineReply, LineFault> {
+        if let Some(mut next) = self.next.take() {
+            next.clear();
+            if let Err((_, next)) = self.port.drain_recorded(self.rt, next) {
+                self.next = Some(next);
+            }
+        }
+        self.line.exchange(frame)
+    }
+
+    fn failures(&self) -> u64 {
+        self.line.failures()
+    }
+}
+
+// A port with its clients, its worker and its line.
+struct Locked<'a, L: Ledger, J: PageRing, R, X: Drop> {
+    bench: &'a Bench<'a, R>,
+    port: &'a Port<L, J>,
+    clients: Vec<PortClient<'a, L, J>>,
+    line: DrainingLine<'a, L, J, R, X>,
+    kept: Kept<J>,
+}
+
+impl<L: Ledger, J: PageRing, R: Wait, X: Line + Drop> Served for Locked<'_, L, J, R, X> {
     fn submit(&mut self, client: usize, tag: u64) -> Option<bool> {
         let client = self.clients.get_mut(client)?;
         match client.submit(self.bench.rt, request(tag), Note(tag)) {
@@ -128,9 +166,16 @@ impl<L: Ledger, R: Wait, X: Line> Served for Locked<'_, L, R, X> {
 
     fn work(&mut self, turns: u64) -> Option<()> {
         let (rt, alloc) = (self.bench.rt, self.bench.alloc);
-        let end = self
-            .port
-            .work(rt, alloc, &mut self.line, turns, &mut self.record);
+        let Locked {
+            port,
+            line,
+            kept,
+            ..
+        } = self;
+        let end = match kept {
+            Kept::Exchanges(made) => port.work(rt, alloc, line, turns, made),
+            Kept::Record(record) => port.work_recorded(rt, alloc, line, turns, record),
+        };
         holds(end == WorkerEnd::Turns)
     }
 
@@ -142,7 +187,7 @@ impl<L: Ledger, R: Wait, X: Line> Served for Locked<'_, L, R, X> {
         let client = self.clients.get_mut(0)?;
         holds(
             client
-                .discover(self.bench.rt, self.bench.alloc, Kind::Full, AskNote(0))
+                .discover(self.bench.rt, Kind::Full, AskNote(0))
                 .is_ok(),
         )
     }
@@ -164,9 +209,9 @@ impl<L: Ledger, R: Wait, X: Line> Served for Locked<'_, L, R, X> {
 
     fn ask(&mut self, client: usize, tag: u64) -> Option<bool> {
         let client = self.clients.get_mut(client)?;
-        match client.discover(self.bench.rt, self.bench.alloc, Kind::Full, AskNote(tag)) {
+        match client.discover(self.bench.rt, Kind::Full, AskNote(tag)) {
             Ok(_) => Some(true),
-            Err((DiscoverFault::Refused(AskFault::Full), _)) => Some(false),
+            Err((AskFault::Full, _)) => Some(false),
             Err(_) => None,
         }
     }
@@ -177,16 +222,37 @@ impl<L: Ledger, R: Wait, X: Line> Served for Locked<'_, L, R, X> {
         Some(ending_of(collected))
     }
 
-    // The record can't be compared with a log that was drained, so it starts again.
+    // The page goes through the record, which compares it.
     fn drain(&mut self, next: Vec<Entry>) -> Option<Page> {
-        let page = self.port.drain(self.bench.rt, next).ok()?;
-        self.record.clear();
-        Some(page)
+        self.port.drain_recorded(self.bench.rt, next).ok()?;
+        self.kept.next_page()
+    }
+
+    fn work_drained(&mut self, next: Vec<Entry>) -> Option<Page> {
+        self.line.next = Some(next);
+        self.work(1)?;
+        match self.line.next.take() {
+            None => self.kept.next_page(),
+            Some(mut next) => {
+                next.clear();
+                self.drain(next)
+            }
+        }
+    }
+}
+
+impl<J: PageRing> Kept<J> {
+    // The next page of its port. None: there is none, or its exchanges aren't those of the record.
+    fn next_page(&mut self) -> Option<Page> {
+        match self {
+            Kept::Exchanges(_) => None,
+            Kept::Record(record) => record.next_page().ok()?,
+        }
     }
 }
 
 /// Opens a port, or ring buffers, for this many clients over this log and this line. Does this, and ends the clients. A
-/// port gets this record, which is empty.
+/// port gets this record, which is empty. It isn't drained.
 pub fn on_session<X: Line + Drop, D: Job, R: Wait>(
     bench: &Bench<'_, R>,
     with_mutex: bool,
@@ -221,27 +287,92 @@ fn on_port<L: Ledger, X: Line + Drop, D: Job, R: Wait>(
     requires empty { log.entries ≡ [] }
 {
     let port = Port::<L>::new(bench.alloc, blank, config(), log).ok()?;
+    let kept = Kept::Exchanges(record);
+    let (shares, kept) = perform(bench, &port, count, line, kept, job)?;
+    let Kept::Exchanges(record) = kept else {
+        return None;
+    };
+    holds(port.finish(shares, record.as_slice()).is_ok())
+}
+
+/// The same with a port whose log is drained. Its pages go to a record, which is compared with the log at the end.
+pub fn on_recorded_port<X: Line + Drop, D: Job, R: Wait>(
+    bench: &Bench<'_, R>,
+    clients: u8,
+    log: Log,
+    line: X,
+    job: &mut D,
+) -> Option<()>
+    requires { log.entries ≡ [] }
+{
+    let ends = PageEnds::new(bench.alloc).ok()?;
+    on_record::<Brand, Brand, X, D, R>(bench, Blank::new(17), ends, clients, log, line, job)
+}
+
+// The port and its record, with the ledger of this blank and the ring of these ends.
+fn on_record<L: Ledger, J: PageRing, X: Line + Drop, D: Job, R: Wait>(
+    bench: &Bench<'_, R>,
+    blank: Blank,
+    ends: PageEnds,
+    count: u8,
+    log: Log,
+    line: X,
+    job: &mut D,
+) -> Option<()>
+    requires name { blank.name ≡ L.name }
+    requires parts { (blank.parts ≡ L.parts) × (L.parts ≡ 17) }
+    requires ring { J.ring ≡ ring_of ends }
+    requires empty { log.entries ≡ [] }
+{
+    let setup = Setup {
+        config: config(),
+        search: Search::Steady,
+    };
+    let (port, record) = Port::<L, J>::new_recorded(bench.alloc, blank, setup, log, ends).ok()?;
+    let kept = Kept::Record(record);
+    let (shares, kept) = perform(bench, &port, count, line, kept, job)?;
+    let Kept::Record(mut record) = kept else {
+        return None;
+    };
+    let end = port.finish_recorded(shares, &mut record).ok()?;
+    job.end(end.session.log())
+}
+
+// Does this with so many clients of a port. Returns their shares, and what the worker noted.
+fn perform<L: Ledger, J: PageRing, X: Line + Drop, D: Job, R: Wait>(
+    bench: &Bench<'_, R>,
+    port: &Port<L, J>,
+    count: u8,
+    line: X,
+    kept: Kept<J>,
+    job: &mut D,
+) -> Option<(Vec<CallShare<L>>, Kept<J>)> {
+    let line = DrainingLine {
+        rt: bench.rt,
+        port,
+        line,
+        next: None,
+    };
     let mut locked = Locked {
         bench,
-        port: &port,
+        port,
         clients: Vec::new(bench.alloc),
         line,
-        record,
+        kept,
     };
-    let joined = join(bench, &port, count, &mut locked.clients);
+    let joined = join(bench, port, count, &mut locked.clients);
     let done = job.perform(&mut locked);
     let Locked {
         bench: _,
         port: _,
         clients,
         line: _line,
-        record,
+        kept,
     } = locked;
     let shares = leave(bench, clients);
     joined?;
     done?;
-    // A port whose log was drained isn't ended.
-    holds(port.finish(shares?, record.as_slice()).is_ok() != job.drains())
+    Some((shares?, kept))
 }
 
 // A record for this many exchanges, whose memory was written before.
@@ -257,11 +388,11 @@ fn written_record(alloc: Global, count: usize) -> Option<Vec<Exchange>> {
 }
 
 // Lets the clients join.
-fn join<'a, L: Ledger, R: Wait>(
+fn join<'a, L: Ledger, J: PageRing, R: Wait>(
     bench: &Bench<'_, R>,
-    port: &'a Port<L>,
+    port: &'a Port<L, J>,
     count: u8,
-    clients: &mut Vec<PortClient<'a, L>>,
+    clients: &mut Vec<PortClient<'a, L, J>>,
 ) -> Option<()> {
     for _ in 0..count {
         clients.reserve(1).ok()?;
@@ -274,9 +405,9 @@ fn join<'a, L: Ledger, R: Wait>(
 }
 
 // Lets the clients leave. The callbacks of requests that were never told are cancelled.
-fn leave<L: Ledger, R: Wait>(
+fn leave<L: Ledger, J: PageRing, R: Wait>(
     bench: &Bench<'_, R>,
-    mut clients: Vec<PortClient<'_, L>>,
+    mut clients: Vec<PortClient<'_, L, J>>,
 ) -> Option<Vec<CallShare<L>>> {
     let mut shares = Vec::new(bench.alloc);
     let mut has_all = true;

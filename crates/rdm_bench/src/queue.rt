@@ -10,11 +10,12 @@ use rdm_agent::Kind;
 use rdm_client::Told;
 use rdm_join::LineEvent;
 use rdm_line::Line;
-use rdm_queue::{ClientId, Controller, Entry, Log, Outcome, Page, Session};
-use rdm_rig::{log, request};
+use rdm_log::{ClientId, Entry, Log, Outcome, Page};
+use rdm_queue::{Controller, Session};
 use rdm_wire::{DeviceSet, Frame};
 use std::alloc::Global;
 use std::time::CpuClock;
+use test_rig::{log, request};
 
 // How many devices are on the line of discoveries.
 const DEVICES: usize = 16;

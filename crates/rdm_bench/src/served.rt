@@ -6,12 +6,12 @@ use crate::bench::{Bench, Sample, holds};
 use crate::packets::TAG;
 use rdm_agent::DEFAULT_BUDGET;
 use rdm_client::Told;
-use rdm_queue::{Config, Entry, Log, MOST_PLACES, Page};
-use rdm_rig::log;
+use rdm_log::{Config, Entry, Log, MOST_PLACES, Page};
 use rdm_wire::Uid;
 use std::alloc::Global;
 use std::time::CpuClock;
 use std::{fmt, mem};
+use test_rig::log;
 
 /// How many clients there are, unless there is one.
 pub const CLIENTS: u8 = 16;
@@ -62,6 +62,15 @@ pub trait Served {
     /// The entries that the log stores; it goes on in this memory. None: there is no log, or too little memory.
     fn drain(&mut self, next: Vec<Entry>) -> Option<Page>
         requires { next.items ≡ [] };
+
+    /// The worker makes a turn. The log is drained between its frame and the reply, if it can be drained then.
+    /// Otherwise, or if no frame is sent, it is drained afterwards.
+    fn work_drained(&mut self, next: Vec<Entry>) -> Option<Page>
+        requires { next.items ≡ [] }
+    {
+        self.work(1)?;
+        self.drain(next)
+    }
 }
 
 /// What is done with the clients of a session.
@@ -69,9 +78,9 @@ pub trait Job {
     /// Does it.
     fn perform<S: Served>(&mut self, served: &mut S) -> Option<()>;
 
-    /// Whether it drains the log.
-    fn drains(&self) -> bool {
-        false
+    /// Looks at the log of a session that was drained, once it has ended.
+    fn end(&mut self, _log: &Log) -> Option<()> {
+        Some(())
     }
 }
 

@@ -7,11 +7,11 @@ use crate::served::{CLIENTS, FREE, Job, Served};
 use rdm_client::Told;
 use rdm_join::Status;
 use rdm_line::SimLine;
-use rdm_rig::{Heard, LONG, LineOf, Meeting, TimedDevice, Who, completion_told, line_of, log};
 use std::alloc::Global;
 use std::fs;
 use std::rt::Files;
 use std::sync::Wait;
+use test_rig::{Heard, LONG, LineOf, Meeting, TimedDevice, Who, completion_told, line_of, log};
 
 /// Prints what the clients of as many ports as there are rounds are told, each of this many requests. How much memory
 /// the process holds after each port goes to standard error.

@@ -1,0 +1,390 @@
+//! One session with ring buffers that never ends, in threads: sixteen clients, and a worker that gives the pages of its
+//! log to a sink. Each request and each discovery has to be reported once, to its client, in order. Each page has to
+//! follow the one before it. Clients run in any order, so only sums are the same in each run.
+ghost use Rattle.std.specs.Prelude.{◌≡◌, []};
+ghost use Rattle.rdm_lanes.specs.Clients.{SameClient};
+ghost use Rattle.rdm_lanes.specs.Workers.{book_of};
+
+use crate::bench::{Bench, holds};
+use crate::checked::{History, Tally};
+use crate::drained::{Drawn, ENTRIES, drawn_line};
+use crate::lines::Random;
+use crate::ports::ending_of;
+use crate::served::{CLIENTS, Ending, PLACES, config};
+use crate::soak::resident;
+use rdm_agent::{Kind, Search};
+use rdm_client::WorkerEnd;
+use rdm_lanes::views::{BlankHistory, ViewHistory};
+use rdm_lanes::{
+    Body, ClientEnd, Gate, LanesEnd, PageSink, Pages, RingClient, RingFault, Spare, WORKER_STOPPED,
+    run_session_in_pages,
+};
+use rdm_line::Counted;
+use rdm_log::{Entry, Page, Setup};
+use rdm_past::Past;
+use std::alloc::Global;
+use std::collections::VecDeque;
+use std::marker::Brand;
+use std::rt::Files;
+use std::sync::Wait;
+use std::sync::atomic::{AtomicU64, Ordering};
+use std::thread::{self, Threads};
+use test_rig::{AskNote, LONG, Note, cancels, log, request};
+
+// How often in a row a client that can do nothing tries before it gives up.
+const TRIES: u64 = 1_000_000_000;
+
+/// Prints how many calls the clients of one session made and were told of: ROUNDS times this many requests. What they
+/// were told, and how much memory the process holds, goes to standard error. `discovers`: one call in 50 is a
+/// discovery.
+pub fn print<R: Files + AllocGlobal + Print + Eprint + Threads + Wait + Sync>(
+    bench: &Bench<'_, R>,
+    discovers: bool,
+    requests: u64,
+) -> Option<()> {
+    let requests = requests.wrapping_mul(bench.rounds as u64);
+    print_over::<Brand, R>(bench, BlankHistory::new(), discovers, requests)
+}
+
+// With the history of the views that this blank begins.
+fn print_over<
+    J: ViewHistory + Send + Sync,
+    R: Files + AllocGlobal + Print + Eprint + Threads + Wait + Sync,
+>(bench: &Bench<'_, R>, history: BlankHistory, discovers: bool, requests: u64) -> Option<()>
+    requires { book_of history ≡ J.book }
+{
+    let (rt, alloc) = (bench.rt, bench.alloc);
+    let places: &[u8] = &[PLACES; 16];
+    let callers = callers_of(alloc, discovers, requests)?;
+    if callers.len() != places.len() {
+        return None;
+    }
+    let setup = Setup {
+        config: config(),
+        search: Search::Steady,
+    };
+    let log = log(alloc, ENTRIES).ok()?;
+    let gate = Stop(AtomicU64::new(0));
+    let line = drawn_line(alloc)?;
+    let pages = pages_of(alloc)?;
+    let ended = run_session_in_pages::<J, _, _, _, _, _, _, R>(
+        rt,
+        alloc,
+        history,
+        setup,
+        log,
+        PLACES,
+        places,
+        callers,
+        &gate,
+        line,
+        u64::MAX,
+        pages,
+    );
+    let (end, pages) = ended.ok()?;
+    print_end(bench, requests, end, pages)
+}
+
+// What each client does.
+fn callers_of(alloc: Global, discovers: bool, requests: u64) -> Option<Vec<Caller>> {
+    let mut callers = Vec::with_capacity(alloc, usize::from(CLIENTS)).ok()?;
+    for client in 0..u64::from(CLIENTS) {
+        let share = requests.wrapping_add(client) / u64::from(CLIENTS);
+        callers
+            .push(Caller::new(alloc, client, discovers, share)?)
+            .ok()?;
+    }
+    Some(callers)
+}
+
+// A sink, and memory for a page.
+fn pages_of(alloc: Global) -> Option<Pages<Follower>> {
+    let spare = Vec::with_capacity(alloc, ENTRIES.wrapping_add(1)).ok()?;
+    let sink = Follower {
+        history: History::default(),
+        past: Past::new(),
+    };
+    let spare = Spare::Memory(spare);
+    Some(Pages { sink, spare })
+}
+
+// The session has to end because all have left, each with all outcomes. Its log has to follow the pages.
+fn print_end<J: ViewHistory, R: Files + AllocGlobal + Print + Eprint>(
+    bench: &Bench<'_, R>,
+    requests: u64,
+    end: LanesEnd<J, Caller, Counted<Drawn>, Note, AskNote>,
+    pages: Pages<Follower>,
+) -> Option<()> {
+    let rt = bench.rt;
+    let LanesEnd {
+        session,
+        ends,
+        matched,
+        bodies,
+        worker,
+        turns: _,
+        line: _,
+        published: _,
+    } = end;
+    cancel_ends(bench.alloc, ends);
+    holds(matched && worker == WorkerEnd::AllLeft)?;
+    let (told, asked) = sum_of(bodies.as_slice())?;
+    let mut history = pages.sink.history;
+    history.end(session.log(), requests, asked)?;
+    holds(told.requests() == requests && told.discoveries() == asked)?;
+    println!(rt; "Drained threads: {requests} requests, {asked} discoveries").ok()?;
+    let entries = history.entries;
+    let kilobytes = resident(rt).unwrap_or(0);
+    eprintln!(rt; "Drained threads: {told:?}, {entries} entries, {kilobytes} kB").ok()
+}
+
+// Cancels the callbacks that are left.
+fn cancel_ends<J: ViewHistory>(alloc: Global, ends: Vec<ClientEnd<J, Note, AskNote>>) {
+    let mut ends = ends;
+    while let Some(end) = ends.pop() {
+        cancels(alloc, end.into_unspent());
+    }
+    ends.destroy_empty();
+}
+
+// What all of them were told, and how many discoveries they asked for. None: one of them wasn't told all, or wrongly.
+fn sum_of(callers: &[Caller]) -> Option<(Tally, u64)> {
+    let mut told = Tally::default();
+    let mut asked: u64 = 0;
+    for caller in callers {
+        holds(caller.is_right)?;
+        told = told.and(&caller.told);
+        asked = asked.wrapping_add(caller.asked);
+    }
+    Some((told, asked))
+}
+
+// Whether the worker has stopped.
+#[derive(Drop)]
+struct Stop(AtomicU64);
+
+impl Gate for Stop {
+    fn arrive(&self, point: u8) {
+        if point == WORKER_STOPPED {
+            self.0.store(1, Ordering::SeqCst);
+        }
+    }
+
+    fn passed(&self, point: u8) -> bool {
+        point == WORKER_STOPPED && self.0.load(Ordering::SeqCst) == 1
+    }
+}
+
+// Takes each page that follows the one before it, and returns its memory. No page ends between a frame and its reply.
+#[derive(Drop)]
+struct Follower {
+    history: History,
+    past: Past<Page>,
+}
+
+impl PageSink for Follower {
+    ghost taken = { λ sink. sink.past.items };
+
+    fn take(&mut self, page: Page) -> Result<Vec<Entry>, Page> {
+        if self.history.follow(&page).is_none() || self.history.awaited > 0 {
+            return Err(page);
+        }
+        self.past = self.past.and(&page);
+        Ok(page.entries)
+    }
+}
+
+// What a client does: it makes its calls as fast as its queue accepts them, and keeps the numbers of those that aren't
+// told yet.
+#[derive(Drop)]
+struct Caller {
+    client: u64,
+    share: u64,
+    discovers: bool,
+    random: Random,
+    submitted: u64,
+    asked: u64,
+    // Whether its next call is a discovery.
+    asks_next: bool,
+    requests: VecDeque<u64>,
+    discoveries: VecDeque<u64>,
+    told: Tally,
+    is_right: bool,
+}
+
+impl Caller {
+    fn new(alloc: Global, client: u64, discovers: bool, share: u64) -> Option<Caller> {
+        Some(Caller {
+            client,
+            share,
+            discovers,
+            random: Random::new(client.wrapping_add(3)),
+            submitted: 0,
+            asked: 0,
+            asks_next: false,
+            requests: VecDeque::with_capacity(alloc, usize::from(PLACES)).ok()?,
+            discoveries: VecDeque::with_capacity(alloc, usize::from(PLACES)).ok()?,
+            told: Tally::default(),
+            is_right: false,
+        })
+    }
+
+    // Makes its calls, and collects their outcomes. Returns whether it was told of each once, and rightly.
+    fn perform<J: ViewHistory, G: Gate>(
+        &mut self,
+        client: &mut RingClient<J, Note, AskNote>,
+        gate: &G,
+    ) -> bool
+        ensures { SameClient client.old client.new }
+    {
+        let mut idle = 0u64;
+        for _try in 0..u64::MAX {
+            let Some(does) = self.turn(client) else {
+                return false;
+            };
+            if self.is_told() {
+                return true;
+            }
+            idle = if does { 0 } else { idle.wrapping_add(1) };
+            if idle > TRIES || gate.passed(WORKER_STOPPED) {
+                return false;
+            }
+            if idle > 0 {
+                thread::yield_now();
+            }
+        }
+        false
+    }
+
+    // Whether all its calls were made, and told.
+    fn is_told(&self) -> bool {
+        self.submitted == self.share
+            && self.told.requests() == self.submitted
+            && self.told.discoveries() == self.asked
+    }
+
+    // Makes a call, and collects an outcome. Returns whether it did either. None: something was wrong.
+    fn turn<J: ViewHistory>(&mut self, client: &mut RingClient<J, Note, AskNote>) -> Option<bool>
+        ensures { SameClient client.old client.new }
+    {
+        let Some(calls) = self.call(client) else {
+            return None;
+        };
+        let Some(collects) = self.collect(client) else {
+            return None;
+        };
+        Some(calls || collects)
+    }
+
+    // Makes its next call, if there is one, and if its queue accepts it. Returns whether it did.
+    fn call<J: ViewHistory>(&mut self, client: &mut RingClient<J, Note, AskNote>) -> Option<bool>
+        ensures { SameClient client.old client.new }
+    {
+        if self.submitted == self.share {
+            return Some(false);
+        }
+        if self.asks_next {
+            return self.ask(client);
+        }
+        self.submit(client)
+    }
+
+    fn ask<J: ViewHistory>(&mut self, client: &mut RingClient<J, Note, AskNote>) -> Option<bool>
+        ensures { SameClient client.old client.new }
+    {
+        match client.discover(Kind::Full, AskNote(self.asked)) {
+            Ok(()) => self.asks(),
+            Err((RingFault::Full | RingFault::RingFull, _)) => Some(false),
+            Err(_) => None,
+        }
+    }
+
+    // A discovery was accepted.
+    fn asks(&mut self) -> Option<bool> {
+        self.discoveries.push_back(self.asked).ok()?;
+        self.asked = self.asked.wrapping_add(1);
+        self.asks_next = false;
+        Some(true)
+    }
+
+    fn submit<J: ViewHistory>(&mut self, client: &mut RingClient<J, Note, AskNote>) -> Option<bool>
+        ensures { SameClient client.old client.new }
+    {
+        let tag = self.tag_of(self.submitted);
+        match client.submit(request(tag), Note(tag)) {
+            Ok(()) => self.submits(),
+            Err((RingFault::Full | RingFault::RingFull, _, _)) => Some(false),
+            Err(_) => None,
+        }
+    }
+
+    // A request was accepted. The next call is drawn.
+    fn submits(&mut self) -> Option<bool> {
+        self.requests.push_back(self.submitted).ok()?;
+        self.submitted = self.submitted.wrapping_add(1);
+        self.asks_next = self.discovers && self.random.below(50) == 0;
+        Some(true)
+    }
+
+    // The tag of its request with this number. No other client has it. One in 8 asks for the parameter in three parts.
+    fn tag_of(&self, number: u64) -> u64 {
+        let tag = number
+            .wrapping_mul(u64::from(CLIENTS))
+            .wrapping_add(self.client);
+        if number % 8 == 0 {
+            tag.wrapping_add(LONG)
+        } else {
+            tag
+        }
+    }
+
+    // Collects an outcome, if there is one. Returns whether there was one.
+    fn collect<J: ViewHistory>(&mut self, client: &mut RingClient<J, Note, AskNote>) -> Option<bool>
+        ensures { SameClient client.old client.new }
+    {
+        match client.collect() {
+            Some(collected) => self.hear(ending_of(collected)),
+            None => Some(false),
+        }
+    }
+
+    // The outcome has to be that of its oldest call of this kind.
+    fn hear(&mut self, ending: Ending) -> Option<bool> {
+        match ending {
+            Ending::Request(told) => {
+                let number = self.requests.pop_front()?;
+                holds(told.tag == self.tag_of(number))?;
+                self.told.count(told)?;
+            }
+            Ending::Discovery(tag, devices) => {
+                let number = self.discoveries.pop_front()?;
+                holds(tag == number)?;
+                self.told.count_discovery(devices)?;
+            }
+        }
+        Some(true)
+    }
+}
+
+impl Body<Note, AskNote> for Caller {
+    fn run<J: ViewHistory, G: Gate>(
+        &mut self,
+        client: &mut RingClient<J, Note, AskNote>,
+        gate: &G,
+    ) {
+        self.is_right = self.perform(client, gate);
+        leaves(client, gate);
+    }
+}
+
+// Leaves, once its ring has a free slot.
+fn leaves<J: ViewHistory, G: Gate>(client: &mut RingClient<J, Note, AskNote>, gate: &G)
+    ensures { SameClient client.old client.new }
+{
+    for _try in 0..TRIES {
+        if client.leave().is_ok() || gate.passed(WORKER_STOPPED) {
+            return;
+        }
+        thread::yield_now();
+    }
+}

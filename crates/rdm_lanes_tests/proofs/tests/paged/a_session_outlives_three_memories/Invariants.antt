@@ -1,6 +1,0 @@
--- the history of this session's views
-use Rattle.rdm_lanes.specs.Workers.{book_of}
-use Rattle.rdm_lanes_tests.proofs.tests.paged.a_session_outlives_three_memories.Given as goal
-
-abbrev pub ghosts-serves : goal.ghosts-serves
-ghosts-serves g a = record { book = book_of a.history }

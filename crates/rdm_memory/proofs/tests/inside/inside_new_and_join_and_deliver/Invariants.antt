@@ -1,5 +1,0 @@
--- the blank picks the ledger
-use Rattle.rdm_memory.proofs.tests.inside.inside_new_and_join_and_deliver.Given as goal
-
-abbrev pub ghosts-delivers : goal.ghosts-delivers
-ghosts-delivers g a = record { name = a.blank.name; parts = a.blank.parts }

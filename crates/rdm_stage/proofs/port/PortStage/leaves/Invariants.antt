@@ -1,6 +1,0 @@
--- fewer clients are left
-use Rattle.std.proofs.Common.{length}
-use Rattle.rdm_stage.proofs.port.PortStage.leaves.Given as goal
-
-abbrev pub decreases-loop-client : goal.decreases-loop-client
-decreases-loop-client g l = length l.clients.items

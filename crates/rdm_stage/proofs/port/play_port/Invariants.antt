@@ -1,5 +1,0 @@
--- the blank picks the ledger
-use Rattle.rdm_stage.proofs.port.play_port.Given as goal
-
-abbrev pub ghosts-plays : goal.ghosts-plays
-ghosts-plays g a = record { name = a.blank.name; parts = a.blank.parts }

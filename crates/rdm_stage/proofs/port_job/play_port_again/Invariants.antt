@@ -1,5 +1,0 @@
--- the blank picks the ledger
-use Rattle.rdm_stage.proofs.port_job.play_port_again.Given as goal
-
-abbrev pub ghosts-plays_again : goal.ghosts-plays_again
-ghosts-plays_again g a = record { name = a.blank.name; parts = a.blank.parts }

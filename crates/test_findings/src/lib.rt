@@ -1,0 +1,5 @@
+//! Tests of `rdm_findings`.
+#![tactic(auto)]
+
+#[cfg(test)]
+mod tests;

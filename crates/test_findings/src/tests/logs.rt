@@ -1,0 +1,119 @@
+//! What is printed for whole logs.
+use super::lines::check;
+use rdm_findings::{LogFault, explain_log};
+use rdm_wire::Uid;
+use std::alloc::Global;
+use std::process::Abort;
+
+// The opening of a discovery.
+const OPENING: &str =
+    "{\"entry\":\"opening\",\"source\":\"7a70:00000100\",\"budget\":384008,\"search\":\"steady\",\
+    \"discover\":\"full\",\"known\":[]}\n";
+
+// A discovery that finds one device. The frames are those of cases/logs.txt.
+const DISCOVERY: [&str; 10] = [
+    "{\"number\":0,\"operation\":\"unmute\",\
+     \"frame\":\"cc0118ffffffffffff7a700000010000010000001000030007de\",\"reply\":\"\"}\n",
+    "{\"number\":1,\"operation\":\"unmute\",\
+     \"frame\":\"cc0118ffffffffffff7a700000010001010000001000030007df\",\"reply\":\"\"}\n",
+    "{\"number\":2,\"operation\":\"unmute\",\
+     \"frame\":\"cc0118ffffffffffff7a700000010002010000001000030007e0\",\"reply\":\"\"}\n",
+    "{\"number\":3,\"operation\":\"branch\",\
+     \"frame\":\"cc0124ffffffffffff7a700000010003010000001000010c000000000000ffffffffffff0df1\",\
+     \"reply\":\"fefefefefefefeaaba57be75aa55aa55aa55ab55ae57eb55\"}\n",
+    "{\"number\":4,\"operation\":\"mute\",\"frame\":\"cc01181234000000017a7000000100040100000010000200022e\",\
+     \"reply\":\"cc011a7a700000010012340000000104000000001100020200000232\"}\n",
+    "{\"number\":5,\"operation\":\"branch\",\
+     \"frame\":\"cc0124ffffffffffff7a700000010005010000001000010c000000000000ffffffffffff0df3\",\"reply\":\"\"}\n",
+    "{\"number\":6,\"operation\":\"branch\",\
+     \"frame\":\"cc0124ffffffffffff7a700000010006010000001000010c000000000000ffffffffffff0df4\",\"reply\":\"\"}\n",
+    "{\"number\":7,\"operation\":\"branch\",\
+     \"frame\":\"cc0124ffffffffffff7a700000010007010000001000010c000000000000ffffffffffff0df5\",\"reply\":\"\"}\n",
+    "{\"number\":8,\"operation\":\"branch\",\
+     \"frame\":\"cc0124ffffffffffff7a700000010008010000001000010c000000000000ffffffffffff0df6\",\"reply\":\"\"}\n",
+    "{\"number\":9,\"operation\":\"branch\",\
+     \"frame\":\"cc0124ffffffffffff7a700000010009010000001000010c000000000000ffffffffffff0df7\",\"reply\":\"\"}\n",
+];
+
+// What is printed for it, and for a device that is present and wasn't heard.
+const FOUND: &str = "discovery: full, steady, 10 exchanges, 1 device; its certificate is complete\n\
+    1234:00000001 followed the rules\n";
+
+const UNHEARD: &str =
+    "1234:00000009 wasn't heard: exchange 9 is the fifth silence in a row in a range that holds it; \
+    check its power and its cable\n";
+
+// Without the opening.
+const UNKNOWN: &str =
+    "discovery: 10 exchanges, 1 device; its certificate is complete but for its known devices, \
+    which the log doesn't have\n1234:00000001 followed the rules\n";
+
+// A session with a run whose line fails after a request.
+const SESSION: [&str; 8] = [
+    "{\"entry\":\"join\",\"client\":0,\"places\":1}\n",
+    "{\"entry\":\"ask\",\"client\":0,\"number\":0,\"discover\":\"full\"}\n",
+    "{\"entry\":\"send\",\"run\":1,\"frame\":\"cc0118ffffffffffff7a700000010000010000001000030007de\"}\n",
+    "{\"entry\":\"came\",\"reply\":\"\"}\n",
+    "{\"entry\":\"send\",\"run\":1,\"frame\":\"cc0118ffffffffffff7a700000010001010000001000030007df\"}\n",
+    "{\"entry\":\"came\",\"failed\":true}\n",
+    "{\"entry\":\"answer\",\"number\":0,\"run\":1,\"fault\":4}\n",
+    "{\"entry\":\"collect\",\"client\":0}\n",
+];
+
+const FAILED: &str = "run 1: 2 exchanges, fault 4, 0 devices; its certificate is incomplete\n\
+    exchange 2 should be one of the three unmutes that begin a run\n\
+    exchange 1 failed: check the adapter and the cable\n\
+    0000:00000000 is the first UID that wasn't ruled out: it needs five silences in a row of a range that holds it\n";
+
+// The texts, one after another.
+fn joined(rt: &impl Abort, alloc: Global, texts: &[&str]) -> Vec<u8> {
+    let mut whole = Vec::new(alloc);
+    for text in texts {
+        check(rt, whole.extend_from_slice(text.as_bytes()).is_ok());
+    }
+    whole
+}
+
+// Whether this is printed for a log.
+fn prints(
+    rt: &impl Abort,
+    alloc: Global,
+    log: &[u8],
+    present: &[Uid],
+    wanted: &[&str],
+    due: Result<bool, LogFault>,
+) {
+    let mut written = Vec::new(alloc);
+    let mut reader = log;
+    let ended = explain_log(alloc, &mut reader, present, &mut written);
+    check(rt, ended == due);
+    check(
+        rt,
+        written.as_slice() == joined(rt, alloc, wanted).as_slice(),
+    );
+}
+
+#[test]
+fn a_discovery_is_explained(rt: HostRuntime) {
+    let alloc = rt.alloc();
+    let run = joined(&rt, alloc, &DISCOVERY);
+    let mut log = joined(&rt, alloc, &[OPENING]);
+    check(&rt, log.extend_from_slice(&run).is_ok());
+    let liar = [Uid::new(0x1234, 9), Uid::new(0x1234, 1)];
+    prints(&rt, alloc, &log, &[], &[FOUND], Ok(false));
+    prints(&rt, alloc, &log, &liar, &[FOUND, UNHEARD], Ok(true));
+    prints(&rt, alloc, &run, &[], &[UNKNOWN], Ok(false));
+    check(&rt, log.extend_from_slice(&run).is_ok());
+    prints(&rt, alloc, &log, &[], &[FOUND, FOUND], Ok(false));
+    prints(&rt, alloc, b"", &[], &[], Ok(false));
+}
+
+#[test]
+fn a_session_is_explained(rt: HostRuntime) {
+    let alloc = rt.alloc();
+    let log = joined(&rt, alloc, &SESSION);
+    prints(&rt, alloc, &log, &[], &[FAILED], Ok(false));
+    let cut = &log[..log.len().saturating_sub(1)];
+    prints(&rt, alloc, cut, &[], &[], Err(LogFault::Line(8)));
+    prints(&rt, alloc, b"{}\n", &[], &[], Err(LogFault::Line(1)));
+}

@@ -1,0 +1,6 @@
+-- what is left gets less
+use Rattle.std.proofs.Common.{◌+◌, length}
+use Rattle.test_rig.proofs.note.cancels.Given as goal
+
+abbrev pub decreases-loop-left : goal.decreases-loop-left
+decreases-loop-left g l = length l.unspent.requests + length l.unspent.asks
