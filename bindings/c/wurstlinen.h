@@ -2,12 +2,15 @@
  *
  * Every call checks its arguments and returns a status. With a status other than WURST_DONE the handle is unchanged and
  * nothing is written, unless a call says otherwise. A session's log also keeps some of the calls that were refused.
+ * A call on a handle that is closed, or of another kind (by a cast), returns WURST_NOT_OPEN and changes nothing, and
+ * _dispose has no effect on it. _open, _start and the `log` of _rotate are the exceptions: they need a closed handle,
+ * and refuse an open one of any kind as WURST_ALREADY_OPEN. The `log` of _drain may also be closed.
  *
  * What a C program has to ensure, since nothing checks it:
- * - A handle is all 0 (closed) or as the last call left it. It is never copied and never written by the program, and
- *   doesn't leave scope while it is open: what it holds would never be freed.
+ * - A handle is all 0 (closed) or as the last call left it. It is never copied and never written by the program, its
+ *   `kind` neither, and doesn't leave scope while it is open: what it holds would never be freed.
  * - Pointers aren't null, even for a length of 0, and point to as much memory as the call says. What a call writes
- *   doesn't overlap any other argument.
+ *   doesn't overlap any other argument. No handle is passed twice in one call.
  * - A bool is 0 or 1.
  * - malloc, realloc and free belong to one allocator, and align blocks to 16 bytes (or define the three functions of
  *   heap.c otherwise).
@@ -56,7 +59,7 @@ extern "C" {
 enum wurst_status {
     WURST_DONE = 0,
     WURST_NOTHING = 1,               /* there is nothing to return */
-    WURST_NOT_OPEN = 2,              /* the handle is closed */
+    WURST_NOT_OPEN = 2,              /* the handle is closed, or of another kind */
     WURST_ALREADY_OPEN = 3,          /* the handle is open, but the call opens it */
     WURST_BAD_UID = 4,               /* a UID is 2^48 or more */
     WURST_BROADCAST_UID = 5,         /* a UID is broadcast, but has to be a device's or a controller's */
@@ -145,11 +148,11 @@ enum wurst_fault {
     WURST_ABORTED = 5        /* closed or stopped */
 };
 
-/* Handles. Begin with {0}; end with _dispose. */
-struct wurst_controller { void *at; bool is_open; };
-struct wurst_session { void *at; bool is_open; };
-struct wurst_log { void *at; bool is_open; };
-struct wurst_agent { void *at; bool is_open; };
+/* Handles. Begin with {0}; end with _dispose. An open one's kind is 1 to 4, in this order. */
+struct wurst_controller { void *at; bool is_open; uint32_t kind; };
+struct wurst_session { void *at; bool is_open; uint32_t kind; };
+struct wurst_log { void *at; bool is_open; uint32_t kind; };
+struct wurst_agent { void *at; bool is_open; uint32_t kind; };
 
 struct wurst_setup {
     uint64_t source;   /* the controller's own UID, not broadcast */
@@ -284,16 +287,14 @@ uint32_t wurst_version(void);
 /* ---- Controllers: the queue of requests and discoveries on one line. A controller has no log, and can run for years.
  *
  * One frame is outstanding at a time. Send what _take writes, and pass the line's reply to _deliver (no bytes are
- * silence), or call _fail if the line failed. Then take the next frame.
- *
- * On a closed handle each call except _open and _dispose returns WURST_NOT_OPEN. */
+ * silence), or call _fail if the line failed. Then take the next frame. */
 
 /* Opens a closed handle: a controller without clients. Allocates.
  * WURST_ALREADY_OPEN; then of the setup, the first of WURST_BAD_UID, WURST_BROADCAST_UID (source),
  * WURST_TOO_MANY_PLACES, WURST_NO_BUDGET, WURST_BAD_SEARCH; WURST_OUT_OF_MEMORY. */
 uint32_t wurst_controller_open(struct wurst_controller *handle, const struct wurst_setup *setup);
 
-/* Frees what the handle holds, and closes it. Without effect on a closed handle. */
+/* Frees the controller that a handle holds, and closes the handle. Without effect on any other handle. */
 void wurst_controller_dispose(struct wurst_controller *handle);
 
 /* Lets a client join that may have this many requests outstanding, from their acceptance until their outcomes are
@@ -379,15 +380,14 @@ uint32_t wurst_controller_awaits(struct wurst_controller *handle, bool *answer);
  * that is awaited, 2 for each request and discovery that hasn't ended, 1 for each outcome that isn't collected. A log
  * with fewer than WURST_LEAST_FREE free entries refuses some calls; replies, closes and collects always fit.
  *
- * Calls that a controller also has do the same as the controller's. What is said here is in addition. On a closed
- * handle each call except _open and _dispose returns WURST_NOT_OPEN. */
+ * Calls that a controller also has do the same as the controller's. What is said here is in addition. */
 
 /* Opens a closed handle: a session without clients, whose log has capacity for this many entries, 0 to
  * WURST_MOST_ENTRIES, and one more for a close. Allocates the log's memory, 296 bytes for each entry.
  * WURST_ALREADY_OPEN; the faults of the setup; WURST_TOO_MANY_ENTRIES; WURST_OUT_OF_MEMORY. */
 uint32_t wurst_session_open(struct wurst_session *handle, const struct wurst_setup *setup, size_t entries);
 
-/* Frees what the handle holds, with its log, and closes it. Without effect on a closed handle. */
+/* Frees the session that a handle holds, with its log, and closes the handle. Without effect on any other handle. */
 void wurst_session_dispose(struct wurst_session *handle);
 
 /* As wurst_controller_join. First WURST_LOG_FULL, without an entry; any other refusal is an entry. */
@@ -444,18 +444,19 @@ uint32_t wurst_session_entry(struct wurst_session *handle, size_t index, struct 
 /* Continues with a fresh log with capacity for this many entries. Opens the closed handle `log`, which then holds the
  * old log until it is disposed of. Numbers, clients, devices and whether it is paused or closed are kept. Allocates the
  * fresh log's memory, and for a moment as much as a second session without entries has.
- * WURST_ALREADY_OPEN (`log`); WURST_TOO_MANY_ENTRIES; WURST_LOG_FULL, for fewer than WURST_LEAST_FREE entries;
- * WURST_NOT_IDLE; WURST_OUT_OF_MEMORY. */
+ * WURST_ALREADY_OPEN (`log`, of any kind); WURST_TOO_MANY_ENTRIES; WURST_LOG_FULL, for fewer than WURST_LEAST_FREE
+ * entries; WURST_NOT_IDLE; WURST_OUT_OF_MEMORY. */
 uint32_t wurst_session_rotate(struct wurst_session *handle, size_t entries, struct wurst_log *log);
 
 /* Hands out all entries that the log stores, at any time, and continues in other memory. An open handle `log` is
  * emptied, its memory is used next, whatever `entries` is, and nothing is allocated. With a closed one, memory for this
  * many entries and a close is allocated. Then `log` holds what was handed out. Writes the number of its first entry,
- * from 0 for the session's first, or the first after its last rotation. WURST_LOG_FULL (less capacity than reserved);
- * WURST_TOO_MANY_ENTRIES; WURST_LOG_FULL (more than 2^62 entries in all); WURST_OUT_OF_MEMORY. */
+ * from 0 for the session's first, or the first after its last rotation. WURST_NOT_OPEN, also if `log` is open but of
+ * another kind; WURST_LOG_FULL (less capacity than reserved); WURST_TOO_MANY_ENTRIES; WURST_LOG_FULL (more than 2^62
+ * entries in all); WURST_OUT_OF_MEMORY. */
 uint32_t wurst_session_drain(struct wurst_session *handle, size_t entries, struct wurst_log *log, uint64_t *first);
 
-/* Frees the log that the handle holds, and closes the handle. Without effect on a closed handle. */
+/* Frees the log that a handle holds, and closes the handle. Without effect on any other handle. */
 void wurst_log_dispose(struct wurst_log *handle);
 
 /* As wurst_session_entry_count. */
@@ -534,7 +535,7 @@ uint32_t wurst_command_read(const uint8_t *bytes, size_t len, struct wurst_comma
 /* ---- Agents: single discovery runs, on a line of the caller's own. A run takes 42 KB of memory.
  *
  * Send what _next writes, and pass the line's reply to _hear, or call _fail if the line failed, until _next returns
- * WURST_NOTHING. On a closed handle each call except _start and _dispose returns WURST_NOT_OPEN. */
+ * WURST_NOTHING. */
 
 /* Begins a run on a closed handle. An incremental run mutes the known devices first. Allocates.
  * WURST_ALREADY_OPEN; then the first of WURST_BAD_UID, WURST_BROADCAST_UID (source), WURST_BAD_KIND, WURST_BAD_SEARCH;
@@ -542,7 +543,7 @@ uint32_t wurst_command_read(const uint8_t *bytes, size_t len, struct wurst_comma
 uint32_t wurst_agent_start(struct wurst_agent *handle, const struct wurst_start *start, const uint64_t *known,
                            size_t known_len);
 
-/* Frees what the handle holds, and closes it. Without effect on a closed handle. */
+/* Frees the run that a handle holds, and closes the handle. Without effect on any other handle. */
 void wurst_agent_dispose(struct wurst_agent *handle);
 
 /* Writes what the run asks next (enum wurst_operation) and its frame. Asking again writes the same.
@@ -574,7 +575,7 @@ uint32_t wurst_agent_frames(struct wurst_agent *handle, uint64_t *frames);
 /* A status in words, for messages. */
 static inline const char *wurst_text(uint32_t status) {
     static const char *const texts[] = {
-        "done", "nothing to give", "the handle is closed", "the handle is open already",
+        "done", "nothing to give", "the handle is closed, or of another kind", "the handle is open already",
         "a UID is 2^48 or more", "a UID is broadcast", "more than 4,080 places", "the budget is 0",
         "no such search", "no such kind of discovery", "no such class",
         "more than 231 bytes of parameter data", "more than 257 bytes of a reply",

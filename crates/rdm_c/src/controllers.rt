@@ -20,13 +20,14 @@ ghost use Rattle.rdm_handles.specs.Forms.{setup_status, setup_of, request_status
 ghost use Rattle.rdm_handles.specs.Forms.{form_of_completion, form_of_end, form_of_device};
 ghost use Rattle.rdm_handles.specs.Answers.{join_answer, submit_answer, ask_answer, collect_status, oldest_status};
 ghost use Rattle.rdm_handles.specs.Answers.{number_of_outcome_kind};
+ghost use Rattle.rdm_handles.specs.Handles.{holds, a_controller, Opens, Closes, StaysOpen, Reads, Reports};
 
 use rdm_handles::status::{
     ALREADY_OPEN, BAD_KIND, BUFFER_TOO_SMALL, DONE, NOT_ASKED, NOT_OPEN, NOTHING, OUT_OF_MEMORY,
     REPLY_TOO_LONG,
 };
 use rdm_handles::{
-    CompletionForC, ControllerHandle, DeviceForC, EndForC, RequestForC, SetupForC, controllers,
+    CompletionForC, DeviceForC, EndForC, Handle, RequestForC, SetupForC, controllers,
 };
 use rdm_join::LineEvent;
 use std::alloc::Global;
@@ -35,20 +36,16 @@ use std::alloc::Global;
 #[unsafe(no_mangle)]
 pub extern "C" fn wurst_controller_open(
     alloc: Global,
-    handle: &mut ControllerHandle,
+    handle: &mut Handle,
     setup: &SetupForC,
 ) -> u32
-    ensures already { handle.old.is_open ≡ true → (result ≡ ALREADY_OPEN) × (handle.new.is_open ≡ true)
-        × (handle.new.value ≡ handle.old.value) }
+    ensures opens { Opens a_controller handle.old handle.new result }
     ensures bad { handle.old.is_open ≡ false → setup_status setup.now ≢ 0 → result ≡ setup_status setup.now }
-    ensures opens { handle.old.is_open ≡ false → setup_status setup.now ≡ 0 →
-        (result ≡ OUT_OF_MEMORY) ⊎ (result ≡ DONE) }
-    ensures opened { result ≡ DONE → (handle.new.is_open ≡ true)
-        × IsSetUp (setup_of setup.now) handle.new.value }
-    ensures refused { result ≢ DONE → handle.new.is_open ≡ handle.old.is_open }
+    ensures statuses { handle.old.is_open ≡ false → setup_status setup.now ≡ 0 → (result ≡ OUT_OF_MEMORY)
+        ⊎ (result ≡ DONE) }
+    ensures opened { result ≡ DONE → IsSetUp (setup_of setup.now) handle.new.controller }
 {
-    if let Some(controller) = handle.take(alloc) {
-        handle.put(controller);
+    if handle.is_open() {
         return ALREADY_OPEN;
     }
     let controller = match controllers::open(alloc, setup) {
@@ -58,38 +55,36 @@ pub extern "C" fn wurst_controller_open(
     let Ok(boxed) = Box::new(alloc, controller) else {
         return OUT_OF_MEMORY;
     };
-    handle.put(boxed);
+    handle.put_controller(boxed);
     DONE
 }
 
-/// Ends the controller of an open handle, frees its memory, and closes the handle. No effect on a closed one.
+/// Ends the controller of an open handle, frees its memory, and closes the handle. No effect on any other handle.
 #[unsafe(no_mangle)]
-pub extern "C" fn wurst_controller_dispose(alloc: Global, handle: &mut ControllerHandle)
-    ensures closed { handle.new.is_open ≡ false }
+pub extern "C" fn wurst_controller_dispose(alloc: Global, handle: &mut Handle)
+    ensures closes { Closes a_controller handle.old handle.new }
 {
-    drop(handle.take(alloc));
+    drop(handle.take_controller(alloc));
 }
 
 /// Lets a client join with this queue depth, and writes its number.
 #[unsafe(no_mangle)]
 pub extern "C" fn wurst_controller_join(
     alloc: Global,
-    handle: &mut ControllerHandle,
+    handle: &mut Handle,
     places: u8,
     client: &mut u8,
 ) -> u32
-    ensures not_open { handle.old.is_open ≡ false → (result ≡ NOT_OPEN) × (client.new ≡ client.old) }
-    ensures stays { handle.new.is_open ≡ handle.old.is_open }
-    ensures adds { handle.old.is_open ≡ true → AddsToEach handle.old.value (λ k.
-        JoinAdds k.opening k.entries places (join_answer result client.new)) handle.new.value }
-    ensures unchanged { handle.old.is_open ≡ true → result ≢ DONE →
-        (handle.new.value ≡ handle.old.value) × (client.new ≡ client.old) }
+    ensures stays { StaysOpen a_controller handle.old handle.new result }
+    ensures adds { holds a_controller handle.old ≡ true → AddsToEach handle.old.controller
+        (λ k. JoinAdds k.opening k.entries places (join_answer result client.new)) handle.new.controller }
+    ensures unchanged { result ≢ DONE → (handle.new.controller ≡ handle.old.controller) × (client.new ≡ client.old) }
 {
-    let Some(mut controller) = handle.take(alloc) else {
+    let Some(mut controller) = handle.take_controller(alloc) else {
         return NOT_OPEN;
     };
     let status = controllers::join(&mut controller, alloc, places, client);
-    handle.put(controller);
+    handle.put_controller(controller);
     status
 }
 
@@ -97,28 +92,26 @@ pub extern "C" fn wurst_controller_join(
 #[unsafe(no_mangle)]
 pub extern "C" fn wurst_controller_submit(
     alloc: Global,
-    handle: &mut ControllerHandle,
+    handle: &mut Handle,
     client: u8,
     request: &RequestForC,
     param_bytes: &[u8],
     number: &mut u64,
 ) -> u32
-    ensures not_open { handle.old.is_open ≡ false → (result ≡ NOT_OPEN) × (number.new ≡ number.old) }
-    ensures stays { handle.new.is_open ≡ handle.old.is_open }
-    ensures bad { handle.old.is_open ≡ true → request_status request.now param_bytes.now ≢ 0 →
+    ensures stays { StaysOpen a_controller handle.old handle.new result }
+    ensures bad { holds a_controller handle.old ≡ true → request_status request.now param_bytes.now ≢ 0 →
         result ≡ request_status request.now param_bytes.now }
-    ensures adds { handle.old.is_open ≡ true → request_status request.now param_bytes.now ≡ 0 →
-        AddsToEach handle.old.value (λ k.
-        SubmitAdds k.opening k.entries (record { 0 = client }) (request_of request.now param_bytes.now)
-        (submit_answer result number.new (request_of request.now param_bytes.now))) handle.new.value }
-    ensures unchanged { handle.old.is_open ≡ true → result ≢ DONE →
-        (handle.new.value ≡ handle.old.value) × (number.new ≡ number.old) }
+    ensures adds { holds a_controller handle.old ≡ true → request_status request.now param_bytes.now ≡ 0 →
+        AddsToEach handle.old.controller (λ k. SubmitAdds k.opening k.entries (record { 0 = client })
+        (request_of request.now param_bytes.now)
+        (submit_answer result number.new (request_of request.now param_bytes.now))) handle.new.controller }
+    ensures unchanged { result ≢ DONE → (handle.new.controller ≡ handle.old.controller) × (number.new ≡ number.old) }
 {
-    let Some(mut controller) = handle.take(alloc) else {
+    let Some(mut controller) = handle.take_controller(alloc) else {
         return NOT_OPEN;
     };
     let status = controllers::submit(&mut controller, client, request, param_bytes, number);
-    handle.put(controller);
+    handle.put_controller(controller);
     status
 }
 
@@ -126,79 +119,74 @@ pub extern "C" fn wurst_controller_submit(
 #[unsafe(no_mangle)]
 pub extern "C" fn wurst_controller_discover(
     alloc: Global,
-    handle: &mut ControllerHandle,
+    handle: &mut Handle,
     client: u8,
     kind: u32,
     number: &mut u64,
 ) -> u32
-    ensures not_open { handle.old.is_open ≡ false → (result ≡ NOT_OPEN) × (number.new ≡ number.old) }
-    ensures stays { handle.new.is_open ≡ handle.old.is_open }
-    ensures bad { handle.old.is_open ≡ true → 1 < kind → result ≡ BAD_KIND }
-    ensures adds { handle.old.is_open ≡ true → kind ≤ 1 → AddsToEach handle.old.value (λ k.
-        DiscoverAdds k.opening k.entries (record { 0 = client }) (kind_of kind) (ask_answer result number.new))
-        handle.new.value }
-    ensures unchanged { handle.old.is_open ≡ true → result ≢ DONE →
-        (handle.new.value ≡ handle.old.value) × (number.new ≡ number.old) }
+    ensures stays { StaysOpen a_controller handle.old handle.new result }
+    ensures bad { holds a_controller handle.old ≡ true → 1 < kind → result ≡ BAD_KIND }
+    ensures adds { holds a_controller handle.old ≡ true → kind ≤ 1 → AddsToEach handle.old.controller
+        (λ k. DiscoverAdds k.opening k.entries (record { 0 = client }) (kind_of kind) (ask_answer result number.new))
+        handle.new.controller }
+    ensures unchanged { result ≢ DONE → (handle.new.controller ≡ handle.old.controller) × (number.new ≡ number.old) }
 {
-    let Some(mut controller) = handle.take(alloc) else {
+    let Some(mut controller) = handle.take_controller(alloc) else {
         return NOT_OPEN;
     };
     let status = controllers::discover(&mut controller, client, kind, number);
-    handle.put(controller);
+    handle.put_controller(controller);
     status
 }
 
 /// Begins no run and sends no request until `wurst_controller_resume`.
 #[unsafe(no_mangle)]
-pub extern "C" fn wurst_controller_pause(alloc: Global, handle: &mut ControllerHandle) -> u32
-    ensures not_open { handle.old.is_open ≡ false → (result ≡ NOT_OPEN) }
-    ensures stays { handle.new.is_open ≡ handle.old.is_open }
-    ensures adds { handle.old.is_open ≡ true → (result ≡ DONE)
-        × AddsToEach handle.old.value (λ k. PauseAdds k.opening k.entries) handle.new.value }
-    ensures unchanged { handle.old.is_open ≡ true → ForEachLog handle.old.value (λ o h.
-        can_pause o h ≡ false → handle.new.value ≡ handle.old.value) }
+pub extern "C" fn wurst_controller_pause(alloc: Global, handle: &mut Handle) -> u32
+    ensures stays { StaysOpen a_controller handle.old handle.new result }
+    ensures adds { holds a_controller handle.old ≡ true → (result ≡ DONE) × AddsToEach handle.old.controller
+        (λ k. PauseAdds k.opening k.entries) handle.new.controller }
+    ensures unchanged { holds a_controller handle.old ≡ true → ForEachLog handle.old.controller
+        (λ o h. can_pause o h ≡ false → handle.new.controller ≡ handle.old.controller) }
 {
-    let Some(mut controller) = handle.take(alloc) else {
+    let Some(mut controller) = handle.take_controller(alloc) else {
         return NOT_OPEN;
     };
     controller.pause();
-    handle.put(controller);
+    handle.put_controller(controller);
     DONE
 }
 
 /// Begins runs and sends requests again.
 #[unsafe(no_mangle)]
-pub extern "C" fn wurst_controller_resume(alloc: Global, handle: &mut ControllerHandle) -> u32
-    ensures not_open { handle.old.is_open ≡ false → (result ≡ NOT_OPEN) }
-    ensures stays { handle.new.is_open ≡ handle.old.is_open }
-    ensures adds { handle.old.is_open ≡ true → (result ≡ DONE)
-        × AddsToEach handle.old.value (λ k. ResumeAdds k.opening k.entries) handle.new.value }
-    ensures unchanged { handle.old.is_open ≡ true → ForEachLog handle.old.value (λ o h.
-        can_resume o h ≡ false → handle.new.value ≡ handle.old.value) }
+pub extern "C" fn wurst_controller_resume(alloc: Global, handle: &mut Handle) -> u32
+    ensures stays { StaysOpen a_controller handle.old handle.new result }
+    ensures adds { holds a_controller handle.old ≡ true → (result ≡ DONE) × AddsToEach handle.old.controller
+        (λ k. ResumeAdds k.opening k.entries) handle.new.controller }
+    ensures unchanged { holds a_controller handle.old ≡ true → ForEachLog handle.old.controller
+        (λ o h. can_resume o h ≡ false → handle.new.controller ≡ handle.old.controller) }
 {
-    let Some(mut controller) = handle.take(alloc) else {
+    let Some(mut controller) = handle.take_controller(alloc) else {
         return NOT_OPEN;
     };
     controller.resume();
-    handle.put(controller);
+    handle.put_controller(controller);
     DONE
 }
 
 /// Refuses all later joins, submits and discovers, and sends nothing more.
 #[unsafe(no_mangle)]
-pub extern "C" fn wurst_controller_close(alloc: Global, handle: &mut ControllerHandle) -> u32
-    ensures not_open { handle.old.is_open ≡ false → (result ≡ NOT_OPEN) }
-    ensures stays { handle.new.is_open ≡ handle.old.is_open }
-    ensures adds { handle.old.is_open ≡ true → (result ≡ DONE)
-        × AddsToEach handle.old.value (λ k. CloseAdds k.opening k.entries) handle.new.value }
-    ensures unchanged { handle.old.is_open ≡ true → ForEachLog handle.old.value (λ o h.
-        is_closed o h ≡ true → handle.new.value ≡ handle.old.value) }
+pub extern "C" fn wurst_controller_close(alloc: Global, handle: &mut Handle) -> u32
+    ensures stays { StaysOpen a_controller handle.old handle.new result }
+    ensures adds { holds a_controller handle.old ≡ true → (result ≡ DONE) × AddsToEach handle.old.controller
+        (λ k. CloseAdds k.opening k.entries) handle.new.controller }
+    ensures unchanged { holds a_controller handle.old ≡ true → ForEachLog handle.old.controller
+        (λ o h. is_closed o h ≡ true → handle.new.controller ≡ handle.old.controller) }
 {
-    let Some(mut controller) = handle.take(alloc) else {
+    let Some(mut controller) = handle.take_controller(alloc) else {
         return NOT_OPEN;
     };
     controller.close();
-    handle.put(controller);
+    handle.put_controller(controller);
     DONE
 }
 
@@ -206,75 +194,65 @@ pub extern "C" fn wurst_controller_close(alloc: Global, handle: &mut ControllerH
 #[unsafe(no_mangle)]
 pub extern "C" fn wurst_controller_take(
     alloc: Global,
-    handle: &mut ControllerHandle,
+    handle: &mut Handle,
     frame: &mut [u8],
     len: &mut usize,
 ) -> u32
-    ensures not_open { handle.old.is_open ≡ false → (result ≡ NOT_OPEN) × (len.new ≡ len.old)
+    ensures stays { StaysOpen a_controller handle.old handle.new result }
+    ensures small { holds a_controller handle.old ≡ true → (result ≡ BUFFER_TOO_SMALL) ↔ (length frame.old < 257) }
+    ensures given { result ≡ DONE → (sent : Bytes ℕ) × (len.new ≡ length sent.items)
+        × (take len.new frame.new ≡ sent.items) × AddsToEach handle.old.controller
+        (λ k. TakeAdds k.opening k.entries (Some sent)) handle.new.controller }
+    ensures nothing { result ≡ NOTHING → AddsToEach handle.old.controller (λ k. TakeAdds k.opening k.entries None)
+        handle.new.controller }
+    ensures statuses { holds a_controller handle.old ≡ true → (result ≡ BUFFER_TOO_SMALL)
+        ⊎ ((result ≡ NOTHING) ⊎ (result ≡ DONE)) }
+    ensures unchanged { result ≢ DONE → (handle.new.controller ≡ handle.old.controller) × (len.new ≡ len.old)
         × (frame.new ≡ frame.old) }
-    ensures stays { handle.new.is_open ≡ handle.old.is_open }
-    ensures small { handle.old.is_open ≡ true → (result ≡ BUFFER_TOO_SMALL) ↔ (length frame.old < 257) }
-    ensures given { handle.old.is_open ≡ true → result ≡ DONE →
-        (sent : Bytes ℕ) × (len.new ≡ length sent.items) × (take len.new frame.new ≡ sent.items)
-        × AddsToEach handle.old.value (λ k. TakeAdds k.opening k.entries (Some sent)) handle.new.value }
-    ensures nothing { handle.old.is_open ≡ true → result ≡ NOTHING →
-        AddsToEach handle.old.value (λ k. TakeAdds k.opening k.entries None) handle.new.value }
-    ensures statuses { handle.old.is_open ≡ true →
-        (result ≡ BUFFER_TOO_SMALL) ⊎ ((result ≡ NOTHING) ⊎ (result ≡ DONE)) }
-    ensures unchanged { handle.old.is_open ≡ true → result ≢ DONE →
-        (handle.new.value ≡ handle.old.value) × (len.new ≡ len.old) × (frame.new ≡ frame.old) }
 {
-    let Some(mut controller) = handle.take(alloc) else {
+    let Some(mut controller) = handle.take_controller(alloc) else {
         return NOT_OPEN;
     };
     let status = controllers::take(&mut controller, frame, len);
-    handle.put(controller);
+    handle.put_controller(controller);
     status
 }
 
 /// Takes the bytes that the line answered to the last frame. No bytes are silence.
 #[unsafe(no_mangle)]
-pub extern "C" fn wurst_controller_deliver(
-    alloc: Global,
-    handle: &mut ControllerHandle,
-    reply: &[u8],
-) -> u32
-    ensures not_open { handle.old.is_open ≡ false → (result ≡ NOT_OPEN) }
-    ensures stays { handle.new.is_open ≡ handle.old.is_open }
-    ensures long { handle.old.is_open ≡ true → 257 < length reply.now → result ≡ REPLY_TOO_LONG }
-    ensures statuses { handle.old.is_open ≡ true → length reply.now ≤ 257 →
-        (result ≡ DONE) ⊎ (result ≡ NOT_ASKED) }
-    ensures heard { handle.old.is_open ≡ true → result ≡ DONE → AddsToEach handle.old.value (λ k.
-        DeliverAdds k (Reply (record { items = reply.now })) (Ok tt)) handle.new.value }
-    ensures not_asked { handle.old.is_open ≡ true → result ≡ NOT_ASKED →
-        ForEachLog handle.old.value (λ o h. awaited h ≡ false) }
-    ensures unchanged { handle.old.is_open ≡ true → result ≢ DONE → handle.new.value ≡ handle.old.value }
+pub extern "C" fn wurst_controller_deliver(alloc: Global, handle: &mut Handle, reply: &[u8]) -> u32
+    ensures stays { StaysOpen a_controller handle.old handle.new result }
+    ensures long { holds a_controller handle.old ≡ true → 257 < length reply.now → result ≡ REPLY_TOO_LONG }
+    ensures statuses { holds a_controller handle.old ≡ true → length reply.now ≤ 257 → (result ≡ DONE)
+        ⊎ (result ≡ NOT_ASKED) }
+    ensures heard { result ≡ DONE → AddsToEach handle.old.controller
+        (λ k. DeliverAdds k (Reply (record { items = reply.now })) (Ok tt)) handle.new.controller }
+    ensures not_asked { result ≡ NOT_ASKED → ForEachLog handle.old.controller (λ o h. awaited h ≡ false) }
+    ensures unchanged { result ≢ DONE → handle.new.controller ≡ handle.old.controller }
 {
-    let Some(mut controller) = handle.take(alloc) else {
+    let Some(mut controller) = handle.take_controller(alloc) else {
         return NOT_OPEN;
     };
     let status = controllers::deliver(&mut controller, alloc, reply);
-    handle.put(controller);
+    handle.put_controller(controller);
     status
 }
 
 /// Records that the line failed at the last frame.
 #[unsafe(no_mangle)]
-pub extern "C" fn wurst_controller_fail(alloc: Global, handle: &mut ControllerHandle) -> u32
-    ensures not_open { handle.old.is_open ≡ false → (result ≡ NOT_OPEN) }
-    ensures stays { handle.new.is_open ≡ handle.old.is_open }
-    ensures statuses { handle.old.is_open ≡ true → (result ≡ DONE) ⊎ (result ≡ NOT_ASKED) }
-    ensures heard { handle.old.is_open ≡ true → result ≡ DONE → AddsToEach handle.old.value (λ k.
-        DeliverAdds k Failed (Ok tt)) handle.new.value }
-    ensures not_asked { handle.old.is_open ≡ true → result ≡ NOT_ASKED →
-        ForEachLog handle.old.value (λ o h. awaited h ≡ false) }
-    ensures unchanged { handle.old.is_open ≡ true → result ≢ DONE → handle.new.value ≡ handle.old.value }
+pub extern "C" fn wurst_controller_fail(alloc: Global, handle: &mut Handle) -> u32
+    ensures stays { StaysOpen a_controller handle.old handle.new result }
+    ensures statuses { holds a_controller handle.old ≡ true → (result ≡ DONE) ⊎ (result ≡ NOT_ASKED) }
+    ensures heard { result ≡ DONE → AddsToEach handle.old.controller (λ k. DeliverAdds k Failed (Ok tt))
+        handle.new.controller }
+    ensures not_asked { result ≡ NOT_ASKED → ForEachLog handle.old.controller (λ o h. awaited h ≡ false) }
+    ensures unchanged { result ≢ DONE → handle.new.controller ≡ handle.old.controller }
 {
-    let Some(mut controller) = handle.take(alloc) else {
+    let Some(mut controller) = handle.take_controller(alloc) else {
         return NOT_OPEN;
     };
     let status = controllers::hear(&mut controller, alloc, LineEvent::Failed);
-    handle.put(controller);
+    handle.put_controller(controller);
     status
 }
 
@@ -282,24 +260,22 @@ pub extern "C" fn wurst_controller_fail(alloc: Global, handle: &mut ControllerHa
 #[unsafe(no_mangle)]
 pub extern "C" fn wurst_controller_oldest(
     alloc: Global,
-    handle: &mut ControllerHandle,
+    handle: &mut Handle,
     client: u8,
     kind: &mut u32,
 ) -> u32
-    ensures not_open { handle.old.is_open ≡ false → (result ≡ NOT_OPEN) × (kind.new ≡ kind.old) }
-    ensures stays { handle.new.is_open ≡ handle.old.is_open }
-    ensures same { handle.old.is_open ≡ true → handle.new.value ≡ handle.old.value }
-    ensures status { handle.old.is_open ≡ true →
-        ForEachLog handle.old.value (λ o h. result ≡ oldest_status o h client) }
-    ensures kind { handle.old.is_open ≡ true → result ≡ DONE → ForEachLog handle.old.value (λ o h.
-        option_map number_of_outcome_kind (oldest_kind o h client) ≡ Some kind.new) }
-    ensures unchanged { handle.old.is_open ≡ true → result ≢ DONE → kind.new ≡ kind.old }
+    ensures reads { Reads a_controller handle.old handle.new result }
+    ensures status { holds a_controller handle.old ≡ true → ForEachLog handle.old.controller
+        (λ o h. result ≡ oldest_status o h client) }
+    ensures kind { result ≡ DONE → ForEachLog handle.old.controller
+        (λ o h. option_map number_of_outcome_kind (oldest_kind o h client) ≡ Some kind.new) }
+    ensures unchanged { result ≢ DONE → kind.new ≡ kind.old }
 {
-    let Some(controller) = handle.take(alloc) else {
+    let Some(controller) = handle.take_controller(alloc) else {
         return NOT_OPEN;
     };
     let status = controllers::oldest(&controller, client, kind);
-    handle.put(controller);
+    handle.put_controller(controller);
     status
 }
 
@@ -308,36 +284,31 @@ pub extern "C" fn wurst_controller_oldest(
 #[unsafe(no_mangle)]
 pub extern "C" fn wurst_controller_next_completion(
     alloc: Global,
-    handle: &mut ControllerHandle,
+    handle: &mut Handle,
     client: u8,
     completion: &mut CompletionForC,
     buffer: &mut [u8],
 ) -> u32
-    ensures not_open { handle.old.is_open ≡ false → (result ≡ NOT_OPEN) × (completion.new ≡ completion.old)
-        × (buffer.new ≡ buffer.old) }
-    ensures stays { handle.new.is_open ≡ handle.old.is_open }
-    ensures status { handle.old.is_open ≡ true → ForEachLog handle.old.value (λ o h.
-        result ≡ collect_status o h client kinds.Request (length buffer.old)) }
-    ensures needed { handle.old.is_open ≡ true → result ≡ BUFFER_TOO_SMALL → ForEachLog handle.old.value (λ o h.
-        oldest_length o h client ≡ Some completion.new.len) }
-    ensures collected { handle.old.is_open ≡ true → result ≡ DONE → (number : ℕ) × (done : Completion)
-        × (completion.new ≡ form_of_completion number done)
-        × AddsToEach handle.old.value (λ k.
-        CollectAdds k.opening k.entries (record { 0 = client }) (Some (request_outcome (number, done))))
-        handle.new.value
-        × ForEachLog handle.old.value (λ o h. take completion.new.len buffer.new ≡ done.bytes.items) }
-    ensures only_len { handle.old.is_open ≡ true → result ≡ BUFFER_TOO_SMALL →
+    ensures stays { StaysOpen a_controller handle.old handle.new result }
+    ensures status { holds a_controller handle.old ≡ true → ForEachLog handle.old.controller
+        (λ o h. result ≡ collect_status o h client kinds.Request (length buffer.old)) }
+    ensures needed { result ≡ BUFFER_TOO_SMALL → ForEachLog handle.old.controller
+        (λ o h. oldest_length o h client ≡ Some completion.new.len) }
+    ensures collected { result ≡ DONE → (number : ℕ) × (done : Completion)
+        × (completion.new ≡ form_of_completion number done) × AddsToEach handle.old.controller
+        (λ k. CollectAdds k.opening k.entries (record { 0 = client }) (Some (request_outcome (number, done))))
+        handle.new.controller × ForEachLog handle.old.controller (λ o h. take completion.new.len buffer.new
+        ≡ done.bytes.items) }
+    ensures only_len { result ≡ BUFFER_TOO_SMALL →
         completion.new ≡ record completion.old { len = completion.new.len } }
-    ensures kept { handle.old.is_open ≡ true → result ≢ DONE → result ≢ BUFFER_TOO_SMALL →
-        completion.new ≡ completion.old }
-    ensures unchanged { handle.old.is_open ≡ true → result ≢ DONE →
-        (handle.new.value ≡ handle.old.value) × (buffer.new ≡ buffer.old) }
+    ensures kept { result ≢ DONE → result ≢ BUFFER_TOO_SMALL → completion.new ≡ completion.old }
+    ensures unchanged { result ≢ DONE → (handle.new.controller ≡ handle.old.controller) × (buffer.new ≡ buffer.old) }
 {
-    let Some(mut controller) = handle.take(alloc) else {
+    let Some(mut controller) = handle.take_controller(alloc) else {
         return NOT_OPEN;
     };
     let status = controllers::next_completion(&mut controller, client, completion, buffer);
-    handle.put(controller);
+    handle.put_controller(controller);
     status
 }
 
@@ -346,34 +317,31 @@ pub extern "C" fn wurst_controller_next_completion(
 #[unsafe(no_mangle)]
 pub extern "C" fn wurst_controller_next_discovery(
     alloc: Global,
-    handle: &mut ControllerHandle,
+    handle: &mut Handle,
     client: u8,
     end: &mut EndForC,
     devices: &mut [DeviceForC],
 ) -> u32
-    ensures not_open { handle.old.is_open ≡ false → (result ≡ NOT_OPEN) × (end.new ≡ end.old)
+    ensures stays { StaysOpen a_controller handle.old handle.new result }
+    ensures status { holds a_controller handle.old ≡ true → ForEachLog handle.old.controller
+        (λ o h. result ≡ collect_status o h client kinds.Discovery (length devices.old)) }
+    ensures needed { result ≡ BUFFER_TOO_SMALL → ForEachLog handle.old.controller
+        (λ o h. oldest_length o h client ≡ Some end.new.count) }
+    ensures collected { result ≡ DONE → (ended : DiscoveryEnd) × (set : List Device)
+        × (end.new ≡ form_of_end ended (length set)) × AddsToEach handle.old.controller
+        (λ k. CollectAdds k.opening k.entries (record { 0 = client }) (Some (discovery_outcome ended set)))
+        handle.new.controller × ForEachLog handle.old.controller (λ o h. take (length set) devices.new
+        ≡ map form_of_device set) }
+    ensures only_count { result ≡ BUFFER_TOO_SMALL → end.new ≡ record end.old { count = end.new.count } }
+    ensures kept { result ≢ DONE → result ≢ BUFFER_TOO_SMALL → end.new ≡ end.old }
+    ensures unchanged { result ≢ DONE → (handle.new.controller ≡ handle.old.controller)
         × (devices.new ≡ devices.old) }
-    ensures stays { handle.new.is_open ≡ handle.old.is_open }
-    ensures status { handle.old.is_open ≡ true → ForEachLog handle.old.value (λ o h.
-        result ≡ collect_status o h client kinds.Discovery (length devices.old)) }
-    ensures needed { handle.old.is_open ≡ true → result ≡ BUFFER_TOO_SMALL → ForEachLog handle.old.value (λ o h.
-        oldest_length o h client ≡ Some end.new.count) }
-    ensures collected { handle.old.is_open ≡ true → result ≡ DONE → (ended : DiscoveryEnd) × (set : List Device)
-        × (end.new ≡ form_of_end ended (length set))
-        × AddsToEach handle.old.value (λ k.
-        CollectAdds k.opening k.entries (record { 0 = client }) (Some (discovery_outcome ended set))) handle.new.value
-        × ForEachLog handle.old.value (λ o h. take (length set) devices.new ≡ map form_of_device set) }
-    ensures only_count { handle.old.is_open ≡ true → result ≡ BUFFER_TOO_SMALL →
-        end.new ≡ record end.old { count = end.new.count } }
-    ensures kept { handle.old.is_open ≡ true → result ≢ DONE → result ≢ BUFFER_TOO_SMALL → end.new ≡ end.old }
-    ensures unchanged { handle.old.is_open ≡ true → result ≢ DONE →
-        (handle.new.value ≡ handle.old.value) × (devices.new ≡ devices.old) }
 {
-    let Some(mut controller) = handle.take(alloc) else {
+    let Some(mut controller) = handle.take_controller(alloc) else {
         return NOT_OPEN;
     };
     let status = controllers::next_discovery(&mut controller, client, end, devices);
-    handle.put(controller);
+    handle.put_controller(controller);
     status
 }
 
@@ -382,27 +350,25 @@ pub extern "C" fn wurst_controller_next_discovery(
 #[unsafe(no_mangle)]
 pub extern "C" fn wurst_controller_devices(
     alloc: Global,
-    handle: &mut ControllerHandle,
+    handle: &mut Handle,
     devices: &mut [DeviceForC],
     count: &mut usize,
 ) -> u32
-    ensures not_open { handle.old.is_open ≡ false → (result ≡ NOT_OPEN) × (devices.new ≡ devices.old)
-        × (count.new ≡ count.old) }
-    ensures stays { handle.new.is_open ≡ handle.old.is_open }
-    ensures same { handle.old.is_open ≡ true → handle.new.value ≡ handle.old.value }
-    ensures count { handle.old.is_open ≡ true →
-        ForEachLog handle.old.value (λ o h. count.new ≡ length (known_devices o h)) }
-    ensures status { handle.old.is_open ≡ true →
+    ensures reads { Reads a_controller handle.old handle.new result }
+    ensures count { holds a_controller handle.old ≡ true → ForEachLog handle.old.controller
+        (λ o h. count.new ≡ length (known_devices o h)) }
+    ensures kept { result ≡ NOT_OPEN → count.new ≡ count.old }
+    ensures status { holds a_controller handle.old ≡ true →
         result ≡ (if nat_lt (length devices.old) count.new then BUFFER_TOO_SMALL else DONE) }
-    ensures written { handle.old.is_open ≡ true → result ≡ DONE → ForEachLog handle.old.value (λ o h.
-        take count.new devices.new ≡ map form_of_device (known_devices o h)) }
-    ensures unchanged { handle.old.is_open ≡ true → result ≢ DONE → devices.new ≡ devices.old }
+    ensures written { result ≡ DONE → ForEachLog handle.old.controller
+        (λ o h. take count.new devices.new ≡ map form_of_device (known_devices o h)) }
+    ensures unchanged { result ≢ DONE → devices.new ≡ devices.old }
 {
-    let Some(controller) = handle.take(alloc) else {
+    let Some(controller) = handle.take_controller(alloc) else {
         return NOT_OPEN;
     };
     let status = controllers::devices(controller.devices(), devices, count);
-    handle.put(controller);
+    handle.put_controller(controller);
     status
 }
 
@@ -410,19 +376,17 @@ pub extern "C" fn wurst_controller_devices(
 #[unsafe(no_mangle)]
 pub extern "C" fn wurst_controller_devices_run(
     alloc: Global,
-    handle: &mut ControllerHandle,
+    handle: &mut Handle,
     run: &mut u64,
 ) -> u32
-    ensures not_open { handle.old.is_open ≡ false → (result ≡ NOT_OPEN) × (run.new ≡ run.old) }
-    ensures stays { handle.new.is_open ≡ handle.old.is_open }
-    ensures same { handle.old.is_open ≡ true → (result ≡ DONE) × (handle.new.value ≡ handle.old.value) }
-    ensures answer { handle.old.is_open ≡ true → ForEachLog handle.old.value (λ o h. run.new ≡ devices_run o h) }
+    ensures reports { Reports a_controller handle.old handle.new result
+        (ForEachLog handle.old.controller (λ o h. run.new ≡ devices_run o h)) (run.new ≡ run.old) }
 {
-    let Some(controller) = handle.take(alloc) else {
+    let Some(controller) = handle.take_controller(alloc) else {
         return NOT_OPEN;
     };
     *run = controller.devices_run();
-    handle.put(controller);
+    handle.put_controller(controller);
     DONE
 }
 
@@ -430,19 +394,17 @@ pub extern "C" fn wurst_controller_devices_run(
 #[unsafe(no_mangle)]
 pub extern "C" fn wurst_controller_is_idle(
     alloc: Global,
-    handle: &mut ControllerHandle,
+    handle: &mut Handle,
     answer: &mut bool,
 ) -> u32
-    ensures not_open { handle.old.is_open ≡ false → (result ≡ NOT_OPEN) × (answer.new ≡ answer.old) }
-    ensures stays { handle.new.is_open ≡ handle.old.is_open }
-    ensures same { handle.old.is_open ≡ true → (result ≡ DONE) × (handle.new.value ≡ handle.old.value) }
-    ensures answer { handle.old.is_open ≡ true → ForEachLog handle.old.value (λ o h. answer.new ≡ is_idle h) }
+    ensures reports { Reports a_controller handle.old handle.new result
+        (ForEachLog handle.old.controller (λ o h. answer.new ≡ is_idle h)) (answer.new ≡ answer.old) }
 {
-    let Some(controller) = handle.take(alloc) else {
+    let Some(controller) = handle.take_controller(alloc) else {
         return NOT_OPEN;
     };
     *answer = controller.is_idle();
-    handle.put(controller);
+    handle.put_controller(controller);
     DONE
 }
 
@@ -450,19 +412,17 @@ pub extern "C" fn wurst_controller_is_idle(
 #[unsafe(no_mangle)]
 pub extern "C" fn wurst_controller_is_paused(
     alloc: Global,
-    handle: &mut ControllerHandle,
+    handle: &mut Handle,
     answer: &mut bool,
 ) -> u32
-    ensures not_open { handle.old.is_open ≡ false → (result ≡ NOT_OPEN) × (answer.new ≡ answer.old) }
-    ensures stays { handle.new.is_open ≡ handle.old.is_open }
-    ensures same { handle.old.is_open ≡ true → (result ≡ DONE) × (handle.new.value ≡ handle.old.value) }
-    ensures answer { handle.old.is_open ≡ true → ForEachLog handle.old.value (λ o h. answer.new ≡ is_paused o h) }
+    ensures reports { Reports a_controller handle.old handle.new result
+        (ForEachLog handle.old.controller (λ o h. answer.new ≡ is_paused o h)) (answer.new ≡ answer.old) }
 {
-    let Some(controller) = handle.take(alloc) else {
+    let Some(controller) = handle.take_controller(alloc) else {
         return NOT_OPEN;
     };
     *answer = controller.is_paused();
-    handle.put(controller);
+    handle.put_controller(controller);
     DONE
 }
 
@@ -470,19 +430,17 @@ pub extern "C" fn wurst_controller_is_paused(
 #[unsafe(no_mangle)]
 pub extern "C" fn wurst_controller_is_closed(
     alloc: Global,
-    handle: &mut ControllerHandle,
+    handle: &mut Handle,
     answer: &mut bool,
 ) -> u32
-    ensures not_open { handle.old.is_open ≡ false → (result ≡ NOT_OPEN) × (answer.new ≡ answer.old) }
-    ensures stays { handle.new.is_open ≡ handle.old.is_open }
-    ensures same { handle.old.is_open ≡ true → (result ≡ DONE) × (handle.new.value ≡ handle.old.value) }
-    ensures answer { handle.old.is_open ≡ true → ForEachLog handle.old.value (λ o h. answer.new ≡ is_closed o h) }
+    ensures reports { Reports a_controller handle.old handle.new result
+        (ForEachLog handle.old.controller (λ o h. answer.new ≡ is_closed o h)) (answer.new ≡ answer.old) }
 {
-    let Some(controller) = handle.take(alloc) else {
+    let Some(controller) = handle.take_controller(alloc) else {
         return NOT_OPEN;
     };
     *answer = controller.is_closed();
-    handle.put(controller);
+    handle.put_controller(controller);
     DONE
 }
 
@@ -490,18 +448,16 @@ pub extern "C" fn wurst_controller_is_closed(
 #[unsafe(no_mangle)]
 pub extern "C" fn wurst_controller_awaits(
     alloc: Global,
-    handle: &mut ControllerHandle,
+    handle: &mut Handle,
     answer: &mut bool,
 ) -> u32
-    ensures not_open { handle.old.is_open ≡ false → (result ≡ NOT_OPEN) × (answer.new ≡ answer.old) }
-    ensures stays { handle.new.is_open ≡ handle.old.is_open }
-    ensures same { handle.old.is_open ≡ true → (result ≡ DONE) × (handle.new.value ≡ handle.old.value) }
-    ensures answer { handle.old.is_open ≡ true → ForEachLog handle.old.value (λ o h. answer.new ≡ awaited h) }
+    ensures reports { Reports a_controller handle.old handle.new result
+        (ForEachLog handle.old.controller (λ o h. answer.new ≡ awaited h)) (answer.new ≡ answer.old) }
 {
-    let Some(controller) = handle.take(alloc) else {
+    let Some(controller) = handle.take_controller(alloc) else {
         return NOT_OPEN;
     };
     *answer = controller.awaits();
-    handle.put(controller);
+    handle.put_controller(controller);
     DONE
 }

@@ -4,8 +4,7 @@
 //! what its handle holds. An argument needs only its type: each range is tested, and has a status. All of it is
 //! the profile of this project.
 //!
-//! A call takes what a handle holds to find out whether it is open, and puts it back: the prover doesn't let it read a
-//! field of a value that owns memory.
+//! A call takes out what its handle holds, and puts it back, since the prover can't read a value through a raw pointer.
 #![tactic(auto)]
 
 ghost use Rattle.std.specs.Prelude.{◌≡◌};

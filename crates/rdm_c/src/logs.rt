@@ -6,30 +6,30 @@ ghost use Rattle.rdm_log.specs.log.Legal.{Legal};
 ghost use Rattle.rdm_log.specs.promises.Promised.{Promised};
 ghost use Rattle.rdm_handles.specs.Entries.{entry_status, form_of_entry, bytes_of_entry};
 ghost use Rattle.rdm_handles.specs.Sessions.{rotate_status, drain_status};
+ghost use Rattle.rdm_handles.specs.Handles.{holds, a_session, a_log, Closes, StaysOpen, Reads, Reports};
 
+use rdm_handles::handle::{LOG, SESSION};
 use rdm_handles::status::{
     ALREADY_OPEN, BUFFER_TOO_SMALL, DONE, LOG_FULL, NO_ENTRY, NOT_OPEN, OUT_OF_MEMORY,
 };
-use rdm_handles::{EntryForC, LogHandle, SessionHandle, entries, sessions};
+use rdm_handles::{EntryForC, Handle, entries, sessions};
 use std::alloc::Global;
 
 /// Writes how many entries of the log are free: neither used nor reserved.
 #[unsafe(no_mangle)]
 pub extern "C" fn wurst_session_free_entries(
     alloc: Global,
-    handle: &mut SessionHandle,
+    handle: &mut Handle,
     count: &mut usize,
 ) -> u32
-    ensures not_open { handle.old.is_open ≡ false → (result ≡ NOT_OPEN) × (count.new ≡ count.old) }
-    ensures stays { handle.new.is_open ≡ handle.old.is_open }
-    ensures same { handle.old.is_open ≡ true → (result ≡ DONE) × (handle.new.value ≡ handle.old.value) }
-    ensures count { handle.old.is_open ≡ true → count.new ≡ free_entries handle.old.value }
+    ensures reports { Reports a_session handle.old handle.new result (count.new ≡ free_entries handle.old.session)
+        (count.new ≡ count.old) }
 {
-    let Some(session) = handle.take(alloc) else {
+    let Some(session) = handle.take_session(alloc) else {
         return NOT_OPEN;
     };
     *count = session.free();
-    handle.put(session);
+    handle.put_session(session);
     DONE
 }
 
@@ -38,21 +38,19 @@ pub extern "C" fn wurst_session_free_entries(
 #[unsafe(no_mangle)]
 pub extern "C" fn wurst_session_entry_count(
     alloc: Global,
-    handle: &mut SessionHandle,
+    handle: &mut Handle,
     count: &mut usize,
 ) -> u32
-    ensures not_open { handle.old.is_open ≡ false → (result ≡ NOT_OPEN) × (count.new ≡ count.old) }
-    ensures stays { handle.new.is_open ≡ handle.old.is_open }
-    ensures same { handle.old.is_open ≡ true → (result ≡ DONE) × (handle.new.value ≡ handle.old.value) }
-    ensures count { handle.old.is_open ≡ true → count.new ≡ length (stored handle.old.value) }
-    ensures legal { handle.old.is_open ≡ true → Legal handle.old.value.opening handle.old.value.entries }
-    ensures promised { handle.old.is_open ≡ true → Promised handle.old.value }
+    ensures reports { Reports a_session handle.old handle.new result (count.new ≡ length (stored handle.old.session))
+        (count.new ≡ count.old) }
+    ensures legal { holds a_session handle.old ≡ true → Legal handle.old.session.opening handle.old.session.entries }
+    ensures promised { holds a_session handle.old ≡ true → Promised handle.old.session }
 {
-    let Some(session) = handle.take(alloc) else {
+    let Some(session) = handle.take_session(alloc) else {
         return NOT_OPEN;
     };
     *count = session.log().entries().len();
-    handle.put(session);
+    handle.put_session(session);
     DONE
 }
 
@@ -61,75 +59,71 @@ pub extern "C" fn wurst_session_entry_count(
 #[unsafe(no_mangle)]
 pub extern "C" fn wurst_session_entry(
     alloc: Global,
-    handle: &mut SessionHandle,
+    handle: &mut Handle,
     index: usize,
     entry: &mut EntryForC,
     buffer: &mut [u8],
 ) -> u32
-    ensures not_open { handle.old.is_open ≡ false → (result ≡ NOT_OPEN) × (entry.new ≡ entry.old)
-        × (buffer.new ≡ buffer.old) }
-    ensures stays { handle.new.is_open ≡ handle.old.is_open }
-    ensures same { handle.old.is_open ≡ true → handle.new.value ≡ handle.old.value }
-    ensures status { handle.old.is_open ≡ true →
-        result ≡ entry_status (stored handle.old.value) index (length buffer.old) }
-    ensures needed { handle.old.is_open ≡ true → (e : Entry) → slice_get (stored handle.old.value) index ≡ Some e →
-        result ≡ BUFFER_TOO_SMALL → entry.new.len ≡ length (bytes_of_entry e) }
-    ensures written { handle.old.is_open ≡ true → (e : Entry) → slice_get (stored handle.old.value) index ≡ Some e →
-        result ≡ DONE → (entry.new ≡ form_of_entry e) × (take entry.new.len buffer.new ≡ bytes_of_entry e) }
-    ensures only_len { handle.old.is_open ≡ true → result ≡ BUFFER_TOO_SMALL →
-        entry.new ≡ record entry.old { len = entry.new.len } }
-    ensures none { handle.old.is_open ≡ true → result ≡ NO_ENTRY → entry.new ≡ entry.old }
-    ensures unchanged { handle.old.is_open ≡ true → result ≢ DONE → buffer.new ≡ buffer.old }
+    ensures reads { Reads a_session handle.old handle.new result }
+    ensures status { holds a_session handle.old ≡ true → result ≡ entry_status (stored handle.old.session) index
+        (length buffer.old) }
+    ensures needed { holds a_session handle.old ≡ true → (e : Entry) → slice_get (stored handle.old.session) index
+        ≡ Some e → result ≡ BUFFER_TOO_SMALL → entry.new.len ≡ length (bytes_of_entry e) }
+    ensures written { holds a_session handle.old ≡ true → (e : Entry) → slice_get (stored handle.old.session) index
+        ≡ Some e → result ≡ DONE → (entry.new ≡ form_of_entry e)
+        × (take entry.new.len buffer.new ≡ bytes_of_entry e) }
+    ensures only_len { result ≡ BUFFER_TOO_SMALL → entry.new ≡ record entry.old { len = entry.new.len } }
+    ensures kept { result ≢ DONE → result ≢ BUFFER_TOO_SMALL → entry.new ≡ entry.old }
+    ensures unchanged { result ≢ DONE → buffer.new ≡ buffer.old }
 {
-    let Some(session) = handle.take(alloc) else {
+    let Some(session) = handle.take_session(alloc) else {
         return NOT_OPEN;
     };
     let status = entries::read(session.log(), index, entry, buffer);
-    handle.put(session);
+    handle.put_session(session);
     status
 }
 
-/// Continues with a new log of this many entries, and opens a closed handle with the old one.
+/// Continues with a new log of this many entries, and opens a closed handle with the old one. An open one of any kind
+/// is refused as already open.
 #[unsafe(no_mangle)]
 pub extern "C" fn wurst_session_rotate(
     alloc: Global,
-    handle: &mut SessionHandle,
+    handle: &mut Handle,
     entries: usize,
-    log: &mut LogHandle,
+    log: &mut Handle,
 ) -> u32
-    ensures not_open { handle.old.is_open ≡ false → (result ≡ NOT_OPEN) × (log.new.is_open ≡ log.old.is_open) }
-    ensures stays { handle.new.is_open ≡ handle.old.is_open }
-    ensures already { handle.old.is_open ≡ true → log.old.is_open ≡ true → result ≡ ALREADY_OPEN }
-    ensures bad { handle.old.is_open ≡ true → log.old.is_open ≡ false → rotate_status handle.old.value entries ≢ 0 →
-        result ≡ rotate_status handle.old.value entries }
-    ensures rotates { handle.old.is_open ≡ true → log.old.is_open ≡ false →
-        rotate_status handle.old.value entries ≡ 0 → (result ≡ OUT_OF_MEMORY) ⊎ (result ≡ DONE) }
-    ensures rotated { handle.old.is_open ≡ true → result ≡ DONE → handle.new.value ≡ record {
-      opening = opening_after handle.old.value.opening handle.old.value.entries;
+    ensures stays { StaysOpen a_session handle.old handle.new result }
+    ensures already { holds a_session handle.old ≡ true → log.old.is_open ≡ true → result ≡ ALREADY_OPEN }
+    ensures bad { holds a_session handle.old ≡ true → log.old.is_open ≡ false →
+        rotate_status handle.old.session entries ≢ 0 → result ≡ rotate_status handle.old.session entries }
+    ensures rotates { holds a_session handle.old ≡ true → log.old.is_open ≡ false →
+        rotate_status handle.old.session entries ≡ 0 → (result ≡ OUT_OF_MEMORY) ⊎ (result ≡ DONE) }
+    ensures rotated { result ≡ DONE → handle.new.session ≡ record {
+      opening = opening_after handle.old.session.opening handle.old.session.entries;
       entries = [];
       room = entries + 1;
-      search = handle.old.value.search;
+      search = handle.old.session.search;
       gone = 0;
     } }
-    ensures handed_back { handle.old.is_open ≡ true → result ≡ DONE →
-        (log.new.is_open ≡ true) × (log.new.value ≡ handle.old.value) }
-    ensures unchanged { handle.old.is_open ≡ true → result ≢ DONE →
-        (handle.new.value ≡ handle.old.value) × (log.new.is_open ≡ log.old.is_open) }
-    ensures kept { log.old.is_open ≡ true → log.new.value ≡ log.old.value }
+    ensures handed_back { result ≡ DONE → (holds a_log log.new ≡ true) × (log.new.log ≡ handle.old.session) }
+    ensures unchanged { result ≢ DONE → (handle.new.session ≡ handle.old.session) × (log.new ≡ log.old) }
 {
-    let Some(mut session) = handle.take(alloc) else {
+    // Both are tested before the session is taken out, so a program that passes one handle twice loses nothing.
+    if !handle.holds(SESSION) {
         return NOT_OPEN;
-    };
-    if let Some(held) = log.take(alloc) {
-        log.put(held);
-        handle.put(session);
+    }
+    if log.is_open() {
         return ALREADY_OPEN;
     }
+    let Some(mut session) = handle.take_session(alloc) else {
+        return NOT_OPEN;
+    };
     let rotated = sessions::rotate(&mut session, alloc, entries);
-    handle.put(session);
+    handle.put_session(session);
     match rotated {
         Ok(held) => {
-            log.put(held);
+            log.put_log(held);
             DONE
         }
         Err(fault) => fault,
@@ -138,54 +132,58 @@ pub extern "C" fn wurst_session_rotate(
 
 /// Hands out all entries that the log stores, and continues in other memory. For an open handle that is the memory of
 /// its log, whose own entries are removed. For a closed one it is new memory for this many entries. Then the handle has
-/// what was handed out. Writes the number of its first entry.
+/// what was handed out. Writes the number of its first entry. An open handle of another kind is refused as not open.
 #[unsafe(no_mangle)]
 pub extern "C" fn wurst_session_drain(
     alloc: Global,
-    handle: &mut SessionHandle,
+    handle: &mut Handle,
     entries: usize,
-    log: &mut LogHandle,
+    log: &mut Handle,
     first: &mut u64,
 ) -> u32
-    ensures not_open { handle.old.is_open ≡ false → (result ≡ NOT_OPEN)
-        × ((log.new.is_open ≡ log.old.is_open) × (first.new ≡ first.old)) }
-    ensures stays { handle.new.is_open ≡ handle.old.is_open }
-    ensures statuses { handle.old.is_open ≡ true → log.old.is_open ≡ true → (result ≡ DONE) ⊎ (result ≡ LOG_FULL) }
-    ensures full { handle.old.is_open ≡ true → log.old.is_open ≡ true → result ≡ LOG_FULL
-        → MayGoOn handle.old.value (log.old.value.room - log.old.value.gone) → ⊥ }
-    ensures reused { handle.old.is_open ≡ true → log.old.is_open ≡ true → result ≡ DONE
-        → handle.new.value ≡ drained handle.old.value (log.old.value.room - log.old.value.gone) }
-    ensures bad { handle.old.is_open ≡ true → log.old.is_open ≡ false → drain_status handle.old.value entries ≢ 0 →
-        result ≡ drain_status handle.old.value entries }
-    ensures drains { handle.old.is_open ≡ true → log.old.is_open ≡ false →
-        drain_status handle.old.value entries ≡ 0 → (result ≡ OUT_OF_MEMORY) ⊎ (result ≡ DONE) }
-    ensures drained { handle.old.is_open ≡ true → log.old.is_open ≡ false → result ≡ DONE
-        → handle.new.value ≡ drained handle.old.value (entries + 1) }
-    ensures first { handle.old.is_open ≡ true → result ≡ DONE → first.new ≡ handle.old.value.gone }
-    ensures handed_out { handle.old.is_open ≡ true → result ≡ DONE → (log.new.is_open ≡ true)
-        × ((log.new.value.entries ≡ handle.old.value.entries) × (log.new.value.gone ≡ handle.old.value.gone)) }
-    ensures unchanged { handle.old.is_open ≡ true → result ≢ DONE → (handle.new.value ≡ handle.old.value)
-        × ((log.new.is_open ≡ log.old.is_open) × (first.new ≡ first.old)) }
-    ensures kept { log.old.is_open ≡ true → result ≢ DONE → log.new.value ≡ log.old.value }
+    ensures stays { StaysOpen a_session handle.old handle.new result }
+    ensures no_log { log.old.is_open ≡ true → holds a_log log.old ≡ false → result ≡ NOT_OPEN }
+    ensures statuses { holds a_session handle.old ≡ true → holds a_log log.old ≡ true →
+        (result ≡ DONE) ⊎ (result ≡ LOG_FULL) }
+    ensures full { holds a_session handle.old ≡ true → holds a_log log.old ≡ true → result ≡ LOG_FULL →
+        MayGoOn handle.old.session (log.old.log.room - log.old.log.gone) → ⊥ }
+    ensures reused { holds a_log log.old ≡ true → result ≡ DONE →
+        handle.new.session ≡ drained handle.old.session (log.old.log.room - log.old.log.gone) }
+    ensures bad { holds a_session handle.old ≡ true → log.old.is_open ≡ false →
+        drain_status handle.old.session entries ≢ 0 → result ≡ drain_status handle.old.session entries }
+    ensures drains { holds a_session handle.old ≡ true → log.old.is_open ≡ false →
+        drain_status handle.old.session entries ≡ 0 → (result ≡ OUT_OF_MEMORY) ⊎ (result ≡ DONE) }
+    ensures drained { log.old.is_open ≡ false → result ≡ DONE →
+        handle.new.session ≡ drained handle.old.session (entries + 1) }
+    ensures first { result ≡ DONE → first.new ≡ handle.old.session.gone }
+    ensures handed_out { result ≡ DONE → (holds a_log log.new ≡ true)
+        × ((log.new.log.entries ≡ handle.old.session.entries) × (log.new.log.gone ≡ handle.old.session.gone)) }
+    ensures unchanged { result ≢ DONE → (handle.new.session ≡ handle.old.session) × (first.new ≡ first.old) }
+    ensures kept { result ≢ DONE → holds a_log log.old ≡ false → log.new ≡ log.old }
+    ensures kept_log { result ≢ DONE → holds a_log log.old ≡ true → (holds a_log log.new ≡ true)
+        × (log.new.log ≡ log.old.log) }
 {
-    let Some(mut session) = handle.take(alloc) else {
+    if log.is_open() && !log.holds(LOG) {
+        return NOT_OPEN;
+    }
+    let Some(mut session) = handle.take_session(alloc) else {
         return NOT_OPEN;
     };
     let number = session.log().gone();
-    if let Some(mut page) = log.take(alloc) {
+    if let Some(mut page) = log.take_log(alloc) {
         let status = sessions::drain_into(&mut session, &mut page);
-        log.put(page);
-        handle.put(session);
+        log.put_log(page);
+        handle.put_session(session);
         if status == DONE {
             *first = number;
         }
         return status;
     }
     let drained = sessions::drain(&mut session, alloc, entries);
-    handle.put(session);
+    handle.put_session(session);
     match drained {
         Ok(page) => {
-            log.put(page);
+            log.put_log(page);
             *first = number;
             DONE
         }
@@ -193,31 +191,29 @@ pub extern "C" fn wurst_session_drain(
     }
 }
 
-/// Frees the log of an open handle, and closes the handle. No effect on a closed one.
+/// Frees the log of an open handle, and closes the handle. No effect on any other handle.
 #[unsafe(no_mangle)]
-pub extern "C" fn wurst_log_dispose(alloc: Global, handle: &mut LogHandle)
-    ensures closed { handle.new.is_open ≡ false }
+pub extern "C" fn wurst_log_dispose(alloc: Global, handle: &mut Handle)
+    ensures closes { Closes a_log handle.old handle.new }
 {
-    drop(handle.take(alloc));
+    drop(handle.take_log(alloc));
 }
 
 /// Writes how many entries the log stores.
 #[unsafe(no_mangle)]
 pub extern "C" fn wurst_log_entry_count(
     alloc: Global,
-    handle: &mut LogHandle,
+    handle: &mut Handle,
     count: &mut usize,
 ) -> u32
-    ensures not_open { handle.old.is_open ≡ false → (result ≡ NOT_OPEN) × (count.new ≡ count.old) }
-    ensures stays { handle.new.is_open ≡ handle.old.is_open }
-    ensures same { handle.old.is_open ≡ true → (result ≡ DONE) × (handle.new.value ≡ handle.old.value) }
-    ensures count { handle.old.is_open ≡ true → count.new ≡ length (stored handle.old.value) }
+    ensures reports { Reports a_log handle.old handle.new result (count.new ≡ length (stored handle.old.log))
+        (count.new ≡ count.old) }
 {
-    let Some(log) = handle.take(alloc) else {
+    let Some(log) = handle.take_log(alloc) else {
         return NOT_OPEN;
     };
     *count = log.entries().len();
-    handle.put(log);
+    handle.put_log(log);
     DONE
 }
 
@@ -225,30 +221,26 @@ pub extern "C" fn wurst_log_entry_count(
 #[unsafe(no_mangle)]
 pub extern "C" fn wurst_log_entry(
     alloc: Global,
-    handle: &mut LogHandle,
+    handle: &mut Handle,
     index: usize,
     entry: &mut EntryForC,
     buffer: &mut [u8],
 ) -> u32
-    ensures not_open { handle.old.is_open ≡ false → (result ≡ NOT_OPEN) × (entry.new ≡ entry.old)
-        × (buffer.new ≡ buffer.old) }
-    ensures stays { handle.new.is_open ≡ handle.old.is_open }
-    ensures same { handle.old.is_open ≡ true → handle.new.value ≡ handle.old.value }
-    ensures status { handle.old.is_open ≡ true →
-        result ≡ entry_status (stored handle.old.value) index (length buffer.old) }
-    ensures needed { handle.old.is_open ≡ true → (e : Entry) → slice_get (stored handle.old.value) index ≡ Some e →
+    ensures reads { Reads a_log handle.old handle.new result }
+    ensures status { holds a_log handle.old ≡ true → result ≡ entry_status (stored handle.old.log) index
+        (length buffer.old) }
+    ensures needed { holds a_log handle.old ≡ true → (e : Entry) → slice_get (stored handle.old.log) index ≡ Some e →
         result ≡ BUFFER_TOO_SMALL → entry.new.len ≡ length (bytes_of_entry e) }
-    ensures written { handle.old.is_open ≡ true → (e : Entry) → slice_get (stored handle.old.value) index ≡ Some e →
+    ensures written { holds a_log handle.old ≡ true → (e : Entry) → slice_get (stored handle.old.log) index ≡ Some e →
         result ≡ DONE → (entry.new ≡ form_of_entry e) × (take entry.new.len buffer.new ≡ bytes_of_entry e) }
-    ensures only_len { handle.old.is_open ≡ true → result ≡ BUFFER_TOO_SMALL →
-        entry.new ≡ record entry.old { len = entry.new.len } }
-    ensures none { handle.old.is_open ≡ true → result ≡ NO_ENTRY → entry.new ≡ entry.old }
-    ensures unchanged { handle.old.is_open ≡ true → result ≢ DONE → buffer.new ≡ buffer.old }
+    ensures only_len { result ≡ BUFFER_TOO_SMALL → entry.new ≡ record entry.old { len = entry.new.len } }
+    ensures kept { result ≢ DONE → result ≢ BUFFER_TOO_SMALL → entry.new ≡ entry.old }
+    ensures unchanged { result ≢ DONE → buffer.new ≡ buffer.old }
 {
-    let Some(log) = handle.take(alloc) else {
+    let Some(log) = handle.take_log(alloc) else {
         return NOT_OPEN;
     };
     let status = entries::read(&log, index, entry, buffer);
-    handle.put(log);
+    handle.put_log(log);
     status
 }

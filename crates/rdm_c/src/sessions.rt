@@ -21,14 +21,14 @@ ghost use Rattle.rdm_handles.specs.Forms.{form_of_completion, form_of_end, form_
 ghost use Rattle.rdm_handles.specs.Answers.{join_answer, submit_answer, ask_answer, collect_status, oldest_status};
 ghost use Rattle.rdm_handles.specs.Answers.{number_of_outcome_kind, join_fault_of, submit_fault_of, ask_fault_of};
 ghost use Rattle.rdm_handles.specs.Sessions.{open_status, full_status};
+ghost use Rattle.rdm_handles.specs.Handles.{holds, a_session, Opens, Closes, StaysOpen, Reads, Reports};
 
 use rdm_handles::status::{
     ALREADY_OPEN, BAD_KIND, BUFFER_TOO_SMALL, DONE, LOG_FULL, NOT_ASKED, NOT_OPEN, NOTHING,
     OUT_OF_MEMORY, REPLY_TOO_LONG,
 };
 use rdm_handles::{
-    CompletionForC, DeviceForC, EndForC, RequestForC, SessionHandle, SetupForC, controllers,
-    sessions,
+    CompletionForC, DeviceForC, EndForC, Handle, RequestForC, SetupForC, controllers, sessions,
 };
 use rdm_join::LineEvent;
 use std::alloc::Global;
@@ -37,22 +37,18 @@ use std::alloc::Global;
 #[unsafe(no_mangle)]
 pub extern "C" fn wurst_session_open(
     alloc: Global,
-    handle: &mut SessionHandle,
+    handle: &mut Handle,
     setup: &SetupForC,
     entries: usize,
 ) -> u32
-    ensures already { handle.old.is_open ≡ true → (result ≡ ALREADY_OPEN) × (handle.new.is_open ≡ true)
-        × (handle.new.value ≡ handle.old.value) }
+    ensures opens { Opens a_session handle.old handle.new result }
     ensures bad { handle.old.is_open ≡ false → open_status setup.now entries ≢ 0 →
         result ≡ open_status setup.now entries }
-    ensures opens { handle.old.is_open ≡ false → open_status setup.now entries ≡ 0 →
-        (result ≡ OUT_OF_MEMORY) ⊎ (result ≡ DONE) }
-    ensures opened { result ≡ DONE → (handle.new.is_open ≡ true)
-        × (handle.new.value ≡ begun (setup_of setup.now) (blank_log (entries + 1))) }
-    ensures refused { result ≢ DONE → handle.new.is_open ≡ handle.old.is_open }
+    ensures statuses { handle.old.is_open ≡ false → open_status setup.now entries ≡ 0 → (result ≡ OUT_OF_MEMORY)
+        ⊎ (result ≡ DONE) }
+    ensures opened { result ≡ DONE → handle.new.session ≡ begun (setup_of setup.now) (blank_log (entries + 1)) }
 {
-    if let Some(session) = handle.take(alloc) {
-        handle.put(session);
+    if handle.is_open() {
         return ALREADY_OPEN;
     }
     let session = match sessions::open(alloc, setup, entries) {
@@ -62,40 +58,39 @@ pub extern "C" fn wurst_session_open(
     let Ok(boxed) = Box::new(alloc, session) else {
         return OUT_OF_MEMORY;
     };
-    handle.put(boxed);
+    handle.put_session(boxed);
     DONE
 }
 
-/// Ends the session of an open handle, frees its memory and that of its log, and closes the handle. No effect on a
-/// closed one.
+/// Ends the session of an open handle, frees its memory and that of its log, and closes the handle. No effect on
+/// any other handle.
 #[unsafe(no_mangle)]
-pub extern "C" fn wurst_session_dispose(alloc: Global, handle: &mut SessionHandle)
-    ensures closed { handle.new.is_open ≡ false }
+pub extern "C" fn wurst_session_dispose(alloc: Global, handle: &mut Handle)
+    ensures closes { Closes a_session handle.old handle.new }
 {
-    drop(handle.take(alloc));
+    drop(handle.take_session(alloc));
 }
 
 /// Lets a client join with this queue depth, and writes its number.
 #[unsafe(no_mangle)]
 pub extern "C" fn wurst_session_join(
     alloc: Global,
-    handle: &mut SessionHandle,
+    handle: &mut Handle,
     places: u8,
     client: &mut u8,
 ) -> u32
-    ensures not_open { handle.old.is_open ≡ false → (result ≡ NOT_OPEN) × (client.new ≡ client.old) }
-    ensures stays { handle.new.is_open ≡ handle.old.is_open }
-    ensures adds { handle.old.is_open ≡ true → GrowsBy handle.old.value
-        (JoinLogs handle.old.value places (join_answer result client.new)) handle.new.value }
-    ensures statuses { handle.old.is_open ≡ true → join_fault_of result ≡ None → result ≡ DONE }
-    ensures legal { handle.old.is_open ≡ true → Legal handle.new.value.opening handle.new.value.entries }
-    ensures unchanged { handle.old.is_open ≡ true → result ≢ DONE → client.new ≡ client.old }
+    ensures stays { StaysOpen a_session handle.old handle.new result }
+    ensures adds { holds a_session handle.old ≡ true → GrowsBy handle.old.session
+        (JoinLogs handle.old.session places (join_answer result client.new)) handle.new.session }
+    ensures statuses { holds a_session handle.old ≡ true → join_fault_of result ≡ None → result ≡ DONE }
+    ensures legal { holds a_session handle.old ≡ true → Legal handle.new.session.opening handle.new.session.entries }
+    ensures unchanged { result ≢ DONE → client.new ≡ client.old }
 {
-    let Some(mut session) = handle.take(alloc) else {
+    let Some(mut session) = handle.take_session(alloc) else {
         return NOT_OPEN;
     };
     let status = sessions::join(&mut session, alloc, places, client);
-    handle.put(session);
+    handle.put_session(session);
     status
 }
 
@@ -103,31 +98,30 @@ pub extern "C" fn wurst_session_join(
 #[unsafe(no_mangle)]
 pub extern "C" fn wurst_session_submit(
     alloc: Global,
-    handle: &mut SessionHandle,
+    handle: &mut Handle,
     client: u8,
     request: &RequestForC,
     param_bytes: &[u8],
     number: &mut u64,
 ) -> u32
-    ensures not_open { handle.old.is_open ≡ false → (result ≡ NOT_OPEN) × (number.new ≡ number.old) }
-    ensures stays { handle.new.is_open ≡ handle.old.is_open }
-    ensures bad { handle.old.is_open ≡ true → request_status request.now param_bytes.now ≢ 0 →
-        (result ≡ request_status request.now param_bytes.now) × (handle.new.value ≡ handle.old.value) }
-    ensures adds { handle.old.is_open ≡ true → request_status request.now param_bytes.now ≡ 0 →
-        GrowsBy handle.old.value
-        (SubmitLogs handle.old.value (record { 0 = client }) (request_of request.now param_bytes.now)
-        (submit_answer result number.new (request_of request.now param_bytes.now))) handle.new.value }
-    ensures statuses { handle.old.is_open ≡ true → request_status request.now param_bytes.now ≡ 0 →
+    ensures stays { StaysOpen a_session handle.old handle.new result }
+    ensures bad { holds a_session handle.old ≡ true → request_status request.now param_bytes.now ≢ 0 →
+        (result ≡ request_status request.now param_bytes.now) × (handle.new.session ≡ handle.old.session) }
+    ensures adds { holds a_session handle.old ≡ true → request_status request.now param_bytes.now ≡ 0 →
+        GrowsBy handle.old.session (SubmitLogs handle.old.session (record { 0 = client })
+        (request_of request.now param_bytes.now)
+        (submit_answer result number.new (request_of request.now param_bytes.now))) handle.new.session }
+    ensures statuses { holds a_session handle.old ≡ true → request_status request.now param_bytes.now ≡ 0 →
         submit_fault_of result ≡ None → result ≡ DONE }
-    ensures legal { handle.old.is_open ≡ true → request_status request.now param_bytes.now ≡ 0 →
-        Legal handle.new.value.opening handle.new.value.entries }
-    ensures unchanged { handle.old.is_open ≡ true → result ≢ DONE → number.new ≡ number.old }
+    ensures legal { holds a_session handle.old ≡ true → request_status request.now param_bytes.now ≡ 0 →
+        Legal handle.new.session.opening handle.new.session.entries }
+    ensures unchanged { result ≢ DONE → number.new ≡ number.old }
 {
-    let Some(mut session) = handle.take(alloc) else {
+    let Some(mut session) = handle.take_session(alloc) else {
         return NOT_OPEN;
     };
     let status = sessions::submit(&mut session, client, request, param_bytes, number);
-    handle.put(session);
+    handle.put_session(session);
     status
 }
 
@@ -135,83 +129,79 @@ pub extern "C" fn wurst_session_submit(
 #[unsafe(no_mangle)]
 pub extern "C" fn wurst_session_discover(
     alloc: Global,
-    handle: &mut SessionHandle,
+    handle: &mut Handle,
     client: u8,
     kind: u32,
     number: &mut u64,
 ) -> u32
-    ensures not_open { handle.old.is_open ≡ false → (result ≡ NOT_OPEN) × (number.new ≡ number.old) }
-    ensures stays { handle.new.is_open ≡ handle.old.is_open }
-    ensures bad { handle.old.is_open ≡ true → 1 < kind →
-        (result ≡ BAD_KIND) × (handle.new.value ≡ handle.old.value) }
-    ensures adds { handle.old.is_open ≡ true → kind ≤ 1 → GrowsBy handle.old.value
-        (DiscoverLogs handle.old.value (record { 0 = client }) (kind_of kind) (ask_answer result number.new))
-        handle.new.value }
-    ensures statuses { handle.old.is_open ≡ true → kind ≤ 1 → ask_fault_of result ≡ None → result ≡ DONE }
-    ensures legal { handle.old.is_open ≡ true → kind ≤ 1 →
-        Legal handle.new.value.opening handle.new.value.entries }
-    ensures unchanged { handle.old.is_open ≡ true → result ≢ DONE → number.new ≡ number.old }
+    ensures stays { StaysOpen a_session handle.old handle.new result }
+    ensures bad { holds a_session handle.old ≡ true → 1 < kind → (result ≡ BAD_KIND)
+        × (handle.new.session ≡ handle.old.session) }
+    ensures adds { holds a_session handle.old ≡ true → kind ≤ 1 → GrowsBy handle.old.session
+        (DiscoverLogs handle.old.session (record { 0 = client }) (kind_of kind) (ask_answer result number.new))
+        handle.new.session }
+    ensures statuses { holds a_session handle.old ≡ true → kind ≤ 1 → ask_fault_of result ≡ None → result ≡ DONE }
+    ensures legal { holds a_session handle.old ≡ true → kind ≤ 1 → Legal handle.new.session.opening
+        handle.new.session.entries }
+    ensures unchanged { result ≢ DONE → number.new ≡ number.old }
 {
-    let Some(mut session) = handle.take(alloc) else {
+    let Some(mut session) = handle.take_session(alloc) else {
         return NOT_OPEN;
     };
     let status = sessions::discover(&mut session, client, kind, number);
-    handle.put(session);
+    handle.put_session(session);
     status
 }
 
 /// Begins no run and sends no request until `wurst_session_resume`.
 #[unsafe(no_mangle)]
-pub extern "C" fn wurst_session_pause(alloc: Global, handle: &mut SessionHandle) -> u32
-    ensures not_open { handle.old.is_open ≡ false → (result ≡ NOT_OPEN) }
-    ensures stays { handle.new.is_open ≡ handle.old.is_open }
-    ensures status { handle.old.is_open ≡ true → result ≡ full_status handle.old.value }
-    ensures adds { handle.old.is_open ≡ true → result ≡ DONE →
-        GrowsBy handle.old.value (PauseLogs handle.old.value (Ok tt)) handle.new.value }
-    ensures legal { handle.old.is_open ≡ true → Legal handle.new.value.opening handle.new.value.entries }
-    ensures unchanged { handle.old.is_open ≡ true → result ≢ DONE → handle.new.value ≡ handle.old.value }
+pub extern "C" fn wurst_session_pause(alloc: Global, handle: &mut Handle) -> u32
+    ensures stays { StaysOpen a_session handle.old handle.new result }
+    ensures status { holds a_session handle.old ≡ true → result ≡ full_status handle.old.session }
+    ensures adds { result ≡ DONE → GrowsBy handle.old.session (PauseLogs handle.old.session (Ok tt))
+        handle.new.session }
+    ensures legal { holds a_session handle.old ≡ true → Legal handle.new.session.opening handle.new.session.entries }
+    ensures unchanged { result ≢ DONE → handle.new.session ≡ handle.old.session }
 {
-    let Some(mut session) = handle.take(alloc) else {
+    let Some(mut session) = handle.take_session(alloc) else {
         return NOT_OPEN;
     };
     let status = sessions::pause(&mut session);
-    handle.put(session);
+    handle.put_session(session);
     status
 }
 
 /// Begins runs and sends requests again.
 #[unsafe(no_mangle)]
-pub extern "C" fn wurst_session_resume(alloc: Global, handle: &mut SessionHandle) -> u32
-    ensures not_open { handle.old.is_open ≡ false → (result ≡ NOT_OPEN) }
-    ensures stays { handle.new.is_open ≡ handle.old.is_open }
-    ensures status { handle.old.is_open ≡ true → result ≡ full_status handle.old.value }
-    ensures adds { handle.old.is_open ≡ true → result ≡ DONE →
-        GrowsBy handle.old.value (ResumeLogs handle.old.value (Ok tt)) handle.new.value }
-    ensures legal { handle.old.is_open ≡ true → Legal handle.new.value.opening handle.new.value.entries }
-    ensures unchanged { handle.old.is_open ≡ true → result ≢ DONE → handle.new.value ≡ handle.old.value }
+pub extern "C" fn wurst_session_resume(alloc: Global, handle: &mut Handle) -> u32
+    ensures stays { StaysOpen a_session handle.old handle.new result }
+    ensures status { holds a_session handle.old ≡ true → result ≡ full_status handle.old.session }
+    ensures adds { result ≡ DONE → GrowsBy handle.old.session (ResumeLogs handle.old.session (Ok tt))
+        handle.new.session }
+    ensures legal { holds a_session handle.old ≡ true → Legal handle.new.session.opening handle.new.session.entries }
+    ensures unchanged { result ≢ DONE → handle.new.session ≡ handle.old.session }
 {
-    let Some(mut session) = handle.take(alloc) else {
+    let Some(mut session) = handle.take_session(alloc) else {
         return NOT_OPEN;
     };
     let status = sessions::resume(&mut session);
-    handle.put(session);
+    handle.put_session(session);
     status
 }
 
 /// Refuses all later joins, submits and discovers, and sends nothing more.
 #[unsafe(no_mangle)]
-pub extern "C" fn wurst_session_close(alloc: Global, handle: &mut SessionHandle) -> u32
-    ensures not_open { handle.old.is_open ≡ false → (result ≡ NOT_OPEN) }
-    ensures stays { handle.new.is_open ≡ handle.old.is_open }
-    ensures adds { handle.old.is_open ≡ true → (result ≡ DONE)
-        × GrowsBy handle.old.value (CloseAdds handle.old.value.opening handle.old.value.entries) handle.new.value }
-    ensures legal { handle.old.is_open ≡ true → Legal handle.new.value.opening handle.new.value.entries }
+pub extern "C" fn wurst_session_close(alloc: Global, handle: &mut Handle) -> u32
+    ensures stays { StaysOpen a_session handle.old handle.new result }
+    ensures adds { holds a_session handle.old ≡ true → (result ≡ DONE) × GrowsBy handle.old.session
+        (CloseAdds handle.old.session.opening handle.old.session.entries) handle.new.session }
+    ensures legal { holds a_session handle.old ≡ true → Legal handle.new.session.opening handle.new.session.entries }
 {
-    let Some(mut session) = handle.take(alloc) else {
+    let Some(mut session) = handle.take_session(alloc) else {
         return NOT_OPEN;
     };
     session.close();
-    handle.put(session);
+    handle.put_session(session);
     DONE
 }
 
@@ -219,79 +209,71 @@ pub extern "C" fn wurst_session_close(alloc: Global, handle: &mut SessionHandle)
 #[unsafe(no_mangle)]
 pub extern "C" fn wurst_session_take(
     alloc: Global,
-    handle: &mut SessionHandle,
+    handle: &mut Handle,
     frame: &mut [u8],
     len: &mut usize,
 ) -> u32
-    ensures not_open { handle.old.is_open ≡ false → (result ≡ NOT_OPEN) × (len.new ≡ len.old)
+    ensures stays { StaysOpen a_session handle.old handle.new result }
+    ensures small { holds a_session handle.old ≡ true → (result ≡ BUFFER_TOO_SMALL) ↔ (length frame.old < 257) }
+    ensures given { result ≡ DONE → (sent : Bytes ℕ) × (len.new ≡ length sent.items)
+        × (take len.new frame.new ≡ sent.items) × GrowsBy handle.old.session
+        (TakeLogs handle.old.session (Ok (Some sent))) handle.new.session }
+    ensures nothing { result ≡ NOTHING → GrowsBy handle.old.session (TakeLogs handle.old.session (Ok None))
+        handle.new.session }
+    ensures full { result ≡ LOG_FULL → is_full_log handle.old.session ≡ true }
+    ensures statuses { holds a_session handle.old ≡ true → (result ≡ BUFFER_TOO_SMALL)
+        ⊎ ((result ≡ NOTHING) ⊎ ((result ≡ LOG_FULL) ⊎ (result ≡ DONE))) }
+    ensures legal { holds a_session handle.old ≡ true → 257 ≤ length frame.old → Legal handle.new.session.opening
+        handle.new.session.entries }
+    ensures unchanged { result ≢ DONE → (handle.new.session ≡ handle.old.session) × (len.new ≡ len.old)
         × (frame.new ≡ frame.old) }
-    ensures stays { handle.new.is_open ≡ handle.old.is_open }
-    ensures small { handle.old.is_open ≡ true → (result ≡ BUFFER_TOO_SMALL) ↔ (length frame.old < 257) }
-    ensures given { handle.old.is_open ≡ true → result ≡ DONE →
-        (sent : Bytes ℕ) × (len.new ≡ length sent.items) × (take len.new frame.new ≡ sent.items)
-        × GrowsBy handle.old.value (TakeLogs handle.old.value (Ok (Some sent))) handle.new.value }
-    ensures nothing { handle.old.is_open ≡ true → result ≡ NOTHING →
-        GrowsBy handle.old.value (TakeLogs handle.old.value (Ok None)) handle.new.value }
-    ensures full { handle.old.is_open ≡ true → result ≡ LOG_FULL → is_full_log handle.old.value ≡ true }
-    ensures statuses { handle.old.is_open ≡ true →
-        (result ≡ BUFFER_TOO_SMALL) ⊎ ((result ≡ NOTHING) ⊎ ((result ≡ LOG_FULL) ⊎ (result ≡ DONE))) }
-    ensures legal { handle.old.is_open ≡ true → 257 ≤ length frame.old →
-        Legal handle.new.value.opening handle.new.value.entries }
-    ensures unchanged { handle.old.is_open ≡ true → result ≢ DONE →
-        (handle.new.value ≡ handle.old.value) × (len.new ≡ len.old) × (frame.new ≡ frame.old) }
 {
-    let Some(mut session) = handle.take(alloc) else {
+    let Some(mut session) = handle.take_session(alloc) else {
         return NOT_OPEN;
     };
     let status = sessions::take(&mut session, frame, len);
-    handle.put(session);
+    handle.put_session(session);
     status
 }
 
 /// Takes the bytes that the line answered to the last frame. No bytes are silence.
 #[unsafe(no_mangle)]
-pub extern "C" fn wurst_session_deliver(
-    alloc: Global,
-    handle: &mut SessionHandle,
-    reply: &[u8],
-) -> u32
-    ensures not_open { handle.old.is_open ≡ false → (result ≡ NOT_OPEN) }
-    ensures stays { handle.new.is_open ≡ handle.old.is_open }
-    ensures long { handle.old.is_open ≡ true → 257 < length reply.now → result ≡ REPLY_TOO_LONG }
-    ensures statuses { handle.old.is_open ≡ true → length reply.now ≤ 257 →
-        (result ≡ DONE) ⊎ (result ≡ NOT_ASKED) }
-    ensures heard { handle.old.is_open ≡ true → result ≡ DONE → GrowsBy handle.old.value
-        (DeliverAdds handle.old.value (Reply (record { items = reply.now })) (Ok tt)) handle.new.value }
-    ensures not_asked { handle.old.is_open ≡ true → result ≡ NOT_ASKED → awaited handle.old.value.entries ≡ false }
-    ensures legal { handle.old.is_open ≡ true → length reply.now ≤ 257 →
-        Legal handle.new.value.opening handle.new.value.entries }
-    ensures unchanged { handle.old.is_open ≡ true → result ≢ DONE → handle.new.value ≡ handle.old.value }
+pub extern "C" fn wurst_session_deliver(alloc: Global, handle: &mut Handle, reply: &[u8]) -> u32
+    ensures stays { StaysOpen a_session handle.old handle.new result }
+    ensures long { holds a_session handle.old ≡ true → 257 < length reply.now → result ≡ REPLY_TOO_LONG }
+    ensures statuses { holds a_session handle.old ≡ true → length reply.now ≤ 257 → (result ≡ DONE)
+        ⊎ (result ≡ NOT_ASKED) }
+    ensures heard { result ≡ DONE → GrowsBy handle.old.session
+        (DeliverAdds handle.old.session (Reply (record { items = reply.now })) (Ok tt)) handle.new.session }
+    ensures not_asked { result ≡ NOT_ASKED → awaited handle.old.session.entries ≡ false }
+    ensures legal { holds a_session handle.old ≡ true → length reply.now ≤ 257 → Legal handle.new.session.opening
+        handle.new.session.entries }
+    ensures unchanged { result ≢ DONE → handle.new.session ≡ handle.old.session }
 {
-    let Some(mut session) = handle.take(alloc) else {
+    let Some(mut session) = handle.take_session(alloc) else {
         return NOT_OPEN;
     };
     let status = sessions::deliver(&mut session, alloc, reply);
-    handle.put(session);
+    handle.put_session(session);
     status
 }
 
 /// Records that the line failed at the last frame.
 #[unsafe(no_mangle)]
-pub extern "C" fn wurst_session_fail(alloc: Global, handle: &mut SessionHandle) -> u32
-    ensures not_open { handle.old.is_open ≡ false → (result ≡ NOT_OPEN) }
-    ensures stays { handle.new.is_open ≡ handle.old.is_open }
-    ensures statuses { handle.old.is_open ≡ true → (result ≡ DONE) ⊎ (result ≡ NOT_ASKED) }
-    ensures heard { handle.old.is_open ≡ true → result ≡ DONE →
-        GrowsBy handle.old.value (DeliverAdds handle.old.value Failed (Ok tt)) handle.new.value }
-    ensures not_asked { handle.old.is_open ≡ true → result ≡ NOT_ASKED → awaited handle.old.value.entries ≡ false }
-    ensures legal { handle.old.is_open ≡ true → Legal handle.new.value.opening handle.new.value.entries }
-    ensures unchanged { handle.old.is_open ≡ true → result ≢ DONE → handle.new.value ≡ handle.old.value }
+pub extern "C" fn wurst_session_fail(alloc: Global, handle: &mut Handle) -> u32
+    ensures stays { StaysOpen a_session handle.old handle.new result }
+    ensures statuses { holds a_session handle.old ≡ true → (result ≡ DONE) ⊎ (result ≡ NOT_ASKED) }
+    ensures heard { result ≡ DONE → GrowsBy handle.old.session (DeliverAdds handle.old.session Failed (Ok tt))
+        handle.new.session }
+    ensures not_asked { result ≡ NOT_ASKED → awaited handle.old.session.entries ≡ false }
+    ensures legal { holds a_session handle.old ≡ true → Legal handle.new.session.opening handle.new.session.entries }
+    ensures unchanged { result ≢ DONE → handle.new.session ≡ handle.old.session }
 {
-    let Some(mut session) = handle.take(alloc) else {
+    let Some(mut session) = handle.take_session(alloc) else {
         return NOT_OPEN;
     };
     let status = sessions::hear(&mut session, alloc, LineEvent::Failed);
-    handle.put(session);
+    handle.put_session(session);
     status
 }
 
@@ -299,25 +281,22 @@ pub extern "C" fn wurst_session_fail(alloc: Global, handle: &mut SessionHandle) 
 #[unsafe(no_mangle)]
 pub extern "C" fn wurst_session_oldest(
     alloc: Global,
-    handle: &mut SessionHandle,
+    handle: &mut Handle,
     client: u8,
     kind: &mut u32,
 ) -> u32
-    ensures not_open { handle.old.is_open ≡ false → (result ≡ NOT_OPEN) × (kind.new ≡ kind.old) }
-    ensures stays { handle.new.is_open ≡ handle.old.is_open }
-    ensures same { handle.old.is_open ≡ true → handle.new.value ≡ handle.old.value }
-    ensures status { handle.old.is_open ≡ true →
-        result ≡ oldest_status handle.old.value.opening handle.old.value.entries client }
-    ensures kind { handle.old.is_open ≡ true → result ≡ DONE →
-        option_map number_of_outcome_kind (oldest_kind handle.old.value.opening handle.old.value.entries client)
-        ≡ Some kind.new }
-    ensures unchanged { handle.old.is_open ≡ true → result ≢ DONE → kind.new ≡ kind.old }
+    ensures reads { Reads a_session handle.old handle.new result }
+    ensures status { holds a_session handle.old ≡ true → result ≡ oldest_status handle.old.session.opening
+        handle.old.session.entries client }
+    ensures kind { result ≡ DONE → option_map number_of_outcome_kind (oldest_kind handle.old.session.opening
+        handle.old.session.entries client) ≡ Some kind.new }
+    ensures unchanged { result ≢ DONE → kind.new ≡ kind.old }
 {
-    let Some(session) = handle.take(alloc) else {
+    let Some(session) = handle.take_session(alloc) else {
         return NOT_OPEN;
     };
     let status = sessions::oldest(&session, client, kind);
-    handle.put(session);
+    handle.put_session(session);
     status
 }
 
@@ -326,36 +305,31 @@ pub extern "C" fn wurst_session_oldest(
 #[unsafe(no_mangle)]
 pub extern "C" fn wurst_session_next_completion(
     alloc: Global,
-    handle: &mut SessionHandle,
+    handle: &mut Handle,
     client: u8,
     completion: &mut CompletionForC,
     buffer: &mut [u8],
 ) -> u32
-    ensures not_open { handle.old.is_open ≡ false → (result ≡ NOT_OPEN) × (completion.new ≡ completion.old)
-        × (buffer.new ≡ buffer.old) }
-    ensures stays { handle.new.is_open ≡ handle.old.is_open }
-    ensures status { handle.old.is_open ≡ true → result ≡ collect_status handle.old.value.opening
-        handle.old.value.entries client kinds.Request (length buffer.old) }
-    ensures needed { handle.old.is_open ≡ true → result ≡ BUFFER_TOO_SMALL →
-        oldest_length handle.old.value.opening handle.old.value.entries client ≡ Some completion.new.len }
-    ensures collected { handle.old.is_open ≡ true → result ≡ DONE → (number : ℕ) × (done : Completion)
+    ensures stays { StaysOpen a_session handle.old handle.new result }
+    ensures status { holds a_session handle.old ≡ true → result ≡ collect_status handle.old.session.opening
+        handle.old.session.entries client kinds.Request (length buffer.old) }
+    ensures needed { result ≡ BUFFER_TOO_SMALL → oldest_length handle.old.session.opening handle.old.session.entries
+        client ≡ Some completion.new.len }
+    ensures collected { result ≡ DONE → (number : ℕ) × (done : Completion)
         × (completion.new ≡ form_of_completion number done) × (take completion.new.len buffer.new ≡ done.bytes.items)
-        × GrowsBy handle.old.value (CollectAdds handle.old.value.opening handle.old.value.entries
-        (record { 0 = client }) (Some (request_outcome (number, done)))) handle.new.value }
-    ensures only_len { handle.old.is_open ≡ true → result ≡ BUFFER_TOO_SMALL →
+        × GrowsBy handle.old.session (CollectAdds handle.old.session.opening handle.old.session.entries
+        (record { 0 = client }) (Some (request_outcome (number, done)))) handle.new.session }
+    ensures only_len { result ≡ BUFFER_TOO_SMALL →
         completion.new ≡ record completion.old { len = completion.new.len } }
-    ensures kept { handle.old.is_open ≡ true → result ≢ DONE → result ≢ BUFFER_TOO_SMALL →
-        completion.new ≡ completion.old }
-    ensures legal { handle.old.is_open ≡ true → result ≡ DONE →
-        Legal handle.new.value.opening handle.new.value.entries }
-    ensures unchanged { handle.old.is_open ≡ true → result ≢ DONE →
-        (handle.new.value ≡ handle.old.value) × (buffer.new ≡ buffer.old) }
+    ensures kept { result ≢ DONE → result ≢ BUFFER_TOO_SMALL → completion.new ≡ completion.old }
+    ensures legal { result ≡ DONE → Legal handle.new.session.opening handle.new.session.entries }
+    ensures unchanged { result ≢ DONE → (handle.new.session ≡ handle.old.session) × (buffer.new ≡ buffer.old) }
 {
-    let Some(mut session) = handle.take(alloc) else {
+    let Some(mut session) = handle.take_session(alloc) else {
         return NOT_OPEN;
     };
     let status = sessions::next_completion(&mut session, client, completion, buffer);
-    handle.put(session);
+    handle.put_session(session);
     status
 }
 
@@ -364,35 +338,30 @@ pub extern "C" fn wurst_session_next_completion(
 #[unsafe(no_mangle)]
 pub extern "C" fn wurst_session_next_discovery(
     alloc: Global,
-    handle: &mut SessionHandle,
+    handle: &mut Handle,
     client: u8,
     end: &mut EndForC,
     devices: &mut [DeviceForC],
 ) -> u32
-    ensures not_open { handle.old.is_open ≡ false → (result ≡ NOT_OPEN) × (end.new ≡ end.old)
-        × (devices.new ≡ devices.old) }
-    ensures stays { handle.new.is_open ≡ handle.old.is_open }
-    ensures status { handle.old.is_open ≡ true → result ≡ collect_status handle.old.value.opening
-        handle.old.value.entries client kinds.Discovery (length devices.old) }
-    ensures needed { handle.old.is_open ≡ true → result ≡ BUFFER_TOO_SMALL →
-        oldest_length handle.old.value.opening handle.old.value.entries client ≡ Some end.new.count }
-    ensures collected { handle.old.is_open ≡ true → result ≡ DONE → (ended : DiscoveryEnd) × (set : List Device)
+    ensures stays { StaysOpen a_session handle.old handle.new result }
+    ensures status { holds a_session handle.old ≡ true → result ≡ collect_status handle.old.session.opening
+        handle.old.session.entries client kinds.Discovery (length devices.old) }
+    ensures needed { result ≡ BUFFER_TOO_SMALL → oldest_length handle.old.session.opening handle.old.session.entries
+        client ≡ Some end.new.count }
+    ensures collected { result ≡ DONE → (ended : DiscoveryEnd) × (set : List Device)
         × (end.new ≡ form_of_end ended (length set)) × (take (length set) devices.new ≡ map form_of_device set)
-        × GrowsBy handle.old.value (CollectAdds handle.old.value.opening handle.old.value.entries
-        (record { 0 = client }) (Some (discovery_outcome ended set))) handle.new.value }
-    ensures only_count { handle.old.is_open ≡ true → result ≡ BUFFER_TOO_SMALL →
-        end.new ≡ record end.old { count = end.new.count } }
-    ensures kept { handle.old.is_open ≡ true → result ≢ DONE → result ≢ BUFFER_TOO_SMALL → end.new ≡ end.old }
-    ensures legal { handle.old.is_open ≡ true → result ≡ DONE →
-        Legal handle.new.value.opening handle.new.value.entries }
-    ensures unchanged { handle.old.is_open ≡ true → result ≢ DONE →
-        (handle.new.value ≡ handle.old.value) × (devices.new ≡ devices.old) }
+        × GrowsBy handle.old.session (CollectAdds handle.old.session.opening handle.old.session.entries
+        (record { 0 = client }) (Some (discovery_outcome ended set))) handle.new.session }
+    ensures only_count { result ≡ BUFFER_TOO_SMALL → end.new ≡ record end.old { count = end.new.count } }
+    ensures kept { result ≢ DONE → result ≢ BUFFER_TOO_SMALL → end.new ≡ end.old }
+    ensures legal { result ≡ DONE → Legal handle.new.session.opening handle.new.session.entries }
+    ensures unchanged { result ≢ DONE → (handle.new.session ≡ handle.old.session) × (devices.new ≡ devices.old) }
 {
-    let Some(mut session) = handle.take(alloc) else {
+    let Some(mut session) = handle.take_session(alloc) else {
         return NOT_OPEN;
     };
     let status = sessions::next_discovery(&mut session, client, end, devices);
-    handle.put(session);
+    handle.put_session(session);
     status
 }
 
@@ -401,27 +370,25 @@ pub extern "C" fn wurst_session_next_discovery(
 #[unsafe(no_mangle)]
 pub extern "C" fn wurst_session_devices(
     alloc: Global,
-    handle: &mut SessionHandle,
+    handle: &mut Handle,
     devices: &mut [DeviceForC],
     count: &mut usize,
 ) -> u32
-    ensures not_open { handle.old.is_open ≡ false → (result ≡ NOT_OPEN) × (devices.new ≡ devices.old)
-        × (count.new ≡ count.old) }
-    ensures stays { handle.new.is_open ≡ handle.old.is_open }
-    ensures same { handle.old.is_open ≡ true → handle.new.value ≡ handle.old.value }
-    ensures count { handle.old.is_open ≡ true →
-        count.new ≡ length (known_devices handle.old.value.opening handle.old.value.entries) }
-    ensures status { handle.old.is_open ≡ true →
+    ensures reads { Reads a_session handle.old handle.new result }
+    ensures count { holds a_session handle.old ≡ true →
+        count.new ≡ length (known_devices handle.old.session.opening handle.old.session.entries) }
+    ensures kept { result ≡ NOT_OPEN → count.new ≡ count.old }
+    ensures status { holds a_session handle.old ≡ true →
         result ≡ (if nat_lt (length devices.old) count.new then BUFFER_TOO_SMALL else DONE) }
-    ensures written { handle.old.is_open ≡ true → result ≡ DONE → take count.new devices.new
-        ≡ map form_of_device (known_devices handle.old.value.opening handle.old.value.entries) }
-    ensures unchanged { handle.old.is_open ≡ true → result ≢ DONE → devices.new ≡ devices.old }
+    ensures written { result ≡ DONE → take count.new devices.new ≡ map form_of_device
+        (known_devices handle.old.session.opening handle.old.session.entries) }
+    ensures unchanged { result ≢ DONE → devices.new ≡ devices.old }
 {
-    let Some(session) = handle.take(alloc) else {
+    let Some(session) = handle.take_session(alloc) else {
         return NOT_OPEN;
     };
     let status = controllers::devices(session.devices(), devices, count);
-    handle.put(session);
+    handle.put_session(session);
     status
 }
 
@@ -429,20 +396,17 @@ pub extern "C" fn wurst_session_devices(
 #[unsafe(no_mangle)]
 pub extern "C" fn wurst_session_devices_run(
     alloc: Global,
-    handle: &mut SessionHandle,
+    handle: &mut Handle,
     run: &mut u64,
 ) -> u32
-    ensures not_open { handle.old.is_open ≡ false → (result ≡ NOT_OPEN) × (run.new ≡ run.old) }
-    ensures stays { handle.new.is_open ≡ handle.old.is_open }
-    ensures same { handle.old.is_open ≡ true → (result ≡ DONE) × (handle.new.value ≡ handle.old.value) }
-    ensures answer { handle.old.is_open ≡ true →
-        run.new ≡ devices_run handle.old.value.opening handle.old.value.entries }
+    ensures reports { Reports a_session handle.old handle.new result (run.new ≡ devices_run handle.old.session.opening
+        handle.old.session.entries) (run.new ≡ run.old) }
 {
-    let Some(session) = handle.take(alloc) else {
+    let Some(session) = handle.take_session(alloc) else {
         return NOT_OPEN;
     };
     *run = session.devices_run();
-    handle.put(session);
+    handle.put_session(session);
     DONE
 }
 
@@ -450,19 +414,17 @@ pub extern "C" fn wurst_session_devices_run(
 #[unsafe(no_mangle)]
 pub extern "C" fn wurst_session_is_idle(
     alloc: Global,
-    handle: &mut SessionHandle,
+    handle: &mut Handle,
     answer: &mut bool,
 ) -> u32
-    ensures not_open { handle.old.is_open ≡ false → (result ≡ NOT_OPEN) × (answer.new ≡ answer.old) }
-    ensures stays { handle.new.is_open ≡ handle.old.is_open }
-    ensures same { handle.old.is_open ≡ true → (result ≡ DONE) × (handle.new.value ≡ handle.old.value) }
-    ensures answer { handle.old.is_open ≡ true → answer.new ≡ is_idle handle.old.value.entries }
+    ensures reports { Reports a_session handle.old handle.new result (answer.new ≡ is_idle handle.old.session.entries)
+        (answer.new ≡ answer.old) }
 {
-    let Some(session) = handle.take(alloc) else {
+    let Some(session) = handle.take_session(alloc) else {
         return NOT_OPEN;
     };
     *answer = session.is_idle();
-    handle.put(session);
+    handle.put_session(session);
     DONE
 }
 
@@ -470,20 +432,17 @@ pub extern "C" fn wurst_session_is_idle(
 #[unsafe(no_mangle)]
 pub extern "C" fn wurst_session_is_paused(
     alloc: Global,
-    handle: &mut SessionHandle,
+    handle: &mut Handle,
     answer: &mut bool,
 ) -> u32
-    ensures not_open { handle.old.is_open ≡ false → (result ≡ NOT_OPEN) × (answer.new ≡ answer.old) }
-    ensures stays { handle.new.is_open ≡ handle.old.is_open }
-    ensures same { handle.old.is_open ≡ true → (result ≡ DONE) × (handle.new.value ≡ handle.old.value) }
-    ensures answer { handle.old.is_open ≡ true →
-        answer.new ≡ is_paused handle.old.value.opening handle.old.value.entries }
+    ensures reports { Reports a_session handle.old handle.new result (answer.new ≡ is_paused handle.old.session.opening
+        handle.old.session.entries) (answer.new ≡ answer.old) }
 {
-    let Some(session) = handle.take(alloc) else {
+    let Some(session) = handle.take_session(alloc) else {
         return NOT_OPEN;
     };
     *answer = session.is_paused();
-    handle.put(session);
+    handle.put_session(session);
     DONE
 }
 
@@ -491,39 +450,30 @@ pub extern "C" fn wurst_session_is_paused(
 #[unsafe(no_mangle)]
 pub extern "C" fn wurst_session_is_closed(
     alloc: Global,
-    handle: &mut SessionHandle,
+    handle: &mut Handle,
     answer: &mut bool,
 ) -> u32
-    ensures not_open { handle.old.is_open ≡ false → (result ≡ NOT_OPEN) × (answer.new ≡ answer.old) }
-    ensures stays { handle.new.is_open ≡ handle.old.is_open }
-    ensures same { handle.old.is_open ≡ true → (result ≡ DONE) × (handle.new.value ≡ handle.old.value) }
-    ensures answer { handle.old.is_open ≡ true →
-        answer.new ≡ is_closed handle.old.value.opening handle.old.value.entries }
+    ensures reports { Reports a_session handle.old handle.new result (answer.new ≡ is_closed handle.old.session.opening
+        handle.old.session.entries) (answer.new ≡ answer.old) }
 {
-    let Some(session) = handle.take(alloc) else {
+    let Some(session) = handle.take_session(alloc) else {
         return NOT_OPEN;
     };
     *answer = session.is_closed();
-    handle.put(session);
+    handle.put_session(session);
     DONE
 }
 
 /// Writes whether a reply is awaited.
 #[unsafe(no_mangle)]
-pub extern "C" fn wurst_session_awaits(
-    alloc: Global,
-    handle: &mut SessionHandle,
-    answer: &mut bool,
-) -> u32
-    ensures not_open { handle.old.is_open ≡ false → (result ≡ NOT_OPEN) × (answer.new ≡ answer.old) }
-    ensures stays { handle.new.is_open ≡ handle.old.is_open }
-    ensures same { handle.old.is_open ≡ true → (result ≡ DONE) × (handle.new.value ≡ handle.old.value) }
-    ensures answer { handle.old.is_open ≡ true → answer.new ≡ awaited handle.old.value.entries }
+pub extern "C" fn wurst_session_awaits(alloc: Global, handle: &mut Handle, answer: &mut bool) -> u32
+    ensures reports { Reports a_session handle.old handle.new result (answer.new ≡ awaited handle.old.session.entries)
+        (answer.new ≡ answer.old) }
 {
-    let Some(session) = handle.take(alloc) else {
+    let Some(session) = handle.take_session(alloc) else {
         return NOT_OPEN;
     };
     *answer = session.awaits();
-    handle.put(session);
+    handle.put_session(session);
     DONE
 }

@@ -1,8 +1,6 @@
 pub mod AnswerLemmas
 pub mod FormLemmas
 pub mod Pointers
-pub mod ControllerHandles
-pub mod AgentHandles
-pub mod SessionHandles
-pub mod LogHandles
+pub mod Handles
+pub mod Conversions
 pub mod EntryLemmas

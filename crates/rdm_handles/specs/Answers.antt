@@ -7,10 +7,8 @@ use Rattle.rdm_log.specs.declared.entry.Opening.{Opening}
 use Rattle.rdm_log.specs.declared.entry.Entry.{Entry}
 use Rattle.rdm_log.specs.declared.fault.JoinFault.{JoinFault}
 use Rattle.rdm_log.specs.declared.fault.JoinFault.TheVariants as joins
-use Rattle.rdm_log.specs.declared.fault.SubmitFault.{SubmitFault}
-use Rattle.rdm_log.specs.declared.fault.SubmitFault.TheVariants as submits
-use Rattle.rdm_log.specs.declared.fault.AskFault.{AskFault}
-use Rattle.rdm_log.specs.declared.fault.AskFault.TheVariants as asks
+use Rattle.rdm_log.specs.declared.fault.WorkFault.{WorkFault}
+use Rattle.rdm_log.specs.declared.fault.WorkFault.TheVariants as works
 use Rattle.rdm_log.specs.declared.outcome.OutcomeKind.{OutcomeKind}
 use Rattle.rdm_log.specs.declared.outcome.OutcomeKind.TheVariants as kinds
 use Rattle.rdm_log.specs.log.History.{next_client}
@@ -28,20 +26,20 @@ join_fault_of s =
     else (if s == status.log_full then Some joins.LogFull else None))))
 
 -- the fault of a submit with this status
-abbrev pub submit_fault_of : ℕ → Option SubmitFault
+abbrev pub submit_fault_of : ℕ → Option WorkFault
 submit_fault_of s =
-    if s == status.closed then Some submits.Closed
-    else (if s == status.unknown_client then Some submits.UnknownClient
-    else (if s == status.full then Some submits.Full
-    else (if s == status.log_full then Some submits.LogFull else None)))
+    if s == status.closed then Some works.Closed
+    else (if s == status.unknown_client then Some works.UnknownClient
+    else (if s == status.full then Some works.Full
+    else (if s == status.log_full then Some works.LogFull else None)))
 
 -- the fault of a discover with this status
-abbrev pub ask_fault_of : ℕ → Option AskFault
+abbrev pub ask_fault_of : ℕ → Option WorkFault
 ask_fault_of s =
-    if s == status.closed then Some asks.Closed
-    else (if s == status.unknown_client then Some asks.UnknownClient
-    else (if s == status.full then Some asks.Full
-    else (if s == status.log_full then Some asks.LogFull else None)))
+    if s == status.closed then Some works.Closed
+    else (if s == status.unknown_client then Some works.UnknownClient
+    else (if s == status.full then Some works.Full
+    else (if s == status.log_full then Some works.LogFull else None)))
 
 -- the fault if there is one, or else the value
 abbrev pub ok_or : {E : Type 0} {A : Type 0} → Option E → A → Result A E
@@ -53,16 +51,16 @@ abbrev pub join_answer : ℕ → ℕ → Result ClientId JoinFault
 join_answer s client = ok_or (join_fault_of s) (record { 0 = client })
 
 -- the fault with the request if there is a fault, or else the number
-abbrev pub with_request : Request → Option SubmitFault → ℕ → Result ℕ (SubmitFault × Request)
+abbrev pub with_request : Request → Option WorkFault → ℕ → Result ℕ (WorkFault × Request)
 with_request request None number = Ok number
 with_request request (Some fault) number = Err (fault, request)
 
 -- the result of a submit with this status: its fault with the request, or else this number
-abbrev pub submit_answer : ℕ → ℕ → Request → Result ℕ (SubmitFault × Request)
+abbrev pub submit_answer : ℕ → ℕ → Request → Result ℕ (WorkFault × Request)
 submit_answer s number request = with_request request (submit_fault_of s) number
 
 -- the result of a discover with this status: its fault, or else this number
-abbrev pub ask_answer : ℕ → ℕ → Result ℕ AskFault
+abbrev pub ask_answer : ℕ → ℕ → Result ℕ WorkFault
 ask_answer s number = ok_or (ask_fault_of s) number
 
 -- the number of an outcome's kind: 0 for a request's, 1 for a discovery's

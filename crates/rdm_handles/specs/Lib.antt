@@ -5,5 +5,6 @@ pub mod Packets
 pub mod Agents
 pub mod Owned
 pub mod Rows
+pub mod Handles
 pub mod Entries
 pub mod Sessions

@@ -9,7 +9,7 @@ done = 0
 abbrev pub nothing : ℕ
 nothing = 1
 
--- the handle is closed
+-- the handle is closed, or of another kind
 abbrev pub not_open : ℕ
 not_open = 2
 

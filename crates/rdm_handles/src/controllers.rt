@@ -42,7 +42,7 @@ pub fn open(alloc: Global, setup: &SetupForC) -> Result<Controller, u32>
         fault ≡ (if setup_status setup.now == 0 then OUT_OF_MEMORY else setup_status setup.now)) }
 {
     let setup = setup_of(setup)?;
-    match Controller::new_with(alloc, setup) {
+    match Controller::new(alloc, setup) {
         Ok(controller) => Ok(controller),
         Err(_) => Err(OUT_OF_MEMORY),
     }

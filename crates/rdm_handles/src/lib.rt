@@ -4,27 +4,22 @@
 //! profile of this project.
 #![tactic(auto)]
 
-mod agent;
 pub mod agents;
-mod controller;
 pub mod controllers;
 pub mod convert;
 mod discovery;
 pub mod entries;
 mod forms;
-mod log;
+pub mod handle;
+mod holding;
 mod loose;
 pub mod packets;
-mod session;
 pub mod sessions;
 pub mod status;
 
-pub use agent::AgentHandle;
-pub use controller::ControllerHandle;
 pub use discovery::Discovery;
 pub use forms::{
     CommandForC, CompletionForC, DeviceForC, EndForC, EntryForC, MuteAckForC, RequestForC,
     ResponseForC, SetupForC, StartForC,
 };
-pub use log::LogHandle;
-pub use session::SessionHandle;
+pub use handle::Handle;

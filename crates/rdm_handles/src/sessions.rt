@@ -33,11 +33,10 @@ use crate::status::{
 use arrayvec::ArrayVec;
 use rdm_join::{LineEvent, LineReply};
 use rdm_log::{
-    ClientId, Config, LEAST_FREE, Log, MOST_ENTRIES, MOST_FREE_ENTRIES, NoMemory, OutcomeKind,
-    Setup,
+    ClientId, Config, LEAST_FREE, Log, MOST_ENTRIES, MOST_FREE_ENTRIES, OutcomeKind, Setup,
 };
 use rdm_queue::Session;
-use rdm_wire::{DeviceSet, MOST_FRAME_BYTES, Uid};
+use rdm_wire::{DeviceSet, MOST_FRAME_BYTES, NoMemory, Uid};
 use std::alloc::Global;
 use std::mem::replace;
 
@@ -56,7 +55,7 @@ pub fn open(alloc: Global, setup: &SetupForC, entries: usize) -> Result<Session,
     let Ok(log) = Log::new(alloc, entries) else {
         return Err(OUT_OF_MEMORY);
     };
-    match Session::new_with(alloc, setup, log) {
+    match Session::new(alloc, setup, log) {
         Ok(session) => Ok(session),
         Err(_) => Err(OUT_OF_MEMORY),
     }
@@ -440,7 +439,7 @@ fn memory_for_rotation(alloc: Global, entries: usize) -> Result<(Log, Session, B
         budget: 1,
     });
     let fresh = Log::new(alloc, entries)?;
-    let Ok(stand_in) = Session::new_with(alloc, setup, Log::new(alloc, 0)?) else {
+    let Ok(stand_in) = Session::new(alloc, setup, Log::new(alloc, 0)?) else {
         return Err(NoMemory);
     };
     let Ok(old) = Box::new(alloc, Log::new(alloc, 0)?) else {

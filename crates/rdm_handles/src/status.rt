@@ -6,7 +6,7 @@ pub const DONE: u32 = 0;
 /// There is nothing to return: no frame, no outcome, no acknowledgement, no command, or the run has ended.
 pub const NOTHING: u32 = 1;
 
-/// The handle is closed.
+/// The handle is closed, or of another kind.
 pub const NOT_OPEN: u32 = 2;
 
 /// The handle is open, but the call would open it.
