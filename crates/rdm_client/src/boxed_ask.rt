@@ -1,23 +1,26 @@
 //! A discovery's completion without a set in its value.
 ghost use Rattle.std.specs.Prelude.{◌≡◌, ◌≤◌, [], length, IfSome, IfNone};
+ghost use Rattle.std.specs.Arc.{arc_value};
 ghost use Rattle.std.specs.List.{All};
 ghost use Rattle.rdm_wire.specs.Uid.{IsDeviceSet};
 ghost use Rattle.rdm_wire.specs.Devices.{uids_of};
 ghost use Rattle.rdm_client.specs.Boxed.{devices_in};
 ghost use Rattle.rdm_client.specs.Callbacks.{AskFits, DeviceFits, FaultFits};
 
+use crate::found_set::FoundSet;
 use rdm_agent::AgentFault;
 use rdm_wire::{Device, DeviceSet};
 use std::marker::Model;
 use std::mem::size_of;
+use std::sync::Arc;
 
-/// An [`AskCompletion`](rdm_queue::AskCompletion) whose set is in a box, or left out if it is empty. Moving it copies
-/// no devices. Contracts treat it as an `AskCompletion`.
+/// An [`AskCompletion`](rdm_queue::AskCompletion) whose set is in a box or in shared memory, or left out if it is
+/// empty. Moving it copies no devices. Contracts treat it as an `AskCompletion`.
 #[derive(Debug, Drop)]
 pub struct BoxedAsk {
     run: u64,
     fault: Option<AgentFault>,
-    set: Option<Box<DeviceSet>>,
+    found: FoundSet,
 }
 
 // The size that the docs state.
@@ -25,11 +28,11 @@ const _: () = prove!(size_of::<BoxedAsk>() == 48);
 
 impl Model for BoxedAsk {
     ghost use Rattle.rdm_log.specs.declared.outcome.AskCompletion.{AskCompletion};
-    ghost use Rattle.rdm_client.specs.Boxed.{devices_in};
+    ghost use Rattle.rdm_client.specs.Boxed.{devices_of};
 
     ghost Value = { AskCompletion };
 
-    ghost view = { λ b. record { run = b.run; fault = b.fault; set = devices_in b.set } };
+    ghost view = { λ b. record { run = b.run; fault = b.fault; set = devices_of b.found } };
 }
 
 impl BoxedAsk {
@@ -38,7 +41,22 @@ impl BoxedAsk {
     pub fn new(run: u64, fault: Option<AgentFault>, set: Option<Box<DeviceSet>>) -> BoxedAsk
         ensures { result ≡ record { run = run; fault = fault; set = devices_in set } }
     {
-        BoxedAsk { run, fault, set }
+        let found = match set {
+            Some(set) => FoundSet::Boxed(set),
+            None => FoundSet::Empty,
+        };
+        BoxedAsk { run, fault, found }
+    }
+
+    /// The same with devices in memory that has other owners too. It is one of them until it is dropped.
+    pub fn shared(run: u64, fault: Option<AgentFault>, set: Arc<DeviceSet>) -> BoxedAsk
+        ensures { result ≡ record { run = run; fault = fault; set = arc_value set } }
+    {
+        BoxedAsk {
+            run,
+            fault,
+            found: FoundSet::Shared(set),
+        }
     }
 
     /// The run that served the discovery; 0 if none was begun for it.
@@ -60,9 +78,10 @@ impl BoxedAsk {
         ensures some { IfSome result (λ set. set.now ≡ self.now.set) }
         ensures none { IfNone result (self.now.set ≡ []) }
     {
-        match &self.set {
-            Some(set) => Some(set),
-            None => None,
+        match &self.found {
+            FoundSet::Empty => None,
+            FoundSet::Boxed(set) => Some(set),
+            FoundSet::Shared(set) => Some(set),
         }
     }
 
@@ -72,7 +91,7 @@ impl BoxedAsk {
         ensures fits { length result.now ≤ 1024 }
         ensures devices { IsDeviceSet (uids_of self.now.set) }
     {
-        match &self.set {
+        match self.set() {
             Some(set) => set.as_slice(),
             None => &[],
         }

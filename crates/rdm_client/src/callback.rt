@@ -6,7 +6,7 @@ ghost use Rattle.rdm_client.specs.Callbacks.{told, BytesFit, Fits, IsCancelled};
 
 use crate::told::Told;
 use rdm_join::Status;
-use rdm_queue::Completion;
+use rdm_log::Completion;
 use std::alloc::Global;
 
 /// A request's callback: it is called once with how the request ended, and returns its tag and that completion.

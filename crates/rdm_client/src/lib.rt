@@ -14,6 +14,7 @@ mod boxed_ask;
 mod callback;
 mod desk;
 mod fault;
+mod found_set;
 mod told;
 mod unspent;
 mod view;

@@ -1,6 +1,6 @@
 //! What callbacks return.
 use crate::boxed_ask::BoxedAsk;
-use rdm_queue::Completion;
+use rdm_log::Completion;
 use std::mem::size_of;
 
 /// What a request's callback returns: the tag that it was made with, and the completion that it was called with.

@@ -18,10 +18,8 @@ use Rattle.rdm_log.specs.log.LogState.{LogState}
 use Rattle.rdm_log.specs.declared.entry.Entry.TheVariants.{Join, Refuse, Accept, Ask, Send, Came, Finish, Answer}
 use Rattle.rdm_log.specs.declared.entry.Entry.TheVariants.{Collect, Pause, Resume, Close}
 use Rattle.rdm_log.specs.declared.fault.JoinFault.{JoinFault}
-use Rattle.rdm_log.specs.declared.fault.SubmitFault.{SubmitFault}
-use Rattle.rdm_log.specs.declared.fault.SubmitFault.TheVariants as submit_faults
-use Rattle.rdm_log.specs.declared.fault.AskFault.{AskFault}
-use Rattle.rdm_log.specs.declared.fault.AskFault.TheVariants as ask_faults
+use Rattle.rdm_log.specs.declared.fault.WorkFault.{WorkFault}
+use Rattle.rdm_log.specs.declared.fault.WorkFault.TheVariants as work_faults
 use Rattle.rdm_log.specs.declared.fault.LogFull.{LogFull}
 use Rattle.rdm_log.specs.declared.fault.NotAsked.{NotAsked}
 use Rattle.rdm_log.specs.declared.outcome.Outcome.{Outcome}
@@ -30,9 +28,10 @@ use Rattle.rdm_log.specs.promises.Blocks.{GrowsBy, is_result, AllResults, IsWith
 use Rattle.rdm_log.specs.promises.Blocks.{submit_refused, ask_refused}
 use Rattle.rdm_log.specs.promises.Blocks.{JoinLogs, SubmitLogs, DiscoverLogs, PauseLogs, ResumeLogs, TakeLogs}
 use Rattle.rdm_log.specs.promises.Blocks.{CloseAdds, CloseAddsWhere, DeliverAdds, CollectAdds, SubmitAdds, DiscoverAdds}
-use Rattle.rdm_log.proofs.PromiseLemmas.BlockLemmas.{join_ok, join_refusal, submit_ok, discover_ok}
+use Rattle.rdm_log.proofs.PromiseLemmas.BlockLemmas.{join_ok, join_refusal, work_ok, work_adds}
+use Rattle.rdm_log.specs.declared.work.Work.TheVariants as works
 use Rattle.rdm_log.proofs.LogLemmas.PushLemmas.{joins-append}
-use Rattle.rdm_locked.specs.Calls.{is_call, count_calls, refused_submits, refused_discovers, submits_logged}
+use Rattle.rdm_locked.specs.Calls.{is_call, count_calls, refused_calls, submits_logged}
 use Rattle.rdm_locked.specs.Calls.{discovers_logged}
 
 -- there are no more calls than entries
@@ -137,68 +136,56 @@ join_refused_brings k n fault block is = elim (join_refusal k n fault block is)
     [ inl empty ↦ nothing block empty | inr refused ↦ rw refused (one _) ]
 
 -- a submit, and a discover: no other fault than LogFull is that one
-no_full_submit : (a b c : Bool) → ◌≡◌ {A = Option SubmitFault}
-    (if a then Some submit_faults.Closed else (if b then Some submit_faults.UnknownClient else
-    (if c then Some submit_faults.Full else None))) (Some submit_faults.LogFull) → ⊥
-no_full_submit true b c is = let same : submit_faults.Closed ≡ submit_faults.LogFull = cc in cc
-no_full_submit false true c is = let same : submit_faults.UnknownClient ≡ submit_faults.LogFull = cc in cc
-no_full_submit false false true is = let same : submit_faults.Full ≡ submit_faults.LogFull = cc in cc
-no_full_submit false false false is = cc
+no_full_log : (a b c : Bool) → ◌≡◌ {A = Option WorkFault}
+    (if a then Some work_faults.Closed else (if b then Some work_faults.UnknownClient else
+    (if c then Some work_faults.Full else None))) (Some work_faults.LogFull) → ⊥
+no_full_log true b c is = let same : work_faults.Closed ≡ work_faults.LogFull = cc in cc
+no_full_log false true c is = let same : work_faults.UnknownClient ≡ work_faults.LogFull = cc in cc
+no_full_log false false true is = let same : work_faults.Full ≡ work_faults.LogFull = cc in cc
+no_full_log false false false is = cc
 
-no_full_discover : (a b c : Bool) → ◌≡◌ {A = Option AskFault}
-    (if a then Some ask_faults.Closed else (if b then Some ask_faults.UnknownClient else
-    (if c then Some ask_faults.Full else None))) (Some ask_faults.LogFull) → ⊥
-no_full_discover true b c is = let same : ask_faults.Closed ≡ ask_faults.LogFull = cc in cc
-no_full_discover false true c is = let same : ask_faults.UnknownClient ≡ ask_faults.LogFull = cc in cc
-no_full_discover false false true is = let same : ask_faults.Full ≡ ask_faults.LogFull = cc in cc
-no_full_discover false false false is = cc
+counted_call : (fault : WorkFault) → (fault ≡ work_faults.LogFull → ⊥) → refused_calls fault ≡ 1
+counted_call work_faults.Closed other = refl
+counted_call work_faults.UnknownClient other = refl
+counted_call work_faults.Full other = refl
+counted_call work_faults.LogFull other = absurd (other refl)
 
-counted_submit : (fault : SubmitFault) → (fault ≡ submit_faults.LogFull → ⊥) → refused_submits fault ≡ 1
-counted_submit submit_faults.Closed other = refl
-counted_submit submit_faults.UnknownClient other = refl
-counted_submit submit_faults.Full other = refl
-counted_submit submit_faults.LogFull other = absurd (other refl)
-
-counted_discover : (fault : AskFault) → (fault ≡ ask_faults.LogFull → ⊥) → refused_discovers fault ≡ 1
-counted_discover ask_faults.Closed other = refl
-counted_discover ask_faults.UnknownClient other = refl
-counted_discover ask_faults.Full other = refl
-counted_discover ask_faults.LogFull other = absurd (other refl)
-
-pub submit_brings : (k : LogState) (c : ClientId) (request : Request) (answer : Result ℕ (SubmitFault × Request))
+pub submit_brings : (k : LogState) (c : ClientId) (request : Request) (answer : Result ℕ (WorkFault × Request))
     (block : List Entry) → SubmitLogs k c request answer block → Brings (submits_logged answer) 0 block
 unfolding joins
-submit_brings k c request (Ok n) block is = rw (submit_ok k c request n block is).2 (one (Accept c n request))
+submit_brings k c request (Ok n) block is =
+    let work = works.Submit request in
+    rw (work_ok k c work n block (work_adds k c work (Ok n) block is)).2 (one (Accept c n request))
 submit_brings k c request (Err e) block is = by_flag (is_full_log k) is
   where
-    full : ◌≡◌ {A = Result ℕ (SubmitFault × Request)} (Err e) (Err (submit_faults.LogFull, request))
-        → e.0 ≡ submit_faults.LogFull
-    full same = let pair : e ≡ (submit_faults.LogFull, request) = cc in ap (λ p. p.0) pair
+    full : ◌≡◌ {A = Result ℕ (WorkFault × Request)} (Err e) (Err (work_faults.LogFull, request))
+        → e.0 ≡ work_faults.LogFull
+    full same = let pair : e ≡ (work_faults.LogFull, request) = cc in ap (λ p. p.0) pair
 
-    by_flag : (b : Bool) → UnlessFull b (◌≡◌ {A = Result ℕ (SubmitFault × Request)} (Err e)
-        (Err (submit_faults.LogFull, request)) × (block ≡ [])) (SubmitAdds k.opening k.entries c request (Err e) block)
-        → Brings (refused_submits e.0) 0 block
+    by_flag : (b : Bool) → UnlessFull b (◌≡◌ {A = Result ℕ (WorkFault × Request)} (Err e)
+        (Err (work_faults.LogFull, request)) × (block ≡ [])) (SubmitAdds k.opening k.entries c request (Err e) block)
+        → Brings (refused_calls e.0) 0 block
     by_flag true refused = rw (full refused.0) (nothing block refused.1)
     by_flag false refused = rw (
-      counted_submit e.0 (λ is_full. no_full_submit _ _ _ (refused.0 ∙ ap Some is_full)),
+      counted_call e.0 (λ is_full. no_full_log _ _ _ (refused.0 ∙ ap Some is_full)),
       refused.2,
     ) (one (submit_refused c request e.0))
 
-pub discover_brings : (k : LogState) (c : ClientId) (kind : Kind) (answer : Result ℕ AskFault) (block : List Entry)
+pub discover_brings : (k : LogState) (c : ClientId) (kind : Kind) (answer : Result ℕ WorkFault) (block : List Entry)
     → DiscoverLogs k c kind answer block → Brings (discovers_logged answer) 0 block
 unfolding joins
-discover_brings k c kind (Ok n) block is = rw (discover_ok k c kind n block is).2 (one (Ask c n kind))
+discover_brings k c kind (Ok n) block is = rw (work_ok k c (works.Discover kind) n block is).2 (one (Ask c n kind))
 discover_brings k c kind (Err fault) block is = by_flag (is_full_log k) is
   where
-    full : ◌≡◌ {A = Result ℕ AskFault} (Err fault) (Err ask_faults.LogFull) → fault ≡ ask_faults.LogFull
+    full : ◌≡◌ {A = Result ℕ WorkFault} (Err fault) (Err work_faults.LogFull) → fault ≡ work_faults.LogFull
     full same = cc
 
-    by_flag : (b : Bool) → UnlessFull b (◌≡◌ {A = Result ℕ AskFault} (Err fault) (Err ask_faults.LogFull)
+    by_flag : (b : Bool) → UnlessFull b (◌≡◌ {A = Result ℕ WorkFault} (Err fault) (Err work_faults.LogFull)
         × (block ≡ [])) (DiscoverAdds k.opening k.entries c kind (Err fault) block)
-        → Brings (refused_discovers fault) 0 block
+        → Brings (refused_calls fault) 0 block
     by_flag true refused = rw (full refused.0) (nothing block refused.1)
     by_flag false refused = rw (
-      counted_discover fault (λ is_full. no_full_discover _ _ _
+      counted_call fault (λ is_full. no_full_log _ _ _
           (refused.0 ∙ ap Some is_full)),
       refused.1,
     ) (one (ask_refused c kind fault))

@@ -23,7 +23,8 @@ use Rattle.rdm_log.proofs.LogLemmas.PushLemmas.{sends-append}
 use Rattle.rdm_log.specs.promises.Blocks.{GrowsBy}
 use Rattle.rdm_line.specs.Events.{Exchange as LineExchange}
 use Rattle.rdm_locked.specs.Exchanges.{recorded, Records}
-use Rattle.rdm_locked.specs.Pages.{entries_of, Numbered}
+use Rattle.rdm_log.specs.log.Pages.{entries_of}
+use Rattle.rdm_locked.specs.Pages.{Numbered}
 use Rattle.rdm_locked.specs.body.Compared.{awaited, Matches, Walked, Finds, HandedOut}
 use Rattle.rdm_locked.specs.body.Frames.{frames_in}
 use Rattle.rdm_locked.specs.declared.exchange.Exchange.{Exchange}

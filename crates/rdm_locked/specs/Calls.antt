@@ -3,12 +3,8 @@ use Rattle.std.specs.Prelude.{ℕ, Bool, true, false, List, length, filter, Some
 use Rattle.rdm_wire.specs.declared.request.Request.{Request}
 use Rattle.rdm_log.specs.declared.entry.Entry.{Entry}
 use Rattle.rdm_log.specs.declared.entry.Entry.TheVariants.{Refuse, Accept, Ask, Collect}
-use Rattle.rdm_log.specs.declared.fault.SubmitFault.{SubmitFault}
-use Rattle.rdm_log.specs.declared.fault.SubmitFault.TheVariants as submit_faults
-use Rattle.rdm_log.specs.declared.fault.AskFault.{AskFault}
-use Rattle.rdm_log.specs.declared.fault.AskFault.TheVariants as ask_faults
-use Rattle.rdm_locked.specs.declared.fault.DiscoverFault.{DiscoverFault}
-use Rattle.rdm_locked.specs.declared.fault.DiscoverFault.TheVariants as discover_faults
+use Rattle.rdm_log.specs.declared.fault.WorkFault.{WorkFault}
+use Rattle.rdm_log.specs.declared.fault.WorkFault.TheVariants as work_faults
 
 -- an accepted request, an accepted discovery, a collected outcome, or a refusal of a client's call; the refusal of a
 -- join has no client
@@ -23,27 +19,17 @@ is_call _ = false
 unfoldable pub count_calls : List Entry → ℕ
 count_calls h = length (filter is_call h)
 
--- how many calls in the log a refused submit is: one, or none if the log was full
-abbrev pub refused_submits : SubmitFault → ℕ
-refused_submits submit_faults.LogFull = 0
-refused_submits _ = 1
-
--- how many calls in the log a refused discover is: one, or none if the log was full
-abbrev pub refused_discovers : AskFault → ℕ
-refused_discovers ask_faults.LogFull = 0
-refused_discovers _ = 1
-
--- the same for a client's discover; none without memory, since the session wasn't asked
-abbrev pub refused_asks : DiscoverFault → ℕ
-refused_asks discover_faults.NoMemory = 0
-refused_asks (discover_faults.Refused fault) = refused_discovers fault
+-- how many calls in the log a refused submit or discover is: one, or none if the log was full
+abbrev pub refused_calls : WorkFault → ℕ
+refused_calls work_faults.LogFull = 0
+refused_calls _ = 1
 
 -- how many calls in the log a submit with this answer is
-abbrev pub submits_logged : Result ℕ (SubmitFault × Request) → ℕ
+abbrev pub submits_logged : Result ℕ (WorkFault × Request) → ℕ
 submits_logged (Ok n) = 1
-submits_logged (Err e) = refused_submits e.0
+submits_logged (Err e) = refused_calls e.0
 
 -- how many calls in the log a discover with this answer is
-abbrev pub discovers_logged : Result ℕ AskFault → ℕ
+abbrev pub discovers_logged : Result ℕ WorkFault → ℕ
 discovers_logged (Ok n) = 1
-discovers_logged (Err fault) = refused_discovers fault
+discovers_logged (Err fault) = refused_calls fault

@@ -1,11 +1,11 @@
 -- The pages that a port's log hands out, and the ring that they go through.
-use Rattle.std.specs.Prelude.{◌≡◌, List, [], ◌∷◌, ◌++◌, length, flat_map}
+use Rattle.std.specs.Prelude.{◌≡◌, List, ◌∷◌, ◌++◌, length}
 use denote.RawPtr.{Ptr}
 use Rattle.std.specs.declared.alloc.Global.{Global}
 use Rattle.rtrb.specs.Shared.{Names}
 use Rattle.rtrb.specs.declared.end.End.{End}
-use Rattle.rdm_log.specs.declared.entry.Entry.{Entry}
 use Rattle.rdm_log.specs.declared.page.Page.{Page}
+use Rattle.rdm_log.specs.log.Pages.{entries_of}
 
 -- which ring: where its words and its slots are, and its name in proofs
 pub record RingName : Type 0 where
@@ -18,10 +18,6 @@ pub record IsOf {T P : Type 0} (name : RingName) (end : End T Global P) : Type 0
   pub words : end.words ≡ name.words
   pub slots : end.slots ≡ name.slots
   pub names : end.names ≡ name.names
-
--- the entries of these pages, in order
-abbrev pub entries_of : List Page → List Entry
-entries_of pages = flat_map (λ p. p.entries.items) pages
 
 -- The number of each page's first entry is how many entries the pages before it have.
 pub record Numbered (pages : List Page) : Type 0 where

@@ -1,26 +1,31 @@
 //! A client of a session with a mutex.
 ghost use Rattle.std.specs.Prelude.{◌≡◌, ◌⊎◌, ◌≤◌, ◌+◌, ◌++◌, ◌∷◌, [], length, nat_le, true, false, OnOk, IfErr};
 ghost use Rattle.std.specs.Prelude.{IsErrAnd, IfSome, IfNone, OnSome, IsNone, if◌then◌else◌};
-ghost use Rattle.rdm_locked.specs.Calls.{refused_submits, refused_asks};
+ghost use Rattle.rdm_log.specs.declared.fault.WorkFault.TheVariants as work_faults;
+ghost use Rattle.rdm_locked.specs.Calls.{refused_calls};
 ghost use Rattle.rdm_locked.specs.Collects.{Collects, CollectsRequest, CollectsDiscovery};
 
-use crate::fault::DiscoverFault;
 use crate::pages::{NoPages, PageRing};
 use crate::port::Port;
+use crate::sets::SharedSets;
 use crate::share::CallShare;
-use crate::spares::reserve_set;
 use rdm_agent::Kind;
 use rdm_client::{
     AskCallback, AskTold, Callback, Collected, Desk, DeviceView, Tells, TellsAsk, Told, Unspent,
 };
-use rdm_queue::{AskFault, ClientId, OutcomeKind, SubmitFault};
-use rdm_wire::{DeviceSet, Request};
-use std::alloc::Global;
+use rdm_log::{AskFault, ClientId, OutcomeKind, SubmitFault};
+use rdm_wire::Request;
 use std::sync::Wait;
 use std::sync::ledger::Ledger;
 
 /// A client of a session with a mutex, with the callbacks of what it has outstanding. It may be used in any thread. Its
-/// calls wait for the mutex; a callback runs after the mutex is released.
+/// calls wait for the mutex; a callback runs after the mutex is released. None of its calls allocates.
+///
+/// It has memory for the devices of four discoveries. A discovery that it collects shares one of these sets until its
+/// completion, which [`AskTold`] usually has, is dropped. While all four are in use, the outcome of the client's next
+/// discovery stays in the session, and all its later outcomes stay behind it. Then [`collect`](LockedClient::collect)
+/// returns None, and [`oldest`](LockedClient::oldest) says Discovery. To go on, copy a completion's devices, and drop
+/// it.
 ///
 /// It isn't [`Drop`]: [`LockedClient::leave`] returns what it holds.
 pub struct LockedClient<'a, L: Ledger, C = Callback, A = AskCallback, J: PageRing = NoPages> {
@@ -30,10 +35,7 @@ pub struct LockedClient<'a, L: Ledger, C = Callback, A = AskCallback, J: PageRin
     calls: CallShare<L>,
     // Whether no callback was held for its oldest outcome: then it collects nothing any more.
     stranded: bool,
-    // At least one set for each discovery's callback that is held, so that a collect allocates nothing.
-    spares: Vec<Box<DeviceSet>>,
-    ghost spared: { length desk.asks ≤ length spares.items },
-    ghost few: { length spares.items ≤ 4 },
+    sets: SharedSets,
 }
 
 /// What is left of a client.
@@ -45,15 +47,14 @@ pub struct Left<L: Ledger, C = Callback, A = AskCallback> {
 }
 
 impl<'a, L: Ledger, C: Tells, A: TellsAsk, J: PageRing> LockedClient<'a, L, C, A, J> {
-    // A client that has made no call, with a desk without discoveries' callbacks.
+    // A client that has made no call.
     pub(crate) fn new(
-        alloc: Global,
         port: &'a Port<L, J>,
         number: ClientId,
         desk: Desk<C, A>,
         calls: CallShare<L>,
+        sets: SharedSets,
     ) -> LockedClient<'a, L, C, A, J>
-        requires { desk.asks ≡ [] }
         ensures holds { (result.desk ≡ desk) × (result.calls ≡ calls) }
         ensures is_new { (result.number ≡ number) × (result.stranded ≡ false) }
     {
@@ -63,7 +64,7 @@ impl<'a, L: Ledger, C: Tells, A: TellsAsk, J: PageRing> LockedClient<'a, L, C, A
             desk,
             calls,
             stranded: false,
-            spares: Vec::new(alloc),
+            sets,
         }
     }
 
@@ -82,9 +83,9 @@ impl<'a, L: Ledger, C: Tells, A: TellsAsk, J: PageRing> LockedClient<'a, L, C, A
             (self.new.desk ≡ record self.old.desk { requests = self.old.desk.requests ++ callback ∷ [] }) }
         ensures accepted { OnOk result (self.new.calls.count ≡ self.old.calls.count + 1) }
         ensures refused { IfErr result (λ e. self.new.calls.count ≡ self.old.calls.count
-            + (if nat_le self.old.desk.places (length self.old.desk.requests) then 0 else refused_submits e.0)) }
+            + (if nat_le self.old.desk.places (length self.old.desk.requests) then 0 else refused_calls e.0)) }
         ensures full { self.old.desk.places ≤ length self.old.desk.requests
-            → IsErrAnd result (λ e. e.0 ≡ SubmitFault.Full) }
+            → IsErrAnd result (λ e. e.0 ≡ work_faults.Full) }
         ensures back { IfErr result (λ e. (e.1 ≡ request) × (e.2 ≡ callback) × (self.new.desk ≡ self.old.desk)) }
         ensures client { (self.new.number ≡ self.old.number) × (self.new.stranded ≡ self.old.stranded) }
     {
@@ -108,50 +109,42 @@ impl<'a, L: Ledger, C: Tells, A: TellsAsk, J: PageRing> LockedClient<'a, L, C, A
         }
     }
 
-    /// Asks for a discovery, and returns its number. Memory for the devices that it may find, 32 KB, is allocated
-    /// before. If the call is refused, the client keeps this memory for its next discovery; it has at most four. The
-    /// callback is held until it is called with the discovery's completion.
-    /// Err: Refused with Full if the desk can't hold the callback, and then NoMemory, before all other faults; such a
-    /// call has no entry, and isn't counted. Otherwise Refused as [`Inside::discover`](crate::Inside::discover)
-    /// returns. The callback is returned.
+    /// Asks for a discovery, and returns its number. The callback is held until it is called with the discovery's
+    /// completion.
+    /// Err: Full if the desk can't hold the callback, before all other faults; such a call has no entry, and isn't
+    /// counted. Otherwise as [`Inside::discover`](crate::Inside::discover) returns. The callback is returned.
     pub fn discover<R: Wait>(
         &mut self,
         rt: &R,
-        alloc: Global,
         kind: Kind,
         callback: A,
-    ) -> Result<u64, (DiscoverFault, A)>
+    ) -> Result<u64, (AskFault, A)>
         ensures held { OnOk result
             (self.new.desk ≡ record self.old.desk { asks = self.old.desk.asks ++ callback ∷ [] }) }
         ensures accepted { OnOk result (self.new.calls.count ≡ self.old.calls.count + 1) }
         ensures refused { IfErr result (λ e. self.new.calls.count ≡ self.old.calls.count
-            + (if nat_le 4 (length self.old.desk.asks) then 0 else refused_asks e.0)) }
-        ensures full { 4 ≤ length self.old.desk.asks
-            → IsErrAnd result (λ e. e.0 ≡ DiscoverFault.Refused AskFault.Full) }
+            + (if nat_le 4 (length self.old.desk.asks) then 0 else refused_calls e.0)) }
+        ensures full { 4 ≤ length self.old.desk.asks → IsErrAnd result (λ e. e.0 ≡ work_faults.Full) }
         ensures back { IfErr result (λ e. (e.1 ≡ callback) × (self.new.desk ≡ self.old.desk)) }
         ensures client { (self.new.number ≡ self.old.number) × (self.new.stranded ≡ self.old.stranded) }
     {
         if self.desk.is_full_of_asks() {
-            return Err((DiscoverFault::Refused(AskFault::Full), callback));
+            return Err((AskFault::Full, callback));
         }
         let LockedClient {
             port,
             number,
             desk,
             calls,
-            spares,
             ..
         } = self;
-        if reserve_set(alloc, spares, desk.asks_held()).is_err() {
-            return Err((DiscoverFault::NoMemory, callback));
-        }
         let answer = port.inside.lock(rt).discover(*number, kind, calls);
         match answer {
             Ok(accepted) => match desk.hold_ask(callback) {
                 Ok(()) => Ok(accepted),
                 Err(_) => unreachable!(),
             },
-            Err(fault) => Err((DiscoverFault::Refused(fault), callback)),
+            Err(fault) => Err((fault, callback)),
         }
     }
 
@@ -162,11 +155,11 @@ impl<'a, L: Ledger, C: Tells, A: TellsAsk, J: PageRing> LockedClient<'a, L, C, A
     }
 
     /// Collects the client's oldest outcome: the oldest callback of its kind is called with its completion, after the
-    /// mutex is released. It allocates nothing. If the kind is known,
-    /// [`collect_request`](LockedClient::collect_request) and
+    /// mutex is released. If the kind is known, [`collect_request`](LockedClient::collect_request) and
     /// [`collect_discovery`](LockedClient::collect_discovery) take the mutex once less.
-    /// None: there is no outcome, or no callback is held for it; nothing changes. In the second case this call,
-    /// `collect_request` and `collect_discovery` return None from then on, and the outcome stays in the session.
+    /// None: there is no outcome, it is a discovery's and all four sets are in use, or no callback is held for it;
+    /// nothing changes. In the last case this call, `collect_request` and `collect_discovery` return None from then on,
+    /// and the outcome stays in the session.
     pub fn collect<R: Wait>(&mut self, rt: &R) -> Option<Collected>
         ensures collected { IfSome result (λ told.
             Collects C.calls C.tag_of A.calls A.tag_of self.old.desk told self.new.desk) }
@@ -229,8 +222,8 @@ impl<'a, L: Ledger, C: Tells, A: TellsAsk, J: PageRing> LockedClient<'a, L, C, A
 
     /// Collects the client's oldest outcome if that is a discovery's, as [`collect`](LockedClient::collect) does. The
     /// devices are copied once, out of the session.
-    /// None: there is no outcome, it is a request's, or no callback is held for it; nothing changes. In the last case
-    /// this call, `collect` and `collect_request` return None from then on.
+    /// None: there is no outcome, it is a request's, all four sets are in use, or no callback is held for it; nothing
+    /// changes. In the last case this call, `collect` and `collect_request` return None from then on.
     pub fn collect_discovery<R: Wait>(&mut self, rt: &R) -> Option<AskTold>
         ensures collected { IfSome result (λ told.
             CollectsDiscovery A.calls A.tag_of self.old.desk told self.new.desk) }
@@ -252,10 +245,10 @@ impl<'a, L: Ledger, C: Tells, A: TellsAsk, J: PageRing> LockedClient<'a, L, C, A
             number,
             desk,
             calls,
-            spares,
+            sets,
             ..
         } = self;
-        let collected = port.inside.lock(rt).collect_boxed(*number, spares, calls);
+        let collected = port.inside.lock(rt).collect_shared(*number, sets, calls);
         let done = collected?;
         Some(desk.call_oldest_ask(done))
     }
@@ -277,7 +270,7 @@ impl<'a, L: Ledger, C: Tells, A: TellsAsk, J: PageRing> LockedClient<'a, L, C, A
             desk,
             calls,
             stranded: _,
-            spares: _,
+            sets: _,
         } = self;
         port.inside.lock(rt).leave();
         Left {

@@ -8,7 +8,7 @@ ghost use Rattle.rdm_locked.specs.Exchanges.{recorded};
 ghost use Rattle.rdm_locked.specs.body.Frames.{frames_in};
 
 use rdm_join::LineEvent;
-use rdm_queue::{Entry, Log};
+use rdm_log::{Entry, Log};
 use rdm_wire::Frame;
 
 /// A frame that went over the line, and what came back.

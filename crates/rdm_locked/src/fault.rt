@@ -1,17 +1,6 @@
-//! Why a discovery isn't accepted, and why a port can't be ended.
-use rdm_queue::{AskFault, LogFull};
+//! Why a page isn't drained, and why a port can't be ended.
+use rdm_log::LogFull;
 use thiserror::Error;
-
-/// Why a client's discovery isn't accepted; nothing has changed but the log.
-#[derive(Clone, Copy, Debug, PartialEq, Eq, Error)]
-pub enum DiscoverFault {
-    /// There is no memory for the devices that it may find. It has no entry in the log.
-    #[error("out of memory")]
-    NoMemory,
-    /// The client's desk is full, or the session refuses it.
-    #[error("{0}")]
-    Refused(AskFault),
-}
 
 /// A page's exchanges aren't the oldest of the record, or those of an earlier page weren't.
 #[derive(Clone, Copy, Debug, PartialEq, Eq, Error)]

@@ -1,9 +1,9 @@
 //! What a port's mutex holds.
 ghost use Rattle.std.specs.Prelude.{◌≡◌, ◌≢◌, ◌≤◌, ◌<◌, ◌+◌, ℕ, [], length, Ok, Err, Some, OnOk, OnErr, IfOk, IfErr};
 ghost use Rattle.std.specs.Prelude.{IfSome, IfNone, OnSome, nat_lt, if◌then◌else◌, vec_capacity};
+ghost use Rattle.std.specs.Arc.{arc_value};
 ghost use Rattle.std.specs.Option.{ForSome};
 ghost use Rattle.rdm_log.specs.log.LogState.{stored, drained, MayGoOn};
-ghost use Rattle.rdm_log.specs.log.Config.{steady};
 ghost use Rattle.rdm_log.specs.log.History.{next_client};
 ghost use Rattle.rdm_log.specs.log.Legal.{Legal};
 ghost use Rattle.rdm_log.specs.log.Runs.{known_devices, devices_run};
@@ -24,20 +24,23 @@ mod finish;
 mod recorded;
 
 use crate::pages::{NoPages, PageRing};
+use crate::sets::SharedSets;
 use crate::share::CallShare;
 use crate::turn::Turn;
 pub use finish::SessionEnd;
 use rdm_agent::Kind;
 use rdm_client::{BoxedAsk, DeviceView};
 use rdm_join::LineEvent;
-use rdm_queue::{
-    AskFault, ClientId, Completion, Config, DiscoveryEnd, Entry, JoinFault, Log, LogFull, NoMemory,
-    NotAsked, OutcomeKind, Page, Session, Setup, SubmitFault,
+use rdm_log::{
+    AskFault, ClientId, Completion, DiscoveryEnd, Entry, IntoSetup, JoinFault, Log, LogFull,
+    NotAsked, OutcomeKind, Page, Setup, SubmitFault,
 };
-use rdm_wire::{DeviceSet, Request};
+use rdm_queue::Session;
+use rdm_wire::{DeviceSet, NoMemory, Request};
 use rtrb::Producer;
 use std::alloc::Global;
 use std::marker::PhantomData;
+use std::sync::Arc;
 use std::sync::ledger::{Blank, Book, Ledger, Share};
 
 /// A session with a book of its clients' calls: what the mutex of a [`Port`](crate::Port) holds. Each of its calls is
@@ -71,34 +74,20 @@ pub struct Inside<L: Ledger, J: PageRing = NoPages> {
 }
 
 impl<L: Ledger> Inside<L> {
-    /// A session with this configuration, without clients, whose runs search steadily. The blank has 17 parts and the
-    /// name of the book `L`. The other conditions are those of [`Session::new`].
+    /// A session without clients, as [`Session::new`] makes one. The blank has 17 parts and the name of the book `L`.
+    /// The other conditions are those of `Session::new`.
     /// Err: out of memory; the blank and the log are returned unchanged.
-    pub fn new(
+    pub fn new<S: IntoSetup>(
         alloc: Global,
         blank: Blank,
-        config: Config,
+        setup: S,
         log: Log,
     ) -> Result<Inside<L>, (NoMemory, Blank, Log)>
-        requires may_open { MayOpen L.name L.parts blank config log }
-        ensures opened { IfOk result (λ i. IsOpened (steady config) log i.session i.joined i.left) }
+        requires may_open { MayOpen L.name L.parts blank (S.setup_of setup).config log }
+        ensures opened { IfOk result (λ i. IsOpened (S.setup_of setup) log i.session i.joined i.left) }
         ensures back { IfErr result (λ e. (e.1 ≡ blank) × (e.2 ≡ log)) }
     {
-        Inside::new_with(alloc, blank, Setup::steady(config), log)
-    }
-
-    /// The same with a set-up, which also says how runs search. Conditions and error are those of `new`.
-    pub fn new_with(
-        alloc: Global,
-        blank: Blank,
-        setup: Setup,
-        log: Log,
-    ) -> Result<Inside<L>, (NoMemory, Blank, Log)>
-        requires may_open { MayOpen L.name L.parts blank setup.config log }
-        ensures opened { IfOk result (λ i. IsOpened setup log i.session i.joined i.left) }
-        ensures back { IfErr result (λ e. (e.1 ≡ blank) × (e.2 ≡ log)) }
-    {
-        Inside::opened(alloc, blank, setup, log, None)
+        Inside::opened(alloc, blank, setup.into_setup(), log, None)
     }
 }
 
@@ -119,7 +108,7 @@ impl<L: Ledger, J: PageRing> Inside<L, J> {
     {
         // Only for the proof: no entry was handed out.
         log.gone();
-        let session = match Session::new_with(alloc, setup, log) {
+        let session = match Session::new(alloc, setup, log) {
             Ok(session) => session,
             Err((fault, log)) => return Err((fault, blank, log)),
         };
@@ -276,31 +265,49 @@ impl<L: Ledger, J: PageRing> Inside<L, J> {
     }
 
     // Collects a client's oldest outcome if that is a discovery's, as `collect_discovery` does. Its devices replace
-    // those in the last spare set, which is taken out. None: as there, and as many spare sets are left.
-    pub(crate) fn collect_boxed(
+    // those in a set that no completion shares, and the completion then shares it. None: as there, or each is shared.
+    pub(crate) fn collect_shared(
         &mut self,
         client: ClientId,
-        spares: &mut Vec<Box<DeviceSet>>,
+        sets: &mut SharedSets,
         mine: &mut CallShare<L>,
     ) -> Option<BoxedAsk>
-        requires { 0 < length spares.old.items }
         ensures adds { IfSome result (λ done. (n : ℕ) × GrowsBy self.old.session
             (CollectAdds self.old.session.opening self.old.session.entries client
             (Some (outcomes.Discovery (Some n) done)))
             self.new.session) }
-        ensures one_less { OnSome result (length spares.old.items ≡ length spares.new.items + 1) }
         ensures counted { OnSome result (mine.new.count ≡ mine.old.count + 1) }
         ensures unchanged { IfNone result ((self.new.session ≡ self.old.session)
-            × (length spares.new.items ≡ length spares.old.items) × (mine.new.count ≡ mine.old.count)) }
+            × (length sets.new.sets.items ≡ length sets.old.sets.items) × (mine.new.count ≡ mine.old.count)) }
         ensures clients { (self.new.joined ≡ self.old.joined) × (self.new.left ≡ self.old.left) }
     {
-        let mut set = spares.pop().unwrap();
-        match self.collect_discovery(client, &mut set, mine) {
-            Some(end) => Some(BoxedAsk::new(end.run, end.fault, Some(set))),
-            None => {
-                spares.push_reserved(set);
-                None
-            }
+        let mut set = sets.take_unshared()?;
+        let Some(end) = self.collect_into(client, &mut set, mine) else {
+            sets.put_back(set);
+            return None;
+        };
+        Some(BoxedAsk::shared(end.run, end.fault, sets.share(set)))
+    }
+
+    // The same into this set. None: as `collect_discovery` returns, or the set is shared; the set is unchanged.
+    fn collect_into(
+        &mut self,
+        client: ClientId,
+        set: &mut Arc<DeviceSet>,
+        mine: &mut CallShare<L>,
+    ) -> Option<DiscoveryEnd>
+        ensures adds { IfSome result (λ end. GrowsBy self.old.session
+            (CollectAdds self.old.session.opening self.old.session.entries client
+            (Some (discovery_outcome end (arc_value set.new))))
+            self.new.session) }
+        ensures counted { OnSome result (mine.new.count ≡ mine.old.count + 1) }
+        ensures unchanged { IfNone result
+            ((self.new.session ≡ self.old.session) × (mine.new.count ≡ mine.old.count)) }
+        ensures clients { (self.new.joined ≡ self.old.joined) × (self.new.left ≡ self.old.left) }
+    {
+        match Arc::get_mut(set) {
+            Some(set) => self.collect_discovery(client, set, mine),
+            None => None,
         }
     }
 

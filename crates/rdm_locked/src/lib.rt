@@ -17,14 +17,14 @@ mod pages;
 mod port;
 mod record;
 mod recorded;
+mod sets;
 mod share;
-mod spares;
 mod turn;
 mod walk;
 
 pub use client::{Left, LockedClient};
 pub use exchange::Exchange;
-pub use fault::{DiscoverFault, DrainFault, ExchangesDiffer, FinishFault};
+pub use fault::{DrainFault, ExchangesDiffer, FinishFault};
 pub use inside::{Inside, SessionEnd};
 pub use pages::{NoPages, PageEnds, PageRing};
 pub use port::Port;

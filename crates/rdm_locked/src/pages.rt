@@ -4,7 +4,8 @@ ghost use Rattle.rtrb.specs.Ring.{sent, received, IsPair};
 ghost use Rattle.rdm_locked.specs.Pages.{RingName};
 ghost use denote.RawPtr.{block_ptr};
 
-use rdm_queue::{NoMemory, Page};
+use rdm_log::Page;
+use rdm_wire::NoMemory;
 use rtrb::{Consumer, Producer, RingBuffer};
 use std::alloc::Global;
 use std::marker::Brand;

@@ -14,12 +14,14 @@ use crate::exchange::Exchange;
 use crate::fault::FinishFault;
 use crate::inside::{Inside, SessionEnd};
 use crate::pages::{NoPages, PageRing};
+use crate::sets::SharedSets;
 use crate::share::CallShare;
 use crate::turn::Turn;
 use rdm_client::{Desk, Tells, TellsAsk, WorkerEnd};
 use rdm_join::LineEvent;
 use rdm_line::Line;
-use rdm_queue::{Config, Entry, JoinFault, Log, LogFull, NoMemory, Page, Setup};
+use rdm_log::{Entry, IntoSetup, JoinFault, Log, LogFull, Page};
+use rdm_wire::NoMemory;
 use std::alloc::Global;
 use std::sync::ledger::{Blank, Ledger};
 use std::sync::{Mutex, Wait};
@@ -38,33 +40,21 @@ pub struct Port<L: Ledger, J: PageRing = NoPages> {
 }
 
 impl<L: Ledger> Port<L> {
-    /// A session with this configuration and a mutex, without clients, whose runs search steadily. The blank has 17
-    /// parts, one for each client and one for the rest, and the name of the book `L`. The other conditions are those of
+    /// A session with a mutex, without clients. With a [`Config`](rdm_queue::Config) alone its runs search steadily; a
+    /// [`Setup`](rdm_queue::Setup) also says how they search. The blank has 17 parts, one for each client and one for
+    /// the rest, and the name of the book `L`. The other conditions are those of
     /// [`Session::new`](rdm_queue::Session::new).
     /// Err: out of memory; the blank and the log are returned unchanged.
-    pub fn new(
+    pub fn new<S: IntoSetup>(
         alloc: Global,
         blank: Blank,
-        config: Config,
+        setup: S,
         log: Log,
     ) -> Result<Port<L>, (NoMemory, Blank, Log)>
-        requires may_open { MayOpen L.name L.parts blank config log }
+        requires may_open { MayOpen L.name L.parts blank (S.setup_of setup).config log }
         ensures back { IfErr result (λ e. (e.1 ≡ blank) × (e.2 ≡ log)) }
     {
-        Port::new_with(alloc, blank, Setup::steady(config), log)
-    }
-
-    /// The same with a set-up, which also says how runs search. Conditions and error are those of `new`.
-    pub fn new_with(
-        alloc: Global,
-        blank: Blank,
-        setup: Setup,
-        log: Log,
-    ) -> Result<Port<L>, (NoMemory, Blank, Log)>
-        requires may_open { MayOpen L.name L.parts blank setup.config log }
-        ensures back { IfErr result (λ e. (e.1 ≡ blank) × (e.2 ≡ log)) }
-    {
-        let inside = Inside::new_with(alloc, blank, setup, log)?;
+        let inside = Inside::new(alloc, blank, setup, log)?;
         Ok(Port::holding(inside))
     }
 
@@ -120,9 +110,10 @@ impl<L: Ledger, J: PageRing> Port<L, J> {
         }
     }
 
-    /// Lets a client join with this queue depth, 0 to 255, which its desk has too.
-    /// Err: NoMemory if there is none for the desk, before all other faults and without an entry. Otherwise as
-    /// [`Inside::join`] returns.
+    /// Lets a client join with this queue depth, 0 to 255, which its desk has too. Memory for the devices of four
+    /// discoveries, 128 KB, is allocated for it.
+    /// Err: NoMemory if there is none for these or the desk, before all other faults and without an entry. Otherwise
+    /// as [`Inside::join`] returns.
     pub fn client<C: Tells, A: TellsAsk, R: Wait>(
         &self,
         rt: &R,
@@ -133,12 +124,15 @@ impl<L: Ledger, J: PageRing> Port<L, J> {
         ensures calls { IfOk result (λ c. c.calls.count ≡ 0) }
         ensures collects { IfOk result (λ c. c.stranded ≡ false) }
     {
+        let Ok(sets) = SharedSets::new(alloc) else {
+            return Err(JoinFault::NoMemory);
+        };
         let Ok(desk) = Desk::new(alloc, places) else {
             return Err(JoinFault::NoMemory);
         };
         let joined = self.inside.lock(rt).join(alloc, places);
         match joined {
-            Ok((number, calls)) => Ok(LockedClient::new(alloc, self, number, desk, calls)),
+            Ok((number, calls)) => Ok(LockedClient::new(self, number, desk, calls, sets)),
             Err(fault) => {
                 desk.end().close_empty();
                 Err(fault)

@@ -1,15 +1,16 @@
 //! The record of a port that is drained.
 ghost use Rattle.std.specs.Prelude.{◌≡◌, false, None};
 ghost use Rattle.rtrb.specs.Ring.{received};
-ghost use Rattle.rdm_locked.specs.Pages.{IsOf, entries_of};
+ghost use Rattle.rdm_log.specs.log.Pages.{entries_of};
+ghost use Rattle.rdm_locked.specs.Pages.{IsOf};
 ghost use Rattle.rdm_locked.specs.body.Compared.{Matches};
 
 mod calls;
 
 use crate::exchange::Exchange;
 use crate::pages::PageRing;
+use rdm_log::Page;
 use rdm_past::Past;
-use rdm_queue::Page;
 use rdm_wire::Frame;
 use rtrb::Consumer;
 use std::marker::PhantomData;

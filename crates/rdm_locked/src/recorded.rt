@@ -9,7 +9,8 @@ ghost use Rattle.rdm_log.specs.promises.Promised.{Promised};
 ghost use Rattle.rdm_locked.specs.Calls.{count_calls};
 ghost use Rattle.rdm_locked.specs.Exchanges.{recorded, Records};
 ghost use Rattle.rdm_locked.specs.Openings.{MayOpen};
-ghost use Rattle.rdm_locked.specs.Pages.{entries_of, Numbered};
+ghost use Rattle.rdm_log.specs.log.Pages.{entries_of};
+ghost use Rattle.rdm_locked.specs.Pages.{Numbered};
 ghost use Rattle.rdm_locked.specs.Recorded.{ring_of, exchanges_of, pages_of};
 
 use crate::fault::{DrainFault, FinishFault};
@@ -20,13 +21,14 @@ use crate::record::Record;
 use crate::share::CallShare;
 use rdm_client::WorkerEnd;
 use rdm_line::Line;
-use rdm_queue::{Entry, Log, NoMemory, Setup};
+use rdm_log::{Entry, Log, Setup};
+use rdm_wire::NoMemory;
 use std::alloc::Global;
 use std::sync::Wait;
 use std::sync::ledger::{Blank, Ledger};
 
 impl<L: Ledger, J: PageRing> Port<L, J> {
-    /// A port as [`Port::new_with`] opens, which can be drained, and its record. `J` names the ring of these ends.
+    /// A port as [`Port::new`] opens, which can be drained, and its record. `J` names the ring of these ends.
     /// The program picks it as `Brand`, as it picks `L`.
     /// Err: out of memory; the blank and the log are returned unchanged.
     pub fn new_recorded(

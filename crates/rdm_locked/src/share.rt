@@ -4,9 +4,8 @@ ghost use Rattle.std.specs.Prelude.{◌≡◌, ◌+◌, ◌≤◌};
 use std::sync::ledger::{Book, Ledger, Share};
 
 /// How many of the log's calls are a client's: its submits and discovers, even if they were refused, and the outcomes
-/// that it collected. A call that a full log, a full desk or a lack of memory refused isn't counted, since it has no
-/// entry. The shares of all clients add up to the number of calls in the log, as [`Port::finish`](crate::Port::finish)
-/// says.
+/// that it collected. A call that a full log or a full desk refused isn't counted, since it has no entry. The shares of
+/// all clients add up to the number of calls in the log, as [`Port::finish`](crate::Port::finish) says.
 #[derive(Drop)]
 pub struct CallShare<L: Ledger> {
     pub(crate) share: Share<L>,

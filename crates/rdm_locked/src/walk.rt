@@ -6,8 +6,8 @@ ghost use Rattle.rdm_locked.specs.body.Compared.{Finds};
 use crate::exchange::{Exchange, is_same_event, is_same_frame};
 use arrayvec::ArrayVec;
 use rdm_join::LineEvent;
+use rdm_log::Entry;
 use rdm_past::Past;
-use rdm_queue::Entry;
 use rdm_wire::Frame;
 
 /// What was found in a page.

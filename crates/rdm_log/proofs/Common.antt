@@ -54,10 +54,10 @@ pub use Rattle.rdm_log.specs.declared.entry.Entry.TheVariants.{Join, Pause, Resu
 pub use Rattle.rdm_log.specs.declared.entry.Opening.{Opening}
 pub use Rattle.rdm_log.specs.declared.entry.Owner.{Owner}
 pub use Rattle.rdm_log.specs.declared.event.Event.{Event}
-pub use Rattle.rdm_log.specs.declared.fault.AskFault.{AskFault}
-pub use Rattle.rdm_log.specs.declared.fault.SubmitFault.{SubmitFault}
+pub use Rattle.rdm_log.specs.declared.fault.WorkFault.{WorkFault}
 pub use Rattle.rdm_log.specs.declared.outcome.BoxedOutcome.{BoxedOutcome}
 pub use Rattle.rdm_log.specs.declared.outcome.Outcome.{Outcome}
+pub use Rattle.rdm_log.specs.declared.work.Work.{Work}
 pub use Rattle.rdm_log.specs.log.Clients.{is_answer_to, client_of_discovery, uncollected, client_of_request}
 pub use Rattle.rdm_log.specs.log.Clients.{collects_by, is_client_of, outstanding_discoveries, outstanding_requests}
 pub use Rattle.rdm_log.specs.log.Clients.{collected, accepts_by, asks_by}
@@ -76,16 +76,18 @@ pub use Rattle.rdm_log.specs.log.LogState.{LogState, grown, is_full_log, with_en
 pub use Rattle.rdm_log.specs.log.MayAnswer.{MayAnswer}
 pub use Rattle.rdm_log.specs.log.MayFinish.{MayFinish, FitsResult, IsClosing}
 pub use Rattle.rdm_log.specs.log.MaySend.{MayBegin, MaySendRequest, MaySendRun, MaySend}
-pub use Rattle.rdm_log.specs.log.Refusals.{ask_fault, submit_fault, join_fault}
+pub use Rattle.rdm_log.specs.log.Refusals.{ask_fault, submit_fault, join_fault, work_fault, work_fault_at}
+pub use Rattle.rdm_log.specs.log.Refusals.{number_of_work_fault}
 pub use Rattle.rdm_log.specs.log.Runs.{open_run, served, asked_before, is_answered, run_kind, answer_devices}
 pub use Rattle.rdm_log.specs.log.Runs.{known_at_run, known_devices, unserved, sends_run, unless_answered, devices_of}
 pub use Rattle.rdm_log.specs.log.Runs.{if_without_fault, reported_devices, run_devices, run_frames, run_of_owner}
 unfoldable pub use Rattle.rdm_log.specs.log.Runs.{has_begun, run_exchanges, last_run, entries_before_run}
 unfoldable pub use Rattle.rdm_log.specs.log.Runs.{last_run_without_fault}
-pub use Rattle.rdm_log.specs.promises.Blocks.{ask_refused, submit_refused, CloseAddsWhere, join_refused, SwitchAdds}
-pub use Rattle.rdm_log.specs.promises.Blocks.{DiscoverAdds, IsOldest, IsWithResults, SubmitAdds, is_result}
+pub use Rattle.rdm_log.specs.promises.Blocks.{CloseAddsWhere, join_refused, SwitchAdds, WorkAdds, WorkLogs}
+pub use Rattle.rdm_log.specs.promises.Blocks.{work_accepted, work_refused, IsOldest, IsWithResults, is_result}
 pub use Rattle.rdm_log.specs.promises.Discoveries.{numbers_asked, AnswersReportTheLine, HasMostDiscoveries}
-pub use Rattle.rdm_log.specs.promises.EventsHeadline.{AnsweredAt, IsOwnOutcome, ReportsTheLine}
+pub use Rattle.rdm_log.specs.promises.EventsHeadline.{AnsweredAt, IsOwnOutcome, ReportsTheLine, brings, answer_to}
+pub use Rattle.rdm_log.specs.promises.EventsHeadline.{HasMost}
 pub use Rattle.rdm_log.specs.promises.Explains.{Explains, Adds, IsAnswered}
 pub use Rattle.rdm_log.specs.promises.Headline.{numbers_accepted, Begins, IsFull}
 pub use Rattle.rdm_log.specs.promises.InBound.{AnswersInBound, FaultNeedsClose, IsCalmRun}

@@ -13,7 +13,6 @@ pub mod RunsAnswer
 pub mod OutcomeLemmas
 pub mod StableOutcomes
 pub mod AnswersReportTheLine
-pub mod AnsweredInOrder
 pub mod OwnDiscoveries
 pub mod Promises
 pub mod BlockLemmas
@@ -25,5 +24,4 @@ pub mod CollectedEvents
 pub mod EventsInBound
 pub mod LogInBoundLemmas
 pub mod OwnOutcomes
-pub mod DiscoverEvents
 pub mod EventsPromises

@@ -11,3 +11,4 @@ pub mod MayAnswer
 pub mod Legal
 pub mod Config
 pub mod LogState
+pub mod Pages

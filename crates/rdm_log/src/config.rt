@@ -1,4 +1,8 @@
 //! How a controller is set up.
+ghost use Rattle.std.specs.Prelude.{◌≡◌};
+ghost use Rattle.rdm_log.specs.declared.config.Setup.{Setup};
+ghost use Rattle.rdm_log.specs.log.Config.{steady};
+
 use rdm_agent::Search;
 use rdm_wire::Uid;
 
@@ -40,9 +44,6 @@ pub struct Setup {
 }
 
 impl Setup {
-    ghost use Rattle.std.specs.Prelude.{◌≡◌};
-    ghost use Rattle.rdm_log.specs.log.Config.{steady};
-
     /// The plain set-up with this configuration: runs search steadily.
     pub fn steady(config: Config) -> Setup
         ensures { result ≡ steady config }
@@ -51,5 +52,31 @@ impl Setup {
             config,
             search: Search::Steady,
         }
+    }
+}
+
+/// What a session can be set up with: a [`Setup`], or a [`Config`] alone, with which runs search steadily.
+pub trait IntoSetup {
+    /// The set-up that this stands for.
+    ghost setup_of: { Self → Setup };
+
+    /// This as a set-up.
+    fn into_setup(self) -> Setup
+        ensures { result ≡ setup_of self };
+}
+
+impl IntoSetup for Setup {
+    ghost setup_of = { λ setup. setup };
+
+    fn into_setup(self) -> Setup {
+        self
+    }
+}
+
+impl IntoSetup for Config {
+    ghost setup_of = { steady };
+
+    fn into_setup(self) -> Setup {
+        Setup::steady(self)
     }
 }

@@ -36,39 +36,29 @@ pub enum JoinFault {
     LogFull,
 }
 
-/// Why a submit is refused. LogFull is tested first, and then the others in this order.
+/// Why work isn't accepted: a request, or a discovery. LogFull is tested first, and then the others in this order.
 #[derive(Clone, Copy, Debug, PartialEq, Eq, Error)]
-pub enum SubmitFault {
+pub enum WorkFault {
     /// 1: the queue is closed.
     #[error("the queue is closed")]
     Closed,
     /// 2: no such client has joined.
     #[error("no such client")]
     UnknownClient,
-    /// 3: the client has as many requests outstanding as its queue depth allows, or the numbers have run out.
-    #[error("the client's places are taken")]
+    /// 3: a request finds as many of the client's requests outstanding as its queue depth allows, a discovery finds
+    /// four of its discoveries outstanding, or the numbers have run out.
+    #[error("the client has as much outstanding as it may")]
     Full,
     /// 4: the log has fewer than three free entries.
     #[error("the log is full")]
     LogFull,
 }
 
-/// Why a discover is refused. LogFull is tested first, and then the others in this order.
-#[derive(Clone, Copy, Debug, PartialEq, Eq, Error)]
-pub enum AskFault {
-    /// 1: the queue is closed.
-    #[error("the queue is closed")]
-    Closed,
-    /// 2: no such client has joined.
-    #[error("no such client")]
-    UnknownClient,
-    /// 3: the client has four discoveries outstanding, or the numbers have run out.
-    #[error("the client has four discoveries outstanding")]
-    Full,
-    /// 4: the log has fewer than three free entries.
-    #[error("the log is full")]
-    LogFull,
-}
+/// Why a submit is refused.
+pub type SubmitFault = WorkFault;
+
+/// Why a discover is refused.
+pub type AskFault = WorkFault;
 
 impl JoinFault {
     ghost use Rattle.std.specs.Prelude.{◌≡◌};
@@ -88,36 +78,19 @@ impl JoinFault {
     }
 }
 
-impl SubmitFault {
+impl WorkFault {
     ghost use Rattle.std.specs.Prelude.{◌≡◌};
-    ghost use Rattle.rdm_log.specs.log.Refusals.{number_of_submit_fault};
+    ghost use Rattle.rdm_log.specs.log.Refusals.{number_of_work_fault};
 
     /// The fault's number, as an entry of the log has it; LogFull's is in no entry.
     pub fn number(self) -> u8
-        ensures { result ≡ number_of_submit_fault self }
+        ensures { result ≡ number_of_work_fault self }
     {
         match self {
-            SubmitFault::Closed => 1,
-            SubmitFault::UnknownClient => 2,
-            SubmitFault::Full => 3,
-            SubmitFault::LogFull => 4,
-        }
-    }
-}
-
-impl AskFault {
-    ghost use Rattle.std.specs.Prelude.{◌≡◌};
-    ghost use Rattle.rdm_log.specs.log.Refusals.{number_of_ask_fault};
-
-    /// The fault's number, as an entry of the log has it; LogFull's is in no entry.
-    pub fn number(self) -> u8
-        ensures { result ≡ number_of_ask_fault self }
-    {
-        match self {
-            AskFault::Closed => 1,
-            AskFault::UnknownClient => 2,
-            AskFault::Full => 3,
-            AskFault::LogFull => 4,
+            WorkFault::Closed => 1,
+            WorkFault::UnknownClient => 2,
+            WorkFault::Full => 3,
+            WorkFault::LogFull => 4,
         }
     }
 }

@@ -19,15 +19,17 @@ pub mod laws;
 mod log;
 mod outcome;
 mod page;
+mod work;
 
-pub use config::{Config, MOST_PLACES, Setup};
+pub use config::{Config, IntoSetup, MOST_PLACES, Setup};
 pub use entry::{
     Call, Cause, ClientId, Entry, MOST_CLIENTS, MOST_DISCOVERIES, NEVER_GIVEN,
     NEVER_GIVEN_TO_A_DISCOVERY, Opening, Owner,
 };
 pub use event::{Answer, Event};
-pub use fault::{AskFault, JoinFault, LogFull, NotAsked, NotIdle, SubmitFault};
+pub use fault::{AskFault, JoinFault, LogFull, NotAsked, NotIdle, SubmitFault, WorkFault};
 pub use log::{LEAST_FREE, Log, MOST_ENTRIES, MOST_FREE_ENTRIES};
 pub use outcome::{AskCompletion, BoxedOutcome, Completion, DiscoveryEnd, Outcome, OutcomeKind};
 pub use page::Page;
 pub use rdm_wire::NoMemory;
+pub use work::Work;

@@ -71,11 +71,11 @@ pub use Rattle.rdm_log.specs.declared.entry.Entry.TheVariants.{Came, Collect, Se
 pub use Rattle.rdm_log.specs.declared.entry.Entry.TheVariants.{Join, Pause, Resume}
 pub use Rattle.rdm_log.specs.declared.entry.Opening.{Opening}
 pub use Rattle.rdm_log.specs.declared.entry.Owner.{Owner}
-pub use Rattle.rdm_log.specs.declared.fault.AskFault.{AskFault}
 pub use Rattle.rdm_log.specs.declared.fault.JoinFault.{JoinFault}
-pub use Rattle.rdm_log.specs.declared.fault.SubmitFault.{SubmitFault}
+pub use Rattle.rdm_log.specs.declared.fault.WorkFault.{WorkFault}
 pub use Rattle.rdm_log.specs.declared.outcome.Completion.{Completion}
 pub use Rattle.rdm_log.specs.declared.outcome.Outcome.{Outcome}
+pub use Rattle.rdm_log.specs.declared.work.Work.{Work}
 pub use Rattle.rdm_log.specs.log.Clients.{uncollected, is_answer_to}
 unfoldable pub use Rattle.rdm_log.specs.log.Clients.{answers_to}
 pub use Rattle.rdm_log.specs.log.Entries.{AskedDiscovery, Accepted, Sending, is_request, Answered, is_run}
@@ -88,12 +88,12 @@ pub use Rattle.rdm_log.specs.log.LogState.{grown, LogState, opened}
 pub use Rattle.rdm_log.specs.log.MayAnswer.{MayAnswer}
 pub use Rattle.rdm_log.specs.log.MayFinish.{FitsResult}
 pub use Rattle.rdm_log.specs.log.MaySend.{MaySend, NoSend}
-pub use Rattle.rdm_log.specs.log.Refusals.{join_fault}
+pub use Rattle.rdm_log.specs.log.Refusals.{join_fault, work_fault}
 pub use Rattle.rdm_log.specs.log.Runs.{has_begun, is_answered, known_at_run, run_kind, answer_devices, asked_before}
 pub use Rattle.rdm_log.specs.log.Runs.{devices_run, entries_before_run, is_full_kind, open_run, run_devices, unserved}
 unfoldable pub use Rattle.rdm_log.specs.log.Runs.{last_run, run_exchanges}
-pub use Rattle.rdm_log.specs.promises.Blocks.{AllResults, CloseAdds, IsWithResults, RefusesJoin, ask_refused, is_result}
-pub use Rattle.rdm_log.specs.promises.Blocks.{join_refused, submit_refused}
+pub use Rattle.rdm_log.specs.promises.Blocks.{AllResults, CloseAdds, IsWithResults, RefusesJoin, WorkAdds, is_result}
+pub use Rattle.rdm_log.specs.promises.Blocks.{join_refused, work_accepted, work_refused, number_or_fault}
 pub use Rattle.rdm_log.specs.promises.InBound.{FaultNeedsClose, AnswersInBound}
 pub use Rattle.rdm_log.specs.promises.Outcomes.{OutcomeValue, completion_value, outcome_value, completion_of}
 pub use Rattle.rdm_log.specs.promises.Outcomes.{outcome_of, discovery_outcome, oldest_kind, request_outcome}
@@ -120,6 +120,7 @@ pub use Rattle.rdm_queue.specs.body.State.{collects_oldest, is_discovery, IsStan
 pub use Rattle.rdm_queue.specs.body.State.{owed_next, owes, GivesResult, StandingAt, finish_of, first_kind, first_state}
 pub use Rattle.rdm_queue.specs.body.State.{kind_of_value, outstanding, outstanding_asks, unended, CollectsOldest}
 pub use Rattle.rdm_queue.specs.body.State.{OwedOutcome, accepted_as, asked_of, due, is_closing, owed_value}
+pub use Rattle.rdm_queue.specs.body.State.{first_fault, number_for, accepts_work}
 pub use Rattle.rdm_queue.specs.declared.client.Client.{Client}
 pub use Rattle.rdm_queue.specs.declared.client.Owed.{Owed}
 pub use Rattle.rdm_queue.specs.declared.client.Waiting.{Waiting}

@@ -1,13 +1,16 @@
 //! A client's queue depth, and the rings of what it has outstanding.
 ghost use Rattle.std.specs.Prelude.{◌≡◌, ◌≢◌, ◌+◌, ◌-◌, ◌<◌, ◌≤◌, IfOk, IfSome, IfNone, Some, length, option_map};
-ghost use Rattle.std.specs.Prelude.{slice_get};
+ghost use Rattle.std.specs.Prelude.{slice_get, nat_le, ◌||◌};
 ghost use Rattle.std.specs.VecDeque.{deque_len, deque_capacity};
 
 mod lengths;
 
 use crate::set_ring::SetRing;
 use rdm_agent::AgentFault;
-use rdm_log::{Completion, DiscoveryEnd, Entry, MOST_DISCOVERIES, OutcomeKind};
+use rdm_log::{
+    Completion, DiscoveryEnd, Entry, MOST_DISCOVERIES, NEVER_GIVEN, NEVER_GIVEN_TO_A_DISCOVERY,
+    OutcomeKind,
+};
 use rdm_wire::{DeviceSet, Request};
 use std::alloc::{AllocError, Global};
 use std::collections::VecDeque;
@@ -93,6 +96,25 @@ impl Client {
         ensures fits { result ≤ MOST_DISCOVERIES }
     {
         self.sets.len()
+    }
+
+    /// Whether it has as many requests outstanding as its queue depth allows, or this is the number that none gets.
+    pub(crate) fn has_most_requests(&self, next: u64) -> bool
+        requires { length self.now.sets.items ≤ deque_len self.now.outcomes }
+        ensures { result ≡ (nat_le self.now.places (deque_len self.now.waiting
+            + (deque_len self.now.outcomes - length self.now.sets.items)) || nat_le NEVER_GIVEN next) }
+    {
+        self.outstanding() >= usize::from(self.places) || next >= NEVER_GIVEN
+    }
+
+    /// Whether it has four discoveries outstanding, of which this many aren't answered, or this is a number that none
+    /// gets.
+    pub(crate) fn has_most_discoveries(&self, unanswered: usize, next: u64) -> bool
+        requires { unanswered ≤ 64 }
+        ensures { result ≡ (nat_le MOST_DISCOVERIES (unanswered + length self.now.sets.items)
+            || nat_le NEVER_GIVEN_TO_A_DISCOVERY next) }
+    {
+        unanswered + self.answered() >= MOST_DISCOVERIES || next >= NEVER_GIVEN_TO_A_DISCOVERY
     }
 
     /// Its oldest request that isn't finished.

@@ -5,10 +5,10 @@ use crate::queue::Queue;
 use rdm_agent::{Kind, Search};
 use rdm_join::LineEvent;
 use rdm_log::{
-    AskFault, ClientId, Completion, Config, DiscoveryEnd, Entry, JoinFault, NoMemory, NotAsked,
-    Opening, Outcome, OutcomeKind, Owner, Setup, SubmitFault,
+    AskFault, ClientId, Completion, DiscoveryEnd, Entry, IntoSetup, JoinFault, NotAsked, Opening,
+    Outcome, OutcomeKind, Owner, SubmitFault, Work, WorkFault,
 };
-use rdm_wire::{DeviceSet, Frame, Request};
+use rdm_wire::{DeviceSet, Frame, NoMemory, Request};
 use std::alloc::Global;
 use std::marker::Model;
 
@@ -38,10 +38,11 @@ impl Controller {
     ghost use Rattle.rdm_log.specs.declared.entry.Entry.TheVariants.{Send, Came, Close};
     ghost use Rattle.rdm_log.specs.log.History.{awaited, is_paused, is_closed, can_pause, can_resume, is_idle};
     ghost use Rattle.rdm_log.specs.log.MaySend.{MaySend, NoSend};
-    ghost use Rattle.rdm_log.specs.log.Config.{IsConfig, steady};
+    ghost use Rattle.rdm_log.specs.log.Config.{IsConfig};
     ghost use Rattle.rdm_log.specs.log.LogState.{opening_after};
     ghost use Rattle.rdm_log.specs.promises.Blocks.{JoinAdds, SubmitAdds, PauseAdds, ResumeAdds, CloseAdds};
-    ghost use Rattle.rdm_log.specs.promises.Blocks.{DiscoverAdds, TakeAdds, DeliverAdds, CollectAdds};
+    ghost use Rattle.rdm_log.specs.promises.Blocks.{DiscoverAdds, TakeAdds, DeliverAdds, CollectAdds, WorkAdds};
+    ghost use Rattle.rdm_log.specs.promises.Blocks.{number_or_fault};
     ghost use Rattle.rdm_queue.specs.promises.EachLog.{ForEachLog, AddsToEach, IsSetUp};
     ghost use Rattle.rdm_queue.specs.body.Agrees.{StandsAfter, ForEachBlock, AddsAmid, Ends, FinishesEach};
     ghost use Rattle.rdm_queue.specs.body.State.{unended, uncollected};
@@ -49,22 +50,15 @@ impl Controller {
     ghost use Rattle.rdm_log.specs.promises.Outcomes.{oldest_kind, request_outcome, discovery_outcome};
     ghost use Rattle.rdm_log.specs.declared.outcome.OutcomeKind.TheVariants as kinds;
 
-    /// A controller without clients, neither paused nor closed, whose numbers begin at 0, and whose runs search
-    /// steadily. The configuration must be valid ([`Config::is_valid`]).
+    /// A controller without clients, neither paused nor closed, whose numbers begin at 0. With a
+    /// [`Config`](crate::Config) alone its runs search steadily; a [`Setup`](crate::Setup) also says how they search.
+    /// The configuration must be valid ([`Config::is_valid`](crate::Config::is_valid)).
     /// Err: out of memory.
-    pub fn new(alloc: Global, config: Config) -> Result<Controller, NoMemory>
-        requires { IsConfig config }
-        ensures { IfOk result (λ c. IsSetUp (steady config) c) }
+    pub fn new<S: IntoSetup>(alloc: Global, setup: S) -> Result<Controller, NoMemory>
+        requires { IsConfig (S.setup_of setup).config }
+        ensures { IfOk result (IsSetUp (S.setup_of setup)) }
     {
-        Controller::new_with(alloc, Setup::steady(config))
-    }
-
-    /// The same with a set-up, which also says how runs search. Conditions and error are those of `new`.
-    pub fn new_with(alloc: Global, setup: Setup) -> Result<Controller, NoMemory>
-        requires { IsConfig setup.config }
-        ensures { IfOk result (λ c. IsSetUp setup c) }
-    {
-        match Box::new(alloc, Queue::new(alloc, setup)) {
+        match Box::new(alloc, Queue::new(alloc, setup.into_setup())) {
             Ok(queue) => Ok(Controller { queue }),
             Err(_) => Err(NoMemory),
         }
@@ -87,6 +81,17 @@ impl Controller {
         self.queue.join_client(alloc, places)
     }
 
+    /// Accepts a client's work, and returns its number: a request as [`submit`](Controller::submit) does, and a
+    /// discovery as [`discover`](Controller::discover) does.
+    /// Err: the first fault that applies; nothing has changed, and the work is returned.
+    pub fn accept(&mut self, client: ClientId, work: Work) -> Result<u64, (WorkFault, Work)>
+        ensures adds { AddsToEach self.old
+            (λ k. WorkAdds k.opening k.entries client work (number_or_fault result)) self.new }
+        ensures unchanged { IfErr result (λ e. (e.1 ≡ work) × (self.new ≡ self.old)) }
+    {
+        self.queue.accept(client, work)
+    }
+
     /// Accepts a client's request, and returns its number. It is outstanding until its outcome is collected.
     /// Err: the first fault that applies; nothing has changed, and the request is returned.
     pub fn submit(
@@ -97,7 +102,10 @@ impl Controller {
         ensures adds { AddsToEach self.old (λ k. SubmitAdds k.opening k.entries client request result) self.new }
         ensures unchanged { IfErr result (λ e. (e.1 ≡ request) × (self.new ≡ self.old)) }
     {
-        self.queue.submit(client, request)
+        match self.accept(client, Work::Submit(request)) {
+            Ok(number) => Ok(number),
+            Err((fault, work)) => Err((fault, work.into_request())),
+        }
     }
 
     /// Accepts a client's discovery, and returns its number. A run serves all discoveries that wait when it begins. It
@@ -107,7 +115,10 @@ impl Controller {
         ensures adds { AddsToEach self.old (λ k. DiscoverAdds k.opening k.entries client kind result) self.new }
         ensures unchanged { OnErr result (self.new ≡ self.old) }
     {
-        self.queue.discover(client, kind)
+        match self.accept(client, Work::Discover(kind)) {
+            Ok(number) => Ok(number),
+            Err((fault, _)) => Err(fault),
+        }
     }
 
     /// Begins no run and sends no request until `resume`; a run that has begun continues, and a reply that is awaited

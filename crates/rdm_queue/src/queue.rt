@@ -1,5 +1,6 @@
 //! The requests and discoveries that wait, the run that serves these, and the outcomes that wait for their clients.
-ghost use Rattle.std.specs.Prelude.{◌≡◌, ◌≤◌, length, IfSome, IfNone};
+ghost use Rattle.std.specs.Prelude.{◌≡◌, ◌≤◌, length, IfSome, IfNone, Some, None, if◌then◌else◌};
+ghost use Rattle.rdm_log.specs.declared.fault.WorkFault.TheVariants.{Full};
 ghost use Rattle.rdm_queue.specs.body.Rings.{NoneWaits, IsFirstInLine};
 ghost use Rattle.rdm_queue.specs.body.Fields.{places_of};
 
@@ -12,9 +13,8 @@ use arrayvec::ArrayVec;
 use rdm_agent::{Agent, Kind, Op, Search};
 use rdm_join::{Joiner, Sent};
 use rdm_log::{
-    AskCompletion, AskFault, ClientId, Completion, Config, DiscoveryEnd, JoinFault, MOST_CLIENTS,
-    MOST_DISCOVERIES, NEVER_GIVEN, NEVER_GIVEN_TO_A_DISCOVERY, Opening, Outcome, OutcomeKind,
-    Owner, Setup, SubmitFault,
+    AskCompletion, ClientId, Completion, Config, DiscoveryEnd, JoinFault, MOST_CLIENTS, Opening,
+    Outcome, OutcomeKind, Owner, Setup, Work, WorkFault,
 };
 use rdm_wire::{DeviceSet, Frame, Request, UidSet, encode_request};
 use std::alloc::Global;
@@ -82,9 +82,9 @@ impl Queue {
     ghost use Rattle.rdm_log.specs.log.Config.{IsConfig};
     ghost use Rattle.rdm_log.specs.log.Entries.{Accepted, AskedDiscovery};
     ghost use Rattle.rdm_queue.specs.body.State.{QueueState, first_state, first_join_fault, first_submit_fault};
-    ghost use Rattle.rdm_queue.specs.body.State.{first_ask_fault, asked_of, joins_client, accepts_request};
-    ghost use Rattle.rdm_queue.specs.body.State.{asks_discovery, collects_oldest, owed_to, uncollected, first_kind};
-    ghost use Rattle.rdm_queue.specs.body.State.{CollectsOldest, opening_of};
+    ghost use Rattle.rdm_queue.specs.body.State.{first_ask_fault, first_fault, number_for, asked_of, joins_client};
+    ghost use Rattle.rdm_queue.specs.body.State.{accepts_work, accepts_request, asks_discovery, collects_oldest};
+    ghost use Rattle.rdm_queue.specs.body.State.{owed_to, uncollected, first_kind, CollectsOldest, opening_of};
     ghost use Rattle.rdm_queue.specs.body.Sending.{to_send, request_to_send, run_to_send, IsGiven, GivesRequest};
     ghost use Rattle.rdm_queue.specs.body.Sending.{GivesRun, begun, kind_of};
 
@@ -165,58 +165,21 @@ impl Queue {
         Ok(number)
     }
 
-    // The first fault of a submit.
-    fn submit_fault(&self, client: ClientId) -> Option<SubmitFault>
-        ensures { result ≡ first_submit_fault self.now client.0 }
+    // The first fault of a client's work.
+    fn first_fault(&self, client: ClientId, work: &Work) -> Option<WorkFault>
+        ensures { result ≡ first_fault self.now client.0 work.now }
     {
         if self.closed {
-            return Some(SubmitFault::Closed);
+            return Some(WorkFault::Closed);
         }
         let Some(own) = self.clients.get(usize::from(client.0)) else {
-            return Some(SubmitFault::UnknownClient);
+            return Some(WorkFault::UnknownClient);
         };
-        if own.outstanding() >= usize::from(own.places) || self.next_request == NEVER_GIVEN {
-            Some(SubmitFault::Full)
-        } else {
-            None
-        }
-    }
-
-    /// Accepts a request, and returns its number.
-    pub(crate) fn submit(
-        &mut self,
-        client: ClientId,
-        request: Request,
-    ) -> Result<u64, (SubmitFault, Request)>
-        ensures accepted { IfOk result (λ n. (first_submit_fault self.old client.0 ≡ None) × (n ≡ self.old.next_request)
-            × (self.new ≡ accepts_request self.old client.0 request)) }
-        ensures refused { IfErr result (λ e. (first_submit_fault self.old client.0 ≡ Some e.0) × (e.1 ≡ request)) }
-        ensures unchanged { OnErr result (self.new ≡ self.old) }
-    {
-        if let Some(fault) = self.submit_fault(client) {
-            return Err((fault, request));
-        }
-        let number = self.next_request;
-        self.clients[usize::from(client.0)].accept(number, request);
-        self.next_request = number + 1;
-        Ok(number)
-    }
-
-    // The first fault of a discover.
-    fn ask_fault(&self, client: ClientId) -> Option<AskFault>
-        ensures { result ≡ first_ask_fault self.now client.0 }
-    {
-        if self.closed {
-            return Some(AskFault::Closed);
-        }
-        let Some(own) = self.clients.get(usize::from(client.0)) else {
-            return Some(AskFault::UnknownClient);
-        };
-        let outstanding = self.asked_by(client) + own.answered();
-        if outstanding >= MOST_DISCOVERIES || self.next_ask >= NEVER_GIVEN_TO_A_DISCOVERY {
-            Some(AskFault::Full)
-        } else {
-            None
+        match work {
+            Work::Submit(_) => full_if(own.has_most_requests(self.next_request)),
+            Work::Discover(_) => {
+                full_if(own.has_most_discoveries(self.asked_by(client), self.next_ask))
+            }
         }
     }
 
@@ -231,16 +194,40 @@ impl Queue {
             .count()
     }
 
-    /// Accepts a discovery, and returns its number.
-    pub(crate) fn discover(&mut self, client: ClientId, kind: Kind) -> Result<u64, AskFault>
-        ensures accepted { IfOk result (λ n. (first_ask_fault self.old client.0 ≡ None) × (n ≡ self.old.next_ask)
-            × (self.new ≡ asks_discovery self.old client.0 kind)) }
-        ensures refused { IfErr result (λ fault. first_ask_fault self.old client.0 ≡ Some fault) }
+    /// Accepts a client's work, and returns its number.
+    pub(crate) fn accept(&mut self, client: ClientId, work: Work) -> Result<u64, (WorkFault, Work)>
+        ensures accepted { IfOk result (λ n. (first_fault self.old client.0 work ≡ None)
+            × (n ≡ number_for self.old work) × (self.new ≡ accepts_work self.old client.0 work)) }
+        ensures refused { IfErr result (λ e. (first_fault self.old client.0 work ≡ Some e.0) × (e.1 ≡ work)) }
         ensures unchanged { OnErr result (self.new ≡ self.old) }
     {
-        if let Some(fault) = self.ask_fault(client) {
-            return Err(fault);
+        if let Some(fault) = self.first_fault(client, &work) {
+            return Err((fault, work));
         }
+        match work {
+            Work::Submit(request) => Ok(self.accept_request(client, request)),
+            Work::Discover(kind) => Ok(self.accept_discovery(client, kind)),
+        }
+    }
+
+    // Accepts a request, which no fault refuses, and returns its number.
+    fn accept_request(&mut self, client: ClientId, request: Request) -> u64
+        requires { first_submit_fault self.old client.0 ≡ None }
+        ensures number { result ≡ self.old.next_request }
+        ensures accepted { self.new ≡ accepts_request self.old client.0 request }
+    {
+        let number = self.next_request;
+        self.clients[usize::from(client.0)].accept(number, request);
+        self.next_request = number + 1;
+        number
+    }
+
+    // Accepts a discovery, which no fault refuses, and returns its number.
+    fn accept_discovery(&mut self, client: ClientId, kind: Kind) -> u64
+        requires { first_ask_fault self.old client.0 ≡ None }
+        ensures number { result ≡ self.old.next_ask }
+        ensures accepted { self.new ≡ asks_discovery self.old client.0 kind }
+    {
         let number = self.next_ask;
         self.asked.push(Asked {
             client,
@@ -248,7 +235,7 @@ impl Queue {
             kind,
         });
         self.next_ask = number + 1;
-        Ok(number)
+        number
     }
 
     /// Pauses sending, or resumes it.
@@ -504,6 +491,13 @@ impl Queue {
     {
         self.awaited.is_some()
     }
+}
+
+// Full if this holds.
+fn full_if(is_full: bool) -> Option<WorkFault>
+    ensures { result ≡ (if is_full then Some Full else None) }
+{
+    if is_full { Some(WorkFault::Full) } else { None }
 }
 
 // The next in line: of the clients' oldest requests the one with the lowest number, and the index of its client.

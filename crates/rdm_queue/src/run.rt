@@ -1,7 +1,7 @@
 //! A list of events, answered one by one.
 use crate::session::Session;
-use rdm_log::{Answer, BoxedOutcome, ClientId, Event, NoMemory, OutcomeKind};
-use rdm_wire::DeviceSet;
+use rdm_log::{Answer, BoxedOutcome, ClientId, Event, OutcomeKind};
+use rdm_wire::{DeviceSet, NoMemory};
 use std::alloc::Global;
 
 impl Session {

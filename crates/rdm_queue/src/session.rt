@@ -10,11 +10,11 @@ use arrayvec::ArrayVec;
 use rdm_agent::Kind;
 use rdm_join::LineEvent;
 use rdm_log::{
-    AskFault, Call, Cause, ClientId, Completion, Config, DiscoveryEnd, Entry, JoinFault,
-    LEAST_FREE, Log, LogFull, MOST_ENTRIES, NoMemory, NotAsked, NotIdle, Opening, Outcome,
-    OutcomeKind, Setup, SubmitFault,
+    AskFault, Call, Cause, ClientId, Completion, Config, DiscoveryEnd, Entry, IntoSetup, JoinFault,
+    LEAST_FREE, Log, LogFull, MOST_ENTRIES, NotAsked, NotIdle, Opening, Outcome, OutcomeKind,
+    SubmitFault, Work, WorkFault,
 };
-use rdm_wire::{DeviceSet, Frame, Request, copy_of_frame};
+use rdm_wire::{DeviceSet, Frame, NoMemory, Request, copy_of_frame};
 use std::alloc::Global;
 use std::marker::Model;
 use std::mem;
@@ -44,40 +44,32 @@ impl Session {
     ghost use Rattle.std.specs.Prelude.{IfSome, Some, true, false, vec_capacity};
     ghost use Rattle.rdm_log.specs.log.History.{awaited, is_paused, is_closed, is_idle, reserved};
     ghost use Rattle.rdm_log.specs.log.Legal.{Legal};
-    ghost use Rattle.rdm_log.specs.log.Config.{IsConfig, steady};
+    ghost use Rattle.rdm_log.specs.log.Config.{IsConfig};
     ghost use Rattle.rdm_log.specs.log.LogState.{free_entries, is_full_log, begun, opening_after, stored, drained};
     ghost use Rattle.rdm_log.specs.log.LogState.{MayGoOn};
     ghost use Rattle.rdm_log.specs.promises.Promised.{Promised};
     ghost use Rattle.rdm_log.specs.promises.Blocks.{JoinLogs, SubmitLogs, PauseLogs, ResumeLogs, TakeLogs};
     ghost use Rattle.rdm_log.specs.log.Runs.{known_devices, devices_run};
     ghost use Rattle.rdm_log.specs.promises.Blocks.{DiscoverLogs, CloseAdds, DeliverAdds, CollectAdds, GrowsBy};
+    ghost use Rattle.rdm_log.specs.promises.Blocks.{WorkLogs, number_or_fault};
     ghost use Rattle.rdm_log.specs.promises.Outcomes.{oldest_kind, request_outcome, discovery_outcome};
     ghost use Rattle.rdm_log.specs.declared.outcome.OutcomeKind.TheVariants as kinds;
     ghost use Rattle.rdm_queue.specs.body.Agrees.{StandsAfter};
 
     /// A session without clients, neither paused nor closed. Its discovery runs are numbered from 1, and all else from
-    /// 0. Its runs search steadily. It writes the log's opening. The configuration must be valid
-    /// ([`Config::is_valid`]), and the log must have no entries ([`Log::entries`]).
+    /// 0. With a [`Config`](crate::Config) alone its runs search steadily; a [`Setup`](crate::Setup) also says how they
+    /// search. The log records both ([`Log::search`]). It writes the log's opening. The configuration must be valid
+    /// ([`Config::is_valid`](crate::Config::is_valid)), and the log must have no entries ([`Log::entries`]).
     /// Err: out of memory; the log is returned unchanged.
-    pub fn new(alloc: Global, config: Config, log: Log) -> Result<Session, (NoMemory, Log)>
-        requires config_is { IsConfig config }
+    pub fn new<S: IntoSetup>(alloc: Global, setup: S, log: Log) -> Result<Session, (NoMemory, Log)>
+        requires config_is { IsConfig (S.setup_of setup).config }
         requires empty { log.entries ≡ [] }
-        ensures ok { IfOk result (λ s. s ≡ begun (steady config) log) }
+        ensures ok { IfOk result (λ s. s ≡ begun (S.setup_of setup) log) }
         ensures err { IfErr result (λ e. e.1 ≡ log) }
     {
-        Session::new_with(alloc, Setup::steady(config), log)
-    }
-
-    /// The same with a set-up, which also says how runs search. The log has it too ([`Log::search`]). Conditions and
-    /// error are those of `new`.
-    pub fn new_with(alloc: Global, setup: Setup, log: Log) -> Result<Session, (NoMemory, Log)>
-        requires config_is { IsConfig setup.config }
-        requires empty { log.entries ≡ [] }
-        ensures ok { IfOk result (λ s. s ≡ begun setup log) }
-        ensures err { IfErr result (λ e. e.1 ≡ log) }
-    {
+        let setup = setup.into_setup();
         let opening = opening_of(&setup.config);
-        let Ok(controller) = Controller::new_with(alloc, setup) else {
+        let Ok(controller) = Controller::new(alloc, setup) else {
             return Err((NoMemory, log));
         };
         Ok(Session {
@@ -112,6 +104,29 @@ impl Session {
         }
     }
 
+    /// Accepts a client's work, as [`Controller::accept`] does. Each refusal except LogFull is an entry.
+    /// Err: LogFull, or else the first other fault that applies; nothing changes but the log, and the work is returned.
+    pub fn accept(&mut self, client: ClientId, work: Work) -> Result<u64, (WorkFault, Work)>
+        ensures adds { GrowsBy self.old (WorkLogs self.old client work (number_or_fault result)) self.new }
+        ensures returned { IfErr result (λ e. e.1 ≡ work) }
+        ensures legal { Legal self.new.opening self.new.entries }
+    {
+        if self.is_full() {
+            return Err((WorkFault::LogFull, work));
+        }
+        let copy = work.copied();
+        match self.controller.accept(client, work) {
+            Ok(number) => {
+                self.log.append(copy.accepted(client, number));
+                Ok(number)
+            }
+            Err((fault, work)) => {
+                self.log.append(copy.refused(client, fault));
+                Err((fault, work))
+            }
+        }
+    }
+
     /// Accepts a client's request, as [`Controller::submit`] does. Each refusal except LogFull is an entry.
     /// Err: LogFull, or else the first other fault that applies; nothing changes but the log, and the request is
     /// returned.
@@ -123,27 +138,9 @@ impl Session {
         ensures adds { GrowsBy self.old (SubmitLogs self.old client request result) self.new }
         ensures legal { Legal self.new.opening self.new.entries }
     {
-        if self.is_full() {
-            return Err((SubmitFault::LogFull, request));
-        }
-        let copy = request.copied();
-        match self.controller.submit(client, request) {
-            Ok(number) => {
-                self.log.append(Entry::Accept {
-                    client,
-                    number,
-                    request: copy,
-                });
-                Ok(number)
-            }
-            Err((fault, request)) => {
-                self.log.append(Entry::Refuse {
-                    client: Some(client),
-                    call: Call::Submit(copy),
-                    cause: Cause(fault.number()),
-                });
-                Err((fault, request))
-            }
+        match self.accept(client, Work::Submit(request)) {
+            Ok(number) => Ok(number),
+            Err((fault, work)) => Err((fault, work.into_request())),
         }
     }
 
@@ -153,26 +150,9 @@ impl Session {
         ensures adds { GrowsBy self.old (DiscoverLogs self.old client kind result) self.new }
         ensures legal { Legal self.new.opening self.new.entries }
     {
-        if self.is_full() {
-            return Err(AskFault::LogFull);
-        }
-        match self.controller.discover(client, kind) {
-            Ok(number) => {
-                self.log.append(Entry::Ask {
-                    client,
-                    number,
-                    kind,
-                });
-                Ok(number)
-            }
-            Err(fault) => {
-                self.log.append(Entry::Refuse {
-                    client: Some(client),
-                    call: Call::Discover(kind),
-                    cause: Cause(fault.number()),
-                });
-                Err(fault)
-            }
+        match self.accept(client, Work::Discover(kind)) {
+            Ok(number) => Ok(number),
+            Err((fault, _)) => Err(fault),
         }
     }
 

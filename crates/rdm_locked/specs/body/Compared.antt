@@ -6,7 +6,8 @@ use Rattle.rdm_log.specs.declared.page.Page.{Page}
 use Rattle.rdm_log.specs.log.Entries.{cames}
 use Rattle.rdm_log.specs.log.LogState.{LogState, stored}
 use Rattle.rdm_locked.specs.declared.exchange.Exchange.{Exchange}
-use Rattle.rdm_locked.specs.Pages.{entries_of, Numbered}
+use Rattle.rdm_log.specs.log.Pages.{entries_of}
+use Rattle.rdm_locked.specs.Pages.{Numbered}
 use Rattle.rdm_locked.specs.body.Frames.{frames_in}
 
 -- a frame whose reply is awaited, as a list

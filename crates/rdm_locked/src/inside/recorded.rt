@@ -12,7 +12,8 @@ ghost use Rattle.rdm_log.specs.promises.Promised.{Promised};
 ghost use Rattle.rdm_locked.specs.Calls.{count_calls};
 ghost use Rattle.rdm_locked.specs.Exchanges.{recorded};
 ghost use Rattle.rdm_locked.specs.Openings.{MayOpen, IsOpened};
-ghost use Rattle.rdm_locked.specs.Pages.{entries_of, Numbered};
+ghost use Rattle.rdm_log.specs.log.Pages.{entries_of};
+ghost use Rattle.rdm_locked.specs.Pages.{Numbered};
 ghost use Rattle.rdm_locked.specs.Recorded.{ring_of, exchanges_of, pages_of};
 
 use crate::fault::{DrainFault, FinishFault};
@@ -20,12 +21,13 @@ use crate::inside::{Inside, SessionEnd};
 use crate::pages::{PageEnds, PageRing};
 use crate::record::Record;
 use crate::share::CallShare;
-use rdm_queue::{Entry, Log, LogFull, NoMemory, Page, Setup};
+use rdm_log::{Entry, Log, LogFull, Page, Setup};
+use rdm_wire::NoMemory;
 use std::alloc::Global;
 use std::sync::ledger::{Blank, Ledger};
 
 impl<L: Ledger, J: PageRing> Inside<L, J> {
-    // A session as `new_with` opens, whose pages go to a record.
+    // A session as `new` opens, whose pages go to a record.
     pub(crate) fn new_recorded(
         alloc: Global,
         blank: Blank,

@@ -5,7 +5,8 @@ use Rattle.rdm_log.proofs.Common.{EachAfter, Kind, AgentFault, ClientId, Opening
 use Rattle.rdm_log.proofs.Common.{Answered, asked_of, answered_of, joins, asks, answers, next_client, unanswered}
 use Rattle.rdm_log.proofs.Common.{MayAnswer, MayFollow}
 use Rattle.rdm_log.proofs.LogLemmas.PushLemmas.{joins-append, asks_same, asks_more, answered_same, answered_more}
-use Rattle.rdm_log.proofs.LogLemmas.RefusalLemmas.{ask_passes}
+use Rattle.rdm_log.specs.declared.work.Work.TheVariants as works
+use Rattle.rdm_log.proofs.LogLemmas.RefusalLemmas.{work_passes}
 use Rattle.rdm_log.proofs.LogLemmas.LegalFacts.{along}
 use Rattle.rdm_log.proofs.LogLemmas.Indices.{slice_get-drop, each_index_push}
 
@@ -69,7 +70,7 @@ facts_ask o h c n kind facts may = record {
   askers = rw more
       (each_index_push (λ i b. b.client < next_client o (h ++ e ∷ [])) (asks h) a
       (λ i b at. omega (arith, facts.askers i b at, more_clients o h e))
-      (omega (arith, (ask_passes o h c.0 may.1).known, more_clients o h e)));
+      (omega (arith, (work_passes o h c.0 (works.Discover kind) may.1).known, more_clients o h e)));
 }
   where
     e : Entry

@@ -21,7 +21,8 @@ use Rattle.rdm_log.proofs.LogLemmas.RunLemmas.{SameRuns, same_runs, same_runs_se
 use Rattle.rdm_log.proofs.LogLemmas.RunLemmas.{entries_before_run_stays, served_same, served_stays, run_exchanges_sent}
 use Rattle.rdm_log.proofs.LogLemmas.RunLemmas.{no_exchanges}
 use Rattle.rdm_log.proofs.LogLemmas.RunFacts.{RunFacts, run_facts, open_is, after_begin, opened_by}
-use Rattle.rdm_log.proofs.LogLemmas.RefusalLemmas.{submit_passes, ask_passes}
+use Rattle.rdm_log.specs.declared.work.Work.TheVariants as works
+use Rattle.rdm_log.proofs.LogLemmas.RefusalLemmas.{work_passes}
 use Rattle.rdm_log.proofs.LogLemmas.LegalFacts.{sent_evenly, LogFacts, legal_facts, unaccepted_unsent}
 
 -- nothing is due: each unfinished request's result is open
@@ -157,7 +158,7 @@ pub accept_keeps : (o : Opening) (h : List Entry) (c : ClientId) (n : ℕ) (requ
     → submit_fault o h c.0 ≡ None → n ≡ next_request o h → Legal o (h ++ Accept c n request ∷ [])
 accept_keeps o h c n request legal passes next = record {
   each = pushed o h e legal.each (legal.settled, passes, next);
-  settled = settled_open o k (is_closed-push o h e ∙ (submit_passes o h c.0 passes).not_closed)
+  settled = settled_open o k (is_closed-push o h e ∙ (work_passes o h c.0 (works.Submit request) passes).not_closed)
       (runs_settled o h k (same_runs h e refl refl refl) legal.settled)
       (rw later (each_index_push (λ i b. result b.number k ≡ None) (unfinished h) a
       (λ i b at. same b.number ∙ due_at o h legal.settled i b at)
@@ -187,7 +188,8 @@ pub ask_keeps : (o : Opening) (h : List Entry) (c : ClientId) (n : ℕ) (kind : 
     → ask_fault o h c.0 ≡ None → n ≡ next_ask o h → Legal o (h ++ Ask c n kind ∷ [])
 ask_keeps o h c n kind legal passes next = record {
   each = pushed o h e legal.each (legal.settled, passes, next);
-  settled = settled_open o (h ++ e ∷ []) (is_closed-push o h e ∙ (ask_passes o h c.0 passes).not_closed)
+  settled = settled_open o (h ++ e ∷ [])
+      (is_closed-push o h e ∙ (work_passes o h c.0 (works.Discover kind) passes).not_closed)
       (runs_settled o h (h ++ e ∷ []) (same_runs h e refl refl refl) legal.settled)
       (rw (accepts_same h e refl, finishes_same h e refl)
       (λ i a at. result_same h (h ++ e ∷ []) a.number (sends_same h e refl) (cames_same h e refl)

@@ -14,7 +14,8 @@ use Rattle.rdm_log.proofs.LogLemmas.PushLemmas.{unfinished_accept, SameRequests,
 use Rattle.rdm_log.proofs.LogLemmas.PushLemmas.{accepts_same, sends_more, sends_same, cames_more, cames_same}
 use Rattle.rdm_log.proofs.LogLemmas.PushLemmas.{finishes_more, finishes_same, awaited-push}
 use Rattle.rdm_log.proofs.LogLemmas.ExchangeLemmas.{IsUnanswered, result_same, result_sent, result_unsent}
-use Rattle.rdm_log.proofs.LogLemmas.RefusalLemmas.{submit_passes}
+use Rattle.rdm_log.specs.declared.work.Work.TheVariants as works
+use Rattle.rdm_log.proofs.LogLemmas.RefusalLemmas.{work_passes}
 use Rattle.rdm_log.proofs.LogLemmas.Indices.{slice_get-append_left, slice_get-drop, slice_get-push, IsPushed, all_at}
 use Rattle.rdm_log.proofs.LogLemmas.Indices.{each_index_push}
 
@@ -191,7 +192,7 @@ facts_accept o h c n request facts may = record {
   clients = rw more
       (each_index_push (λ i b. b.client < next_client o k) (accepts h) a
       (λ i b at. omega (arith, facts.clients i b at, more_clients o h e))
-      (omega (arith, (submit_passes o h c.0 may.1).known, more_clients o h e)));
+      (omega (arith, (work_passes o h c.0 (works.Submit request) may.1).known, more_clients o h e)));
 }
   where
     e : Entry

@@ -1,9 +1,10 @@
 -- What holds if a call isn't refused.
-use Rattle.rdm_log.proofs.Common.{◌≡◌, ℕ, ◌+◌, ◌-◌, ◌^◌, ◌<◌, ◌≤◌, Bool, true, false, Option, Some, None, if◌then◌else◌}
-use Rattle.rdm_log.proofs.Common.{slice_index, sum, List, refl, leb-false, or_parts, Opening, Entry, is_closed, places}
-use Rattle.rdm_log.proofs.Common.{next_client, next_request, next_ask, outstanding_requests, outstanding_discoveries}
-use Rattle.rdm_log.proofs.Common.{join_fault, submit_fault, ask_fault}
+use Rattle.rdm_log.proofs.Common.{◌≡◌, ℕ, ◌+◌, ◌<◌, ◌≤◌, Bool, true, false, Option, Some, None, if◌then◌else◌, length}
+use Rattle.rdm_log.proofs.Common.{sum, List, refl, nat_le, leb-false, lt-leb, Opening, Entry, Work, is_closed, places}
+use Rattle.rdm_log.proofs.Common.{next_client, join_fault, work_fault, work_fault_at}
 use Rattle.std.proofs.lemmas.Bool.{ltb-false}
+use Rattle.rdm_log.specs.declared.fault.WorkFault.TheVariants.{Closed, UnknownClient, Full}
+use Rattle.rdm_log.specs.declared.work.Work.TheVariants.{Submit, Discover}
 
 -- of faults in order, none applies
 pub none_stands : {X : Type 0} (b : Bool) (fault : X) (later : Option X) → (if b then Some fault else later) ≡ None
@@ -24,42 +25,40 @@ join_passes o h n e =
     let c = none_stands _ _ _ b.1 in
     record { not_closed = a.0; few_clients = leb-false _ _ b.0; fits = ltb-false _ _ c.0 }
 
--- what no fault of a submit says
-pub record SubmitPasses (o : Opening) (h : List Entry) (c : ℕ) : Type 0 where
-  pub not_closed : is_closed o h ≡ false
-  pub known : c < next_client o h
-  pub has_place : outstanding_requests o c h < slice_index (places o h) c
-  pub has_number : next_request o h < 2 ^ 64 - 1
-
-pub submit_passes : (o : Opening) (h : List Entry) (c : ℕ) → submit_fault o h c ≡ None → SubmitPasses o h c
-submit_passes o h c e =
+-- a client's work is refused for neither, or only for the third, of the three faults
+pub none_at : (closed : Bool) (ps : List ℕ) (full : Bool) (c : ℕ) → work_fault_at closed ps full c ≡ None
+    → (closed ≡ false) × (c < length ps) × (full ≡ false)
+none_at closed ps full c e =
     let a = none_stands _ _ _ e in
     let b = none_stands _ _ _ a.1 in
     let d = none_stands _ _ _ b.1 in
-    let f = or_parts _ _ d.0 in
-    record {
-      not_closed = a.0;
-      known = leb-false _ _ b.0;
-      has_place = leb-false _ _ f.0;
-      has_number = leb-false _ _ f.1;
-    }
+    (a.0, leb-false _ _ b.0, d.0)
 
--- what no fault of a discover says
-pub record AskPasses (o : Opening) (h : List Entry) (c : ℕ) : Type 0 where
+pub full_at : (closed : Bool) (ps : List ℕ) (full : Bool) (c : ℕ) → work_fault_at closed ps full c ≡ Some Full
+    → (closed ≡ false) × (c < length ps) × (full ≡ true)
+full_at closed ps full c e = let tests = third closed (nat_le (length ps) c) full e in
+    (tests.0, leb-false _ _ tests.1, tests.2)
+  where
+    third : (closed unknown full : Bool)
+        → (if closed then Some Closed else (if unknown then Some UnknownClient else (if full then Some Full else None)))
+        ≡ Some Full → (closed ≡ false) × (unknown ≡ false) × (full ≡ true)
+    third true unknown full e = cc
+    third false true full e = cc
+    third false false true e = (refl, refl, refl)
+    third false false false e = cc
+
+pub at_full : (closed : Bool) (ps : List ℕ) (full : Bool) (c : ℕ) → closed ≡ false → c < length ps → full ≡ true
+    → work_fault_at closed ps full c ≡ Some Full
+at_full closed ps full c open_ known is = rw (open_, lt-leb (length ps) c known, is) refl
+
+-- what no fault of a client's work says
+pub record WorkPasses (o : Opening) (h : List Entry) (c : ℕ) : Type 0 where
   pub not_closed : is_closed o h ≡ false
   pub known : c < next_client o h
-  pub has_place : outstanding_discoveries o c h < 4
-  pub has_number : next_ask o h < 2 ^ 64 - 2
 
-pub ask_passes : (o : Opening) (h : List Entry) (c : ℕ) → ask_fault o h c ≡ None → AskPasses o h c
-ask_passes o h c e =
-    let a = none_stands _ _ _ e in
-    let b = none_stands _ _ _ a.1 in
-    let d = none_stands _ _ _ b.1 in
-    let f = or_parts _ _ d.0 in
-    record {
-      not_closed = a.0;
-      known = leb-false _ _ b.0;
-      has_place = leb-false _ _ f.0;
-      has_number = leb-false _ _ f.1;
-    }
+pub work_passes : (o : Opening) (h : List Entry) (c : ℕ) (work : Work) → work_fault o h c work ≡ None
+    → WorkPasses o h c
+work_passes o h c (Submit request) e =
+    let tests = none_at (is_closed o h) (places o h) _ c e in record { not_closed = tests.0; known = tests.1 }
+work_passes o h c (Discover kind) e =
+    let tests = none_at (is_closed o h) (places o h) _ c e in record { not_closed = tests.0; known = tests.1 }

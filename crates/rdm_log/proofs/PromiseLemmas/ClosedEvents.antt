@@ -1,16 +1,18 @@
 -- Events after a close start nothing.
 use Rattle.rdm_log.proofs.Common.{◌≡◌, ℕ, zero, suc, ◌<◌, Bool, true, false, List, [], ◌∷◌, ◌++◌, Some, None, slice_get}
-use Rattle.rdm_log.proofs.Common.{refl, sym, ◌∙◌, append_assoc, append-nil, arith, Ok, Err, false≢true, none-some}
-use Rattle.rdm_log.proofs.Common.{same_Some, Request, Kind, ClientId, Owner, Opening, Entry, Close, Event, is_closed}
-use Rattle.rdm_log.proofs.Common.{MaySend, LogState, CloseAddsWhere, Adds, IsAnswered, Explains}
+use Rattle.rdm_log.proofs.Common.{refl, sym, ap, ◌∙◌, append_assoc, append-nil, arith, Result, Ok, Err, false≢true}
+use Rattle.rdm_log.proofs.Common.{none-some, same_Some, ClientId, Owner, Opening, Entry, Close, Event, Work, WorkFault}
+use Rattle.rdm_log.proofs.Common.{is_closed, MaySend, LogState, WorkLogs, CloseAddsWhere, brings, answer_to, Adds}
+use Rattle.rdm_log.proofs.Common.{IsAnswered, Explains}
 use Rattle.rdm_log.specs.declared.entry.Owner.TheVariants as owners
 use Rattle.rdm_log.specs.declared.event.Event.TheVariants as events
 use Rattle.rdm_log.specs.declared.event.Answer.{Answer}
 use Rattle.rdm_log.specs.declared.event.Answer.TheVariants as answers
-use Rattle.rdm_log.proofs.PromiseLemmas.BlockLemmas.{join_ok, submit_ok, discover_ok}
+use Rattle.rdm_log.specs.declared.work.Work.TheVariants as works
+use Rattle.rdm_log.proofs.PromiseLemmas.BlockLemmas.{join_ok, work_ok, work_adds, work_answer}
 use Rattle.rdm_log.specs.promises.EventsHeadline.{starts}
 use Rattle.rdm_log.proofs.LogLemmas.PushLemmas.{is_closed-push}
-use Rattle.rdm_log.proofs.LogLemmas.RefusalLemmas.{join_passes, submit_passes, ask_passes}
+use Rattle.rdm_log.proofs.LogLemmas.RefusalLemmas.{join_passes, work_passes}
 use Rattle.rdm_log.proofs.PromiseLemmas.NothingAfterClose.{closed_more}
 use Rattle.rdm_log.proofs.PromiseLemmas.ExplainsLemmas.{explained_grows}
 
@@ -59,21 +61,21 @@ silent_join k n (answers.Join (Ok c)) block closed adds =
 silent_join k n (answers.Join (Err fault)) block closed adds = refl
 silent_join k n _ block closed adds = absurd adds
 
-silent_submit : (k : LogState) (c : ClientId) (request : Request) (r : Answer) (block : List Entry)
-    → is_closed k.opening k.entries ≡ true → Adds k (events.Submit c request) r block → starts r ≡ false
-silent_submit k c request (answers.Submit (Ok n)) block closed adds =
-    let passes = submit_passes k.opening k.entries c.0 (submit_ok k c request n block adds).0 in
-    absurd (false≢true (sym passes.not_closed ∙ closed))
-silent_submit k c request (answers.Submit (Err e)) block closed adds = refl
-silent_submit k c request _ block closed adds = absurd adds
+silent_work : (k : LogState) (c : ClientId) (work : Work) (r : Answer) (block : List Entry)
+    → is_closed k.opening k.entries ≡ true → Adds k (brings c work) r block → starts r ≡ false
+silent_work k c work r block closed adds =
+    let is = work_answer k c work r block adds in
+    ap starts is.1 ∙ by_result is.0 (work_adds k c work is.0 block (rw is.1 at adds))
+  where
+    refused : (w : Work) (fault : WorkFault) → starts (answer_to w (Err fault)) ≡ false
+    refused (works.Submit request) fault = refl
+    refused (works.Discover kind) fault = refl
 
-silent_discover : (k : LogState) (c : ClientId) (kind : Kind) (r : Answer) (block : List Entry)
-    → is_closed k.opening k.entries ≡ true → Adds k (events.Discover c kind) r block → starts r ≡ false
-silent_discover k c kind (answers.Discover (Ok n)) block closed adds =
-    let passes = ask_passes k.opening k.entries c.0 (discover_ok k c kind n block adds).0 in
-    absurd (false≢true (sym passes.not_closed ∙ closed))
-silent_discover k c kind (answers.Discover (Err fault)) block closed adds = refl
-silent_discover k c kind _ block closed adds = absurd adds
+    by_result : (x : Result ℕ WorkFault) → WorkLogs k c work x block → starts (answer_to work x) ≡ false
+    by_result (Ok n) logs =
+        let passes = work_passes k.opening k.entries c.0 work (work_ok k c work n block logs).0 in
+        absurd (false≢true (sym passes.not_closed ∙ closed))
+    by_result (Err fault) logs = refused work fault
 
 silent_take : (k : LogState) (r : Answer) (block : List Entry) → is_closed k.opening k.entries ≡ true
     → Adds k events.Take r block → starts r ≡ false
@@ -89,8 +91,8 @@ silent_take k _ block closed adds = absurd adds
 silent : (k : LogState) (e : Event) (r : Answer) (block : List Entry) → is_closed k.opening k.entries ≡ true
     → Adds k e r block → starts r ≡ false
 silent k (events.Join n) r block closed adds = silent_join k n r block closed adds
-silent k (events.Submit c request) r block closed adds = silent_submit k c request r block closed adds
-silent k (events.Discover c kind) r block closed adds = silent_discover k c kind r block closed adds
+silent k (events.Submit c request) r block closed adds = silent_work k c (works.Submit request) r block closed adds
+silent k (events.Discover c kind) r block closed adds = silent_work k c (works.Discover kind) r block closed adds
 silent k events.Take r block closed adds = silent_take k r block closed adds
 silent k events.Pause (answers.Pause r) block closed adds = refl
 silent k events.Resume (answers.Resume r) block closed adds = refl

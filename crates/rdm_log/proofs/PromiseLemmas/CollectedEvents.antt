@@ -7,14 +7,14 @@ use Rattle.rdm_log.proofs.Common.{filter_map-append, same_Some, EachAfter, Clien
 use Rattle.rdm_log.proofs.Common.{Collect, Pause, Resume, Close, Outcome, Event, collector_of, collectors, is_closed}
 use Rattle.rdm_log.proofs.Common.{can_pause, can_resume, answers_to, collects_by, collected, uncollected, MayFollow}
 use Rattle.rdm_log.proofs.Common.{OutcomeValue, outcome_value, outcome_of, unboxed, LogState, grown, join_refused}
-use Rattle.rdm_log.proofs.Common.{submit_refused, ask_refused, is_result, IsWithResults, IsOldest, SwitchAdds}
+use Rattle.rdm_log.proofs.Common.{is_result, IsWithResults, IsOldest, SwitchAdds}
 use Rattle.rdm_log.proofs.Common.{CloseAddsWhere, Adds, IsAnswered, Explains}
 use Rattle.rdm_log.specs.declared.entry.Entry.TheVariants as discovery
 use Rattle.rdm_log.specs.declared.event.Event.TheVariants as events
 use Rattle.rdm_log.specs.declared.event.Answer.{Answer}
 use Rattle.rdm_log.specs.declared.event.Answer.TheVariants as answers
-use Rattle.rdm_log.proofs.PromiseLemmas.BlockLemmas.{join_ok, submit_ok, discover_ok, join_refusal, submit_refusal}
-use Rattle.rdm_log.proofs.PromiseLemmas.BlockLemmas.{discover_refusal}
+use Rattle.rdm_log.specs.declared.work.Work.TheVariants as works
+use Rattle.rdm_log.proofs.PromiseLemmas.BlockLemmas.{join_ok, join_refusal, work_block}
 use Rattle.rdm_log.specs.promises.EventsHeadline.{outcome_given, given_to, collected_outcomes}
 use Rattle.rdm_log.proofs.LogLemmas.Grows.{front}
 use Rattle.rdm_log.proofs.LogLemmas.PushLemmas.{collectors_more}
@@ -114,20 +114,14 @@ gave k (events.Join n) (answers.Join (Err fault)) block adds = inl (record {
   none = none_or_one (join_refused n fault) block refl (join_refusal k n fault block adds);
   nothing = λ d. refl;
 })
-gave k (events.Submit c request) (answers.Submit (Ok n)) block adds = inl (record {
-  none = rw (submit_ok k c request n block adds).2 (refl, tt);
+gave k (events.Submit c request) r block adds = inl (record {
+  none = work_block (λ l. NoCollects l) k c (works.Submit request) r block tt (λ n. (refl, tt)) (λ fault. (refl, tt))
+      adds;
   nothing = λ d. refl;
 })
-gave k (events.Submit c request) (answers.Submit (Err e)) block adds = inl (record {
-  none = none_or_one (submit_refused c request e.0) block refl (submit_refusal k c request e block adds);
-  nothing = λ d. refl;
-})
-gave k (events.Discover c kind) (answers.Discover (Ok n)) block adds = inl (record {
-  none = rw (discover_ok k c kind n block adds).2 (refl, tt);
-  nothing = λ d. refl;
-})
-gave k (events.Discover c kind) (answers.Discover (Err fault)) block adds = inl (record {
-  none = none_or_one (ask_refused c kind fault) block refl (discover_refusal k c kind fault block adds);
+gave k (events.Discover c kind) r block adds = inl (record {
+  none = work_block (λ l. NoCollects l) k c (works.Discover kind) r block tt (λ n. (refl, tt)) (λ fault. (refl, tt))
+      adds;
   nothing = λ d. refl;
 })
 gave k events.Pause (answers.Pause (Ok x)) block adds = inl (record {

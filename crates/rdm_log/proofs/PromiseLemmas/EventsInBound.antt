@@ -3,7 +3,7 @@ use Rattle.rdm_log.proofs.Common.{◌≡◌, ℕ, zero, suc, Bool, true, false, 
 use Rattle.rdm_log.proofs.Common.{◌∙◌, append_assoc, append-nil, inl, inr, ◌⊎◌, ◌≢◌, Ok, Err, append_cancel_left}
 use Rattle.rdm_log.proofs.Common.{EachAfter, AgentFault, Entry, Pause, Resume, Close, Event, is_closed, can_pause}
 use Rattle.rdm_log.proofs.Common.{can_resume, has_begun, MayAnswer, MayFollow, LogState, grown, with_entries}
-use Rattle.rdm_log.proofs.Common.{join_refused, submit_refused, ask_refused, SwitchAdds, CloseAddsWhere, IsCalmRun}
+use Rattle.rdm_log.proofs.Common.{join_refused, SwitchAdds, CloseAddsWhere, IsCalmRun}
 use Rattle.rdm_log.proofs.Common.{FaultNeedsClose, AnswersInBound, Adds, Explains}
 use Rattle.rdm_log.specs.declared.entry.Entry.TheVariants as discovery
 use Rattle.rdm_log.specs.declared.event.Event.TheVariants as events
@@ -15,8 +15,8 @@ use Rattle.rdm_log.proofs.LogLemmas.PushLemmas.{is_closed-push}
 use Rattle.rdm_log.proofs.LogLemmas.RunLemmas.{entries_before_run_stays, served_stays}
 use Rattle.rdm_log.proofs.PromiseLemmas.NothingAfterClose.{closed_more}
 use Rattle.rdm_log.proofs.PromiseLemmas.RunsAnswer.{named_begun, ended}
-use Rattle.rdm_log.proofs.PromiseLemmas.BlockLemmas.{join_ok, submit_ok, discover_ok, join_refusal, submit_refusal}
-use Rattle.rdm_log.proofs.PromiseLemmas.BlockLemmas.{discover_refusal}
+use Rattle.rdm_log.specs.declared.work.Work.TheVariants as works
+use Rattle.rdm_log.proofs.PromiseLemmas.BlockLemmas.{join_ok, join_refusal, work_block}
 use Rattle.rdm_log.proofs.PromiseLemmas.ExplainsLemmas.{grown_twice}
 
 -- blocks of one entry that is no Answer, or of none
@@ -54,14 +54,10 @@ pub event_in_bound : (k : LogState) (e : Event) (r : Answer) (block : List Entry
 event_in_bound k (events.Join n) (answers.Join (Ok c)) block adds = rw (join_ok k n c block adds).2 (tt, tt)
 event_in_bound k (events.Join n) (answers.Join (Err fault)) block adds =
     none_or_one k (join_refused n fault) block tt (join_refusal k n fault block adds)
-event_in_bound k (events.Submit c request) (answers.Submit (Ok n)) block adds =
-    rw (submit_ok k c request n block adds).2 (tt, tt)
-event_in_bound k (events.Submit c request) (answers.Submit (Err e)) block adds =
-    none_or_one k (submit_refused c request e.0) block tt (submit_refusal k c request e block adds)
-event_in_bound k (events.Discover c kind) (answers.Discover (Ok n)) block adds =
-    rw (discover_ok k c kind n block adds).2 (tt, tt)
-event_in_bound k (events.Discover c kind) (answers.Discover (Err fault)) block adds =
-    none_or_one k (ask_refused c kind fault) block tt (discover_refusal k c kind fault block adds)
+event_in_bound k (events.Submit c request) r block adds =
+    work_block (AnswersInBound k) k c (works.Submit request) r block tt (λ n. (tt, tt)) (λ fault. (tt, tt)) adds
+event_in_bound k (events.Discover c kind) r block adds =
+    work_block (AnswersInBound k) k c (works.Discover kind) r block tt (λ n. (tt, tt)) (λ fault. (tt, tt)) adds
 event_in_bound k events.Pause (answers.Pause (Ok x)) block adds =
     switch_in_bound k (can_pause k.opening k.entries) Pause block tt adds.1
 event_in_bound k events.Pause (answers.Pause (Err x)) block adds = rw adds.1 tt

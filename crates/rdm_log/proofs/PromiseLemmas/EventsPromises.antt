@@ -1,27 +1,28 @@
 -- What is promised of a list of events.
-use Rattle.rdm_log.proofs.Common.{◌≡◌, ℕ, false, List, [], ◌∷◌, ◌++◌, Option, Some, slice_get, refl, sym, ap, ◌∙◌}
-use Rattle.rdm_log.proofs.Common.{append_assoc, append-nil, Ok, Err, option_map, Contains, none-some, slice_get-get_or}
-use Rattle.rdm_log.proofs.Common.{slice_get-map, same_Some, EachAfter, Request, ClientId, Entry, Accept, NoMemory}
-use Rattle.rdm_log.proofs.Common.{BoxedOutcome, Event, Accepted, accepted_of, accepts, submit_fault, MayFollow, Legal}
-use Rattle.rdm_log.proofs.Common.{LogState, grown, is_full_log, submit_refused, SubmitAdds, discovered, unboxed, Adds}
-use Rattle.rdm_log.proofs.Common.{Explains, IsFull, numbers_accepted, AnsweredAt, IsOwnOutcome, ReportsTheLine}
-use Rattle.rdm_log.specs.declared.entry.Call.TheVariants as calls
-use Rattle.rdm_log.specs.declared.fault.SubmitFault.TheVariants.{Full}
+use Rattle.rdm_log.proofs.Common.{◌≡◌, ℕ, zero, suc, false, List, [], ◌∷◌, ◌++◌, map, filter_map, Option, Some}
+use Rattle.rdm_log.proofs.Common.{slice_get, refl, sym, ap, ◌∙◌, append_assoc, append-nil, Result, Ok, Err, option_map}
+use Rattle.rdm_log.proofs.Common.{Contains, none-some, slice_get-get_or, slice_get-map, same_Some, EachAfter, Request}
+use Rattle.rdm_log.proofs.Common.{Kind, ClientId, Entry, Accept, Ask, NoMemory, BoxedOutcome, Event, Work, WorkFault}
+use Rattle.rdm_log.proofs.Common.{Accepted, AskedDiscovery, accepted_of, asked_of, accepts, asks, work_fault, MayFollow}
+use Rattle.rdm_log.proofs.Common.{Legal, LogState, grown, is_full_log, WorkAdds, WorkLogs, work_accepted, work_refused}
+use Rattle.rdm_log.proofs.Common.{discovered, unboxed, Adds, Explains, numbers_accepted, numbers_asked, AnsweredAt}
+use Rattle.rdm_log.proofs.Common.{brings, answer_to, IsOwnOutcome, ReportsTheLine}
+use Rattle.rdm_log.specs.declared.fault.WorkFault.TheVariants.{Full}
 use Rattle.rdm_log.specs.declared.outcome.AskCompletion.{AskCompletion}
 use Rattle.rdm_log.specs.declared.outcome.Outcome.TheVariants as outcomes
 use Rattle.rdm_log.specs.declared.event.Event.TheVariants as events
 use Rattle.rdm_log.specs.declared.event.Answer.{Answer}
 use Rattle.rdm_log.specs.declared.event.Answer.TheVariants as answers
-use Rattle.rdm_log.specs.promises.EventsHeadline.{FullExactly, refuses_full, RefusesDiscovery, EventsPromised}
+use Rattle.rdm_log.specs.declared.work.Work.TheVariants.{Submit, Discover}
+use Rattle.rdm_log.specs.promises.Blocks.{call_of}
+use Rattle.rdm_log.specs.promises.EventsHeadline.{FullExactly, RefusesDiscovery, EventsPromised}
 use Rattle.rdm_log.proofs.LogLemmas.Indices.{filter_map_has}
 use Rattle.rdm_log.proofs.PromiseLemmas.StableResults.{contains_from_get}
-use Rattle.rdm_log.proofs.PromiseLemmas.OneResult.{one_result}
-use Rattle.rdm_log.proofs.PromiseLemmas.AnsweredInOrder.{one_answer}
-use Rattle.rdm_log.proofs.PromiseLemmas.FullRefuses.{full_is_fault, fault_is_full, refusal_changes_nothing}
+use Rattle.rdm_log.proofs.PromiseLemmas.OneResult.{one_result, one_answer}
+use Rattle.rdm_log.proofs.PromiseLemmas.FullRefuses.{most_is_fault, fault_is_most, refusal_changes_nothing}
 use Rattle.rdm_log.proofs.PromiseLemmas.Promises.{promised}
-use Rattle.rdm_log.proofs.PromiseLemmas.BlockLemmas.{submit_ok, submit_full}
+use Rattle.rdm_log.proofs.PromiseLemmas.BlockLemmas.{work_ok, work_full, work_adds, work_answer}
 use Rattle.rdm_log.proofs.PromiseLemmas.OwnOutcomes.{own_outcome, reports_the_line}
-use Rattle.rdm_log.proofs.PromiseLemmas.DiscoverEvents.{asked, discovery_contained, most, collected_by}
 use Rattle.rdm_log.proofs.PromiseLemmas.CollectedEvents.{collected_once}
 use Rattle.rdm_log.proofs.PromiseLemmas.EventsInBound.{in_bound}
 use Rattle.rdm_log.proofs.PromiseLemmas.ClosedEvents.{closes, nothing_after, nothing_closed}
@@ -30,79 +31,103 @@ use Rattle.rdm_log.proofs.PromiseLemmas.RisingNumbers.{numbers_rise, asks_rise}
 use Rattle.rdm_log.proofs.PromiseLemmas.ExplainsLemmas.{HasBlock, has_block, one_answer_each, explained_grows}
 use Rattle.rdm_log.proofs.PromiseLemmas.ExplainsLemmas.{answered_at, block_contained, block_follows}
 
--- a request that was accepted is in the log
+-- work that was accepted is in the log
 accepted : (old : LogState) (es : List Event) (rs : List Answer) (new : LogState) → Explains old es rs new
-    → (i : ℕ) (c : ClientId) (n : ℕ) (request : Request) → slice_get es i ≡ Some (events.Submit c request)
-    → slice_get rs i ≡ Some (answers.Submit (Ok n)) → Contains new.entries (Accept c n request)
-accepted old es rs new explains i c n request at_e at_r =
-    let at = answered_at old es rs new explains i (events.Submit c request) (answers.Submit (Ok n)) at_e at_r in
-    block_contained new at.before at.here.block (Accept c n request)
-    (has_block old es rs new i (events.Submit c request) (answers.Submit (Ok n)) at)
-    (submit_ok at.before c request n at.here.block at.here.adds).2
+    → (i : ℕ) (c : ClientId) (n : ℕ) (work : Work) → slice_get es i ≡ Some (brings c work)
+    → slice_get rs i ≡ Some (answer_to work (Ok n)) → Contains new.entries (work_accepted c n work)
+accepted old es rs new explains i c n work at_e at_r =
+    let at = answered_at old es rs new explains i (brings c work) (answer_to work (Ok n)) at_e at_r in
+    block_contained new at.before at.here.block (work_accepted c n work)
+    (has_block old es rs new i (brings c work) (answer_to work (Ok n)) at)
+    (work_ok at.before c work n at.here.block (work_adds at.before c work (Ok n) at.here.block at.here.adds)).2
+
+-- and so is its number
+contained : {X : Type 0} (f : Entry → Option X) (number : X → ℕ) (h : List Entry) (e : Entry) (x : X) → f e ≡ Some x
+    → Contains h e → Contains (map number (filter_map f h)) (number x)
+contained f number h e x is has =
+    let found = filter_map_has f h has.0 e x (slice_get-get_or h has.0 e has.1 ∙ ap (λ y. Some y) has.2) is in
+    contains_from_get (map number (filter_map f h)) found.0 (number x)
+    (slice_get-map number (filter_map f h) found.0 ∙ ap (option_map number) found.1)
 
 number_contained : (h : List Entry) (c : ClientId) (n : ℕ) (request : Request) → Contains h (Accept c n request)
     → Contains (numbers_accepted (accepts h)) n
 unfolding accepts
 number_contained h c n request has =
-    let e : Entry = Accept c n request in
-    let a : Accepted = record { client = c.0; number = n; request = request } in
-    let found = filter_map_has accepted_of h has.0 e a
-    (slice_get-get_or h has.0 e has.1 ∙ ap (λ x. Some x) has.2) refl in
-    contains_from_get (numbers_accepted (accepts h)) found.0 n
-    (slice_get-map (λ b. b.number) (accepts h) found.0 ∙ ap (option_map (λ b. b.number)) found.1)
+    contained accepted_of (λ (a : Accepted). a.number) h (Accept c n request)
+    (record { client = c.0; number = n; request = request }) refl has
 
--- a submit if the log isn't full
-full_answered : (k : LogState) (c : ClientId) (request : Request) (answer : Answer) (block : List Entry)
-    → Adds k (events.Submit c request) answer block → is_full_log k ≡ false → answer ≡ refuses_full request
-    → IsFull k.opening k.entries c.0
-full_answered k c request answer block adds room is =
-    full_is_fault k.opening k.entries c.0 (submit_full k c request block (rw is at adds)).0
+discovery_contained : (h : List Entry) (c : ClientId) (n : ℕ) (kind : Kind) → Contains h (Ask c n kind)
+    → Contains (numbers_asked (asks h)) n
+unfolding asks
+discovery_contained h c n kind has =
+    contained asked_of (λ (a : AskedDiscovery). a.number) h (Ask c n kind)
+    (record { client = c.0; number = n; kind = kind }) refl has
 
-answered_full : (k : LogState) (c : ClientId) (request : Request) (answer : Answer) (block : List Entry)
-    → Adds k (events.Submit c request) answer block → is_full_log k ≡ false
-    → submit_fault k.opening k.entries c.0 ≡ Some Full → answer ≡ refuses_full request
-answered_full k c request (answers.Submit (Ok n)) block adds room fault =
-    absurd (none-some Full (sym (submit_ok k c request n block adds).0 ∙ fault))
-answered_full k c request (answers.Submit (Err e)) block adds room fault =
-    let own : SubmitAdds k.opening k.entries c request (Err e) block = rw room at adds in
-    rw (own.1, same_Some e.0 Full (sym own.0 ∙ fault)) refl
-answered_full k c request _ block adds room fault = absurd adds
+-- work if the log isn't full
+refused_full : (k : LogState) (c : ClientId) (work : Work) (answer : Answer) (block : List Entry)
+    → Adds k (brings c work) answer block → answer ≡ answer_to work (Err Full)
+    → WorkAdds k.opening k.entries c work (Err Full) block
+refused_full k c work answer block adds is =
+    work_full k c work block (work_adds k c work (Err Full) block (rw is at adds))
 
-refused_block : (k : LogState) (c : ClientId) (request : Request) (answer : Answer) (block : List Entry)
-    → Adds k (events.Submit c request) answer block → answer ≡ refuses_full request
-    → block ≡ submit_refused c request Full ∷ []
-refused_block k c request answer block adds is = (submit_full k c request block (rw is at adds)).2
+answered_full : (k : LogState) (c : ClientId) (work : Work) (answer : Answer) (block : List Entry)
+    → Adds k (brings c work) answer block → is_full_log k ≡ false → work_fault k.opening k.entries c.0 work ≡ Some Full
+    → answer ≡ answer_to work (Err Full)
+answered_full k c work answer block adds room fault =
+    let is = work_answer k c work answer block adds in
+    let logs : WorkLogs k c work is.0 block = work_adds k c work is.0 block (rw is.1 at adds) in
+    is.1 ∙ ap (answer_to work) (by_result is.0 (rw room at logs))
+  where
+    by_result : (r : Result ℕ WorkFault) → WorkAdds k.opening k.entries c work r block → r ≡ Err Full
+    by_result (Ok n) added = absurd (none-some Full (sym added.0 ∙ fault))
+    by_result (Err e) added = rw (same_Some e Full (sym added.0 ∙ fault)) refl
 
 full : (old : LogState) (es : List Event) (rs : List Answer) (new : LogState) → Explains old es rs new
-    → Legal new.opening new.entries → (i : ℕ) (c : ClientId) (request : Request) (answer : Answer)
-    → slice_get es i ≡ Some (events.Submit c request) → slice_get rs i ≡ Some answer
-    → FullExactly old es rs new i c request answer
-full old es rs new explains legal i c request answer at_e at_r = record {
+    → Legal new.opening new.entries → (i : ℕ) (c : ClientId) (work : Work) (answer : Answer)
+    → slice_get es i ≡ Some (brings c work) → slice_get rs i ≡ Some answer
+    → FullExactly old es rs new i c work answer
+full old es rs new explains legal i c work answer at_e at_r = record {
   at = at;
   exactly = λ room. (
-    full_answered at.before c request answer at.here.block at.here.adds room,
-    λ is. answered_full at.before c request answer at.here.block at.here.adds room
-        (fault_is_full at.before.opening at.before.entries c.0 is),
+    λ is. most_is_fault at.before.opening at.before.entries c.0 work
+        (refused_full at.before c work answer at.here.block at.here.adds is).0,
+    λ is. answered_full at.before c work answer at.here.block at.here.adds room
+        (fault_is_most at.before.opening at.before.entries c.0 work is),
   );
   refused = refused;
   unchanged = λ is. rw (refused is)
-      (refusal_changes_nothing new.opening at.before.entries (Some c) (calls.Submit request) (record { 0 = 3 })
-      (each is));
+      (refusal_changes_nothing new.opening at.before.entries (Some c) (call_of work) (record { 0 = 3 }) (each is));
 }
   where
-    at : AnsweredAt old es rs new i (events.Submit c request) answer
-    at = answered_at old es rs new explains i (events.Submit c request) answer at_e at_r
+    at : AnsweredAt old es rs new i (brings c work) answer
+    at = answered_at old es rs new explains i (brings c work) answer at_e at_r
 
-    refused : answer ≡ refuses_full request → at.after ≡ grown at.before (submit_refused c request Full ∷ [])
-    refused is =
-        at.here.grows ∙ ap (grown at.before) (refused_block at.before c request answer at.here.block at.here.adds is)
+    block : answer ≡ answer_to work (Err Full) → at.here.block ≡ work_refused c work Full ∷ []
+    block is = (refused_full at.before c work answer at.here.block at.here.adds is).1
 
-    each : answer ≡ refuses_full request
-        → EachAfter (MayFollow new.opening) (at.before.entries ++ submit_refused c request Full ∷ [])
+    refused : answer ≡ answer_to work (Err Full) → at.after ≡ grown at.before (work_refused c work Full ∷ [])
+    refused is = at.here.grows ∙ ap (grown at.before) (block is)
+
+    each : answer ≡ answer_to work (Err Full)
+        → EachAfter (MayFollow new.opening) (at.before.entries ++ work_refused c work Full ∷ [])
     each is =
-        block_follows new at.before at.here.block (submit_refused c request Full ∷ [])
-        (has_block old es rs new i (events.Submit c request) answer at)
-        (refused_block at.before c request answer at.here.block at.here.adds is) legal.each
+        block_follows new at.before at.here.block (work_refused c work Full ∷ [])
+        (has_block old es rs new i (brings c work) answer at) (block is) legal.each
+
+-- the answer of a collect is that of the client that collects
+collected_here : (k : LogState) (e : Event) (given : Result (Option BoxedOutcome) NoMemory) (block : List Entry)
+    → Adds k e (answers.Collect given) block → (c : ClientId) × (Some e ≡ Some (events.Collect c))
+collected_here k (events.Collect c) given block adds = (c, refl)
+collected_here k _ given block adds = absurd adds
+
+pub collected_by : (old : LogState) (es : List Event) (rs : List Answer) (new : LogState) → Explains old es rs new
+    → (i : ℕ) (given : Result (Option BoxedOutcome) NoMemory) → slice_get rs i ≡ Some (answers.Collect given)
+    → (c : ClientId) × (slice_get es i ≡ Some (events.Collect c))
+collected_by old es [] new is i given at = absurd (none-some (answers.Collect given) at)
+collected_by old [] (r ∷ rs) new is i given at = absurd is
+collected_by old (e ∷ es) (r ∷ rs) new is zero given at =
+    collected_here old e given is.1.block (rw (same_Some r (answers.Collect given) at) at is.1.adds)
+collected_by old (e ∷ es) (r ∷ rs) new is (suc i) given at = collected_by is.0 es rs new is.2 i given at
 
 collected : (old : LogState) (es : List Event) (rs : List Answer) (new : LogState) → Explains old es rs new
     → Legal new.opening new.entries → (i : ℕ) (c : ClientId) (outcome : BoxedOutcome)
@@ -148,23 +173,22 @@ events_promised old es rs new explains legal = record {
   all_answered = one_answer_each old es rs new explains;
   only_grows = explained_grows old es rs new explains;
   log = promised new.opening new.entries legal;
-  accepted = accepted old es rs new explains;
+  accepted = λ i c n request at_e at_r. accepted old es rs new explains i c n (Submit request) at_e at_r;
   finished = λ i j m c n request event at_e at_r before at_close at_deliver.
       (one_result new.opening new.entries legal).exactly_one (closes old es rs new explains j at_close)
       (idle_after old es rs new explains j m event before at_close at_deliver) n
-      (number_contained new.entries c n request (accepted old es rs new explains i c n request at_e at_r));
-  asked = asked old es rs new explains;
+      (number_contained new.entries c n request (accepted old es rs new explains i c n (Submit request) at_e at_r));
+  asked = λ i c n kind at_e at_r. accepted old es rs new explains i c n (Discover kind) at_e at_r;
   answered = λ i j m c n kind event at_e at_r before at_close at_deliver.
       (one_answer new.opening new.entries legal).exactly_one (closes old es rs new explains j at_close)
       (idle_after old es rs new explains j m event before at_close at_deliver) n
-      (discovery_contained new.entries c n kind (asked old es rs new explains i c n kind at_e at_r));
+      (discovery_contained new.entries c n kind (accepted old es rs new explains i c n (Discover kind) at_e at_r));
   numbers_rise = numbers_rise old es rs new explains;
   asks_rise = asks_rise old es rs new explains;
   closed = closes old es rs new explains;
   nothing_after = nothing_after old es rs new explains;
   nothing_closed = λ closed. nothing_closed old es rs new explains closed;
   full = full old es rs new explains legal;
-  most = most old es rs new explains legal;
   collected = collected old es rs new explains legal;
   reported = reported old es rs new explains legal;
   no_memory = no_memory old es rs new explains;

@@ -1,65 +1,55 @@
 -- A full queue refuses, and changes nothing.
-use Rattle.rdm_log.proofs.Common.{◌≡◌, ℕ, ◌≤◌, Bool, true, false, List, [], ◌∷◌, ◌++◌, Option, Some, None}
-use Rattle.rdm_log.proofs.Common.{if◌then◌else◌, slice_index, refl, sym, ◌∙◌, inl, inr, arith, append_assoc, ◌⊎◌, ◌||◌}
-use Rattle.rdm_log.proofs.Common.{option_map, nat_le, leb-true, leb-false, le-leb, lt-leb, or_cases, or_left, or_right}
-use Rattle.rdm_log.proofs.Common.{same_Some, EachAfter, ClientId, Call, Cause, Opening, Entry, Refuse, Accept}
-use Rattle.rdm_log.proofs.Common.{SubmitFault, is_closed, places, next_client, next_request, outstanding_requests}
-use Rattle.rdm_log.proofs.Common.{submit_fault, MayFollow, Legal, IsFull}
+use Rattle.rdm_log.proofs.Common.{◌≡◌, ℕ, ◌≤◌, true, List, [], ◌∷◌, ◌++◌, Option, Some, None, refl, sym, ◌∙◌, inl, inr}
+use Rattle.rdm_log.proofs.Common.{arith, append_assoc, ◌⊎◌, ◌||◌, option_map, nat_le, leb-true, le-leb, or_cases}
+use Rattle.rdm_log.proofs.Common.{or_left, or_right, none-some, same_Some, EachAfter, ClientId, Call, Cause, Opening}
+use Rattle.rdm_log.proofs.Common.{Entry, Refuse, Accept, Ask, Work, WorkFault, is_closed, places, work_fault}
+use Rattle.rdm_log.proofs.Common.{number_of_work_fault, MayFollow, Legal, HasMost}
 use Rattle.rdm_log.specs.declared.entry.Call.TheVariants as calls
-use Rattle.rdm_log.specs.declared.fault.SubmitFault.TheVariants as faults
-use Rattle.rdm_log.specs.log.Refusals.{number_of_submit_fault}
+use Rattle.rdm_log.specs.declared.fault.WorkFault.TheVariants as faults
+use Rattle.rdm_log.specs.declared.fault.WorkFault.TheVariants.{Full}
+use Rattle.rdm_log.specs.declared.work.Work.TheVariants.{Submit, Discover}
 use Rattle.rdm_log.specs.promises.Headline.{SameQueue, FullRefuses}
+use Rattle.rdm_log.specs.promises.Discoveries.{FullRefusesDiscoveries}
 use Rattle.rdm_log.proofs.LogLemmas.Grows.{front}
 use Rattle.rdm_log.proofs.LogLemmas.PushLemmas.{joins_same, accepts_same, asks_same, answered_same, finishes_same}
 use Rattle.rdm_log.proofs.LogLemmas.PushLemmas.{sends_same, cames_same, unfinished_same, awaited-push, is_paused-push}
 use Rattle.rdm_log.proofs.LogLemmas.PushLemmas.{is_closed-push}
 use Rattle.rdm_log.proofs.LogLemmas.ExchangeLemmas.{result_same}
+use Rattle.rdm_log.proofs.LogLemmas.RefusalLemmas.{full_at, at_full}
 use Rattle.rdm_log.proofs.LogLemmas.RunLemmas.{SameRuns, same_runs, last_run_same, asked_before_same, known_same}
 use Rattle.rdm_log.proofs.LogLemmas.ClientSteps.{uncollected_same, outstanding_same, outstanding_discoveries_same}
 
--- of three tests in order the third decides
-first_two_pass : (closed unknown full : Bool)
-    → (if closed then Some faults.Closed else
-    (if unknown then Some faults.UnknownClient else (if full then Some faults.Full else None))) ≡ Some faults.Full
-    → (closed ≡ false) × (unknown ≡ false) × (full ≡ true)
-first_two_pass true unknown full e = cc
-first_two_pass false true full e = cc
-first_two_pass false false true e = (refl, refl, refl)
-first_two_pass false false false e = cc
-
--- a queue is full exactly when that is a submit's first fault
-pub full_is_fault : (o : Opening) (h : List Entry) (c : ℕ) → submit_fault o h c ≡ Some faults.Full → IsFull o h c
-full_is_fault o h c is = record {
-  not_closed = tests.0;
-  known = leb-false (next_client o h) c tests.1;
-  full = by_test (or_cases none_left numbers_out tests.2);
-}
+-- of two bounds one is reached
+reached : (a b m n : ℕ) → (nat_le a b || nat_le m n) ≡ true → (a ≤ b) ⊎ (m ≤ n)
+reached a b m n is = by_test (or_cases (nat_le a b) (nat_le m n) is)
   where
-    none_left : Bool
-    none_left = nat_le (slice_index (places o h) c) (outstanding_requests o c h)
+    by_test : (nat_le a b ≡ true) ⊎ (nat_le m n ≡ true) → (a ≤ b) ⊎ (m ≤ n)
+    by_test (inl first) = inl (leb-true a b first)
+    by_test (inr second) = inr (leb-true m n second)
 
-    numbers_out : Bool
-    numbers_out = nat_le 18446744073709551615 (next_request o h)
+reaches : (a b m n : ℕ) → (a ≤ b) ⊎ (m ≤ n) → (nat_le a b || nat_le m n) ≡ true
+reaches a b m n (inl first) = or_left _ _ (le-leb a b first)
+reaches a b m n (inr second) = or_right _ _ (le-leb m n second)
 
-    tests : (is_closed o h ≡ false) × (nat_le (next_client o h) c ≡ false) × ((none_left || numbers_out) ≡ true)
-    tests = first_two_pass (is_closed o h) (nat_le (next_client o h) c) (none_left || numbers_out) is
+-- a client has as much work as it may exactly when that is its work's first fault
+pub most_is_fault : (o : Opening) (h : List Entry) (c : ℕ) (work : Work) → work_fault o h c work ≡ Some Full
+    → HasMost o h c work
+most_is_fault o h c (Submit request) is =
+    let tests = full_at (is_closed o h) (places o h) _ c is in
+    record { not_closed = tests.0; known = tests.1; full = reached _ _ _ _ tests.2 }
+most_is_fault o h c (Discover kind) is =
+    let tests = full_at (is_closed o h) (places o h) _ c is in
+    record { not_closed = tests.0; known = tests.1; full = reached _ _ _ _ tests.2 }
 
-    by_test : (none_left ≡ true) ⊎ (numbers_out ≡ true) → (slice_index (places o h) c ≤ outstanding_requests o c h)
-        ⊎ (18446744073709551615 ≤ next_request o h)
-    by_test (inl none) = inl (leb-true (slice_index (places o h) c) (outstanding_requests o c h) none)
-    by_test (inr out) = inr (leb-true 18446744073709551615 (next_request o h) out)
+pub fault_is_most : (o : Opening) (h : List Entry) (c : ℕ) (work : Work) → HasMost o h c work
+    → work_fault o h c work ≡ Some Full
+fault_is_most o h c (Submit request) is =
+    at_full (is_closed o h) (places o h) _ c is.not_closed is.known (reaches _ _ _ _ is.full)
+fault_is_most o h c (Discover kind) is =
+    at_full (is_closed o h) (places o h) _ c is.not_closed is.known (reaches _ _ _ _ is.full)
 
-pub fault_is_full : (o : Opening) (h : List Entry) (c : ℕ) → IsFull o h c → submit_fault o h c ≡ Some faults.Full
-fault_is_full o h c is = rw (is.not_closed, lt-leb (next_client o h) c is.known, is_true is.full) refl
-  where
-    is_true : (slice_index (places o h) c ≤ outstanding_requests o c h) ⊎ (18446744073709551615 ≤ next_request o h)
-        → (nat_le (slice_index (places o h) c) (outstanding_requests o c h)
-        || nat_le 0xffffffffffffffff (next_request o h)) ≡ true
-    is_true (inl none) = or_left _ _ (le-leb _ _ none)
-    is_true (inr out) = or_right _ _ (le-leb _ _ out)
-
-third_fault : (fault : Option SubmitFault) (cause : ℕ) → option_map number_of_submit_fault fault ≡ Some cause
-    → cause ≡ 3 → fault ≡ Some faults.Full
+third_fault : (fault : Option WorkFault) (cause : ℕ) → option_map number_of_work_fault fault ≡ Some cause → cause ≡ 3
+    → fault ≡ Some Full
 third_fault None cause is three = cc
 third_fault (Some faults.Closed) cause is three = absurd (omega (arith, same_Some 1 cause is))
 third_fault (Some faults.UnknownClient) cause is three = absurd (omega (arith, same_Some 2 cause is))
@@ -102,17 +92,30 @@ refusal_changes_nothing o h c call cause each = record {
     runs : SameRuns h k
     runs = same_runs h e refl refl refl
 
+full_at_refusal : (o : Opening) (h : List Entry) (c : ℕ) (work : Work) (cause : ℕ)
+    → option_map number_of_work_fault (work_fault o h c work) ≡ Some cause → cause ≡ 3 → HasMost o h c work
+full_at_refusal o h c work cause is three =
+    most_is_fault o h c work (third_fault (work_fault o h c work) cause is three)
+
+not_full_at : (o : Opening) (h : List Entry) (c : ℕ) (work : Work) → work_fault o h c work ≡ None
+    → HasMost o h c work → ⊥
+not_full_at o h c work passes full = absurd (none-some Full (sym passes ∙ fault_is_most o h c work full))
+
 pub full_refuses : (o : Opening) (h : List Entry) → Legal o h → FullRefuses o h
 full_refuses o h legal = record {
-  refused = λ front back c request cause is full. full_is_fault o front c.0
-      (third_fault (submit_fault o front c.0) cause.0
-      (legal.each front back (Refuse (Some c) (calls.Submit request) cause) is).1 full);
-  accepted = λ front back c n request is
-      full. absurd (passed (sym (fault_is_full o front c.0 full) ∙ (legal.each front back (Accept c n request) is).1));
+  refused = λ front back c request cause is full. full_at_refusal o front c.0 (Submit request) cause.0
+      (legal.each front back (Refuse (Some c) (calls.Submit request) cause) is).1 full;
+  accepted = λ front back c n request is full. not_full_at o front c.0 (Submit request)
+      (legal.each front back (Accept c n request) is).1 full;
   unchanged = λ before back c call cause is. refusal_changes_nothing o before c call cause
       (front o (before ++ Refuse c call cause ∷ []) back
       (rw (append_assoc before (Refuse c call cause ∷ []) back, ← is) legal.each));
 }
-  where
-    passed : Some faults.Full ≡ None → ⊥
-    passed e = cc
+
+pub full_refuses_discoveries : (o : Opening) (h : List Entry) → Legal o h → FullRefusesDiscoveries o h
+full_refuses_discoveries o h legal = record {
+  refused = λ front back c kind cause is full. full_at_refusal o front c.0 (Discover kind) cause.0
+      (legal.each front back (Refuse (Some c) (calls.Discover kind) cause) is).1 full;
+  accepted = λ front back c n kind is full. not_full_at o front c.0 (Discover kind)
+      (legal.each front back (Ask c n kind) is).1 full;
+}

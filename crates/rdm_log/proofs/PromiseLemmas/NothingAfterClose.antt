@@ -5,7 +5,8 @@ use Rattle.rdm_log.proofs.Common.{closed_after, is_closed, MayFollow, Legal}
 use Rattle.rdm_log.specs.declared.entry.Owner.TheVariants as owners
 use Rattle.rdm_log.specs.promises.Headline.{NothingStarts, NothingAfterClose}
 use Rattle.rdm_log.proofs.LogLemmas.PushLemmas.{joins-append, accepts-append, asks-append, sends-append, is_closed-push}
-use Rattle.rdm_log.proofs.LogLemmas.RefusalLemmas.{join_passes, submit_passes, ask_passes}
+use Rattle.rdm_log.specs.declared.work.Work.TheVariants as works
+use Rattle.rdm_log.proofs.LogLemmas.RefusalLemmas.{join_passes, work_passes}
 
 stays_closed : (e : Entry) → closed_after true e ≡ true
 stays_closed Close = refl
@@ -28,8 +29,9 @@ one_after : (o : Opening) (h : List Entry) (e : Entry) → is_closed o h ≡ tru
 unfolding joins accepts asks sends
 one_after o h (Join c n) closed may = absurd (false≢true (sym (join_passes o h n may.1).not_closed ∙ closed))
 one_after o h (Accept c n request) closed may =
-    absurd (false≢true (sym (submit_passes o h c.0 may.1).not_closed ∙ closed))
-one_after o h (Ask c n kind) closed may = absurd (false≢true (sym (ask_passes o h c.0 may.1).not_closed ∙ closed))
+    absurd (false≢true (sym (work_passes o h c.0 (works.Submit request) may.1).not_closed ∙ closed))
+one_after o h (Ask c n kind) closed may =
+    absurd (false≢true (sym (work_passes o h c.0 (works.Discover kind) may.1).not_closed ∙ closed))
 one_after o h (Send (owners.Run r) frame) closed may = absurd (false≢true (sym may.1.not_closed ∙ closed))
 one_after o h (Send (owners.Request n) frame) closed may = absurd (false≢true (sym may.1.not_closed ∙ closed))
 one_after o h _ closed may = record { no_client = refl; no_request = refl; no_discovery = refl; no_frame = refl }

@@ -1,19 +1,22 @@
--- Each accepted request has exactly one result.
-use Rattle.rdm_log.proofs.Common.{◌≡◌, ℕ, ◌+◌, ◌-◌, ◌<◌, ◌≤◌, true, false, List, length, sym, ap, ◌∙◌, arith, inl, inr}
-use Rattle.rdm_log.proofs.Common.{length-drop, ◌⊎◌, Contains, range_with_len, cases_lt, Opening, Entry, accepts}
-use Rattle.rdm_log.proofs.Common.{finishes, awaited, is_closed, Legal, numbers_accepted}
+-- Each accepted request has exactly one result, and each discovery exactly one answer.
+use Rattle.rdm_log.proofs.Common.{◌≡◌, ℕ, ◌+◌, ◌-◌, ◌<◌, ◌≤◌, List, [], length, filter, drop, sym, ap, ◌∙◌, arith, inl}
+use Rattle.rdm_log.proofs.Common.{inr, length-drop, ◌⊎◌, ◌==◌, Contains, range_with_len, cases_lt, Opening, Entry}
+use Rattle.rdm_log.proofs.Common.{accepts, asks, finishes, answers, Legal}
 use Rattle.std.proofs.lemmas.List.FromFn.{length-range_with_len, get_or-range_with_len}
-use Rattle.rdm_log.specs.promises.Headline.{result_count, OneResult}
+use Rattle.rdm_log.specs.promises.Headline.{OneResult}
+use Rattle.rdm_log.specs.promises.Discoveries.{OneAnswer}
 use Rattle.rdm_log.proofs.PromiseLemmas.Numbers.{count_outside, count_within}
-use Rattle.rdm_log.proofs.LogLemmas.LegalFacts.{LogFacts, legal_facts}
-use Rattle.rdm_log.proofs.PromiseLemmas.InOrder.{accepted_in_order, finished_in_order}
+use Rattle.rdm_log.proofs.LogLemmas.LegalFacts.{legal_facts}
+use Rattle.rdm_log.proofs.LogLemmas.AskFacts.{ask_facts}
+use Rattle.rdm_log.proofs.PromiseLemmas.InOrder.{accepted_in_order, finished_in_order, asked_in_order}
+use Rattle.rdm_log.proofs.PromiseLemmas.InOrder.{answered_in_order}
 
 -- a number among the first m from a
-pub record IsAmong (a m n : ℕ) : Type 0 where
-  pub from : a ≤ n
-  pub to : n < a + m
+record IsAmong (a m n : ℕ) : Type 0 where
+  from : a ≤ n
+  to : n < a + m
 
-pub among : (a m n : ℕ) → IsAmong a m n ⊎ ((n < a) ⊎ (a + m ≤ n))
+among : (a m n : ℕ) → IsAmong a m n ⊎ ((n < a) ⊎ (a + m ≤ n))
 among a m n = by_tests (cases_lt n a) (cases_lt n (a + m))
   where
     by_tests : (n < a) ⊎ (a ≤ n) → (n < a + m) ⊎ (a + m ≤ n) → IsAmong a m n ⊎ ((n < a) ⊎ (a + m ≤ n))
@@ -21,76 +24,62 @@ among a m n = by_tests (cases_lt n a) (cases_lt n (a + m))
     by_tests (inr from) (inl to) = inl (record { from = from; to = to })
     by_tests (inr from) (inr above) = inr (inr above)
 
-pub contains_range : (a m n : ℕ) → IsAmong a m n → Contains (range_with_len a m) n
-contains_range a m n is = (
-  n - a,
-  omega (arith, length-range_with_len a m, is.from, is.to),
-  get_or-range_with_len a m (n - a) n (omega (arith, is.from, is.to)) ∙ omega (arith, is.from),
-)
+-- how often a number occurs among the first m from a: at most once
+abbrev count : (a m n : ℕ) → ℕ
+count a m n = length (filter (λ k. n == k) (range_with_len a m))
 
-pub range_contains : (a m n : ℕ) → Contains (range_with_len a m) n → IsAmong a m n
-range_contains a m n has =
-    let within : has.0 < m = omega (arith, has.1, length-range_with_len a m) in
-    let is : n ≡ a + has.0 = sym has.2 ∙ get_or-range_with_len a m has.0 n within in
-    record { from = omega arith; to = omega arith }
-
--- a request has one result if its number is among those of the Finishes, or else none
-counted : (o : Opening) (h : List Entry) → LogFacts o h → (n : ℕ) → IsAmong o.next_request (length (finishes h)) n
-    → result_count n h ≡ 1
-counted o h facts n is =
-    rw (finished_in_order o h facts) (count_within n o.next_request (length (finishes h)) is.from is.to)
-
-not_counted : (o : Opening) (h : List Entry) → LogFacts o h → (n : ℕ) → (n < o.next_request)
-    ⊎ (o.next_request + length (finishes h) ≤ n) → result_count n h ≡ 0
-not_counted o h facts n out =
-    rw (finished_in_order o h facts) (count_outside n o.next_request (length (finishes h)) out)
-
-at_most_one : (o : Opening) (h : List Entry) → LogFacts o h → (n : ℕ) → result_count n h ≤ 1
-at_most_one o h facts n = by_index (among o.next_request (length (finishes h)) n)
+at_most_one : (a m n : ℕ) → count a m n ≤ 1
+at_most_one a m n = by_index (among a m n)
   where
-    by_index : IsAmong o.next_request (length (finishes h)) n
-        ⊎ ((n < o.next_request) ⊎ (o.next_request + length (finishes h) ≤ n)) → result_count n h ≤ 1
-    by_index (inl is) = omega (arith, counted o h facts n is)
-    by_index (inr out) = omega (arith, not_counted o h facts n out)
+    by_index : IsAmong a m n ⊎ ((n < a) ⊎ (a + m ≤ n)) → count a m n ≤ 1
+    by_index (inl is) = omega (arith, count_within n a m is.from is.to)
+    by_index (inr out) = omega (arith, count_outside n a m out)
 
-was_accepted : (o : Opening) (h : List Entry) → LogFacts o h → (n : ℕ) → 0 < result_count n h
-    → Contains (numbers_accepted (accepts h)) n
-was_accepted o h facts n some = by_index (among o.next_request (length (finishes h)) n)
+-- if it does, it is among the first l, if these are no fewer
+contained : (a m l n : ℕ) → m ≤ l → 0 < count a m n → Contains (range_with_len a l) n
+contained a m l n within some = by_index (among a m n)
   where
-    by_index : IsAmong o.next_request (length (finishes h)) n
-        ⊎ ((n < o.next_request) ⊎ (o.next_request + length (finishes h) ≤ n))
-        → Contains (numbers_accepted (accepts h)) n
-    by_index (inl is) = rw (accepted_in_order o h facts) (contains_range o.next_request (length (accepts h)) n (record {
-      from = is.from;
-      to = omega (arith, is.to, facts.finished_within);
-    }))
-    by_index (inr out) = absurd (omega (arith, not_counted o h facts n out))
-
-exactly_one : (o : Opening) (h : List Entry) → Legal o h → is_closed o h ≡ true → awaited h ≡ false → (n : ℕ)
-    → Contains (numbers_accepted (accepts h)) n → result_count n h ≡ 1
-exactly_one o h legal closed idle n has = counted o h facts n (record {
-  from = is.from;
-  to = omega (arith, is.to, all);
-})
-  where
-    facts : LogFacts o h
-    facts = legal_facts o h legal.each
-
-    is : IsAmong o.next_request (length (accepts h)) n
-    is = range_contains o.next_request (length (accepts h)) n (rw (accepted_in_order o h facts) at has)
-
-    all : length (accepts h) ≤ length (finishes h)
-    all = omega (
-      arith,
-      length-drop (length (finishes h)) (accepts h),
-      ap length (legal.settled.all_closed closed idle).0,
+    by_index : IsAmong a m n ⊎ ((n < a) ⊎ (a + m ≤ n)) → Contains (range_with_len a l) n
+    by_index (inl is) = (
+      n - a,
+      omega (arith, length-range_with_len a l, is.from, is.to),
+      get_or-range_with_len a l (n - a) n (omega (arith, is.from, is.to)) ∙ omega (arith, is.from),
     )
+    by_index (inr out) = absurd (omega (arith, count_outside n a m out))
+
+-- each of the first l occurs once among the first m, if none is left of them
+once : {X : Type 0} (a m n : ℕ) (xs : List X) → drop m xs ≡ [] → Contains (range_with_len a (length xs)) n
+    → count a m n ≡ 1
+once a m n xs none has =
+    let within : has.0 < length xs = omega (arith, has.1, length-range_with_len a (length xs)) in
+    let is : n ≡ a + has.0 = sym has.2 ∙ get_or-range_with_len a (length xs) has.0 n within in
+    let all : length xs ≤ m = omega (arith, length-drop m xs, ap length none) in
+    count_within n a m (omega arith) (omega arith)
 
 pub one_result : (o : Opening) (h : List Entry) → Legal o h → OneResult o h
 one_result o h legal =
     let facts = legal_facts o h legal.each in
+    let done = length (finishes h) in
     record {
-      at_most_one = at_most_one o h facts;
-      accepted = was_accepted o h facts;
-      exactly_one = exactly_one o h legal;
+      at_most_one = λ n. rw (finished_in_order o h facts) (at_most_one o.next_request done n);
+      accepted = λ n some. rw (accepted_in_order o h facts)
+          (contained o.next_request done (length (accepts h)) n facts.finished_within
+          (rw (finished_in_order o h facts) at some));
+      exactly_one = λ closed idle n has. rw (finished_in_order o h facts)
+          (once o.next_request done n (accepts h) (legal.settled.all_closed closed idle).0
+          (rw (accepted_in_order o h facts) at has));
+    }
+
+pub one_answer : (o : Opening) (h : List Entry) → Legal o h → OneAnswer o h
+one_answer o h legal =
+    let facts = ask_facts o h legal.each in
+    let done = length (answers h) in
+    record {
+      at_most_one = λ n. rw (answered_in_order o h facts) (at_most_one o.next_ask done n);
+      asked = λ n some. rw (asked_in_order o h facts)
+          (contained o.next_ask done (length (asks h)) n facts.answered_within
+          (rw (answered_in_order o h facts) at some));
+      exactly_one = λ closed idle n has. rw (answered_in_order o h facts)
+          (once o.next_ask done n (asks h) (legal.settled.all_closed closed idle).1
+          (rw (asked_in_order o h facts) at has));
     }

@@ -1,18 +1,13 @@
--- A client is answered what it asked for, and refused only if it has as many discoveries as it may.
-use Rattle.rdm_log.proofs.Common.{◌≡◌, ℕ, ◌-◌, ◌≤◌, Bool, true, false, List, [], ◌∷◌, map, Option, Some, None}
-use Rattle.rdm_log.proofs.Common.{slice_get, filter_map, if◌then◌else◌, refl, sym, ap, ◌∙◌, inl, inr, arith, zero, suc}
-use Rattle.rdm_log.proofs.Common.{◌++◌, ◌⊎◌, ◌||◌, option_map, nat_le, ◌==◌, Contains, cons_option, list_any, eq-eqb}
-use Rattle.rdm_log.proofs.Common.{le-leb, leb-false, leb-true, lt-leb, or_cases, or_left, or_right, list_any_at}
-use Rattle.rdm_log.proofs.Common.{EachAfter, get_or_from_slice_get, none-some, same_Some, slice_get-get_or}
-use Rattle.rdm_log.proofs.Common.{slice_get_within, Kind, AgentFault, ClientId, Opening, Entry, Refuse, Ask, Finish}
-use Rattle.rdm_log.proofs.Common.{Answer, AskFault, is_closed, next_client, next_ask, ask_fault, AskedDiscovery}
-use Rattle.rdm_log.proofs.Common.{Answered, asked_of, answered_of, asks, answers, answers_to, outstanding_discoveries}
-use Rattle.rdm_log.proofs.Common.{client_of_discovery, is_answer_to, is_answered, MayFollow, Legal, outcome_of}
-use Rattle.rdm_log.proofs.Common.{completion_of, RequestValue, HasMostDiscoveries}
-use Rattle.rdm_log.specs.declared.entry.Call.TheVariants as calls
-use Rattle.rdm_log.specs.declared.fault.AskFault.TheVariants as faults
-use Rattle.rdm_log.specs.log.Refusals.{number_of_ask_fault}
-use Rattle.rdm_log.specs.promises.Discoveries.{OwnDiscoveries, FullRefusesDiscoveries, DiscoveriesPromised}
+-- A client is answered what it asked for, and all that is promised about discoveries.
+use Rattle.rdm_log.proofs.Common.{◌≡◌, ℕ, ◌-◌, true, List, [], ◌∷◌, map, Option, Some, None, slice_get, filter_map}
+use Rattle.rdm_log.proofs.Common.{refl}
+use Rattle.rdm_log.proofs.Common.{sym, ap, ◌∙◌, inl, inr, arith, zero, suc, ◌++◌, ◌⊎◌, ◌==◌, Contains, cons_option}
+use Rattle.rdm_log.proofs.Common.{list_any, eq-eqb, list_any_at, EachAfter, get_or_from_slice_get, none-some, same_Some}
+use Rattle.rdm_log.proofs.Common.{slice_get-get_or, slice_get_within, Kind, AgentFault, ClientId, Opening, Entry, Ask}
+use Rattle.rdm_log.proofs.Common.{Finish, Answer, AskedDiscovery, Answered, asked_of, answered_of, asks, answers}
+use Rattle.rdm_log.proofs.Common.{answers_to, client_of_discovery, is_answer_to, is_answered, MayFollow, Legal}
+use Rattle.rdm_log.proofs.Common.{outcome_of, completion_of, RequestValue}
+use Rattle.rdm_log.specs.promises.Discoveries.{OwnDiscoveries, DiscoveriesPromised}
 use Rattle.rdm_log.proofs.LogLemmas.AskFacts.{AskFacts, ask_facts}
 use Rattle.rdm_log.proofs.LogLemmas.Indices.{filter_map_has}
 use Rattle.rdm_log.proofs.PromiseLemmas.StableResults.{contains_from_get, IsFinish, IsReply, answer_at, filter_has}
@@ -20,7 +15,9 @@ use Rattle.rdm_log.proofs.PromiseLemmas.StableResults.{client_is}
 use Rattle.rdm_log.proofs.PromiseLemmas.OwnAnswers.{finished_stays}
 use Rattle.rdm_log.proofs.LogLemmas.LegalFacts.{legal_facts}
 use Rattle.rdm_log.proofs.LogLemmas.Grows.{front}
-use Rattle.rdm_log.proofs.PromiseLemmas.AnsweredInOrder.{one_answer, in_order}
+use Rattle.rdm_log.proofs.PromiseLemmas.OneResult.{one_answer}
+use Rattle.rdm_log.proofs.PromiseLemmas.InOrder.{asks_in_order}
+use Rattle.rdm_log.proofs.PromiseLemmas.FullRefuses.{full_refuses_discoveries}
 use Rattle.rdm_log.proofs.PromiseLemmas.AnswersReportTheLine.{all_report_the_line}
 use Rattle.rdm_log.proofs.PromiseLemmas.RunsAnswer.{runs_answer, exchanges_stay}
 
@@ -160,74 +157,13 @@ own_discoveries o h legal = record {
   lasts = λ front back c i x is at. rw is (outcome_stays o front back (rw is at legal.each) c i x at);
 }
 
--- a client has as many discoveries as it may exactly when that is a discover's first fault
-first_two_pass : (closed unknown full : Bool)
-    → (if closed then Some faults.Closed else
-    (if unknown then Some faults.UnknownClient else (if full then Some faults.Full else None))) ≡ Some faults.Full
-    → (closed ≡ false) × (unknown ≡ false) × (full ≡ true)
-first_two_pass true unknown full e = cc
-first_two_pass false true full e = cc
-first_two_pass false false true e = (refl, refl, refl)
-first_two_pass false false false e = cc
-
-pub most_is_fault : (o : Opening) (h : List Entry) (c : ℕ) → ask_fault o h c ≡ Some faults.Full
-    → HasMostDiscoveries o h c
-most_is_fault o h c is = record {
-  not_closed = tests.0;
-  known = leb-false (next_client o h) c tests.1;
-  full = by_test (or_cases four numbers_out tests.2);
-}
-  where
-    four : Bool
-    four = nat_le 4 (outstanding_discoveries o c h)
-
-    numbers_out : Bool
-    numbers_out = nat_le 18446744073709551614 (next_ask o h)
-
-    tests : (is_closed o h ≡ false) × (nat_le (next_client o h) c ≡ false) × ((four || numbers_out) ≡ true)
-    tests = first_two_pass (is_closed o h) (nat_le (next_client o h) c) (four || numbers_out) is
-
-    by_test : (four ≡ true) ⊎ (numbers_out ≡ true) → (4 ≤ outstanding_discoveries o c h)
-        ⊎ (18446744073709551614 ≤ next_ask o h)
-    by_test (inl many) = inl (leb-true 4 (outstanding_discoveries o c h) many)
-    by_test (inr out) = inr (leb-true 18446744073709551614 (next_ask o h) out)
-
-pub fault_is_most : (o : Opening) (h : List Entry) (c : ℕ) → HasMostDiscoveries o h c
-    → ask_fault o h c ≡ Some faults.Full
-fault_is_most o h c is = rw (is.not_closed, lt-leb (next_client o h) c is.known, is_true is.full) refl
-  where
-    is_true : (4 ≤ outstanding_discoveries o c h) ⊎ (18446744073709551614 ≤ next_ask o h)
-        → (nat_le 4 (outstanding_discoveries o c h) || nat_le 18446744073709551614 (next_ask o h)) ≡ true
-    is_true (inl many) = or_left _ _ (le-leb _ _ many)
-    is_true (inr out) = or_right _ _ (le-leb _ _ out)
-
-third_fault : (fault : Option AskFault) (cause : ℕ) → option_map number_of_ask_fault fault ≡ Some cause → cause ≡ 3
-    → fault ≡ Some faults.Full
-third_fault None cause is three = cc
-third_fault (Some faults.Closed) cause is three = absurd (omega (arith, same_Some 1 cause is))
-third_fault (Some faults.UnknownClient) cause is three = absurd (omega (arith, same_Some 2 cause is))
-third_fault (Some faults.Full) cause is three = refl
-third_fault (Some faults.LogFull) cause is three = absurd (omega (arith, same_Some 4 cause is))
-
-pub full_refuses : (o : Opening) (h : List Entry) → Legal o h → FullRefusesDiscoveries o h
-full_refuses o h legal = record {
-  refused = λ front back c kind cause is full. most_is_fault o front c.0
-      (third_fault (ask_fault o front c.0) cause.0
-      (legal.each front back (Refuse (Some c) (calls.Discover kind) cause) is).1 full);
-  accepted = λ front back c n kind is
-      full. absurd (passed (sym (fault_is_most o front c.0 full) ∙ (legal.each front back (Ask c n kind) is).1));
-}
-  where
-    passed : Some faults.Full ≡ None → ⊥
-    passed e = cc
-
 -- all of it
 pub discoveries_promised : (o : Opening) (h : List Entry) → Legal o h → DiscoveriesPromised o h
 discoveries_promised o h legal = record {
   one_answer = one_answer o h legal;
-  in_order = in_order o h legal;
+  in_order = asks_in_order o h legal;
   all_report_the_line = all_report_the_line o h legal;
   runs_answer = runs_answer o h legal;
   own_discoveries = own_discoveries o h legal;
-  full_refuses = full_refuses o h legal;
+  full_refuses = full_refuses_discoveries o h legal;
 }

@@ -3,7 +3,7 @@ use Rattle.rdm_log.proofs.Common.{◌≡◌, ℕ, zero, suc, ◌<◌, Bool, true
 use Rattle.rdm_log.proofs.Common.{refl, sym, ◌∙◌, append_assoc, append-nil, inl, inr, arith, ◌⊎◌, Ok, Err}
 use Rattle.rdm_log.proofs.Common.{AllByRecursion, false≢true, none-some, same_Some, LineEvent, Owner, Entry, Came}
 use Rattle.rdm_log.proofs.Common.{Finish, Pause, Resume, Close, Event, awaits_after, awaited, is_closed, can_pause}
-use Rattle.rdm_log.proofs.Common.{can_resume, MaySend, LogState, join_refused, submit_refused, ask_refused, is_result}
+use Rattle.rdm_log.proofs.Common.{can_resume, MaySend, LogState, join_refused, is_result}
 use Rattle.rdm_log.proofs.Common.{IsWithResults, SwitchAdds, CloseAddsWhere, Adds, IsAnswered, Explains}
 use Rattle.rdm_log.specs.declared.entry.Owner.TheVariants as owners
 use Rattle.rdm_log.specs.declared.entry.Entry.TheVariants as discovery
@@ -11,8 +11,8 @@ use Rattle.rdm_log.specs.declared.event.Event.TheVariants as events
 use Rattle.rdm_log.specs.declared.event.Answer.{Answer}
 use Rattle.rdm_log.specs.declared.event.Answer.TheVariants as answers
 use Rattle.rdm_log.proofs.LogLemmas.PushLemmas.{awaited-push}
-use Rattle.rdm_log.proofs.PromiseLemmas.BlockLemmas.{join_ok, submit_ok, discover_ok, join_refusal, submit_refusal}
-use Rattle.rdm_log.proofs.PromiseLemmas.BlockLemmas.{discover_refusal}
+use Rattle.rdm_log.specs.declared.work.Work.TheVariants as works
+use Rattle.rdm_log.proofs.PromiseLemmas.BlockLemmas.{join_ok, join_refusal, work_block}
 use Rattle.rdm_log.proofs.PromiseLemmas.ClosedEvents.{next_closed, close_closes}
 
 -- entries after which no reply is awaited if none was before
@@ -54,14 +54,10 @@ quiet : (k : LogState) (e : Event) (r : Answer) (block : List Entry) → is_clos
 quiet k (events.Join n) (answers.Join (Ok c)) block closed adds = rw (join_ok k n c block adds).2 (refl, tt)
 quiet k (events.Join n) (answers.Join (Err fault)) block closed adds =
     none_or_one (join_refused n fault) block refl (join_refusal k n fault block adds)
-quiet k (events.Submit c request) (answers.Submit (Ok n)) block closed adds =
-    rw (submit_ok k c request n block adds).2 (refl, tt)
-quiet k (events.Submit c request) (answers.Submit (Err e)) block closed adds =
-    none_or_one (submit_refused c request e.0) block refl (submit_refusal k c request e block adds)
-quiet k (events.Discover c kind) (answers.Discover (Ok n)) block closed adds =
-    rw (discover_ok k c kind n block adds).2 (refl, tt)
-quiet k (events.Discover c kind) (answers.Discover (Err fault)) block closed adds =
-    none_or_one (ask_refused c kind fault) block refl (discover_refusal k c kind fault block adds)
+quiet k (events.Submit c request) r block closed adds =
+    work_block (λ l. IsQuiet l) k c (works.Submit request) r block tt (λ n. (refl, tt)) (λ fault. (refl, tt)) adds
+quiet k (events.Discover c kind) r block closed adds =
+    work_block (λ l. IsQuiet l) k c (works.Discover kind) r block tt (λ n. (refl, tt)) (λ fault. (refl, tt)) adds
 quiet k events.Pause (answers.Pause (Ok x)) block closed adds =
     switch_quiet (can_pause k.opening k.entries) Pause block refl adds.1
 quiet k events.Pause (answers.Pause (Err x)) block closed adds = rw adds.1 tt

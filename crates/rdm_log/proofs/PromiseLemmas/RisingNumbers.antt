@@ -7,7 +7,8 @@ use Rattle.rdm_log.specs.declared.event.Event.TheVariants as events
 use Rattle.rdm_log.specs.declared.event.Answer.{Answer}
 use Rattle.rdm_log.specs.declared.event.Answer.TheVariants as answers
 use Rattle.rdm_log.proofs.LogLemmas.PushLemmas.{accepts-append, accepts_more, asks-append, asks_more}
-use Rattle.rdm_log.proofs.PromiseLemmas.BlockLemmas.{submit_ok, discover_ok}
+use Rattle.rdm_log.specs.declared.work.Work.TheVariants as works
+use Rattle.rdm_log.proofs.PromiseLemmas.BlockLemmas.{work_ok, work_adds}
 
 -- a count that never falls, and that an answer with a number passes by one
 record Counts (next : LogState → ℕ) (gives : ℕ → Answer) : Type 0 where
@@ -61,7 +62,8 @@ accepts_as n = answers.Submit (Ok n)
 accepted_number : (k : LogState) (e : Event) (n : ℕ) (block : List Entry) → Adds k e (accepts_as n) block
     → (n ≡ next_number k) × (next_number (grown k block) ≡ n + 1)
 accepted_number k (events.Submit c request) n block adds =
-    let own = submit_ok k c request n block adds in (
+    let work = works.Submit request in
+    let own = work_ok k c work n block (work_adds k c work (Ok n) block adds) in (
       own.1,
       rw (
         own.2,
@@ -104,7 +106,7 @@ asks_as n = answers.Discover (Ok n)
 asked_number : (k : LogState) (e : Event) (n : ℕ) (block : List Entry) → Adds k e (asks_as n) block
     → (n ≡ next_discovery k) × (next_discovery (grown k block) ≡ n + 1)
 asked_number k (events.Discover c kind) n block adds =
-    let own = discover_ok k c kind n block adds in (
+    let own = work_ok k c (works.Discover kind) n block adds in (
       own.1,
       rw (own.2, asks_more k.entries (Ask c n kind) (record { client = c.0; number = n; kind = kind }) refl)
           (omega (arith, own.1, length_push (asks k.entries) (record { client = c.0; number = n; kind = kind }))),

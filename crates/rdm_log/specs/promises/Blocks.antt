@@ -7,6 +7,7 @@ use Rattle.rdm_wire.specs.declared.request.Request.{Request}
 use Rattle.rdm_join.specs.declared.event.LineEvent.{LineEvent}
 use Rattle.rdm_agent.specs.declared.kind.Kind.{Kind}
 use Rattle.rdm_log.specs.declared.entry.ClientId.{ClientId}
+use Rattle.rdm_log.specs.declared.entry.Call.{Call}
 use Rattle.rdm_log.specs.declared.entry.Call.TheVariants as calls
 use Rattle.rdm_log.specs.declared.entry.Owner.{Owner}
 use Rattle.rdm_log.specs.declared.entry.Opening.{Opening}
@@ -15,21 +16,21 @@ use Rattle.rdm_log.specs.declared.entry.Entry.TheVariants.{Join, Refuse, Accept,
 use Rattle.rdm_log.specs.declared.entry.Entry.TheVariants.{Answer, Collect, Pause, Resume, Close}
 use Rattle.rdm_log.specs.declared.fault.JoinFault.{JoinFault}
 use Rattle.rdm_log.specs.declared.fault.JoinFault.TheVariants as join_faults
-use Rattle.rdm_log.specs.declared.fault.SubmitFault.{SubmitFault}
-use Rattle.rdm_log.specs.declared.fault.SubmitFault.TheVariants as submit_faults
-use Rattle.rdm_log.specs.declared.fault.AskFault.{AskFault}
-use Rattle.rdm_log.specs.declared.fault.AskFault.TheVariants as ask_faults
+use Rattle.rdm_log.specs.declared.fault.WorkFault.{WorkFault}
+use Rattle.rdm_log.specs.declared.fault.WorkFault.TheVariants as work_faults
 use Rattle.rdm_log.specs.declared.fault.LogFull.{LogFull}
 use Rattle.rdm_log.specs.declared.fault.NotAsked.{NotAsked}
 use Rattle.rdm_wire.specs.declared.fault.NoMemory.{NoMemory}
 use Rattle.rdm_log.specs.declared.outcome.Outcome.{Outcome}
 use Rattle.rdm_log.specs.declared.outcome.BoxedOutcome.{BoxedOutcome}
 use Rattle.rdm_log.specs.declared.outcome.OutcomeKind.TheVariants as kinds
+use Rattle.rdm_log.specs.declared.work.Work.{Work}
+use Rattle.rdm_log.specs.declared.work.Work.TheVariants.{Submit, Discover}
 use Rattle.rdm_log.specs.log.History.{awaited, is_closed, can_pause, can_resume, next_client, next_request}
 use Rattle.rdm_log.specs.log.History.{next_ask}
 use Rattle.rdm_log.specs.log.Clients.{uncollected}
-use Rattle.rdm_log.specs.log.Refusals.{join_fault, submit_fault, ask_fault, number_of_join_fault}
-use Rattle.rdm_log.specs.log.Refusals.{number_of_submit_fault, number_of_ask_fault}
+use Rattle.rdm_log.specs.log.Refusals.{join_fault, submit_fault, work_fault, number_of_join_fault}
+use Rattle.rdm_log.specs.log.Refusals.{number_of_work_fault}
 use Rattle.rdm_log.specs.log.MaySend.{MaySend, NoSend}
 use Rattle.rdm_log.specs.log.LogState.{LogState, grown, is_full_log}
 use Rattle.rdm_log.specs.promises.Outcomes.{outcome_value, outcome_of, unboxed, oldest_kind}
@@ -39,14 +40,31 @@ use Rattle.rdm_log.specs.promises.InBound.{AnswersInBound}
 abbrev pub join_refused : ℕ → JoinFault → Entry
 join_refused n fault = Refuse None (calls.Join n) (record { 0 = number_of_join_fault fault })
 
--- the entry of a refused submit
-abbrev pub submit_refused : ClientId → Request → SubmitFault → Entry
-submit_refused c request fault =
-    Refuse (Some c) (calls.Submit request) (record { 0 = number_of_submit_fault fault })
+-- the entry of accepted work
+abbrev pub work_accepted : ClientId → ℕ → Work → Entry
+work_accepted c n (Submit request) = Accept c n request
+work_accepted c n (Discover kind) = Ask c n kind
 
--- the entry of a refused discover
-abbrev pub ask_refused : ClientId → Kind → AskFault → Entry
-ask_refused c kind fault = Refuse (Some c) (calls.Discover kind) (record { 0 = number_of_ask_fault fault })
+-- the call that brings work
+abbrev pub call_of : Work → Call
+call_of (Submit request) = calls.Submit request
+call_of (Discover kind) = calls.Discover kind
+
+-- the entry of refused work
+abbrev pub work_refused : ClientId → Work → WorkFault → Entry
+work_refused c work fault = Refuse (Some c) (call_of work) (record { 0 = number_of_work_fault fault })
+
+-- the entry of a refused submit, and of a refused discover
+abbrev pub submit_refused : ClientId → Request → WorkFault → Entry
+submit_refused c request fault = work_refused c (Submit request) fault
+
+abbrev pub ask_refused : ClientId → Kind → WorkFault → Entry
+ask_refused c kind fault = work_refused c (Discover kind) fault
+
+-- the next number of a request, or of a discovery
+abbrev pub next_number : Opening → List Entry → Work → ℕ
+next_number o h (Submit request) = next_request o h
+next_number o h (Discover kind) = next_ask o h
 
 -- the fault is the first that applies, or NoMemory if none does
 abbrev pub RefusesJoin : Option JoinFault → JoinFault → Type 0
@@ -85,19 +103,23 @@ abbrev pub JoinAdds : Opening → List Entry → ℕ → Result ClientId JoinFau
 JoinAdds o h n (Ok c) block = (join_fault o h n ≡ None) × (c.0 ≡ next_client o h) × (block ≡ Join c n ∷ [])
 JoinAdds o h n (Err fault) block = RefusesJoin (join_fault o h n) fault × (block ≡ join_refused n fault ∷ [])
 
--- a submit: accepted with the next number, or refused with the first fault; a refused request is returned
-abbrev pub SubmitAdds : Opening → List Entry → ClientId → Request → Result ℕ (SubmitFault × Request)
+-- work: accepted with the next number, or refused with the first fault
+abbrev pub WorkAdds : Opening → List Entry → ClientId → Work → Result ℕ WorkFault → List Entry → Type 0
+WorkAdds o h c work (Ok n) block =
+    (work_fault o h c.0 work ≡ None) × (n ≡ next_number o h work) × (block ≡ work_accepted c n work ∷ [])
+WorkAdds o h c work (Err fault) block =
+    (work_fault o h c.0 work ≡ Some fault) × (block ≡ work_refused c work fault ∷ [])
+
+-- a submit is work; a refused request is returned
+abbrev pub SubmitAdds : Opening → List Entry → ClientId → Request → Result ℕ (WorkFault × Request)
     → List Entry → Type 0
-SubmitAdds o h c request (Ok n) block =
-    (submit_fault o h c.0 ≡ None) × (n ≡ next_request o h) × (block ≡ Accept c n request ∷ [])
+SubmitAdds o h c request (Ok n) block = WorkAdds o h c (Submit request) (Ok n) block
 SubmitAdds o h c request (Err e) block =
     (submit_fault o h c.0 ≡ Some e.0) × (e.1 ≡ request) × (block ≡ submit_refused c request e.0 ∷ [])
 
--- a discover: accepted with the next number, or refused with the first fault
-abbrev pub DiscoverAdds : Opening → List Entry → ClientId → Kind → Result ℕ AskFault → List Entry → Type 0
-DiscoverAdds o h c kind (Ok n) block = (ask_fault o h c.0 ≡ None) × (n ≡ next_ask o h) × (block ≡ Ask c n kind ∷ [])
-DiscoverAdds o h c kind (Err fault) block =
-    (ask_fault o h c.0 ≡ Some fault) × (block ≡ ask_refused c kind fault ∷ [])
+-- a discover is work
+abbrev pub DiscoverAdds : Opening → List Entry → ClientId → Kind → Result ℕ WorkFault → List Entry → Type 0
+DiscoverAdds o h c kind result block = WorkAdds o h c (Discover kind) result block
 
 -- a pause: a Pause if it has an effect, or else nothing
 abbrev pub PauseAdds : Opening → List Entry → List Entry → Type 0
@@ -146,16 +168,25 @@ JoinLogs k n answer block =
     (JoinAdds k.opening k.entries n answer block)
 
 -- a submit of a session: LogFull if the log is full, otherwise as a controller's
-abbrev pub SubmitLogs : LogState → ClientId → Request → Result ℕ (SubmitFault × Request) → List Entry → Type 0
+abbrev pub SubmitLogs : LogState → ClientId → Request → Result ℕ (WorkFault × Request) → List Entry → Type 0
 SubmitLogs k c request answer block =
-    UnlessFull (is_full_log k) ((answer ≡ Err (submit_faults.LogFull, request)) × (block ≡ []))
+    UnlessFull (is_full_log k) ((answer ≡ Err (work_faults.LogFull, request)) × (block ≡ []))
     (SubmitAdds k.opening k.entries c request answer block)
 
--- a discover of a session: LogFull if the log is full, otherwise as a controller's
-abbrev pub DiscoverLogs : LogState → ClientId → Kind → Result ℕ AskFault → List Entry → Type 0
-DiscoverLogs k c kind answer block =
-    UnlessFull (is_full_log k) ((answer ≡ Err ask_faults.LogFull) × (block ≡ []))
-    (DiscoverAdds k.opening k.entries c kind answer block)
+-- work of a session: LogFull if the log is full, otherwise as a controller's
+abbrev pub WorkLogs : LogState → ClientId → Work → Result ℕ WorkFault → List Entry → Type 0
+WorkLogs k c work answer block =
+    UnlessFull (is_full_log k) ((answer ≡ Err work_faults.LogFull) × (block ≡ []))
+    (WorkAdds k.opening k.entries c work answer block)
+
+-- a discover of a session is work
+abbrev pub DiscoverLogs : LogState → ClientId → Kind → Result ℕ WorkFault → List Entry → Type 0
+DiscoverLogs k c kind answer block = WorkLogs k c (Discover kind) answer block
+
+-- the number, or the fault without what is returned with it
+abbrev pub number_or_fault : {X : Type 0} → Result ℕ (WorkFault × X) → Result ℕ WorkFault
+number_or_fault (Ok n) = Ok n
+number_or_fault (Err e) = Err e.0
 
 -- a pause of a session: an error if the log is full, otherwise as a controller's
 abbrev pub PauseLogs : LogState → Result (Unit {0}) LogFull → List Entry → Type 0

@@ -17,7 +17,7 @@ use Rattle.rdm_log.specs.declared.entry.Cause.{Cause}
 use Rattle.rdm_log.specs.declared.entry.Opening.{Opening}
 use Rattle.rdm_log.specs.declared.entry.Entry.{Entry}
 use Rattle.rdm_log.specs.declared.entry.Entry.TheVariants.{Refuse, Ask, Answer}
-use Rattle.rdm_log.specs.declared.fault.AskFault.TheVariants.{Full}
+use Rattle.rdm_log.specs.declared.fault.WorkFault.TheVariants.{Full}
 use Rattle.rdm_log.specs.log.Entries.{AskedDiscovery, Answered, asks, answers}
 use Rattle.rdm_log.specs.log.History.{awaited, is_closed, next_client, next_ask}
 use Rattle.rdm_log.specs.log.Clients.{asks_by, answers_to, outstanding_discoveries}
@@ -26,7 +26,7 @@ use Rattle.rdm_log.specs.log.Runs.{answer_devices, known_devices}
 use Rattle.rdm_log.specs.log.Runs.{served, run_kind, last_run_without_fault}
 use Rattle.rdm_log.specs.log.MayAnswer.{Shows}
 use Rattle.rdm_log.specs.log.Due.{has_answer}
-use Rattle.rdm_log.specs.log.Refusals.{number_of_ask_fault}
+use Rattle.rdm_log.specs.log.Refusals.{number_of_work_fault}
 use Rattle.rdm_log.specs.promises.Outcomes.{outcome_of}
 use Rattle.rdm_log.specs.promises.Headline.{Begins}
 
@@ -140,7 +140,7 @@ pub record HasMostDiscoveries (o : Opening) (h : List Entry) (c : ℕ) : Type 0 
 pub record FullRefusesDiscoveries (o : Opening) (h : List Entry) : Type 0 where
   -- before the Refuse of a discover with Full's number, HasMostDiscoveries holds for its client
   pub refused : (front back : List Entry) (c : ClientId) (kind : Kind) (cause : Cause)
-      → h ≡ front ++ Refuse (Some c) (calls.Discover kind) cause ∷ back → cause.0 ≡ number_of_ask_fault Full
+      → h ≡ front ++ Refuse (Some c) (calls.Discover kind) cause ∷ back → cause.0 ≡ number_of_work_fault Full
       → HasMostDiscoveries o front c.0
   -- before an Ask, it doesn't hold for its client
   pub accepted : (front back : List Entry) (c : ClientId) (n : ℕ) (kind : Kind)

@@ -1,6 +1,6 @@
 -- What clients are promised, for a list of events and its answers.
 use Rattle.std.specs.Prelude.{◌≡◌, ◌↔◌, ℕ, ◌+◌, ◌<◌, Bool, true, false, List, [], ◌∷◌, ◌++◌, length, take, drop, zip}
-use Rattle.std.specs.Prelude.{filter_map, Option, Some, None, Ok, Err, ◌==◌, if◌then◌else◌, slice_get}
+use Rattle.std.specs.Prelude.{filter_map, Option, Some, None, Result, Ok, Err, ◌==◌, if◌then◌else◌, slice_get}
 use Rattle.std.specs.List.{Contains}
 use Rattle.rdm_wire.specs.Uid.{has, IsDevice}
 use Rattle.rdm_wire.specs.Devices.{uids_of}
@@ -18,8 +18,8 @@ use Rattle.rdm_log.specs.declared.entry.Opening.{Opening}
 use Rattle.rdm_log.specs.declared.entry.Entry.{Entry}
 use Rattle.rdm_log.specs.declared.entry.Entry.TheVariants.{Accept, Ask, Finish}
 use Rattle.rdm_log.specs.declared.entry.Entry.TheVariants as entries
-use Rattle.rdm_log.specs.declared.fault.SubmitFault.TheVariants.{Full}
-use Rattle.rdm_log.specs.declared.fault.AskFault.TheVariants as ask_faults
+use Rattle.rdm_log.specs.declared.fault.WorkFault.{WorkFault}
+use Rattle.rdm_log.specs.declared.fault.WorkFault.TheVariants.{Full}
 use Rattle.rdm_wire.specs.declared.fault.NoMemory.{NoMemory}
 use Rattle.rdm_log.specs.declared.outcome.AskCompletion.{AskCompletion}
 use Rattle.rdm_log.specs.declared.outcome.Outcome.{Outcome}
@@ -30,6 +30,8 @@ use Rattle.rdm_log.specs.declared.event.Event.{Event}
 use Rattle.rdm_log.specs.declared.event.Event.TheVariants as events
 use Rattle.rdm_log.specs.declared.event.Answer.{Answer}
 use Rattle.rdm_log.specs.declared.event.Answer.TheVariants as answers
+use Rattle.rdm_log.specs.declared.work.Work.{Work}
+use Rattle.rdm_log.specs.declared.work.Work.TheVariants.{Submit, Discover}
 use Rattle.rdm_log.specs.log.Entries.{result}
 use Rattle.rdm_log.specs.log.History.{is_closed}
 use Rattle.rdm_log.specs.log.Runs.{run_exchanges, answer_devices}
@@ -37,7 +39,7 @@ use Rattle.rdm_log.specs.log.Clients.{client_of_request, client_of_discovery, co
 use Rattle.rdm_log.specs.promises.Outcomes.{OutcomeValue, Discovered, completion_value, discovered, outcome_value}
 use Rattle.rdm_log.specs.promises.Outcomes.{outcome_of, completion_of, unboxed, oldest_kind}
 use Rattle.rdm_log.specs.log.LogState.{LogState, grown, is_full_log}
-use Rattle.rdm_log.specs.promises.Blocks.{submit_refused, ask_refused}
+use Rattle.rdm_log.specs.promises.Blocks.{work_refused}
 use Rattle.rdm_log.specs.promises.Explains.{IsAnswered, Explains}
 use Rattle.rdm_log.specs.promises.InBound.{IsCalmRun}
 use Rattle.rdm_log.specs.promises.Headline.{IsFull, SameQueue, result_count}
@@ -53,33 +55,30 @@ pub record AnsweredAt (old : LogState) (es : List Event) (rs : List Answer) (new
   pub here : IsAnswered before event answer after
   pub later : Explains after (drop (i + 1) es) (drop (i + 1) rs) new
 
--- the answer to a submit if the client's queue is full
-abbrev pub refuses_full : Request → Answer
-refuses_full request = answers.Submit (Err (Full, request))
+-- the event of a client's work
+abbrev pub brings : ClientId → Work → Event
+brings c (Submit request) = events.Submit c request
+brings c (Discover kind) = events.Discover c kind
 
--- if the log isn't full, a submit is answered Full exactly when the client's queue is full; that changes only the log
+-- its answer: the number, or the fault, with which a refused request is returned
+abbrev pub answer_to : Work → Result ℕ WorkFault → Answer
+answer_to (Submit request) (Ok n) = answers.Submit (Ok n)
+answer_to (Submit request) (Err fault) = answers.Submit (Err (fault, request))
+answer_to (Discover kind) result = answers.Discover result
+
+-- the client has as much of this work as it may
+abbrev pub HasMost : Opening → List Entry → ℕ → Work → Type 0
+HasMost o h c (Submit request) = IsFull o h c
+HasMost o h c (Discover kind) = HasMostDiscoveries o h c
+
+-- if the log isn't full, work is answered Full exactly when the client has as much as it may; that changes only the log
 pub record FullExactly (old : LogState) (es : List Event) (rs : List Answer) (new : LogState) (i : ℕ) (c : ClientId)
-    (request : Request) (answer : Answer) : Type 0 where
-  pub at : AnsweredAt old es rs new i (events.Submit c request) answer
+    (work : Work) (answer : Answer) : Type 0 where
+  pub at : AnsweredAt old es rs new i (brings c work) answer
   pub exactly : is_full_log at.before ≡ false
-      → (answer ≡ refuses_full request) ↔ IsFull at.before.opening at.before.entries c.0
-  pub refused : answer ≡ refuses_full request → at.after ≡ grown at.before (submit_refused c request Full ∷ [])
-  pub unchanged : answer ≡ refuses_full request → SameQueue new.opening at.before.entries at.after.entries
-
--- the answer to a discover if the client has as many discoveries as it may
-abbrev pub refuses_discovery : Answer
-refuses_discovery = answers.Discover (Err ask_faults.Full)
-
--- if the log isn't full, a discover is answered Full exactly when the client has as many as it may; that changes only
--- the log
-pub record MostExactly (old : LogState) (es : List Event) (rs : List Answer) (new : LogState) (i : ℕ) (c : ClientId)
-    (kind : Kind) (answer : Answer) : Type 0 where
-  pub at : AnsweredAt old es rs new i (events.Discover c kind) answer
-  pub exactly : is_full_log at.before ≡ false
-      → (answer ≡ refuses_discovery) ↔ HasMostDiscoveries at.before.opening at.before.entries c.0
-  pub refused : answer ≡ refuses_discovery
-      → at.after ≡ grown at.before (ask_refused c kind ask_faults.Full ∷ [])
-  pub unchanged : answer ≡ refuses_discovery → SameQueue new.opening at.before.entries at.after.entries
+      → (answer ≡ answer_to work (Err Full)) ↔ HasMost at.before.opening at.before.entries c.0 work
+  pub refused : answer ≡ answer_to work (Err Full) → at.after ≡ grown at.before (work_refused c work Full ∷ [])
+  pub unchanged : answer ≡ answer_to work (Err Full) → SameQueue new.opening at.before.entries at.after.entries
 
 -- a collect was answered with NoMemory: the client's oldest uncollected outcome is a discovery's, and nothing has
 -- changed
@@ -192,15 +191,10 @@ pub record EventsPromised (old : LogState) (es : List Event) (rs : List Answer) 
   -- if the queue was closed before the events, no event has an answer that starts something
   pub nothing_closed : is_closed old.opening old.entries ≡ true → (j : ℕ) (answer : Answer)
       → slice_get rs j ≡ Some answer → starts answer ≡ false
-  -- if the log isn't full, a submit is answered Full exactly when its client's queue is; that changes only the log
-  pub full : (i : ℕ) (c : ClientId) (request : Request) (answer : Answer)
-      → slice_get es i ≡ Some (events.Submit c request) → slice_get rs i ≡ Some answer
-      → FullExactly old es rs new i c request answer
-  -- if the log isn't full, a discover is answered Full exactly when its client has as many discoveries as it may; that
-  -- changes only the log
-  pub most : (i : ℕ) (c : ClientId) (kind : Kind) (answer : Answer)
-      → slice_get es i ≡ Some (events.Discover c kind) → slice_get rs i ≡ Some answer
-      → MostExactly old es rs new i c kind answer
+  -- if the log isn't full, work is answered Full exactly when its client has as much as it may; that changes only the
+  -- log
+  pub full : (i : ℕ) (c : ClientId) (work : Work) (answer : Answer) → slice_get es i ≡ Some (brings c work)
+      → slice_get rs i ≡ Some answer → FullExactly old es rs new i c work answer
   -- what a Collect returned is an outcome of that client's request or discovery, and says what the log says about it
   pub collected : (i : ℕ) (c : ClientId) (outcome : BoxedOutcome) → slice_get es i ≡ Some (events.Collect c)
       → slice_get rs i ≡ Some (answers.Collect (Ok (Some outcome)))

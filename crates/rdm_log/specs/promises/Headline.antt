@@ -19,7 +19,7 @@ use Rattle.rdm_log.specs.declared.entry.Cause.{Cause}
 use Rattle.rdm_log.specs.declared.entry.Opening.{Opening}
 use Rattle.rdm_log.specs.declared.entry.Entry.{Entry}
 use Rattle.rdm_log.specs.declared.entry.Entry.TheVariants.{Refuse, Accept, Finish, Close}
-use Rattle.rdm_log.specs.declared.fault.SubmitFault.TheVariants.{Full}
+use Rattle.rdm_log.specs.declared.fault.WorkFault.TheVariants.{Full}
 use Rattle.rdm_log.specs.log.Entries.{Accepted, Finished, Traded, joins, accepts, asks, sends, finishes}
 use Rattle.rdm_log.specs.log.Entries.{of_request, verdicts, result}
 use Rattle.rdm_log.specs.log.History.{awaited, is_paused, is_closed, places, next_client, next_request, frames_sent}
@@ -28,7 +28,7 @@ use Rattle.rdm_log.specs.log.Runs.{unserved, served, open_run, next_run, run_fra
 use Rattle.rdm_log.specs.log.Runs.{devices_run}
 use Rattle.rdm_log.specs.log.Clients.{accepts_by, answers_to, uncollected, outstanding_requests}
 use Rattle.rdm_log.specs.log.Clients.{outstanding_discoveries}
-use Rattle.rdm_log.specs.log.Refusals.{number_of_submit_fault}
+use Rattle.rdm_log.specs.log.Refusals.{number_of_work_fault}
 
 -- the numbers of the accepted requests, in order
 abbrev pub numbers_accepted : List Accepted → List ℕ
@@ -141,7 +141,7 @@ pub record SameQueue (o : Opening) (h k : List Entry) : Type 0 where
 pub record FullRefuses (o : Opening) (h : List Entry) : Type 0 where
   -- a submit is refused as full only if the client's queue is full
   pub refused : (front back : List Entry) (c : ClientId) (request : Request) (cause : Cause)
-      → h ≡ front ++ Refuse (Some c) (calls.Submit request) cause ∷ back → cause.0 ≡ number_of_submit_fault Full
+      → h ≡ front ++ Refuse (Some c) (calls.Submit request) cause ∷ back → cause.0 ≡ number_of_work_fault Full
       → IsFull o front c.0
   -- and then it isn't accepted
   pub accepted : (front back : List Entry) (c : ClientId) (n : ℕ) (request : Request)

@@ -25,10 +25,9 @@ use Rattle.rdm_log.specs.declared.outcome.DiscoveryEnd.{DiscoveryEnd}
 use Rattle.rdm_log.specs.log.Entries.{result}
 use Rattle.rdm_log.specs.log.Clients.{is_answer_to, uncollected}
 use Rattle.rdm_log.specs.log.Runs.{answer_devices}
-use Rattle.rdm_log.specs.log.Refusals.{number_of_join_fault, number_of_submit_fault, number_of_ask_fault}
+use Rattle.rdm_log.specs.log.Refusals.{number_of_join_fault, number_of_work_fault}
 use Rattle.rdm_log.specs.declared.fault.JoinFault.TheVariants as join_faults
-use Rattle.rdm_log.specs.declared.fault.SubmitFault.TheVariants as submit_faults
-use Rattle.rdm_log.specs.declared.fault.AskFault.TheVariants as ask_faults
+use Rattle.rdm_log.specs.declared.fault.WorkFault.TheVariants as work_faults
 
 -- whether an entry's client is c
 abbrev pub is_client : ℕ → Option ClientId → Bool
@@ -38,8 +37,8 @@ is_client c (Some d) = c == d.0
 -- the number of the fault with which a closed queue refuses a call
 abbrev pub closed_number : Call → ℕ
 closed_number (calls.Join places) = number_of_join_fault join_faults.Closed
-closed_number (calls.Submit request) = number_of_submit_fault submit_faults.Closed
-closed_number (calls.Discover kind) = number_of_ask_fault ask_faults.Closed
+closed_number (calls.Submit request) = number_of_work_fault work_faults.Closed
+closed_number (calls.Discover kind) = number_of_work_fault work_faults.Closed
 
 -- whether an entry refuses a call of the client because the queue is closed
 abbrev pub is_closed_refusal : ℕ → Entry → Bool

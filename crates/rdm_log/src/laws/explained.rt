@@ -7,8 +7,7 @@ ghost use Rattle.rdm_join.specs.declared.event.LineEvent.TheVariants.{Reply};
 ghost use Rattle.rdm_agent.specs.declared.kind.Kind.TheVariants.{Full};
 ghost use Rattle.rdm_agent.specs.declared.fault.AgentFault.TheVariants.{Exhausted};
 ghost use Rattle.rdm_log.specs.declared.entry.Entry.TheVariants as entries;
-ghost use Rattle.rdm_log.specs.declared.fault.SubmitFault.TheVariants as faults;
-ghost use Rattle.rdm_log.specs.declared.fault.AskFault.TheVariants as ask_faults;
+ghost use Rattle.rdm_log.specs.declared.fault.WorkFault.TheVariants as faults;
 ghost use Rattle.rdm_log.specs.declared.event.Event.{Event};
 ghost use Rattle.rdm_log.specs.declared.event.Event.TheVariants as events;
 ghost use Rattle.rdm_log.specs.declared.event.Answer.{Answer};
@@ -58,7 +57,7 @@ pub fn not_explained()
         (answers.Submit (Err (faults.LogFull, sample_request)) ∷ []) new → ⊥ }
     // A discover is refused as full while the client has one outstanding.
     ensures discovery { (new : LogState) → Explains (logged_with asked_one)
-        (events.Discover (record { 0 = 0 }) Full ∷ []) (answers.Discover (Err ask_faults.Full) ∷ []) new → ⊥ }
+        (events.Discover (record { 0 = 0 }) Full ∷ []) (answers.Discover (Err faults.Full) ∷ []) new → ⊥ }
     // A request or a discovery waits, but no frame is returned for it, or LogFull is.
     ensures no_frame { (new : LogState)
         → Explains (logged_with accepted_one) (events.Take ∷ []) (answers.Take (Ok None) ∷ []) new → ⊥ }

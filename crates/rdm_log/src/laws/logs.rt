@@ -10,7 +10,7 @@ ghost use Rattle.rdm_log.specs.declared.entry.Entry.{Entry};
 ghost use Rattle.rdm_log.specs.declared.entry.Entry.TheVariants.{Finish, Send};
 ghost use Rattle.rdm_log.specs.declared.entry.Owner.{Owner};
 ghost use Rattle.rdm_log.specs.declared.fault.JoinFault.TheVariants as join_faults;
-ghost use Rattle.rdm_log.specs.declared.fault.SubmitFault.TheVariants as submit_faults;
+ghost use Rattle.rdm_log.specs.declared.fault.WorkFault.TheVariants as faults;
 ghost use Rattle.rdm_log.specs.log.History.{awaited, free_room};
 ghost use Rattle.rdm_log.specs.log.Clients.{uncollected, outstanding_requests};
 ghost use Rattle.rdm_log.specs.log.Refusals.{join_fault, submit_fault, IsRefused};
@@ -58,10 +58,10 @@ pub fn faults_in_order()
     ensures no_places { join_fault sample_opening accepted_one 1 ≡ Some join_faults.NoPlaces }
     ensures no_memory { IsRefused sample_opening [] None (calls.Join 1) 4 }
     ensures closed_first { join_fault sample_opening closed_log 1 ≡ Some join_faults.Closed }
-    ensures full { submit_fault sample_opening accepted_one 0 ≡ Some submit_faults.Full }
-    ensures still_full { submit_fault sample_opening finished_one 0 ≡ Some submit_faults.Full }
-    ensures unknown { submit_fault sample_opening accepted_one 1 ≡ Some submit_faults.UnknownClient }
-    ensures closed { submit_fault sample_opening closed_log 1 ≡ Some submit_faults.Closed }
+    ensures full { submit_fault sample_opening accepted_one 0 ≡ Some faults.Full }
+    ensures still_full { submit_fault sample_opening finished_one 0 ≡ Some faults.Full }
+    ensures unknown { submit_fault sample_opening accepted_one 1 ≡ Some faults.UnknownClient }
+    ensures closed { submit_fault sample_opening closed_log 1 ≡ Some faults.Closed }
 {}
 
 /// The free entries of logs with capacity for eleven entries, and for four.

@@ -7,7 +7,7 @@ ghost use Rattle.rdm_agent.specs.declared.fault.AgentFault.TheVariants.{LineFail
 ghost use Rattle.rdm_agent.specs.SampleRun.{sample_run, sample_device};
 ghost use Rattle.rdm_log.specs.declared.entry.Owner.TheVariants.{Request, Run};
 ghost use Rattle.rdm_log.specs.declared.entry.Entry.TheVariants.{Ask, Finish, Answer, Pause, Close};
-ghost use Rattle.rdm_log.specs.declared.fault.AskFault.TheVariants as ask_faults;
+ghost use Rattle.rdm_log.specs.declared.fault.WorkFault.TheVariants as faults;
 ghost use Rattle.rdm_log.specs.log.History.{unanswered, is_idle, reserved};
 ghost use Rattle.rdm_log.specs.log.Clients.{outstanding_discoveries, uncollected};
 ghost use Rattle.rdm_log.specs.log.Runs.{open_run, unserved, served, run_exchanges, run_devices, run_kind};
@@ -62,10 +62,10 @@ pub fn counts_of_discoveries()
     ensures reserved { reserved sample_opening answered_failed ≡ 4 }
     ensures none_known { known_devices sample_opening aborted_log ≡ [] }
     ensures free { ask_fault sample_opening asked_during 0 ≡ None }
-    ensures closed { ask_fault sample_opening closed_log 0 ≡ Some ask_faults.Closed }
-    ensures unknown { ask_fault sample_opening asked_during 1 ≡ Some ask_faults.UnknownClient }
+    ensures closed { ask_fault sample_opening closed_log 0 ≡ Some faults.Closed }
+    ensures unknown { ask_fault sample_opening asked_during 1 ≡ Some faults.UnknownClient }
     ensures fifth { ask_fault sample_opening (asked_during ++ Ask first_client 2 Full ∷ Ask first_client 3 Full ∷ []) 0
-        ≡ Some ask_faults.Full }
+        ≡ Some faults.Full }
 {}
 
 /// No run begins between two parts of a request, nor while sending is paused. No frame of a run is sent after its

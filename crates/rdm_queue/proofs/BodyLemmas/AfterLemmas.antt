@@ -3,16 +3,16 @@ use Rattle.rdm_queue.proofs.Common.{◌≡◌, ℕ, suc, Bool, true, false, not,
 use Rattle.rdm_queue.proofs.Common.{length-append, Option, Some, None, refl, sym, ap, ◌∙◌, append_assoc, arith}
 use Rattle.rdm_queue.proofs.Common.{filter_map, ◌≢◌, ◌==◌, option_map, option_and_then, is_some, slice_get}
 use Rattle.rdm_queue.proofs.Common.{if◌then◌else◌, AllByRecursion, false≢true, map-append, sum_by-append, none-some}
-use Rattle.rdm_queue.proofs.Common.{Kind, ArrayVec, Request, Sent, sent_by, Setup, ClientId, Owner, Opening, Entry}
-use Rattle.rdm_queue.proofs.Common.{Join, Accept, Send, Finish, Collect, Pause, Resume, JoinFault, SubmitFault}
-use Rattle.rdm_queue.proofs.Common.{AskFault, Awaited, MayFollow, Accepted, joins, accepts, asks, sends, cames}
+use Rattle.rdm_queue.proofs.Common.{ArrayVec, Sent, sent_by, Setup, ClientId, Owner, Opening, Entry}
+use Rattle.rdm_queue.proofs.Common.{Join, Send, Finish, Collect, Pause, Resume, JoinFault, Work}
+use Rattle.rdm_queue.proofs.Common.{WorkFault, Awaited, MayFollow, Accepted, joins, accepts, asks, sends, cames}
 use Rattle.rdm_queue.proofs.Common.{finishes, answers, collectors, traded, of_request, verdicts, last_run, awaited}
 use Rattle.rdm_queue.proofs.Common.{is_paused, is_closed, is_answer_to, answers_to, uncollected, join_fault, MaySend}
 use Rattle.rdm_queue.proofs.Common.{Legal, OutcomeValue, outcome_value, outcome_of, oldest_kind, RefusesJoin}
-use Rattle.rdm_queue.proofs.Common.{join_refused, submit_refused, ask_refused, Outcome, opened, QueueState, first_state}
-use Rattle.rdm_queue.proofs.Common.{first_join_fault, first_submit_fault, first_ask_fault, outstanding}
-use Rattle.rdm_queue.proofs.Common.{outstanding_asks, is_discovery, owed_to, joins_client, accepts_request}
-use Rattle.rdm_queue.proofs.Common.{asks_discovery, collects_oldest, first_kind, kind_of_value, sent_for, IsPending}
+use Rattle.rdm_queue.proofs.Common.{join_refused, work_refused, work_accepted, Outcome, opened, QueueState, first_state}
+use Rattle.rdm_queue.proofs.Common.{first_join_fault, first_fault, number_for, work_fault, outstanding}
+use Rattle.rdm_queue.proofs.Common.{outstanding_asks, is_discovery, owed_to, joins_client, accepts_work}
+use Rattle.rdm_queue.proofs.Common.{collects_oldest, first_kind, kind_of_value, sent_for, IsPending}
 use Rattle.rdm_queue.proofs.Common.{Agrees, StandsAfter, empty, LogFacts, legal_facts, ClientFacts, client_facts}
 use Rattle.rdm_queue.proofs.Common.{AskFacts, ask_facts, joins_same, is_paused-push, is_closed-push, answers_passed}
 use Rattle.rdm_wire.specs.declared.request.ReqClass.{ReqClass}
@@ -27,10 +27,10 @@ use Rattle.rdm_queue.specs.declared.pending.Awaited.TheVariants as awaiting
 use Rattle.rdm_log.specs.log.Entries.{finished_of, answered_of}
 use Rattle.rdm_log.specs.log.History.{can_pause, can_resume}
 use Rattle.rdm_log.specs.log.Clients.{outstanding_requests, outstanding_discoveries}
-use Rattle.rdm_log.specs.log.Refusals.{submit_fault, ask_fault, IsRefused, number_of_join_fault, number_of_submit_fault}
-use Rattle.rdm_log.specs.log.Refusals.{number_of_ask_fault}
+use Rattle.rdm_log.specs.log.Refusals.{IsRefused, number_of_join_fault, number_of_work_fault}
+use Rattle.rdm_log.specs.declared.work.Work.TheVariants.{Submit, Discover}
 use Rattle.rdm_log.specs.promises.Outcomes.{kind_of_answer}
-use Rattle.rdm_log.specs.promises.Blocks.{IsOldest}
+use Rattle.rdm_log.specs.promises.Blocks.{IsOldest, call_of, next_number}
 use Rattle.rdm_log.proofs.LogLemmas.ClientFacts.{outstanding_parts, outstanding_discovery_parts}
 use Rattle.rdm_log.proofs.LogLemmas.PushLemmas.{joins_more}
 use Rattle.rdm_log.proofs.LogLemmas.KeepsLegal.{join_keeps, refuse_keeps, collect_keeps, pause_keeps, resume_keeps}
@@ -142,14 +142,7 @@ pub join_refused_after : (o : Opening) (h : List Entry) (s : QueueState) (n : �
 join_refused_after o h s n fault refuses after =
     refused_after o h s None (calls.Join n) (number_of_join_fault fault) (ap number_of_join_fault refuses) after
 
-pub submit_refused_after : (o : Opening) (h : List Entry) (s : QueueState) (c : ClientId) (request : Request)
-    (fault : SubmitFault) → submit_fault o h c.0 ≡ Some fault → StandsAfter o h s
-    → StandsAfter o (h ++ submit_refused c request fault ∷ []) s
-submit_refused_after o h s c request fault refuses after =
-    refused_after o h s (Some c) (calls.Submit request) (number_of_submit_fault fault)
-    (ap (option_map number_of_submit_fault) refuses) after
-
--- a submit
+-- a client's work
 counts : (o : Opening) (c : ℕ) (h k : List Entry) (es : List Entry)
     → AllByRecursion (λ e. is_answer_to o c k e ≡ true) es
     → (length (filter (λ d. not (is_discovery d)) (filter_map (outcome_of h) es)) ≡ length (filter_map finished_of es))
@@ -181,44 +174,50 @@ asks_same_after o h s c after =
       (counts o c h h (uncollected o c h) (answers_passed o c h)).1,
     ) refl
 
-pub submit_fault_is : (o : Opening) (h : List Entry) (s : QueueState) (c : ℕ) → StandsAfter o h s
-    → first_submit_fault s c ≡ submit_fault o h c
-submit_fault_is o h s c after =
+pub first_fault_is : (o : Opening) (h : List Entry) (s : QueueState) (c : ℕ) (work : Work) → StandsAfter o h s
+    → first_fault s c work ≡ work_fault o h c work
+first_fault_is o h s c (Submit request) after =
     rw (after.stands.closed_is, outstanding_same o h s c after, after.stands.places_are, after.stands.next_request_is)
     refl
-
-pub submit_after : (o : Opening) (h : List Entry) (s : QueueState) (c : ClientId) (n : ℕ) (request : Request)
-    → submit_fault o h c.0 ≡ None → n ≡ s.next_request → StandsAfter o h s
-    → StandsAfter o (h ++ Accept c n request ∷ []) (accepts_request s c.0 request)
-submit_after o h s c n request passes number after = record {
-  legal = accept_keeps o h c n request after.legal passes (number ∙ after.stands.next_request_is);
-  goes_on = after.goes_on;
-  stands = stands_accept o h s c n request after.legal.each
-      (after.legal.settled, passes, number ∙ after.stands.next_request_is) (facts_after o h s after)
-      (asks_after o h s after) number after.stands;
-}
-
--- a discover
-pub ask_fault_is : (o : Opening) (h : List Entry) (s : QueueState) (c : ℕ) → StandsAfter o h s
-    → first_ask_fault s c ≡ ask_fault o h c
-ask_fault_is o h s c after =
+first_fault_is o h s c (Discover kind) after =
     rw (after.stands.closed_is, asks_same_after o h s c after, after.stands.places_are, after.stands.next_ask_is) refl
 
-pub ask_refused_after : (o : Opening) (h : List Entry) (s : QueueState) (c : ClientId) (kind : Kind) (fault : AskFault)
-    → ask_fault o h c.0 ≡ Some fault → StandsAfter o h s → StandsAfter o (h ++ ask_refused c kind fault ∷ []) s
-ask_refused_after o h s c kind fault refuses after =
-    refused_after o h s (Some c) (calls.Discover kind) (number_of_ask_fault fault)
-    (ap (option_map number_of_ask_fault) refuses) after
+pub number_is : (o : Opening) (h : List Entry) (s : QueueState) (work : Work) → StandsAfter o h s
+    → number_for s work ≡ next_number o h work
+number_is o h s (Submit request) after = after.stands.next_request_is
+number_is o h s (Discover kind) after = after.stands.next_ask_is
 
-pub ask_after : (o : Opening) (h : List Entry) (s : QueueState) (c : ClientId) (n : ℕ) (kind : Kind)
-    → ask_fault o h c.0 ≡ None → n ≡ s.next_ask → StandsAfter o h s
-    → StandsAfter o (h ++ discovery.Ask c n kind ∷ []) (asks_discovery s c.0 kind)
-ask_after o h s c n kind passes number after = record {
-  legal = ask_keeps o h c n kind after.legal passes (number ∙ after.stands.next_ask_is);
-  goes_on = after.goes_on;
-  stands = stands_ask o h s c n kind after.legal.each (after.legal.settled, passes, number ∙ after.stands.next_ask_is)
-      (facts_after o h s after) (asks_after o h s after) number after.stands;
-}
+pub work_after : (o : Opening) (h : List Entry) (s : QueueState) (c : ClientId) (n : ℕ) (work : Work)
+    → work_fault o h c.0 work ≡ None → n ≡ number_for s work → StandsAfter o h s
+    → StandsAfter o (h ++ work_accepted c n work ∷ []) (accepts_work s c.0 work)
+work_after o h s c n (Submit request) passes number after =
+    let next = number ∙ after.stands.next_request_is in
+    record {
+      legal = accept_keeps o h c n request after.legal passes next;
+      goes_on = after.goes_on;
+      stands = stands_accept o h s c n request after.legal.each (after.legal.settled, passes, next)
+          (facts_after o h s after) (asks_after o h s after) number after.stands;
+    }
+work_after o h s c n (Discover kind) passes number after =
+    let next = number ∙ after.stands.next_ask_is in
+    record {
+      legal = ask_keeps o h c n kind after.legal passes next;
+      goes_on = after.goes_on;
+      stands = stands_ask o h s c n kind after.legal.each (after.legal.settled, passes, next) (facts_after o h s after)
+          (asks_after o h s after) number after.stands;
+    }
+
+pub work_refused_after : (o : Opening) (h : List Entry) (s : QueueState) (c : ClientId) (work : Work)
+    (fault : WorkFault) → work_fault o h c.0 work ≡ Some fault → StandsAfter o h s
+    → StandsAfter o (h ++ work_refused c work fault ∷ []) s
+work_refused_after o h s c work fault refuses after =
+    refused_after o h s (Some c) (call_of work) (number_of_work_fault fault)
+    (is_refused work (ap (option_map number_of_work_fault) refuses)) after
+  where
+    is_refused : (w : Work) → option_map number_of_work_fault (work_fault o h c.0 w) ≡ Some (number_of_work_fault fault)
+        → IsRefused o h (Some c) (call_of w) (number_of_work_fault fault)
+    is_refused (Submit request) is = is
+    is_refused (Discover kind) is = is
 
 -- pause and resume
 switch_after : (o : Opening) (h : List Entry) (s : QueueState) (e : Entry) (paused : Bool) → MayFollow o h e

@@ -1,29 +1,30 @@
 -- What a queue's calls say for each log that it stands after.
 use Rattle.rdm_queue.proofs.Common.{◌≡◌, ℕ, ◌∙◌, ◌<◌, Bool, true, false, List, [], ◌∷◌, ◌++◌, length, Option, Some}
 use Rattle.rdm_queue.proofs.Common.{None, Result, Ok, Err, refl, sym, ap, append-nil, append_assoc, ◌≢◌, IfOk, IfErr}
-use Rattle.rdm_queue.proofs.Common.{IfSome, IfNone, OnErr, OnSome, option_map, slice_get, ArrayVec, Request, LogState}
-use Rattle.rdm_queue.proofs.Common.{grown, ClientId, Owner, Entry, Join, Accept, Ask, Send, Collect, Close, is_closed}
-use Rattle.rdm_queue.proofs.Common.{JoinFault, SubmitFault, AskFault, Kind, Device, Outcome, Completion, join_fault}
+use Rattle.rdm_queue.proofs.Common.{IfSome, IfNone, OnErr, OnSome, option_map, slice_get, ArrayVec, LogState}
+use Rattle.rdm_queue.proofs.Common.{grown, ClientId, Owner, Entry, Join, Send, Collect, Close, is_closed}
+use Rattle.rdm_queue.proofs.Common.{JoinFault, WorkFault, Work, Device, Outcome, Completion, join_fault, first_fault}
 use Rattle.rdm_queue.proofs.Common.{outcome_value, request_outcome, discovery_outcome, oldest_kind, RefusesJoin}
-use Rattle.rdm_queue.proofs.Common.{join_refused, submit_refused, ask_refused, CloseAdds, IsWithResults, is_result}
-use Rattle.rdm_queue.proofs.Common.{AllResults, QueueState, first_join_fault, first_submit_fault, first_ask_fault}
-use Rattle.rdm_queue.proofs.Common.{joins_client, accepts_request, asks_discovery, collects_oldest, owed_to, unended}
+use Rattle.rdm_queue.proofs.Common.{join_refused, work_refused, work_accepted, CloseAdds, IsWithResults, is_result}
+use Rattle.rdm_queue.proofs.Common.{AllResults, QueueState, first_join_fault, WorkAdds, number_or_fault, number_for}
+use Rattle.rdm_queue.proofs.Common.{joins_client, accepts_work, collects_oldest, owed_to, unended}
 use Rattle.rdm_queue.proofs.Common.{OwedOutcome, owed_next, end_of_oldest, CollectsOldest, first_kind, IsEnded}
 use Rattle.rdm_queue.proofs.Common.{HasNothingDue, FaultNeedsClose, AnswersInBound, block_more, ByRun, ByResult}
 use Rattle.rdm_queue.proofs.Common.{ByClose, Accepted, Joined, none-some, drop, arith, StandsAfter, StandsAmid, MaySend}
 use Rattle.rdm_queue.proofs.Common.{NoSend, IsGiven, to_send, false≢true, is_some}
 use Rattle.rdm_log.specs.declared.outcome.OutcomeKind.{OutcomeKind}
 use Rattle.rdm_log.specs.declared.outcome.DiscoveryEnd.{DiscoveryEnd}
-use Rattle.rdm_log.specs.promises.Blocks.{JoinAdds, SubmitAdds, DiscoverAdds, SwitchAdds, CollectAdds}
+use Rattle.rdm_log.specs.declared.work.Work.TheVariants.{Submit, Discover}
+use Rattle.rdm_log.specs.promises.Blocks.{JoinAdds, SwitchAdds, CollectAdds}
 use Rattle.rdm_queue.proofs.BodyLemmas.EndLemmas.{ends_amid, ends_in_bound_amid, settled_after}
 use Rattle.rdm_queue.specs.body.Agrees.{ForEachBlock, Ends, FinishesAll}
 use Rattle.rdm_queue.specs.promises.EachLog.{ForEachLog, StandsWith, AddsToEach}
 use Rattle.rdm_queue.proofs.BodyLemmas.RingLemmas.{all_push}
 use Rattle.rdm_queue.proofs.BodyLemmas.SearchLemmas.{given_same, ended_same}
 use Rattle.rdm_queue.proofs.BodyLemmas.TakeLemmas.{take_after, none_after}
-use Rattle.rdm_queue.proofs.BodyLemmas.AfterLemmas.{join_fault_is, join_after, join_refused_after, submit_fault_is}
-use Rattle.rdm_queue.proofs.BodyLemmas.AfterLemmas.{submit_after, submit_refused_after, ask_fault_is, ask_after}
-use Rattle.rdm_queue.proofs.BodyLemmas.AfterLemmas.{ask_refused_after, oldest_after, collect_after, none_owed_after}
+use Rattle.rdm_queue.proofs.BodyLemmas.AfterLemmas.{join_fault_is, join_after, join_refused_after, first_fault_is}
+use Rattle.rdm_queue.proofs.BodyLemmas.AfterLemmas.{number_is, work_after, work_refused_after, oldest_after}
+use Rattle.rdm_queue.proofs.BodyLemmas.AfterLemmas.{collect_after, none_owed_after}
 use Rattle.rdm_queue.proofs.BodyLemmas.AfterLemmas.{kind_after}
 
 -- a call that adds nothing
@@ -57,53 +58,32 @@ join_adds (Err fault) s new n joined refused same = record {
       };
 }
 
-pub submit_adds : (r : Result ℕ (SubmitFault × Request)) (s new : QueueState) (c : ClientId) (request : Request)
-    → IfOk r (λ n. (first_submit_fault s c.0 ≡ None) × (n ≡ s.next_request) × (new ≡ accepts_request s c.0 request))
-    → IfErr r (λ e. (first_submit_fault s c.0 ≡ Some e.0) × (e.1 ≡ request)) → OnErr r (new ≡ s)
-    → AddsToEach s (λ k. SubmitAdds k.opening k.entries c request r) new
-submit_adds (Ok n) s new c request accepted refused same = record {
-  search = ap (λ (q : QueueState). q.search) accepted.2;
+pub work_adds : (r : Result ℕ (WorkFault × Work)) (s new : QueueState) (c : ClientId) (work : Work)
+    → IfOk r (λ n. (first_fault s c.0 work ≡ None) × (n ≡ number_for s work) × (new ≡ accepts_work s c.0 work))
+    → IfErr r (λ e. (first_fault s c.0 work ≡ Some e.0) × (e.1 ≡ work)) → OnErr r (new ≡ s)
+    → AddsToEach s (λ k. WorkAdds k.opening k.entries c work (number_or_fault r)) new
+work_adds (Ok n) s new c work accepted refused same = record {
+  search = ap (λ (q : QueueState). q.search) accepted.2 ∙ searches work;
   each = λ k at after.
-      let passes = sym (submit_fault_is k.opening k.entries s c.0 after) ∙ accepted.0 in
+      let passes = sym (first_fault_is k.opening k.entries s c.0 work after) ∙ accepted.0 in
       record {
-        block = Accept c n request ∷ [];
-        adds = (passes, accepted.1 ∙ after.stands.next_request_is, refl);
-        after = rw accepted.2 (submit_after k.opening k.entries s c n request passes accepted.1 after);
+        block = work_accepted c n work ∷ [];
+        adds = (passes, accepted.1 ∙ number_is k.opening k.entries s work after, refl);
+        after = rw accepted.2 (work_after k.opening k.entries s c n work passes accepted.1 after);
       };
 }
-submit_adds (Err e) s new c request accepted refused same = record {
+  where
+    searches : (w : Work) → (accepts_work s c.0 w).search ≡ s.search
+    searches (Submit request) = refl
+    searches (Discover kind) = refl
+work_adds (Err e) s new c work accepted refused same = record {
   search = ap (λ (q : QueueState). q.search) same;
   each = λ k at after.
-      let refuses = sym (submit_fault_is k.opening k.entries s c.0 after) ∙ refused.0 in
+      let refuses = sym (first_fault_is k.opening k.entries s c.0 work after) ∙ refused.0 in
       record {
-        block = submit_refused c request e.0 ∷ [];
-        adds = (refuses, refused.1, refl);
-        after = rw same (submit_refused_after k.opening k.entries s c request e.0 refuses after);
-      };
-}
-
-pub ask_adds : (r : Result ℕ AskFault) (s new : QueueState) (c : ClientId) (kind : Kind)
-    → IfOk r (λ n. (first_ask_fault s c.0 ≡ None) × (n ≡ s.next_ask) × (new ≡ asks_discovery s c.0 kind))
-    → IfErr r (λ fault. first_ask_fault s c.0 ≡ Some fault) → OnErr r (new ≡ s)
-    → AddsToEach s (λ k. DiscoverAdds k.opening k.entries c kind r) new
-ask_adds (Ok n) s new c kind accepted refused same = record {
-  search = ap (λ (q : QueueState). q.search) accepted.2;
-  each = λ k at after.
-      let passes = sym (ask_fault_is k.opening k.entries s c.0 after) ∙ accepted.0 in
-      record {
-        block = Ask c n kind ∷ [];
-        adds = (passes, accepted.1 ∙ after.stands.next_ask_is, refl);
-        after = rw accepted.2 (ask_after k.opening k.entries s c n kind passes accepted.1 after);
-      };
-}
-ask_adds (Err fault) s new c kind accepted refused same = record {
-  search = ap (λ (q : QueueState). q.search) same;
-  each = λ k at after.
-      let refuses = sym (ask_fault_is k.opening k.entries s c.0 after) ∙ refused in
-      record {
-        block = ask_refused c kind fault ∷ [];
+        block = work_refused c work e.0 ∷ [];
         adds = (refuses, refl);
-        after = rw same (ask_refused_after k.opening k.entries s c kind fault refuses after);
+        after = rw same (work_refused_after k.opening k.entries s c work e.0 refuses after);
       };
 }
 

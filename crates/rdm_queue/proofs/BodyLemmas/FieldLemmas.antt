@@ -1,16 +1,15 @@
 -- The clients' rings, as the lists of a queue's state.
-use Rattle.rdm_queue.proofs.Common.{◌≡◌, ℕ, ◌+◌, ◌-◌, ◌<◌, map, ◌≤◌, true, false, List, [], ◌∷◌, ◌++◌, length, take}
-use Rattle.rdm_queue.proofs.Common.{set, get_or, Some, None, slice_get, refl, sym, ap, ◌∙◌, inl, inr, arith, ◌⊎◌, ◌==◌}
-use Rattle.rdm_queue.proofs.Common.{◌||◌, nat_le, if◌then◌else◌, list_any, deque_len, le-leb, lt-leb, eq-eqb, ne_eqb}
-use Rattle.rdm_queue.proofs.Common.{cases_eq, slice_get-get_or, take_all, length-set, length-map, sum_by-cons, Client}
+use Rattle.rdm_queue.proofs.Common.{◌≡◌, ℕ, ◌+◌, ◌-◌, ◌<◌, map, false, List, [], ◌∷◌, ◌++◌, length, take}
+use Rattle.rdm_queue.proofs.Common.{set, get_or, Some, None, slice_get, refl, sym, ap, ◌∙◌, arith}
+use Rattle.rdm_queue.proofs.Common.{◌||◌, nat_le, if◌then◌else◌, list_any, deque_len, lt-leb}
+use Rattle.rdm_queue.proofs.Common.{slice_get-get_or, take_all, length-set, length-map, sum_by-cons, Client}
 use Rattle.rdm_queue.proofs.Common.{Setup, Asked, AskedDiscovery, is_full_kind, owed_values, merged, accepted_is}
 use Rattle.rdm_queue.proofs.Common.{asked_is, waiting_ring, rings_from, waiting_rings, owed_rings, places_of}
 use Rattle.rdm_queue.proofs.Common.{StateInvariant, QueueInvariant, QueueState, first_state, first_submit_fault}
 use Rattle.rdm_queue.proofs.Common.{first_ask_fault, asked_of, index_within}
 use Rattle.std.specs.List.{refill, sum_by}
 use Rattle.std.proofs.lemmas.List.{append-nil, drop_all}
-use Rattle.rdm_log.specs.declared.fault.SubmitFault.TheVariants as submit_faults
-use Rattle.rdm_log.specs.declared.fault.AskFault.TheVariants as ask_faults
+use Rattle.rdm_log.specs.declared.fault.WorkFault.TheVariants.{Full}
 use Rattle.rdm_log.specs.log.Config.{IsConfig}
 use Rattle.rdm_queue.specs.body.State.{uncollected}
 use Rattle.rdm_queue.proofs.BodyLemmas.InvariantLemmas.{waiting_rises, has_place}
@@ -82,7 +81,7 @@ pub fault_of : (s : QueueState) (clients : List Client) (c : ℕ) (k : Client) �
     → s.places ≡ places_of clients → s.owed ≡ owed_rings clients → slice_get clients c ≡ Some k → s.closed ≡ false
     → first_submit_fault s c
     ≡ (if nat_le k.places (deque_len k.waiting + (deque_len k.outcomes - length k.sets.items))
-    || nat_le 18446744073709551615 s.next_request then Some submit_faults.Full else None)
+    || nat_le 18446744073709551615 s.next_request then Some Full else None)
 fault_of s clients c k held same owed at open_ =
     rw (
       open_,
@@ -134,21 +133,6 @@ known_client s clients c same passes =
     let long = ap (λ ns. length ns) same ∙ length-map clients (λ k. k.places) in
     omega arith
 
--- whether a submit finds its client's queue depth used up, or the numbers run out
-pub full_by_places : (places count next : ℕ) → places ≤ count
-    → (nat_le places count || nat_le 18446744073709551615 next) ≡ true
-full_by_places places count next full = rw (le-leb places count full) refl
-
-pub full_by_number : (places count next : ℕ) → count < places → next < 18446744073709551616
-    → (nat_le places count || nat_le 18446744073709551615 next) ≡ (next == 18446744073709551615)
-full_by_number places count next free fits =
-    rw (lt-leb places count free) (by_case (cases_eq next 18446744073709551615))
-  where
-    by_case : (next ≡ 18446744073709551615) ⊎ (next ≡ 18446744073709551615 → ⊥)
-        → nat_le 18446744073709551615 next ≡ (next == 18446744073709551615)
-    by_case (inl last) = rw (eq-eqb next 18446744073709551615 last) (le-leb 18446744073709551615 next (omega arith))
-    by_case (inr other) = rw (ne_eqb next 18446744073709551615 other) (lt-leb 18446744073709551615 next (omega arith))
-
 -- one of the discoveries that wait is full
 pub any_asked : (xs : List Asked)
     → list_any (λ (a : AskedDiscovery). is_full_kind a.kind) (map asked_is xs)
@@ -161,6 +145,6 @@ pub ask_fault_of : (s : QueueState) (clients : List Client) (c : ℕ) (k : Clien
     → s.places ≡ places_of clients → s.owed ≡ owed_rings clients → slice_get clients c ≡ Some k → s.closed ≡ false
     → first_ask_fault s c
     ≡ (if nat_le 4 (length (asked_of c s) + length k.sets.items)
-    || nat_le 18446744073709551614 s.next_ask then Some ask_faults.Full else None)
+    || nat_le 18446744073709551614 s.next_ask then Some Full else None)
 ask_fault_of s clients c k held same owed at open_ =
     rw (open_, known_at s clients c k same at, sets_count s clients c k owed held.rings at) refl

@@ -2,10 +2,10 @@
 use Rattle.rdm_queue.proofs.Common.{◌≡◌, ℕ, zero, suc, ◌+◌, ◌-◌, ◌≤◌, ◌<◌, Bool, true, false, cond, not, List, [], ◌∷◌}
 use Rattle.rdm_queue.proofs.Common.{◌++◌, length, drop, get_or, filter, map, sum, Option, Some, None, slice_get, refl}
 use Rattle.rdm_queue.proofs.Common.{sym, ap, ◌∙◌, subst, inl, inr, length-append, arith, AllByRecursion, ◌⊎◌, ◌==◌}
-use Rattle.rdm_queue.proofs.Common.{◌||◌, nat_le, nat_lt, slice_index, if◌then◌else◌, MatchOption, eqb-true, eq-eqb}
+use Rattle.rdm_queue.proofs.Common.{nat_le, nat_lt, slice_index, if◌then◌else◌, MatchOption, eqb-true, eq-eqb}
 use Rattle.rdm_queue.proofs.Common.{ltb-false, or_parts, cases_lt, cases_eq, map-append, get_or_past, get_or-set_same}
 use Rattle.rdm_queue.proofs.Common.{get_or-set_other, length-set, length-map, length-drop, sum_by-append, IsAscending}
-use Rattle.rdm_queue.proofs.Common.{Request, Joined, Kind, JoinFault, SubmitFault, AskFault, Accepted, AskedDiscovery}
+use Rattle.rdm_queue.proofs.Common.{Request, Joined, Kind, JoinFault, Accepted, AskedDiscovery}
 use Rattle.rdm_queue.proofs.Common.{OutcomeValue, StateInvariant, served_by, QueueState, RunState, outstanding}
 use Rattle.rdm_queue.proofs.Common.{outstanding_asks, owes, is_discovery, owed_for, finishes_oldest, accepts_request}
 use Rattle.rdm_queue.proofs.Common.{accepted_as, asks_discovery, joins_client, collects_oldest, first_join_fault}
@@ -14,11 +14,9 @@ use Rattle.std.proofs.lemmas.Bool.{leb-false}
 use Rattle.std.proofs.lemmas.List.{get_or_append_left}
 use Rattle.rdm_agent.specs.declared.kind.Kind.TheVariants.{Full}
 use Rattle.rdm_log.specs.declared.fault.JoinFault.TheVariants as join_faults
-use Rattle.rdm_log.specs.declared.fault.SubmitFault.TheVariants as submit_faults
-use Rattle.rdm_log.specs.declared.fault.AskFault.TheVariants as ask_faults
 use Rattle.rdm_queue.specs.body.QueueInvariant.{numbers}
 use Rattle.rdm_queue.specs.body.State.{asked_as}
-use Rattle.rdm_log.proofs.LogLemmas.RefusalLemmas.{none_stands}
+use Rattle.rdm_log.proofs.LogLemmas.RefusalLemmas.{none_stands, none_at}
 use Rattle.rdm_queue.proofs.BodyLemmas.OutstandingLemmas.{removed_at, owes-count, without_first, one_more, four}
 use Rattle.rdm_queue.proofs.BodyLemmas.OutstandingLemmas.{asked-le}
 
@@ -152,19 +150,9 @@ pub record HasPlace (s : QueueState) (c : ℕ) : Type 0 where
 
 pub has_place : (s : QueueState) (c : ℕ) → first_submit_fault s c ≡ None → HasPlace s c
 has_place s c passes =
-    let closed = none_stands s.closed submit_faults.Closed
-    (if nat_le (length s.places) c then Some submit_faults.UnknownClient else if_full) passes in
-    let unknown = none_stands (nat_le (length s.places) c) submit_faults.UnknownClient if_full closed.1 in
-    let full = none_stands is_full submit_faults.Full None unknown.1 in
-    let parts = or_parts (nat_le (slice_index s.places c) (outstanding c s))
-    (nat_le 18446744073709551615 s.next_request) full.0 in
-    record { joined = leb-false _ _ unknown.0; free = leb-false _ _ parts.0; number = leb-false _ _ parts.1 }
-  where
-    is_full : Bool
-    is_full = nat_le (slice_index s.places c) (outstanding c s) || nat_le 18446744073709551615 s.next_request
-
-    if_full : Option SubmitFault
-    if_full = if is_full then Some submit_faults.Full else None
+    let tests = none_at s.closed s.places _ c passes in
+    let parts = or_parts _ _ tests.2 in
+    record { joined = tests.1; free = leb-false _ _ parts.0; number = leb-false _ _ parts.1 }
 
 -- a higher number at the end
 rising_push : (ns : List ℕ) (n m : ℕ) → IsAscending (ns ++ n ∷ []) → n < m → IsAscending ((ns ++ n ∷ []) ++ m ∷ [])
@@ -218,18 +206,9 @@ pub record HasAsk (s : QueueState) (c : ℕ) : Type 0 where
 
 pub has_ask : (s : QueueState) (c : ℕ) → first_ask_fault s c ≡ None → HasAsk s c
 has_ask s c passes =
-    let closed = none_stands s.closed ask_faults.Closed
-    (if nat_le (length s.places) c then Some ask_faults.UnknownClient else if_full) passes in
-    let unknown = none_stands (nat_le (length s.places) c) ask_faults.UnknownClient if_full closed.1 in
-    let full = none_stands is_full ask_faults.Full None unknown.1 in
-    let parts = or_parts (nat_le 4 (outstanding_asks c s)) (nat_le 18446744073709551614 s.next_ask) full.0 in
-    record { joined = leb-false _ _ unknown.0; free = leb-false _ _ parts.0; number = leb-false _ _ parts.1 }
-  where
-    is_full : Bool
-    is_full = nat_le 4 (outstanding_asks c s) || nat_le 18446744073709551614 s.next_ask
-
-    if_full : Option AskFault
-    if_full = if is_full then Some ask_faults.Full else None
+    let tests = none_at s.closed s.places _ c passes in
+    let parts = or_parts _ _ tests.2 in
+    record { joined = tests.1; free = leb-false _ _ parts.0; number = leb-false _ _ parts.1 }
 
 pub held-asks : (s : QueueState) (c : ℕ) (kind : Kind) → StateInvariant s → first_ask_fault s c ≡ None
     → StateInvariant (asks_discovery s c kind)

@@ -1,6 +1,7 @@
 -- A session's entries always fit into its log, and its controller stands after it.
 use Rattle.rdm_queue.proofs.Common.{◌≡◌, ℕ, ◌+◌, ◌≤◌, Bool, true, false, List, [], ◌∷◌, ◌++◌, length, append_assoc}
-use Rattle.rdm_queue.proofs.Common.{append-nil, length-append, refl, sym, ap, arith, ◌∙◌, ltb-false, Ok, LineEvent}
+use Rattle.rdm_queue.proofs.Common.{append-nil, length-append, refl, sym, ap, arith, ◌∙◌, ltb-false, Ok}
+use Rattle.rdm_queue.proofs.Common.{LineEvent, ClientId, Work, work_accepted}
 use Rattle.rdm_queue.proofs.Common.{Setup, Entry, Came, Finish, Answer, Close, accepts, asks, finishes, answers}
 use Rattle.rdm_queue.proofs.Common.{collectors, is_closed, awaited, LogState, grown, opened, is_result, AllResults}
 use Rattle.rdm_queue.proofs.Common.{IsWithResults, CloseAdds, FaultNeedsClose, AnswersInBound, QueueState, StandsAfter}
@@ -8,6 +9,7 @@ use Rattle.rdm_queue.proofs.Common.{StandsAmid, SessionInvariant, SessionAmid, E
 use Rattle.rdm_queue.proofs.Common.{IsSetUp}
 use Rattle.rdm_log.specs.log.History.{reserved}
 use Rattle.rdm_log.specs.log.LogState.{free_entries, is_full_log, drained}
+use Rattle.rdm_log.specs.declared.work.Work.TheVariants.{Submit, Discover}
 use Rattle.rdm_log.specs.promises.Blocks.{UnlessFull, DeliverAdds, GrowsBy}
 use Rattle.rdm_queue.specs.body.SessionInvariant.{HasRoom, FinishesDue}
 use Rattle.rdm_log.proofs.BoundLemmas.{after_growth}
@@ -68,6 +70,16 @@ result_added e is = absurd (no is)
   where
     no : false ≡ true → ⊥
     no h = cc
+
+-- the entry of accepted work takes three, and is no Answer
+pub work_added : (c : ClientId) (n : ℕ) (work : Work) → added (work_accepted c n work) ≡ 3
+work_added c n (Submit request) = refl
+work_added c n (Discover kind) = refl
+
+pub work_in_bound : (k : LogState) (c : ClientId) (n : ℕ) (work : Work)
+    → AnswersInBound k (work_accepted c n work ∷ [])
+work_in_bound k c n (Submit request) = (tt, tt)
+work_in_bound k c n (Discover kind) = (tt, tt)
 
 -- a call whose entries fit, and one whose don't
 pub not_full : (A B : Type 0) (full : Bool) → full ≡ false → B → UnlessFull full A B

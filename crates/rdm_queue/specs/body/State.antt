@@ -19,8 +19,9 @@ use Rattle.rdm_agent.specs.declared.kind.Kind.TheVariants.{Full}
 use Rattle.rdm_log.specs.declared.config.Setup.{Setup}
 use Rattle.rdm_queue.specs.declared.pending.Awaited.{Awaited}
 use Rattle.rdm_log.specs.declared.fault.JoinFault.{JoinFault}
-use Rattle.rdm_log.specs.declared.fault.SubmitFault.{SubmitFault}
-use Rattle.rdm_log.specs.declared.fault.AskFault.{AskFault}
+use Rattle.rdm_log.specs.declared.fault.WorkFault.{WorkFault}
+use Rattle.rdm_log.specs.declared.work.Work.{Work}
+use Rattle.rdm_log.specs.declared.work.Work.TheVariants.{Submit, Discover}
 use Rattle.rdm_log.specs.declared.entry.Opening.{Opening}
 use Rattle.rdm_log.specs.declared.entry.Entry.{Entry}
 use Rattle.rdm_log.specs.declared.entry.Entry.TheVariants.{Finish}
@@ -138,11 +139,20 @@ outstanding_asks c s = length (asked_of c s) + length (filter is_discovery (owed
 abbrev pub first_join_fault : QueueState → ℕ → Option JoinFault
 first_join_fault s n = join_fault_at s.closed s.places s.greatest n
 
-abbrev pub first_submit_fault : QueueState → ℕ → Option SubmitFault
+abbrev pub first_submit_fault : QueueState → ℕ → Option WorkFault
 first_submit_fault s c = submit_fault_at s.closed s.places (outstanding c s) s.next_request c
 
-abbrev pub first_ask_fault : QueueState → ℕ → Option AskFault
+abbrev pub first_ask_fault : QueueState → ℕ → Option WorkFault
 first_ask_fault s c = ask_fault_at s.closed s.places (outstanding_asks c s) s.next_ask c
+
+abbrev pub first_fault : QueueState → ℕ → Work → Option WorkFault
+first_fault s c (Submit request) = first_submit_fault s c
+first_fault s c (Discover kind) = first_ask_fault s c
+
+-- the number that work gets
+abbrev pub number_for : QueueState → Work → ℕ
+number_for s (Submit request) = s.next_request
+number_for s (Discover kind) = s.next_ask
 
 -- one more client, with this queue depth
 abbrev pub joins_client : QueueState → ℕ → QueueState
@@ -212,6 +222,10 @@ asked_as s c kind = record { client = c; number = s.next_ask; kind = kind }
 
 abbrev pub asks_discovery : QueueState → ℕ → Kind → QueueState
 asks_discovery s c kind = record s { next_ask = s.next_ask + 1; asked = s.asked ++ asked_as s c kind ∷ [] }
+
+abbrev pub accepts_work : QueueState → ℕ → Work → QueueState
+accepts_work s c (Submit request) = accepts_request s c request
+accepts_work s c (Discover kind) = asks_discovery s c kind
 
 -- a client's oldest outcome removed
 abbrev pub collects_oldest : QueueState → ℕ → QueueState

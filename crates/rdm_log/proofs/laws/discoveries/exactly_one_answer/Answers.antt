@@ -1,4 +1,4 @@
-use Rattle.rdm_log.proofs.PromiseLemmas.AnsweredInOrder.{one_answer}
+use Rattle.rdm_log.proofs.PromiseLemmas.OneResult.{one_answer}
 use Rattle.rdm_log.proofs.laws.discoveries.exactly_one_answer.Goals as goal
 
 pub returns : goal.returns

@@ -1,8 +1,8 @@
-use Rattle.rdm_queue.proofs.Common.{List, get_or, set, sym, ◌∙◌, refl, Client, state_of, accepts_request}
+use Rattle.rdm_queue.proofs.Common.{List, get_or, set, refl, Client, state_of, accepts_request}
 use Rattle.rdm_queue.proofs.BodyLemmas.FieldLemmas.{written}
 use Rattle.rdm_queue.proofs.BodyLemmas.RingFields.{AreClientsOf, own_clients, CanAccept, can_accept, clients-accept}
-use Rattle.rdm_queue.proofs.queue.Queue.submit.Goals.{After-index-deref_mut-from}
-use Rattle.rdm_queue.proofs.queue.Queue.submit.Goals as goal
+use Rattle.rdm_queue.proofs.queue.Queue.accept_request.Goals.{After-index-deref_mut-from}
+use Rattle.rdm_queue.proofs.queue.Queue.accept_request.Goals as goal
 
 -- the client, which has capacity for the request
 abbrev client : After-index-deref_mut-from → Client
@@ -13,7 +13,7 @@ can : (c : After-index-deref_mut-from)
 can c =
     can_accept (state_of c.self.inside) c.self.inside.clients.items c.deref_mut.result.now c.args.client.0 c.from.result
     c.index-deref_mut-from.result (own_clients c.self.inside c.self.invariant)
-    (rw (← c.self.view_is) at (sym c.submit_fault.ensures ∙ c.in_default.is)) c.from.ensures c.deref_mut.ensures.value
+    (rw (← c.self.view_is) at c.requires) c.from.ensures c.deref_mut.ensures.value
 
 pub accept-requires : goal.accept-requires
 accept-requires c = (can c).room
@@ -42,13 +42,10 @@ pub returns-clause-accepted : goal.returns-clause-accepted
 returns-clause-accepted c =
     let clients : List Client = c.self.inside.clients.items in
     let are = accepted c in
-    rw (← c.self.view_is) (
-      (can (goal.at.returns-clause-accepted c).After-index-deref_mut-from).passes,
-      refl,
-      rw (
-        written clients c.deref_mut.result.now c.from.result c.accept.new.self c.deref_mut.ensures.value,
-        are.places,
-        are.waiting,
-        are.owed,
-      ) refl,
-    )
+    rw (
+      ← c.self.view_is,
+      written clients c.deref_mut.result.now c.from.result c.accept.new.self c.deref_mut.ensures.value,
+      are.places,
+      are.waiting,
+      are.owed,
+    ) refl
