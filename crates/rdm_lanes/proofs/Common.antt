@@ -48,9 +48,8 @@ pub use Rattle.rdm_log.specs.declared.entry.Entry.TheVariants.{Answer, Finish, R
 pub use Rattle.rdm_log.specs.declared.entry.Entry.TheVariants.{Collect, Join, Send, Pause, Resume}
 pub use Rattle.rdm_log.specs.declared.entry.Opening.{Opening}
 pub use Rattle.rdm_log.specs.declared.entry.Owner.{Owner}
-pub use Rattle.rdm_log.specs.declared.fault.AskFault.{AskFault}
+pub use Rattle.rdm_log.specs.declared.fault.WorkFault.{WorkFault}
 pub use Rattle.rdm_log.specs.declared.fault.LogFull.{LogFull}
-pub use Rattle.rdm_log.specs.declared.fault.SubmitFault.{SubmitFault}
 pub use Rattle.rdm_log.specs.declared.outcome.AskCompletion.{AskCompletion}
 pub use Rattle.rdm_log.specs.log.Clients.{outstanding_discoveries, outstanding_requests, accepts_by, asks_by, collected}
 pub use Rattle.rdm_log.specs.log.Clients.{collects_by, is_answer_to, uncollected}
@@ -63,11 +62,11 @@ unfoldable pub use Rattle.rdm_log.specs.log.History.{is_closed, is_paused, await
 pub use Rattle.rdm_log.specs.log.Legal.{Legal, MayFollow}
 pub use Rattle.rdm_log.specs.log.LogState.{LogState, grown, is_full_log, free_entries}
 pub use Rattle.rdm_log.specs.log.MaySend.{NoSend, MayBegin}
-pub use Rattle.rdm_log.specs.log.Refusals.{ask_fault_at, submit_fault_at}
+pub use Rattle.rdm_log.specs.log.Refusals.{ask_fault_at, work_fault, work_fault_at}
+pub use Rattle.rdm_log.specs.declared.work.Work.{Work}
 pub use Rattle.rdm_log.specs.log.Runs.{answer_devices, devices_run, known_devices}
-pub use Rattle.rdm_log.specs.promises.Blocks.{GrowsBy, AllResults, is_result, DiscoverAdds, DiscoverLogs, SubmitAdds}
-pub use Rattle.rdm_log.specs.promises.Blocks.{SubmitLogs, UnlessFull, CloseAdds, CloseAddsWhere, CollectAdds, PauseLogs}
-pub use Rattle.rdm_log.specs.promises.Blocks.{ResumeLogs}
+pub use Rattle.rdm_log.specs.promises.Blocks.{GrowsBy, AllResults, is_result, WorkAdds, WorkLogs, number_or_fault}
+pub use Rattle.rdm_log.specs.promises.Blocks.{UnlessFull, CloseAdds, CloseAddsWhere, CollectAdds, PauseLogs, ResumeLogs}
 pub use Rattle.rdm_log.specs.promises.Outcomes.{OutcomeValue, outcome_of, Discovered, refused_outcome}
 pub use Rattle.rdm_log.specs.promises.Outcomes.{is_closed_refusal, never_begun, closed_number, is_client, outcome_value}
 pub use Rattle.rdm_log.specs.promises.Outcomes.{told}

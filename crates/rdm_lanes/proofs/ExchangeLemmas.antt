@@ -5,15 +5,19 @@ use Rattle.rdm_lanes.proofs.Common.{append_assoc, ArrayVec, EachAfter, LineEvent
 use Rattle.rdm_lanes.proofs.Common.{Came, LogFull, sends, cames, joins, exchanges, awaited, LogState, grown}
 use Rattle.rdm_lanes.proofs.Common.{is_full_log, NoSend, Legal, MayFollow, GrowsBy, AllResults, front, awaited-push}
 use Rattle.rdm_lanes.proofs.Common.{legal_facts, exchange_count, Exchanged, SameSwitches, NoCallLost, IsBetweenTurns}
-use Rattle.rdm_lanes.proofs.Common.{NoExchange, IsOnlyTold, views_found, GainOneAtMost}
+use Rattle.rdm_lanes.proofs.Common.{NoExchange, IsOnlyTold, views_found, GainOneAtMost, inl, arith}
 use Rattle.rdm_log.specs.declared.fault.NotAsked.{NotAsked}
 use Rattle.rdm_log.specs.promises.Blocks.{TakeLogs, DeliverAdds}
 use Rattle.rdm_log.proofs.LogLemmas.LegalFacts.{sent_evenly}
+use Rattle.rdm_lanes.specs.declared.worker.working.Attempt.{Attempt}
+use Rattle.rdm_lanes.specs.declared.worker.working.Attempt.TheVariants.{Exchanged as MadeOne, NothingToSend}
+use Rattle.rdm_lanes.specs.declared.worker.working.Attempt.TheVariants.{LogFull as NoRoom}
+use Rattle.rdm_lanes.specs.body.Steps.{Attempted, Did}
 use Rattle.rdm_lanes.proofs.FoundLemmas.{exchange_views}
-use Rattle.rdm_lanes.proofs.LaneLemmas.{waits, waits_join}
+use Rattle.rdm_lanes.proofs.LaneLemmas.{waits, waits_join, waits_same}
 use Rattle.rdm_lanes.proofs.LineLemmas.{traded_one, exchanges_off, results_off, results_no_join, results_no_switch}
 use Rattle.rdm_lanes.proofs.LineLemmas.{joins_stay, switches_stay, awaited_off, none_lost_grows, rightly_without}
-use Rattle.rdm_lanes.proofs.LineLemmas.{results_no_refusal, grown_join}
+use Rattle.rdm_lanes.proofs.LineLemmas.{results_no_refusal, grown_join, line_same, switches_same}
 use Rattle.rdm_lanes.proofs.StepLemmas.{results_untouched}
 
 -- nothing was taken
@@ -21,36 +25,6 @@ same_state : (old new : LogState) (block : List Entry) → block ≡ [] → new 
 same_state old new block none is =
     is ∙ ap (λ (b : List Entry). grown old b) none
     ∙ ap (λ (h : List Entry). record old { entries = h }) (append-nil old.entries)
-
-pub took_none : (old new : LogState) (r : Result (Option (ArrayVec ℕ)) LogFull) → r ≡ Ok None
-    → GrowsBy old (TakeLogs old r) new → new ≡ old
-took_none old new r is g = by_result (rw is at g)
-  where
-    by_result : GrowsBy old (TakeLogs old (Ok None)) new → new ≡ old
-    by_result g = let adds = g.adds.1 in same_state old new g.block adds.1 g.grows
-
-pub none_to_send : (old new : LogState) (r : Result (Option (ArrayVec ℕ)) LogFull) → r ≡ Ok None
-    → GrowsBy old (TakeLogs old r) new → NoSend new.opening new.entries
-none_to_send old new r is g = by_result (rw is at g)
-  where
-    by_result : GrowsBy old (TakeLogs old (Ok None)) new → NoSend new.opening new.entries
-    by_result g =
-        let adds = g.adds.1 in
-        subst (λ (k : LogState). NoSend k.opening k.entries) (sym (same_state old new g.block adds.1 g.grows)) adds.0
-
-pub is_full_then : (old new : LogState) (r : Result (Option (ArrayVec ℕ)) LogFull) (fault : LogFull) → r ≡ Err fault
-    → GrowsBy old (TakeLogs old r) new → is_full_log new ≡ true
-is_full_then old new r fault is g = by_result (rw is at g)
-  where
-    by_result : GrowsBy old (TakeLogs old (Err fault)) new → is_full_log new ≡ true
-    by_result g = ap is_full_log (same_state old new g.block g.adds.1 g.grows) ∙ g.adds.0
-
-pub took_full : (old new : LogState) (r : Result (Option (ArrayVec ℕ)) LogFull) (fault : LogFull) → r ≡ Err fault
-    → GrowsBy old (TakeLogs old r) new → new ≡ old
-took_full old new r fault is g = by_result (rw is at g)
-  where
-    by_result : GrowsBy old (TakeLogs old (Err fault)) new → new ≡ old
-    by_result g = same_state old new g.block g.adds.1 g.grows
 
 -- one exchange
 pub record IsExchange (old new : LogState) (frame : ArrayVec ℕ) (event : LineEvent) : Type 0 where
@@ -162,17 +136,6 @@ module _ {L : Type 0} (step : L → Exchange → L → Type 0) where
     steps = refl;
   }
 
-  pub exchanged_one : (a b : L) (old new : LogState) (frame : ArrayVec ℕ) (event : LineEvent)
-      → IsExchange old new frame event → step a (frame, event) b → Exchanged step a old b new
-  exchanged_one a b old new frame event x s = record {
-    block = x.block;
-    grows = x.grows;
-    nobody_joined = x.nobody_joined;
-    made = (frame, event) ∷ [];
-    added = x.added;
-    steps = (b, s, refl);
-  }
-
   pub exchanged_join : (a b d : L) (k m n : LogState) → Exchanged step a k b m → Exchanged step b m d n
       → Exchanged step a k d n
   exchanged_join a b d k m n x y = record {
@@ -185,16 +148,63 @@ module _ {L : Type 0} (step : L → Exchange → L → Type 0) where
     steps = makes-join x.made y.made a b d x.steps y.steps;
   }
 
-  pub exchanged_within : (a b : L) (k m n o : LogState) → NoExchange k m → Exchanged step a m b n → NoExchange n o
-      → Exchanged step a k b o
-  exchanged_within a b k m n o before x after =
-      exchanged_join a b b k n o (exchanged_join a a b k m n (exchanged_none a k m before) x)
-      (exchanged_none b n o after)
-
 -- how many exchanges there are
-pub one_more : (old new : LogState) (frame : ArrayVec ℕ) (event : LineEvent) → IsExchange old new frame event
+one_more : (old new : LogState) (frame : ArrayVec ℕ) (event : LineEvent) → IsExchange old new frame event
     → exchange_count new ≡ exchange_count old + 1
 one_more old new frame event x = ap length x.added ∙ length-append (exchanges old.entries) ((frame, event) ∷ [])
 
 pub no_more : (old new : LogState) → NoExchange old new → exchange_count new ≡ exchange_count old
 no_more old new s = ap length s.same
+
+-- what an attempt at an exchange comes to
+module _ {L : Type 0} (step : L → Exchange → L → Type 0) where
+  attempted_not : (a : L) (old new : LogState) (attempt : Attempt) → new ≡ old → IsBetweenTurns old
+      → Did attempt old new → Attempted step a old a new attempt
+  attempted_not a old new attempt same s did = record {
+    exchanged = exchanged_none step a old new (rw same (line_same old));
+    one = omega (arith, ap exchange_count same);
+    did = did;
+    found = inl (ap (λ (k : LogState). views_found k.entries) same);
+    switches = rw same (switches_same old);
+    served = subst IsBetweenTurns (sym same) s;
+    wait = λ c. rw same (waits_same c old);
+  }
+
+  pub attempted_full : (a : L) (old new : LogState) (r : Result (Option (ArrayVec ℕ)) LogFull) (fault : LogFull)
+      → r ≡ Err fault → GrowsBy old (TakeLogs old r) new → IsBetweenTurns old → Attempted step a old a new NoRoom
+  attempted_full a old new r fault is g s = by_result (rw is at g)
+    where
+      by_result : GrowsBy old (TakeLogs old (Err fault)) new → Attempted step a old a new NoRoom
+      by_result g =
+          let same = same_state old new g.block g.adds.1 g.grows in
+          attempted_not a old new NoRoom same s (ap is_full_log same ∙ g.adds.0)
+
+  pub attempted_nothing : (a : L) (old new : LogState) (r : Result (Option (ArrayVec ℕ)) LogFull) → r ≡ Ok None
+      → GrowsBy old (TakeLogs old r) new → IsBetweenTurns old → Attempted step a old a new NothingToSend
+  attempted_nothing a old new r is g s = by_result (rw is at g)
+    where
+      by_result : GrowsBy old (TakeLogs old (Ok None)) new → Attempted step a old a new NothingToSend
+      by_result g =
+          let adds = g.adds.1 in
+          let same = same_state old new g.block adds.1 g.grows in
+          attempted_not a old new NothingToSend same s
+          (subst (λ (k : LogState). NoSend k.opening k.entries) (sym same) adds.0)
+
+  pub attempted_one : (a b : L) (old new : LogState) (frame : ArrayVec ℕ) (event : LineEvent)
+      → IsExchange old new frame event → step a (frame, event) b → Attempted step a old b new MadeOne
+  attempted_one a b old new frame event x s = record {
+    exchanged = record {
+      block = x.block;
+      grows = x.grows;
+      nobody_joined = x.nobody_joined;
+      made = (frame, event) ∷ [];
+      added = x.added;
+      steps = (b, s, refl);
+    };
+    one = omega (arith, one_more old new frame event x);
+    did = one_more old new frame event x;
+    found = x.found;
+    switches = x.switches;
+    served = x.served;
+    wait = x.wait;
+  }

@@ -2,28 +2,27 @@
 use Rattle.rdm_lanes.proofs.Common.{◌≡◌, ℕ, zero, suc, add-one, ◌+◌, ◌<◌, ◌≤◌, Bool, true, false, true≢false, cond}
 use Rattle.rdm_lanes.proofs.Common.{List, [], ◌∷◌, ◌++◌, map, length, take, drop, Option, Some, None, refl, sym, ap}
 use Rattle.rdm_lanes.proofs.Common.{◌∙◌, subst, slice_get, length-append, append-nil, arith, filter_map, Result, Ok}
-use Rattle.rdm_lanes.proofs.Common.{Err, filter, ◌==◌, ◌||◌, nat_le, slice_index, if◌then◌else◌, MatchBool, list_any}
+use Rattle.rdm_lanes.proofs.Common.{Err, filter, ◌==◌, nat_le, if◌then◌else◌, MatchBool, list_any}
 use Rattle.rdm_lanes.proofs.Common.{eq-eqb, map-append, filter_map-append, Search, EachAfter, Request, Kind, ClientId}
 use Rattle.rdm_lanes.proofs.Common.{Call, Cause, Opening, Entry, Refuse, Accept, Ask, Finish, Answer, accepts, asks}
 use Rattle.rdm_lanes.proofs.Common.{finishes, answers, collectors, collector_of, accepts_by, asks_by, is_answer_to}
 use Rattle.rdm_lanes.proofs.Common.{answers_to, collects_by, collected, uncollected, outstanding_requests}
-use Rattle.rdm_lanes.proofs.Common.{outstanding_discoveries, SubmitFault, AskFault, is_closed, places, next_request}
-use Rattle.rdm_lanes.proofs.Common.{next_ask, submit_fault_at, ask_fault_at, LogState, grown, is_full_log, Legal}
-use Rattle.rdm_lanes.proofs.Common.{MayFollow, GrowsBy, UnlessFull, SubmitLogs, SubmitAdds, DiscoverLogs, DiscoverAdds}
+use Rattle.rdm_lanes.proofs.Common.{outstanding_discoveries, Work, WorkFault, is_closed, places, work_fault}
+use Rattle.rdm_lanes.proofs.Common.{work_fault_at, LogState, grown, is_full_log, Legal, MayFollow, GrowsBy, UnlessFull}
+use Rattle.rdm_lanes.proofs.Common.{WorkAdds, WorkLogs, number_or_fault}
 use Rattle.rdm_lanes.proofs.Common.{OutcomeValue, outcome_of, is_closed_refusal, refused_outcome, closed_number, front}
 use Rattle.rdm_lanes.proofs.Common.{finishes-append, answered-append, client_facts, ClientCall, Submit, Discover}
 use Rattle.rdm_lanes.proofs.Common.{RingOutcome, Lane, call_by, calls_by, work_in, told_values, uncollected_values}
 use Rattle.rdm_lanes.proofs.Common.{values_in, value_in, FitsBut, Fits, is_leave, HasRefusalSlot, MayMake}
 use Rattle.std.proofs.lemmas.List.{take-append-drop}
 use Rattle.rtrb.specs.Ring.{sent as pushed, received as popped}
-use Rattle.rdm_log.specs.declared.entry.Call.TheVariants as calls
 use Rattle.rdm_log.specs.log.Entries.{accepted_of, asked_of}
-use Rattle.rdm_log.specs.declared.fault.SubmitFault.TheVariants as submit_faults
-use Rattle.rdm_log.specs.declared.fault.AskFault.TheVariants as ask_faults
-use Rattle.rdm_log.specs.promises.Blocks.{submit_refused, ask_refused}
+use Rattle.rdm_log.specs.declared.fault.WorkFault.TheVariants as work_faults
+use Rattle.rdm_log.specs.declared.work.Work.TheVariants as works
+use Rattle.rdm_log.specs.promises.Blocks.{call_of, work_refused}
 use Rattle.rdm_lanes.specs.Calls.{refused_call}
-use Rattle.rdm_lanes.specs.body.Serving.{FitsSubmitAnswer, FitsDiscoverAnswer, AfterSubmit, AfterSubmitFault}
-use Rattle.rdm_lanes.specs.body.Serving.{AfterDiscover, AfterAskFault}
+use Rattle.rdm_lanes.specs.body.Serving.{AfterAnswer, AfterFault, FitsAnswer, HasCapacityFor, bringing, kind_of_work}
+use Rattle.rdm_lanes.specs.body.Serving.{refused_value}
 use Rattle.rdm_lanes.proofs.Counting.{value_more}
 use Rattle.rdm_lanes.proofs.LineLemmas.{is_quiet}
 use Rattle.rdm_lanes.proofs.GrowthLemmas.{tells, told_grows, uncollected_grows, collected_same, accepts_by_split}
@@ -129,7 +128,7 @@ no_collect_of : (c : ℕ) (e : Entry) → collector_of e ≡ None → collects_b
 unfolding collectors
 no_collect_of c e none = rw none refl
 
-pub requests_more : (o : Opening) (h : List Entry) (d : ClientId) (n : ℕ) (request : Request)
+requests_more : (o : Opening) (h : List Entry) (d : ClientId) (n : ℕ) (request : Request)
     → EachAfter (MayFollow o) (h ++ Accept d n request ∷ [])
     → outstanding_requests o d.0 (h ++ Accept d n request ∷ []) ≡ outstanding_requests o d.0 h + 1
 requests_more o h d n request each =
@@ -141,7 +140,7 @@ requests_more o h d n request each =
     ∙ ap (λ (n : ℕ). length (accepts_by d.0 h) + n) (ap length (own_accept d n request)) in
     omega (arith, requests_within o h before d.0, same, long)
 
-pub asks_more_left : (o : Opening) (h : List Entry) (d : ClientId) (n : ℕ) (kind : Kind)
+asks_more_left : (o : Opening) (h : List Entry) (d : ClientId) (n : ℕ) (kind : Kind)
     → EachAfter (MayFollow o) (h ++ Ask d n kind ∷ [])
     → outstanding_discoveries o d.0 (h ++ Ask d n kind ∷ []) ≡ outstanding_discoveries o d.0 h + 1
 asks_more_left o h d n kind each =
@@ -226,7 +225,7 @@ made x c o h room search gone e lane new requests asks each f quiet collect call
       left_is = next.left_is ∙ f.left_is ∙ ap (list_any is_leave) (sym next.calls_are);
     }
 
-pub fits_accept : (old new : LogState) (d : ClientId) (n : ℕ) (request : Request) (lane next : Lane)
+fits_accept : (old new : LogState) (d : ClientId) (n : ℕ) (request : Request) (lane next : Lane)
     → new ≡ grown old (Accept d n request ∷ []) → Legal new.opening new.entries
     → FitsBut (Submit request ∷ []) d.0 old lane → IsNext lane next (lane.requests + 1) lane.asks
     → pushed next.replies ≡ pushed lane.replies → Fits d.0 new next
@@ -243,7 +242,7 @@ fits_accept old new d n request lane next is legal f isnext replies =
     own_call : (d : ClientId) (n : ℕ) (request : Request) → call_by d.0 (Accept d n request) ≡ Some (Submit request)
     own_call d n request = rw (eq-eqb d.0 d.0 refl) refl
 
-pub fits_ask : (old new : LogState) (d : ClientId) (n : ℕ) (kind : Kind) (lane next : Lane)
+fits_ask : (old new : LogState) (d : ClientId) (n : ℕ) (kind : Kind) (lane next : Lane)
     → new ≡ grown old (Ask d n kind ∷ []) → Legal new.opening new.entries
     → FitsBut (Discover kind ∷ []) d.0 old lane → IsNext lane next lane.requests (lane.asks + 1)
     → pushed next.replies ≡ pushed lane.replies → Fits d.0 new next
@@ -264,7 +263,7 @@ own_refusal : (d : ClientId) (call : Call) (cause : Cause) (x : ClientCall) → 
 own_refusal d call cause x is = rw (eq-eqb d.0 d.0 refl) is
 
 -- a call that is refused, but not by a close
-pub fits_refused : (old new : LogState) (d : ClientId) (call : Call) (cause : Cause) (x : ClientCall) (lane next : Lane)
+fits_refused : (old new : LogState) (d : ClientId) (call : Call) (cause : Cause) (x : ClientCall) (lane next : Lane)
     → new ≡ grown old (Refuse (Some d) call cause ∷ []) → Legal new.opening new.entries
     → refused_call call ≡ Some x → (cause.0 == closed_number call) ≡ false → FitsBut (x ∷ []) d.0 old lane
     → IsNext lane next lane.requests lane.asks → pushed next.replies ≡ pushed lane.replies → Fits d.0 new next
@@ -279,7 +278,7 @@ fits_refused old new d call cause x lane next is legal mine other f isnext repli
     (asks_stay old.opening old.entries e d.0 each refl refl ∙ sym f.asks_are) isnext replies)
 
 -- a call that a close refuses is told at once
-pub fits_closed : (old new : LogState) (d : ClientId) (call : Call) (cause : Cause) (x : ClientCall)
+fits_closed : (old new : LogState) (d : ClientId) (call : Call) (cause : Cause) (x : ClientCall)
     (item : RingOutcome) (lane next : Lane) → new ≡ grown old (Refuse (Some d) call cause ∷ [])
     → Legal new.opening new.entries
     → refused_call call ≡ Some x → cause.0 ≡ closed_number call → refused_outcome call ≡ Some (value_in item)
@@ -314,60 +313,22 @@ fits_closed old new d call cause x item lane next is legal mine shut tells none 
       left_is = isnext.left_is ∙ f.left_is ∙ ap (list_any is_leave) (sym isnext.calls_are);
     })
 
--- of the answers to a submit and to a discover
-closed_is : (b : Bool) (places : List ℕ) (outstanding next c : ℕ)
-    → submit_fault_at b places outstanding next c ≡ Some submit_faults.Closed → b ≡ true
-closed_is true places outstanding next c is = refl
-closed_is false places outstanding next c is =
-    absurd (unknown (nat_le (length places) c)
-    (nat_le (slice_index places c) outstanding || nat_le 18446744073709551615 next) is)
+-- of the answer to work
+closed_is : (b : Bool) (places : List ℕ) (full : Bool) (c : ℕ)
+    → work_fault_at b places full c ≡ Some work_faults.Closed → b ≡ true
+closed_is true places full c is = refl
+closed_is false places full c is = absurd (unknown (nat_le (length places) c) full is)
   where
     unknown : (x y : Bool)
-        → (if x then Some submit_faults.UnknownClient else (if y then Some submit_faults.Full else None))
-        ≡ Some submit_faults.Closed → ⊥
+        → (if x then Some work_faults.UnknownClient else (if y then Some work_faults.Full else None))
+        ≡ Some work_faults.Closed → ⊥
     unknown true y e = cc
     unknown false true e = cc
     unknown false false e = cc
 
-open_is : (b : Bool) (places : List ℕ) (outstanding next c : ℕ) → submit_fault_at b places outstanding next c ≡ None
-    → b ≡ false
-open_is true places outstanding next c is = cc
-open_is false places outstanding next c is = refl
-
-ask_closed_is : (b : Bool) (places : List ℕ) (outstanding next c : ℕ)
-    → ask_fault_at b places outstanding next c ≡ Some ask_faults.Closed → b ≡ true
-ask_closed_is true places outstanding next c is = refl
-ask_closed_is false places outstanding next c is =
-    absurd (unknown (nat_le (length places) c) (nat_le 4 outstanding || nat_le 18446744073709551614 next) is)
-  where
-    unknown : (x y : Bool)
-        → (if x then Some ask_faults.UnknownClient else (if y then Some ask_faults.Full else None))
-        ≡ Some ask_faults.Closed → ⊥
-    unknown true y e = cc
-    unknown false true e = cc
-    unknown false false e = cc
-
-ask_open_is : (b : Bool) (places : List ℕ) (outstanding next c : ℕ) → ask_fault_at b places outstanding next c ≡ None
-    → b ≡ false
-ask_open_is true places outstanding next c is = cc
-ask_open_is false places outstanding next c is = refl
-
-unless : (b : Bool) (P Q : Type 0) → b ≡ false → UnlessFull b P Q → Q
-unless true P Q e u = absurd (true≢false e)
-unless false P Q e u = u
-
-pub submit_adds : (k : LogState) (d : ClientId) (request : Request) (r : Result ℕ (SubmitFault × Request))
-    (block : List Entry) → is_full_log k ≡ false → SubmitLogs k d request r block
-    → SubmitAdds k.opening k.entries d request r block
-submit_adds k d request r block free adds =
-    unless (is_full_log k) ((r ≡ Err (submit_faults.LogFull, request)) × (block ≡ []))
-    (SubmitAdds k.opening k.entries d request r block) free adds
-
-pub ask_adds : (k : LogState) (d : ClientId) (kind : Kind) (r : Result ℕ AskFault) (block : List Entry)
-    → is_full_log k ≡ false → DiscoverLogs k d kind r block → DiscoverAdds k.opening k.entries d kind r block
-ask_adds k d kind r block free adds =
-    unless (is_full_log k) ((r ≡ Err ask_faults.LogFull) × (block ≡ []))
-    (DiscoverAdds k.opening k.entries d kind r block) free adds
+open_is : (b : Bool) (places : List ℕ) (full : Bool) (c : ℕ) → work_fault_at b places full c ≡ None → b ≡ false
+open_is true places full c is = cc
+open_is false places full c is = refl
 
 at_false : (b : Bool) (P Q : Type 0) → b ≡ false → MatchBool b P Q → Q
 at_false true P Q e m = absurd (true≢false e)
@@ -377,131 +338,106 @@ at_true : (b : Bool) (P Q : Type 0) → b ≡ true → MatchBool b P Q → P
 at_true true P Q e m = m
 at_true false P Q e m = absurd (true≢false (sym e))
 
-can_submit : (k : LogState) (d : ClientId) (request : Request) (lane : Lane) (r : Result ℕ (SubmitFault × Request))
-    (block : List Entry)
-    → SubmitAdds k.opening k.entries d request r block → MayMake d.0 k lane (Submit request) → FitsSubmitAnswer lane r
-can_submit k d request lane (Ok n) block adds may =
-    at_false (is_closed k.opening k.entries) (HasRefusalSlot d.0 k lane) (lane.requests < lane.places)
-    (open_is (is_closed k.opening k.entries) (places k.opening k.entries)
-    (outstanding_requests k.opening d.0 k.entries) (next_request k.opening k.entries) d.0 adds.0) may
-can_submit k d request lane (Err e) block adds may =
-    λ closed. (at_true (is_closed k.opening k.entries) (HasRefusalSlot d.0 k lane) (lane.requests < lane.places)
-    (closed_is (is_closed k.opening k.entries) (places k.opening k.entries)
-    (outstanding_requests k.opening d.0 k.entries) (next_request k.opening k.entries) d.0
-    (adds.0 ∙ ap (λ f. Some f) closed)) may).1
+-- why work may be made that is accepted, or that a close refuses
+accepted_may : (k : LogState) (c : ℕ) (work : Work) (lane : Lane) → work_fault k.opening k.entries c work ≡ None
+    → MayMake c k lane (bringing work) → HasCapacityFor (kind_of_work work) lane
+accepted_may k c (works.Submit request) lane is may =
+    at_false (is_closed k.opening k.entries) (HasRefusalSlot c k lane) (lane.requests < lane.places)
+    (open_is (is_closed k.opening k.entries) (places k.opening k.entries) _ c is) may
+accepted_may k c (works.Discover kind) lane is may =
+    at_false (is_closed k.opening k.entries) (HasRefusalSlot c k lane) (lane.asks < 4)
+    (open_is (is_closed k.opening k.entries) (places k.opening k.entries) _ c is) may
 
-pub fits_submit_answer : (old new : LogState) (d : ClientId) (request : Request) (lane : Lane)
-    (r : Result ℕ (SubmitFault × Request)) → GrowsBy old (SubmitLogs old d request r) new → is_full_log old ≡ false
-    → MayMake d.0 old lane (Submit request) → FitsSubmitAnswer lane r
-fits_submit_answer old new d request lane r g free may =
-    can_submit old d request lane r g.block (submit_adds old d request r g.block free g.adds) may
+closed_may : (k : LogState) (c : ℕ) (work : Work) (lane : Lane)
+    → work_fault k.opening k.entries c work ≡ Some work_faults.Closed → MayMake c k lane (bringing work)
+    → HasRefusalSlot c k lane
+closed_may k c (works.Submit request) lane is may =
+    at_true (is_closed k.opening k.entries) (HasRefusalSlot c k lane) (lane.requests < lane.places)
+    (closed_is (is_closed k.opening k.entries) (places k.opening k.entries) _ c is) may
+closed_may k c (works.Discover kind) lane is may =
+    at_true (is_closed k.opening k.entries) (HasRefusalSlot c k lane) (lane.asks < 4)
+    (closed_is (is_closed k.opening k.entries) (places k.opening k.entries) _ c is) may
 
-fits_after_fault : (old new : LogState) (d : ClientId) (request : Request) (lane next : Lane) (fault : SubmitFault)
-    → new ≡ grown old (submit_refused d request fault ∷ []) → Legal new.opening new.entries
-    → (fault ≡ submit_faults.Closed → uncollected old.opening d.0 old.entries ≡ [])
-    → FitsBut (Submit request ∷ []) d.0 old lane → AfterSubmitFault lane fault next → Fits d.0 new next
-fits_after_fault old new d request lane next submit_faults.Closed is legal none f after =
-    fits_closed old new d (calls.Submit request) _ (Submit request) after.item lane next is legal refl refl
-    (ap (λ v. Some v) (sym after.is)) (none refl) f
+unless : (b : Bool) (P Q : Type 0) → b ≡ false → UnlessFull b P Q → Q
+unless true P Q e u = absurd (true≢false e)
+unless false P Q e u = u
+
+pub work_adds : (k : LogState) (d : ClientId) (work : Work) (r : Result ℕ WorkFault) (block : List Entry)
+    → is_full_log k ≡ false → WorkLogs k d work r block → WorkAdds k.opening k.entries d work r block
+work_adds k d work r block free adds =
+    unless (is_full_log k) ((r ≡ Err work_faults.LogFull) × (block ≡ []))
+    (WorkAdds k.opening k.entries d work r block) free adds
+
+can_make : (k : LogState) (d : ClientId) (work : Work) (lane : Lane) (r : Result ℕ (WorkFault × Work))
+    (block : List Entry) → WorkAdds k.opening k.entries d work (number_or_fault r) block
+    → MayMake d.0 k lane (bringing work) → FitsAnswer (kind_of_work work) lane r
+can_make k d work lane (Ok n) block adds may = accepted_may k d.0 work lane adds.0 may
+can_make k d work lane (Err e) block adds may =
+    λ closed. (closed_may k d.0 work lane (adds.0 ∙ ap (λ f. Some f) closed) may).1
+
+pub fits_answer : (old new : LogState) (d : ClientId) (work : Work) (lane : Lane) (r : Result ℕ (WorkFault × Work))
+    → GrowsBy old (WorkLogs old d work (number_or_fault r)) new → is_full_log old ≡ false
+    → MayMake d.0 old lane (bringing work) → FitsAnswer (kind_of_work work) lane r
+fits_answer old new d work lane r g free may =
+    can_make old d work lane r g.block (work_adds old d work (number_or_fault r) g.block free g.adds) may
+
+-- what a refusal says of its call
+refusal_of : (work : Work) → refused_call (call_of work) ≡ Some (bringing work)
+refusal_of (works.Submit request) = refl
+refusal_of (works.Discover kind) = refl
+
+number_of : (work : Work) → closed_number (call_of work) ≡ 1
+number_of (works.Submit request) = refl
+number_of (works.Discover kind) = refl
+
+outcome_refused : (work : Work) → refused_outcome (call_of work) ≡ Some (refused_value (kind_of_work work))
+outcome_refused (works.Submit request) = refl
+outcome_refused (works.Discover kind) = refl
+
+fits_after_fault : (old new : LogState) (d : ClientId) (work : Work) (lane next : Lane) (fault : WorkFault)
+    → new ≡ grown old (work_refused d work fault ∷ []) → Legal new.opening new.entries
+    → (fault ≡ work_faults.Closed → uncollected old.opening d.0 old.entries ≡ [])
+    → FitsBut (bringing work ∷ []) d.0 old lane → AfterFault (kind_of_work work) lane fault next → Fits d.0 new next
+fits_after_fault old new d work lane next work_faults.Closed is legal none f after =
+    fits_closed old new d (call_of work) _ (bringing work) after.item lane next is legal (refusal_of work)
+    (sym (number_of work)) (outcome_refused work ∙ ap (λ v. Some v) (sym after.is)) (none refl) f
     (rw after.puts.rest (record {
       calls_are = refl;
       requests_are = refl;
       asks_are = refl;
       left_is = refl;
     })) after.puts.put
-fits_after_fault old new d request lane next submit_faults.UnknownClient is legal none f after =
-    fits_refused old new d (calls.Submit request) _ (Submit request) lane next is legal refl refl f
+fits_after_fault old new d work lane next work_faults.UnknownClient is legal none f after =
+    fits_refused old new d (call_of work) _ (bringing work) lane next is legal (refusal_of work)
+    (rw (number_of work) refl) f
     (rw after (record { calls_are = refl; requests_are = refl; asks_are = refl; left_is = refl })) (rw after refl)
-fits_after_fault old new d request lane next submit_faults.Full is legal none f after =
-    fits_refused old new d (calls.Submit request) _ (Submit request) lane next is legal refl refl f
+fits_after_fault old new d work lane next work_faults.Full is legal none f after =
+    fits_refused old new d (call_of work) _ (bringing work) lane next is legal (refusal_of work)
+    (rw (number_of work) refl) f
     (rw after (record { calls_are = refl; requests_are = refl; asks_are = refl; left_is = refl })) (rw after refl)
-fits_after_fault old new d request lane next submit_faults.LogFull is legal none f after =
-    fits_refused old new d (calls.Submit request) _ (Submit request) lane next is legal refl refl f
+fits_after_fault old new d work lane next work_faults.LogFull is legal none f after =
+    fits_refused old new d (call_of work) _ (bringing work) lane next is legal (refusal_of work)
+    (rw (number_of work) refl) f
     (rw after (record { calls_are = refl; requests_are = refl; asks_are = refl; left_is = refl })) (rw after refl)
 
-fits_answer : (old new : LogState) (d : ClientId) (request : Request) (lane next : Lane)
-    (r : Result ℕ (SubmitFault × Request)) (block : List Entry) → SubmitAdds old.opening old.entries d request r block
-    → new ≡ grown old block
-    → Legal new.opening new.entries → MayMake d.0 old lane (Submit request) → FitsBut (Submit request ∷ []) d.0 old lane
-    → AfterSubmit lane r next → Fits d.0 new next
-fits_answer old new d request lane next (Ok n) block adds is legal may f after =
+fits_made : (old new : LogState) (d : ClientId) (work : Work) (lane next : Lane) (r : Result ℕ (WorkFault × Work))
+    (block : List Entry) → WorkAdds old.opening old.entries d work (number_or_fault r) block → new ≡ grown old block
+    → Legal new.opening new.entries → MayMake d.0 old lane (bringing work) → FitsBut (bringing work ∷ []) d.0 old lane
+    → AfterAnswer (kind_of_work work) lane r next → Fits d.0 new next
+fits_made old new d (works.Submit request) lane next (Ok n) block adds is legal may f after =
     fits_accept old new d n request lane next (rw adds.2 at is) legal f
     (rw after (record { calls_are = refl; requests_are = refl; asks_are = refl; left_is = refl })) (rw after refl)
-fits_answer old new d request lane next (Err e) block adds is legal may f after =
-    fits_after_fault old new d request lane next e.0 (rw adds.2 at is) legal
-    (λ closed. (at_true (is_closed old.opening old.entries) (HasRefusalSlot d.0 old lane) (lane.requests < lane.places)
-    (closed_is (is_closed old.opening old.entries) (places old.opening old.entries)
-    (outstanding_requests old.opening d.0 old.entries) (next_request old.opening old.entries) d.0
-    (adds.0 ∙ ap (λ f. Some f) closed)) may).0) f after
-
-pub fits_submit : (old new : LogState) (d : ClientId) (request : Request) (lane next : Lane)
-    (r : Result ℕ (SubmitFault × Request)) → GrowsBy old (SubmitLogs old d request r) new → is_full_log old ≡ false
-    → Legal new.opening new.entries → MayMake d.0 old lane (Submit request) → FitsBut (Submit request ∷ []) d.0 old lane
-    → AfterSubmit lane r next → Fits d.0 new next
-fits_submit old new d request lane next r g free legal may f after =
-    fits_answer old new d request lane next r g.block (submit_adds old d request r g.block free g.adds) g.grows legal
-    may f after
-
--- likewise of a discover
-can_ask : (k : LogState) (d : ClientId) (kind : Kind) (lane : Lane) (r : Result ℕ AskFault) (block : List Entry)
-    → DiscoverAdds k.opening k.entries d kind r block → MayMake d.0 k lane (Discover kind) → FitsDiscoverAnswer lane r
-can_ask k d kind lane (Ok n) block adds may =
-    at_false (is_closed k.opening k.entries) (HasRefusalSlot d.0 k lane) (lane.asks < 4)
-    (ask_open_is (is_closed k.opening k.entries) (places k.opening k.entries)
-    (outstanding_discoveries k.opening d.0 k.entries) (next_ask k.opening k.entries) d.0 adds.0) may
-can_ask k d kind lane (Err fault) block adds may =
-    λ closed. (at_true (is_closed k.opening k.entries) (HasRefusalSlot d.0 k lane) (lane.asks < 4)
-    (ask_closed_is (is_closed k.opening k.entries) (places k.opening k.entries)
-    (outstanding_discoveries k.opening d.0 k.entries) (next_ask k.opening k.entries) d.0
-    (adds.0 ∙ ap (λ f. Some f) closed)) may).1
-
-pub fits_discover_answer : (old new : LogState) (d : ClientId) (kind : Kind) (lane : Lane) (r : Result ℕ AskFault)
-    → GrowsBy old (DiscoverLogs old d kind r) new → is_full_log old ≡ false
-    → MayMake d.0 old lane (Discover kind) → FitsDiscoverAnswer lane r
-fits_discover_answer old new d kind lane r g free may =
-    can_ask old d kind lane r g.block (ask_adds old d kind r g.block free g.adds) may
-
-fits_after_ask_fault : (old new : LogState) (d : ClientId) (kind : Kind) (lane next : Lane) (fault : AskFault)
-    → new ≡ grown old (ask_refused d kind fault ∷ []) → Legal new.opening new.entries
-    → (fault ≡ ask_faults.Closed → uncollected old.opening d.0 old.entries ≡ [])
-    → FitsBut (Discover kind ∷ []) d.0 old lane → AfterAskFault lane fault next → Fits d.0 new next
-fits_after_ask_fault old new d kind lane next ask_faults.Closed is legal none f after =
-    fits_closed old new d (calls.Discover kind) _ (Discover kind) after.item lane next is legal refl refl
-    (ap (λ v. Some v) (sym after.is)) (none refl) f
-    (rw after.puts.rest (record {
-      calls_are = refl;
-      requests_are = refl;
-      asks_are = refl;
-      left_is = refl;
-    })) after.puts.put
-fits_after_ask_fault old new d kind lane next ask_faults.UnknownClient is legal none f after =
-    fits_refused old new d (calls.Discover kind) _ (Discover kind) lane next is legal refl refl f
-    (rw after (record { calls_are = refl; requests_are = refl; asks_are = refl; left_is = refl })) (rw after refl)
-fits_after_ask_fault old new d kind lane next ask_faults.Full is legal none f after =
-    fits_refused old new d (calls.Discover kind) _ (Discover kind) lane next is legal refl refl f
-    (rw after (record { calls_are = refl; requests_are = refl; asks_are = refl; left_is = refl })) (rw after refl)
-fits_after_ask_fault old new d kind lane next ask_faults.LogFull is legal none f after =
-    fits_refused old new d (calls.Discover kind) _ (Discover kind) lane next is legal refl refl f
-    (rw after (record { calls_are = refl; requests_are = refl; asks_are = refl; left_is = refl })) (rw after refl)
-
-fits_ask_answer : (old new : LogState) (d : ClientId) (kind : Kind) (lane next : Lane) (r : Result ℕ AskFault)
-    (block : List Entry) → DiscoverAdds old.opening old.entries d kind r block → new ≡ grown old block
-    → Legal new.opening new.entries → MayMake d.0 old lane (Discover kind) → FitsBut (Discover kind ∷ []) d.0 old lane
-    → AfterDiscover lane r next → Fits d.0 new next
-fits_ask_answer old new d kind lane next (Ok n) block adds is legal may f after =
+fits_made old new d (works.Discover kind) lane next (Ok n) block adds is legal may f after =
     fits_ask old new d n kind lane next (rw adds.2 at is) legal f
     (rw after (record { calls_are = refl; requests_are = refl; asks_are = refl; left_is = refl })) (rw after refl)
-fits_ask_answer old new d kind lane next (Err fault) block adds is legal may f after =
-    fits_after_ask_fault old new d kind lane next fault (rw adds.1 at is) legal
-    (λ closed. (at_true (is_closed old.opening old.entries) (HasRefusalSlot d.0 old lane) (lane.asks < 4)
-    (ask_closed_is (is_closed old.opening old.entries) (places old.opening old.entries)
-    (outstanding_discoveries old.opening d.0 old.entries) (next_ask old.opening old.entries) d.0
-    (adds.0 ∙ ap (λ f. Some f) closed)) may).0) f after
+fits_made old new d work lane next (Err e) block adds is legal may f after =
+    fits_after_fault old new d work lane next e.0 (rw adds.1 at is) legal
+    (λ closed. (closed_may old d.0 work lane (adds.0 ∙ ap (λ f. Some f) closed) may).0) f after
 
-pub fits_discover : (old new : LogState) (d : ClientId) (kind : Kind) (lane next : Lane) (r : Result ℕ AskFault)
-    → GrowsBy old (DiscoverLogs old d kind r) new → is_full_log old ≡ false
-    → Legal new.opening new.entries → MayMake d.0 old lane (Discover kind) → FitsBut (Discover kind ∷ []) d.0 old lane
-    → AfterDiscover lane r next → Fits d.0 new next
-fits_discover old new d kind lane next r g free legal may f after =
-    fits_ask_answer old new d kind lane next r g.block (ask_adds old d kind r g.block free g.adds) g.grows legal may f
-    after
+pub fits_work : (old new : LogState) (d : ClientId) (work : Work) (lane next : Lane)
+    (r : Result ℕ (WorkFault × Work)) → GrowsBy old (WorkLogs old d work (number_or_fault r)) new
+    → is_full_log old ≡ false → Legal new.opening new.entries → MayMake d.0 old lane (bringing work)
+    → FitsBut (bringing work ∷ []) d.0 old lane → AfterAnswer (kind_of_work work) lane r next → Fits d.0 new next
+fits_work old new d work lane next r g free legal may f after =
+    fits_made old new d work lane next r g.block (work_adds old d work (number_or_fault r) g.block free g.adds) g.grows
+    legal may f after

@@ -12,7 +12,7 @@ use Rattle.rdm_lanes.specs.Operators.{paused_by, closed_by, with_call}
 use Rattle.rdm_lanes.specs.body.Operated.{IsOperatorStep}
 use Rattle.rdm_lanes.proofs.LineLemmas.{results_no_switch, switches_off, line_same}
 use Rattle.rdm_lanes.proofs.LaneLemmas.{waits_same}
-use Rattle.rdm_lanes.proofs.StepLemmas.{pauses, resumes, closes, all_wait_pause, all_wait_resume}
+use Rattle.rdm_lanes.proofs.StepLemmas.{IsQuietStep, AllWait, pauses, resumes, closes}
 
 -- a call more
 pub effective_more : (calls : List OperatorCall) (call : OperatorCall)
@@ -108,43 +108,36 @@ close_adds false h block adds = rw adds.whole (closes_with h adds.results adds.e
         ∙ switch_added true h (entries.Close ∷ []) entries.Close Close refl refl
 
 -- the four calls
+operator_step : (call : OperatorCall) (old new : LogState) (block : List Entry) → new ≡ grown old block
+    → IsQuietStep AllWait old new
+    → (old.opening.paused ≡ false → old.opening.closed ≡ false
+    → switches (old.entries ++ block) ≡ with_call (switches old.entries) call) → IsOperatorStep call old new
+operator_step call old new block is step added = record {
+  served = step.served;
+  line = step.line;
+  wait = λ c. step.wait c tt;
+  operated = λ calls op. operated_grown call old new block calls is (added op.not_paused op.not_closed) op;
+}
+
 pub pause_step : (old new : LogState) (r : Result (Unit {0}) LogFull) → is_full_log old ≡ false
     → GrowsBy old (PauseLogs old r) new → Legal new.opening new.entries → IsOperatorStep Pause old new
 pause_step old new r free g legal =
-    let step = pauses old new r g in
-    record {
-      served = step.served;
-      line = step.line;
-      wait = all_wait_pause old new r g legal;
-      operated = λ calls op. operated_grown Pause old new g.block calls g.grows
-          (pause_adds old r g.block free op.not_paused op.not_closed g.adds) op;
-    }
+    operator_step Pause old new g.block g.grows (pauses old new r g legal)
+    (λ not_paused not_closed. pause_adds old r g.block free not_paused not_closed g.adds)
 
 pub resume_step : (old new : LogState) (r : Result (Unit {0}) LogFull) → is_full_log old ≡ false
     → GrowsBy old (ResumeLogs old r) new → Legal new.opening new.entries → IsOperatorStep Resume old new
 resume_step old new r free g legal =
-    let step = resumes old new r g in
-    record {
-      served = step.served;
-      line = step.line;
-      wait = all_wait_resume old new r g legal;
-      operated = λ calls op. operated_grown Resume old new g.block calls g.grows
-          (resume_adds old r g.block free op.not_paused op.not_closed g.adds) op;
-    }
+    operator_step Resume old new g.block g.grows (resumes old new r g legal)
+    (λ not_paused not_closed. resume_adds old r g.block free not_paused not_closed g.adds)
 
 pub close_step : (old new : LogState) → GrowsBy old (CloseAdds old.opening old.entries) new
     → Legal new.opening new.entries → IsOperatorStep Close old new
 close_step old new g legal =
-    let step = closes old new g legal in
-    record {
-      served = step.served;
-      line = step.line;
-      wait = step.wait;
-      operated = λ calls op. operated_grown Close old new g.block calls g.grows
-          (close_adds (is_closed old.opening old.entries) old.entries g.block g.adds
-          ∙ ap (λ (b : Bool). if not b then switches old.entries ++ Close ∷ [] else switches old.entries)
-          (closed_is old.opening old.entries op.not_closed)) op;
-    }
+    operator_step Close old new g.block g.grows (closes old new g legal)
+    (λ not_paused not_closed. close_adds (is_closed old.opening old.entries) old.entries g.block g.adds
+    ∙ ap (λ (b : Bool). if not b then switches old.entries ++ Close ∷ [] else switches old.entries)
+    (closed_is old.opening old.entries not_closed))
 
 pub leave_step : (k : LogState) → IsOperatorStep Leave k k
 leave_step k = record {

@@ -1,7 +1,7 @@
 -- For whoever drives clients by hand: their rings stay the worker's, so that `ViewWorker::end` may compare them. A
 -- client's calls say that it is the same client, the worker's work that its lanes are the same, and `RingClient::end`
 -- that its rings are. `pairs_kept_on` joins these, for clients and for what is left of them.
-use Rattle.rdm_lanes.proofs.Common.{◌≡◌, ℕ, zero, suc, List, [], ◌∷◌, map, get_or, Some, None, refl, sym, ap, ◌∙◌}
+use Rattle.rdm_lanes.proofs.Common.{◌≡◌, ℕ, zero, suc, List, [], ◌∷◌, map, get_or, Some, refl, sym, ap, ◌∙◌}
 use Rattle.rdm_lanes.proofs.Common.{slice_get, inl, inr, arith, slice_set, length-map, length-set, slice_get_within}
 use Rattle.rdm_lanes.proofs.Common.{slice_get-get_or, get_or_from_slice_get, SameConsumer, Ghosts, Lane, RingClient}
 use Rattle.rdm_lanes.proofs.Common.{ClientEnd, SameClient, SameLane, SameLanes, end_rings, PairUp, Rings, ArePair}
@@ -12,36 +12,24 @@ use Rattle.rdm_lanes.specs.body.Seats.{SameRings}
 use Rattle.rdm_lanes.proofs.EndLemmas.{map_get}
 use Rattle.rdm_lanes.proofs.LaneLemmas.{get-set, same_lanes}
 
-rings_on : (a b : Rings) (l m : Lane) → ArePair a l → SameRings (a ∷ []) (b ∷ []) → SameLane l m → ArePair b m
-rings_on a b l m p all t =
-    let s = all.each 0 a b refl refl in (
-      (
-        t.0.0.0 ∙ p.0.0 ∙ sym s.0.0.0,
-        t.0.0.1 ∙ p.0.1 ∙ sym s.0.0.1,
-        t.0.0.2 ∙ p.0.2 ∙ sym s.0.0.2,
-        t.0.0.3 ∙ p.0.3
-            ∙ sym s.0.0.3,
-      ),
-      (
-        s.1.0.0 ∙ p.1.0 ∙ sym t.1.0.0,
-        s.1.0.1 ∙ p.1.1 ∙ sym t.1.0.1,
-        s.1.0.2 ∙ p.1.2 ∙ sym t.1.0.2,
-        s.1.0.3 ∙ p.1.3
-            ∙ sym t.1.0.3,
-      ),
-    )
-
-same_one : (old new : List Rings) (i : ℕ) (a b : Rings) → SameRings old new → slice_get old i ≡ Some a
-    → slice_get new i ≡ Some b → SameRings (a ∷ []) (b ∷ [])
-same_one old new i a b same in_old in_new = record { long = refl; each = one }
-  where
-    one : (j : ℕ) (x y : Rings) → slice_get (a ∷ []) j ≡ Some x → slice_get (b ∷ []) j ≡ Some y → SameProducer x.0 y.0
-        × SameConsumer x.1 y.1
-    one zero x y e f = same.each i x y (in_old ∙ e) (in_new ∙ f)
-    one (suc j) x y e f = absurd (no_item e)
-      where
-        no_item : None ≡ Some x → ⊥
-        no_item e = cc
+rings_on : (a b : Rings) (l m : Lane) → ArePair a l → SameProducer a.0 b.0 × SameConsumer a.1 b.1 → SameLane l m
+    → ArePair b m
+rings_on a b l m p s t = (
+  (
+    t.0.0.0 ∙ p.0.0 ∙ sym s.0.0.0,
+    t.0.0.1 ∙ p.0.1 ∙ sym s.0.0.1,
+    t.0.0.2 ∙ p.0.2 ∙ sym s.0.0.2,
+    t.0.0.3 ∙ p.0.3
+        ∙ sym s.0.0.3,
+  ),
+  (
+    s.1.0.0 ∙ p.1.0 ∙ sym t.1.0.0,
+    s.1.0.1 ∙ p.1.1 ∙ sym t.1.0.1,
+    s.1.0.2 ∙ p.1.2 ∙ sym t.1.0.2,
+    s.1.0.3 ∙ p.1.3
+        ∙ sym t.1.0.3,
+  ),
+)
 
 -- the clients were lent, and the worker has worked
 pub pairs_kept_on : (lanes news : List Lane) (old new : List Rings) → RingsPair lanes old → SameLanes lanes news
@@ -53,8 +41,7 @@ pairs_kept_on lanes news old new p s same = record {
       let in_lanes = slice_get-get_or lanes i m (omega (arith, slice_get_within news i m in_news, s.long)) in
       let a = get_or old i b in
       let in_old = slice_get-get_or old i b (omega (arith, slice_get_within new i b in_new, same.long)) in
-      rings_on a b l m (p.each i l a in_lanes in_old) (same_one old new i a b same in_old in_new)
-      (s.each i l m in_lanes in_news);
+      rings_on a b l m (p.each i l a in_lanes in_old) (same.each i a b in_old in_new) (s.each i l m in_lanes in_news);
 }
 
 same_at : (all : List Rings) (i : ℕ) (a b : Rings) → slice_get all i ≡ Some a → slice_get all i ≡ Some b → a ≡ b

@@ -11,8 +11,8 @@ use Rattle.rdm_wire.specs.Uid.{has}
 use Rattle.rdm_line.specs.Scenes.{uids_of_scene}
 use Rattle.rdm_line.specs.Sim.{SimState}
 use Rattle.rdm_log.specs.declared.entry.Call.TheVariants as calls
-use Rattle.rdm_log.specs.declared.fault.AskFault.TheVariants as ask_faults
-use Rattle.rdm_log.specs.log.Refusals.{number_of_ask_fault, IsRefused}
+use Rattle.rdm_log.specs.declared.fault.WorkFault.TheVariants as work_faults
+use Rattle.rdm_log.specs.log.Refusals.{number_of_work_fault, IsRefused}
 use Rattle.rdm_log.proofs.PromiseLemmas.NothingAfterClose.{closed_more}
 use Rattle.rdm_scenes.specs.Scenes.{IsLossyScene, IsStayingScene, IsCalmScene}
 use Rattle.rdm_scenes.specs.Reports.{IsLogOver, AnswersAreTheDevices, AnswersFollowTheDevices, FaultsFollowAClose}
@@ -32,14 +32,14 @@ closed_stays o h (e ∷ more) closed =
 
 -- a discover that was refused by a close came after one
 ask_closed : (b : Bool) (ps : List ℕ) (outstanding next c : ℕ)
-    → option_map number_of_ask_fault (ask_fault_at b ps outstanding next c) ≡ Some 1 → b ≡ true
+    → option_map number_of_work_fault (ask_fault_at b ps outstanding next c) ≡ Some 1 → b ≡ true
 ask_closed true ps outstanding next c is = refl
 ask_closed false ps outstanding next c is =
     absurd (other (nat_le (length ps) c) (nat_le 4 outstanding || nat_le 18446744073709551614 next) is)
   where
     other : (x y : Bool)
-        → option_map number_of_ask_fault
-        (if x then Some ask_faults.UnknownClient else (if y then Some ask_faults.Full else None)) ≡ Some 1 → ⊥
+        → option_map number_of_work_fault
+        (if x then Some work_faults.UnknownClient else (if y then Some work_faults.Full else None)) ≡ Some 1 → ⊥
     other true y e = cc
     other false true e = cc
     other false false e = cc

@@ -2,14 +2,15 @@
 use Rattle.rdm_lanes.proofs.Common.{◌≡◌, ℕ, ◌+◌, ◌<◌, ◌≤◌, List, [], ◌∷◌, ◌++◌, length, map, take, drop, get_or, remove}
 use Rattle.rdm_lanes.proofs.Common.{Some, slice_get, Vec, vec_capacity, refl, sym, ap, ◌∙◌, subst, append_assoc}
 use Rattle.rdm_lanes.proofs.Common.{length-append, arith, slice_index_or, Global, map-append, length-map}
-use Rattle.rdm_lanes.proofs.Common.{slice_get_within, get_or_from_slice_get, slice_get-get_or, Ghosts, Lane, RingClient}
-use Rattle.rdm_lanes.proofs.Common.{ClientEnd, SameClient, SameLane, SameLanes, end_rings, AllShowSame, AreNew, Rings}
-use Rattle.rdm_lanes.proofs.Common.{ArePair, client_rings}
+use Rattle.rdm_lanes.proofs.Common.{slice_get_within, get_or_from_slice_get, Ghosts, Lane, RingClient}
+use Rattle.rdm_lanes.proofs.Common.{ClientEnd, SameLanes, end_rings, AllShowSame, AreNew, Rings}
+use Rattle.rdm_lanes.proofs.Common.{client_rings}
 use Rattle.rdm_lanes.specs.declared.opening.seat.Seat.{Seat}
 use Rattle.rtrb.specs.Ring.{producer_capacity, consumer_capacity}
 use Rattle.rdm_lanes.specs.Ends.{AllHaveSlots}
-use Rattle.rdm_lanes.specs.body.Seats.{seat_rings, SeatsPair, SameSeats, RingsHaveSlots}
+use Rattle.rdm_lanes.specs.body.Seats.{seat_rings, SeatsPair, SameSeats, SameRings, RingsHaveSlots}
 use Rattle.rdm_lanes.proofs.EndLemmas.{get_map, map_get, within_get}
+use Rattle.rdm_lanes.proofs.PairLemmas.{pairs_kept_on}
 
 -- a first element that was removed
 pub remove_first : {X : Type 0} (xs : List X) (x : X) (rest : List X) → 0 < length xs → x ≡ slice_index_or xs 0 x
@@ -20,27 +21,7 @@ remove_first (y ∷ xs) x rest some is left = rw (is, left) refl
 two_slots : (n m k : ℕ) → m ≡ n → k ≡ n → ◌≡◌ {A = ℕ × ℕ} (m, k) (n, n)
 two_slots n m k e f = rw (e, f) refl
 
--- the rings are still pairs once the bodies and the worker have run
 module _ {J : Type 0} {h : Ghosts J} {C A : Type 0} where
-  rings_kept : (a b : RingClient J C A h) (l m : Lane) → ArePair (client_rings a) l → SameClient a b → SameLane l m
-      → ArePair (client_rings b) m
-  rings_kept a b l m p s t = (
-    (
-      t.0.0.0 ∙ p.0.0 ∙ sym s.0.0.0,
-      t.0.0.1 ∙ p.0.1 ∙ sym s.0.0.1,
-      t.0.0.2 ∙ p.0.2 ∙ sym s.0.0.2,
-      t.0.0.3 ∙ p.0.3
-          ∙ sym s.0.0.3,
-    ),
-    (
-      s.1.0.0 ∙ p.1.0 ∙ sym t.1.0.0,
-      s.1.0.1 ∙ p.1.1 ∙ sym t.1.0.1,
-      s.1.0.2 ∙ p.1.2 ∙ sym t.1.0.2,
-      s.1.0.3 ∙ p.1.3
-          ∙ sym t.1.0.3,
-    ),
-  )
-
   -- the rings of new clients have as many slots as were asked for
   pub new_slots : (n : ℕ) (places : List ℕ) (clients : List (RingClient J C A h)) → AreNew n places clients
       → RingsHaveSlots n (map client_rings clients)
@@ -152,25 +133,24 @@ module _ {J : Type 0} {h : Ghosts J} {B C A : Type 0} where
       both : end.calls ≡ seat.client.calls → end.replies ≡ seat.client.replies → end_rings end ≡ seat_rings seat
       both p q = rw (p, q) refl
 
+  -- the rings are still the same, and pairs, once the bodies and the worker have run
+  seats_rings : (seats left : List (Seat J B C A h)) → SameSeats seats left
+      → SameRings (map seat_rings seats) (map seat_rings left)
+  seats_rings seats left same = record {
+    long = length-map left seat_rings ∙ same.long ∙ sym (length-map seats seat_rings);
+    each = λ i a b in_old in_new.
+        let x = map_get seat_rings seats i a in_old in
+        let y = map_get seat_rings left i b in_new in
+        let kept = same.each i y.0 (slice_get_within seats i x.0 x.1) in
+        let was : get_or seats i y.0 ≡ x.0 = get_or_from_slice_get seats i x.0 y.0 x.1 in
+        let now : get_or left i y.0 ≡ y.0 = get_or_from_slice_get left i y.0 y.0 y.1 in
+        rw (sym x.2, sym y.2) (rw (was, now) at kept);
+  }
+
   pub pairs_kept : (lanes news : List Lane) (seats left : List (Seat J B C A h)) → SeatsPair lanes seats
       → SameLanes lanes news → SameSeats seats left → SeatsPair news left
-  pairs_kept lanes news seats left p s same = record {
-    long = length-map left seat_rings ∙ same.long ∙ sym (length-map seats seat_rings) ∙ p.long ∙ sym s.long;
-    each = λ i m r in_news in_rings.
-        let found = map_get seat_rings left i r in_rings in
-        let x = found.0 in
-        let low : i < length seats = omega (arith, slice_get_within left i x found.1, same.long) in
-        let l = get_or lanes i m in
-        let in_lanes = slice_get-get_or lanes i m (omega (arith, slice_get_within news i m in_news, s.long)) in
-        let w = get_or seats i x in
-        let in_seats = slice_get-get_or seats i x low in
-        let kept = same.each i x low in
-        let now : get_or left i x ≡ x = get_or_from_slice_get left i x x found.1 in
-        subst (λ (q : Rings). ArePair q m) found.2
-        (rings_kept w.client x.client l m
-        (p.each i l (seat_rings w) in_lanes (get_map seat_rings seats i w in_seats)) (rw now at kept)
-        (s.each i l m in_lanes in_news));
-  }
+  pairs_kept lanes news seats left p s same =
+      pairs_kept_on lanes news (map seat_rings seats) (map seat_rings left) p s (seats_rings seats left same)
 
   -- the rings of new clients keep as many slots to their ends
   pub slots_kept : (n : ℕ) (clients : List (RingClient J C A h)) (seats left : List (Seat J B C A h))
@@ -182,20 +162,13 @@ module _ {J : Type 0} {h : Ghosts J} {B C A : Type 0} where
     each = λ i e here.
         let b = within_get before i (omega (arith, slice_get_within after i e here, show_same.long)) in
         let kept = show_same.each i b.0 e b.1 here in
-        let found = map_get seat_rings left i (end_rings b.0)
-        (subst (λ (rs : List Rings). slice_get rs i ≡ Some (end_rings b.0)) ends
-        (get_map end_rings before i b.0 b.1)) in
-        let x = found.0 in
-        let low : i < length seats = omega (arith, slice_get_within left i x found.1, same.long) in
-        let w = get_or seats i x in
-        let in_seats = slice_get-get_or seats i x low in
-        let now : get_or left i x ≡ x = get_or_from_slice_get left i x x found.1 in
-        let both = same.each i x low in
-        let ran = rw now at both in
-        let first = has.each i (seat_rings w)
-        (subst (λ (rs : List Rings). slice_get rs i ≡ Some (seat_rings w)) seated
-        (get_map seat_rings seats i w in_seats)) in
+        let in_left = subst (λ (rs : List Rings). slice_get rs i ≡ Some (end_rings b.0)) ends
+        (get_map end_rings before i b.0 b.1) in
+        let rings = seats_rings seats left same in
+        let w = within_get (map seat_rings seats) i
+        (omega (arith, slice_get_within (map seat_rings left) i (end_rings b.0) in_left, rings.long)) in
+        let ran = rings.each i w.0 (end_rings b.0) w.1 in_left in
+        let first = has.each i w.0 (subst (λ (rs : List Rings). slice_get rs i ≡ Some w.0) seated w.1) in
         two_slots n (producer_capacity e.calls) (consumer_capacity e.replies)
-        (kept.calls_slots ∙ ap (λ (r : Rings). producer_capacity r.0) (sym found.2) ∙ ran.0.1 ∙ first.0)
-        (kept.replies_slots ∙ ap (λ (r : Rings). consumer_capacity r.1) (sym found.2) ∙ ran.1.1 ∙ first.1);
+        (kept.calls_slots ∙ ran.0.1 ∙ first.0) (kept.replies_slots ∙ ran.1.1 ∙ first.1);
   }

@@ -3,8 +3,10 @@ use Rattle.rdm_lanes.proofs.Common.{◌≡◌, ℕ, Bool, true, false, List, [],
 use Rattle.rdm_lanes.proofs.Common.{subst, MatchOption, append-nil, length, length-append, arith, ⊤, ◌||◌, list_any}
 use Rattle.rdm_lanes.proofs.Common.{Global, AnyItems, Consumer, SameConsumer, LogState, ClientCall, Submit, Discover}
 use Rattle.rdm_lanes.proofs.Common.{Leave, Lane, is_work, work_in, FitsBut, Fits, SameLane, is_leave, IsBetweenTurns}
+use Rattle.rdm_lanes.proofs.Common.{Work}
 use Rattle.rtrb.specs.Ring.{sent as pushed, received as popped, ConsumerLooked}
-use Rattle.rdm_lanes.specs.body.Serving.{LooksForSlot, ServesClient}
+use Rattle.rdm_log.specs.declared.work.Work.TheVariants as works
+use Rattle.rdm_lanes.specs.body.Serving.{LooksForSlot, ServesClient, bringing}
 use Rattle.rdm_lanes.proofs.Counting.{work_more, leave_more}
 use Rattle.rdm_lanes.proofs.LaneLemmas.{waits_same, same_lane_join}
 use Rattle.rdm_lanes.proofs.LineLemmas.{line_same, switches_same}
@@ -12,6 +14,11 @@ use Rattle.rdm_lanes.proofs.LineLemmas.{line_same, switches_same}
 -- the worker's end of a client's ring of calls
 abbrev pub Calls : Type 0
 Calls = Consumer ClientCall Global AnyItems
+
+-- a call that brings work is no leave
+pub brings_work : (work : Work) → is_work (bringing work) ≡ true
+brings_work (works.Submit request) = refl
+brings_work (works.Discover kind) = refl
 
 -- an item that was popped shows
 pub popped_more : (xs ys : List ClientCall) (x : ClientCall) → ys ≡ xs ++ x ∷ [] → ys ≡ xs → ⊥

@@ -24,4 +24,4 @@ module _ {J B X C A : Type 0} {h : Ghosts J} where
     pub in_turns : (end.turns ≤ turns) × (turns ≡ 0 → end.worker ≡ Turns)
     pub all_turns : end.worker ≡ Turns → end.turns ≡ turns
     pub exchanges : exchange_count end.session ≤ end.turns
-    pub handed_out : AreHandedOut before after end.session
+    pub handed_out : AreHandedOut setup room before after end.session

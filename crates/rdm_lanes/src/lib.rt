@@ -22,7 +22,7 @@ mod worker;
 pub use client::RingClient;
 pub use client::ends::ClientEnd;
 pub use fault::{OpenFault, RingFault, RingFull};
-pub use opening::{Lanes, open_lanes, open_lanes_with};
+pub use opening::{Lanes, open_lanes};
 pub use pages::{PageSink, Pages, Spare};
 pub use rdm_client::WorkerEnd;
 pub use session::body::{Body, Gate, WORKER_STOPPED};

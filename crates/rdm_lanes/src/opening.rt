@@ -1,6 +1,5 @@
 //! How clients, an operator and a worker are opened.
 ghost use Rattle.std.specs.Prelude.{◌≡◌, IfOk, IfErr};
-ghost use Rattle.rdm_log.specs.log.Config.{steady};
 ghost use Rattle.rdm_log.specs.log.LogState.{blank_log};
 ghost use Rattle.rdm_lanes.specs.Opened.{places_fault, MayOpen, IsOpened, HasFirstFault};
 ghost use Rattle.rdm_lanes.specs.Workers.{book_of};
@@ -19,7 +18,7 @@ use crate::worker::operator::Operator;
 use crate::worker::view_worker::ViewWorker;
 use left_right::Absorb;
 use rdm_client::{AskCallback, Callback, DeviceView, Tells, TellsAsk};
-use rdm_queue::{Config, Log, MOST_CLIENTS, Setup};
+use rdm_log::{Config, IntoSetup, Log, MOST_CLIENTS};
 use rtrb::RingBuffer;
 use std::alloc::Global;
 use std::sync::Wait;
@@ -40,11 +39,12 @@ pub struct Lanes<
     pub worker: ViewWorker<J, T, R>,
 }
 
-/// A session with an operator, a worker, and a client for each of these queue depths. Its runs search steadily. Each
-/// client has a ring of this many slots for its calls and one for its outcomes, and the operator one for its calls.
-/// This call allocates the rings, and the memory for what each client finds. A view is allocated when it is published.
-/// `J` is the history of the views that the worker publishes. The worker keeps the runtime, to wait for readers when it
-/// publishes. This call waits for nobody.
+/// A session with an operator, a worker, and a client for each of these queue depths. With a [`Config`] alone its runs
+/// search steadily; a [`Setup`](rdm_queue::Setup) also says how they search. Each client has a ring of this many slots
+/// for its calls and one for its outcomes, and the operator one for its calls. This call allocates the rings, and the
+/// memory for what each client finds. A view is allocated when it is published. `J` is the history of the views that
+/// the worker publishes. The worker keeps the runtime, to wait for readers when it publishes. This call waits for
+/// nobody.
 ///
 /// The conditions are these:
 /// - the controller's UID isn't broadcast;
@@ -55,38 +55,21 @@ pub struct Lanes<
 ///
 /// Err: the first fault that applies. The log is returned without entries, like a new one with the same capacity, and
 /// the blank history is returned unchanged. So the same call can be made again, with more memory or with a larger log.
-pub fn open_lanes<J: ViewHistory, C: Tells, A: TellsAsk, R: Wait + Drop>(
+pub fn open_lanes<J: ViewHistory, C: Tells, A: TellsAsk, R: Wait + Drop, S: IntoSetup>(
     rt: R,
     alloc: Global,
     history: BlankHistory,
-    config: Config,
+    setup: S,
     log: Log,
     ring: u8,
     places: &[u8],
 ) -> Result<Lanes<J, Shown<J>, R, C, A>, (OpenFault, Log, BlankHistory)>
-    requires may_open { MayOpen J.book history config log ring }
-    ensures opened { IfOk result (IsOpened (steady config) log.room ring places.now) }
-    ensures fault { HasFirstFault config.places log.room places.now (λ e. e.0) result }
+    requires may_open { MayOpen J.book history (S.setup_of setup).config log ring }
+    ensures opened { IfOk result (IsOpened (S.setup_of setup) log.room ring places.now) }
+    ensures fault { HasFirstFault (S.setup_of setup).config.places log.room places.now (λ e. e.0) result }
     ensures back { IfErr result (λ e. (e.1 ≡ blank_log log.room) × (book_of e.2 ≡ J.book)) }
 {
-    open_lanes_with(rt, alloc, history, Setup::steady(config), log, ring, places)
-}
-
-/// The same with a set-up, which also says how runs search. Conditions and errors are those of [`open_lanes`].
-pub fn open_lanes_with<J: ViewHistory, C: Tells, A: TellsAsk, R: Wait + Drop>(
-    rt: R,
-    alloc: Global,
-    history: BlankHistory,
-    setup: Setup,
-    log: Log,
-    ring: u8,
-    places: &[u8],
-) -> Result<Lanes<J, Shown<J>, R, C, A>, (OpenFault, Log, BlankHistory)>
-    requires may_open { MayOpen J.book history setup.config log ring }
-    ensures opened { IfOk result (IsOpened setup log.room ring places.now) }
-    ensures fault { HasFirstFault setup.config.places log.room places.now (λ e. e.0) result }
-    ensures back { IfErr result (λ e. (e.1 ≡ blank_log log.room) × (book_of e.2 ≡ J.book)) }
-{
+    let setup = setup.into_setup();
     if let Some(fault) = fault_of_places(&setup.config, places) {
         return Err((fault, log.cleared(), history));
     }

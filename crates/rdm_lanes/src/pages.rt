@@ -1,9 +1,10 @@
 //! Who takes the pages of a session's log, so that the session can outlive its log's memory.
-ghost use Rattle.std.specs.Prelude.{◌≡◌, ◌++◌, ◌∷◌, [], List, OnOk, OnErr, IfErr, OnSome, IfSome, IfNone};
-ghost use Rattle.rdm_lanes.specs.Pages.{pages_out, HasMemory};
+ghost use Rattle.std.specs.Prelude.{◌≡◌, ◌≢◌, ◌++◌, ◌∷◌, [], List, OnOk, OnErr, IfErr, OnSome, IfSome, IfNone};
+ghost use Rattle.std.specs.Prelude.{Some, None, vec_capacity};
+ghost use Rattle.rdm_lanes.specs.Pages.{pages_out, spare_capacity, HasMemory};
 ghost use Rattle.rdm_lanes.specs.declared.pages.Spare.TheVariants.{Nothing as NoSpare};
 
-use rdm_queue::{Entry, Page};
+use rdm_log::{Entry, Page};
 use std::mem;
 
 /// Takes the pages of a session's log, oldest first. A sink that keeps no page in memory can name those that it has
@@ -50,7 +51,8 @@ impl<S: PageSink> Pages<S> {
         ensures had { IfSome result (λ _. HasMemory self.old.spare) }
         ensures empty { IfSome result (λ next. next.items ≡ []) }
         ensures left { OnSome result (self.new ≡ record self.old { spare = NoSpare }) }
-        ensures none { IfNone result (self.new ≡ self.old) }
+        ensures capacity { IfSome result (λ next. spare_capacity self.old.spare ≡ Some (vec_capacity next)) }
+        ensures none { IfNone result ((self.new ≡ self.old) × (spare_capacity self.old.spare ≡ None)) }
     {
         match mem::replace(&mut self.spare, Spare::Nothing) {
             Spare::Memory(mut next) => {
@@ -67,7 +69,8 @@ impl<S: PageSink> Pages<S> {
     // Gives a page to the sink.
     pub(crate) fn give(&mut self, page: Page)
         requires { self.old.spare ≡ NoSpare }
-        ensures { pages_out S.taken self.new ≡ pages_out S.taken self.old ++ page ∷ [] }
+        ensures out { pages_out S.taken self.new ≡ pages_out S.taken self.old ++ page ∷ [] }
+        ensures spare { self.new.spare ≢ NoSpare }
     {
         match self.sink.take(page) {
             Ok(next) => self.spare = Spare::Memory(next),

@@ -1,6 +1,6 @@
 //! What goes through the rings of outcomes.
 use rdm_client::BoxedAsk;
-use rdm_queue::Completion;
+use rdm_log::Completion;
 use std::mem::size_of;
 
 /// An outcome on its way to its client. The set of a discovery is in a box, which the worker allocates.

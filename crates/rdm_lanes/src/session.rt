@@ -1,10 +1,10 @@
 //! A whole session: clients, each with what it does, and a worker over a line, in threads.
-ghost use Rattle.std.specs.Prelude.{◌≡◌, length, IfOk, IfErr};
+ghost use Rattle.std.specs.Prelude.{◌≡◌, ◌≢◌, ◌≤◌, length, IfOk, IfErr};
 ghost use Rattle.rdm_log.specs.log.Config.{steady};
 ghost use Rattle.rdm_log.specs.log.LogState.{blank_log};
 ghost use Rattle.rdm_lanes.specs.Opened.{MayOpen, HasFirstFault};
 ghost use Rattle.rdm_lanes.specs.PagedEnds.{IsPagedEnd};
-ghost use Rattle.rdm_lanes.specs.Pages.{pages_out};
+ghost use Rattle.rdm_lanes.specs.Pages.{pages_out, spare_capacity, IsDue};
 ghost use Rattle.rdm_lanes.specs.SessionEnds.{IsSessionEnd};
 ghost use Rattle.rdm_lanes.specs.declared.pages.Spare.TheVariants.{Nothing as NoSpare};
 ghost use Rattle.rdm_lanes.specs.Workers.{book_of};
@@ -15,14 +15,14 @@ pub(crate) mod together;
 
 use crate::fault::OpenFault;
 use crate::opening::rooms::rooms_for;
-use crate::opening::{fault_of_places, open_lanes_with};
+use crate::opening::{fault_of_places, open_lanes};
 use crate::pages::{NoSink, PageSink, Pages, Spare};
 use crate::session::body::{Body, Gate};
 use crate::session::together::{LanesEnd, lanes_in_threads};
 use crate::views::history::{BlankHistory, ViewHistory};
 use rdm_client::{Tells, TellsAsk};
 use rdm_line::Line;
-use rdm_queue::{Config, Log, Setup};
+use rdm_log::{Config, Log, Setup};
 use std::alloc::Global;
 use std::sync::Wait;
 use std::thread::Threads;
@@ -128,13 +128,21 @@ pub fn run_session_with<
 }
 
 /// The same with a sink that takes the entries of the log, page by page, so that a session can outlive its log's
-/// memory. Before a turn of the worker, if the log stores at least as many entries as are free, all that it stores is
-/// given to the sink, and the log continues in the spare memory. No page ends between a frame and its reply. The memory
-/// that the sink returns is the next spare memory. If the sink refuses a page, nothing more is handed out: the session
-/// goes on until its log is full, and the page is returned. Conditions and errors are those of [`run_session`].
+/// memory. After each turn of the worker, also after the last one, if the log stores at least as many entries as are
+/// free, all that it stores is given to the sink, and the log continues in the spare memory. A turn that finds the log
+/// full makes no exchange, and the session goes on once the page is handed out. No page ends between a frame and its
+/// reply. The memory that the sink returns is the next spare memory. If the sink refuses a page, nothing more is handed
+/// out: the session goes on until its log is full, and the page is returned. Conditions and errors are those of
+/// [`run_session`].
 ///
 /// The pages that the sink has taken and then the page that it refused follow each other. They and then the entries
-/// that the log stores are the whole history, each entry once, in order. Contracts still cover the whole history.
+/// that the log stores are the whole history, each entry once, in order. Contracts still cover the whole history. The
+/// first page was due when it was handed out, and so was each later one for some capacity of its memory. If no further
+/// page was handed out, the spare memory has the capacity that it had. Once a turn was made, no page is due at the end.
+/// So the session then ends with a full log only in these cases:
+/// - there was no spare memory, or the sink refused a page;
+/// - the spare memory is too small for what is reserved;
+/// - the log stores less than is free.
 pub fn run_session_in_pages<
     J: ViewHistory + Send + Sync,
     B: Body<C, A> + Send,
@@ -165,6 +173,10 @@ pub fn run_session_in_pages<
     requires one_each { length bodies.items ≡ length places.now }
     ensures over { IfOk result (λ end. IsPagedEnd X.step setup log.room ring places.now line turns
         (pages_out S.taken pages) (pages_out S.taken end.1) end.0) }
+    ensures due { IfOk result (λ end. 1 ≤ end.0.turns → IsDue end.0.session end.1.spare → ⊥) }
+    ensures spare { pages.spare ≢ NoSpare → IfOk result (λ end. end.1.spare ≢ NoSpare) }
+    ensures kept_spare { IfOk result (λ end. pages_out S.taken end.1 ≡ pages_out S.taken pages
+        → spare_capacity end.1.spare ≡ spare_capacity pages.spare) }
     ensures still { pages.spare ≡ NoSpare
         → IfOk result (λ end. (end.0.session.room ≡ log.room) × (end.0.session.gone ≡ 0)) }
     ensures fault { HasFirstFault setup.config.places log.room places.now (λ e. e.0) result }
@@ -184,7 +196,7 @@ pub fn run_session_in_pages<
             pages,
         ));
     };
-    match open_lanes_with(rt, alloc, history, setup, log, ring, places) {
+    match open_lanes(rt, alloc, history, setup, log, ring, places) {
         Ok(lanes) => Ok(lanes_in_threads(
             rt, alloc, lanes, rooms, bodies, gate, line, turns, pages,
         )),

@@ -2,12 +2,13 @@
 use Rattle.std.specs.Prelude.{◌≡◌, ◌≢◌, ℕ, ◌+◌, ◌<◌, false, List, [], ◌∷◌, ◌++◌, Option, None, Some, Result, Ok, Err}
 use Rattle.std.specs.Prelude.{MatchBool, slice_get}
 use Rattle.rtrb.specs.Ring.{sent as pushed, known_free, SameProducer, ProducerLooked}
-use Rattle.rdm_wire.specs.declared.request.Request.{Request}
 use Rattle.rdm_join.specs.declared.status.Status.TheVariants.{FailedToSend}
-use Rattle.rdm_log.specs.declared.fault.SubmitFault.{SubmitFault}
-use Rattle.rdm_log.specs.declared.fault.SubmitFault.TheVariants as submit_faults
-use Rattle.rdm_log.specs.declared.fault.AskFault.{AskFault}
-use Rattle.rdm_log.specs.declared.fault.AskFault.TheVariants as ask_faults
+use Rattle.rdm_log.specs.declared.fault.WorkFault.{WorkFault}
+use Rattle.rdm_log.specs.declared.fault.WorkFault.TheVariants as work_faults
+use Rattle.rdm_log.specs.declared.outcome.OutcomeKind.{OutcomeKind}
+use Rattle.rdm_log.specs.declared.outcome.OutcomeKind.TheVariants as kinds
+use Rattle.rdm_log.specs.declared.work.Work.{Work}
+use Rattle.rdm_log.specs.declared.work.Work.TheVariants as works
 use Rattle.rdm_log.specs.promises.Outcomes.{OutcomeValue, completion_of, never_begun}
 use Rattle.rdm_log.specs.promises.Outcomes.OutcomeValue.{RequestValue, DiscoveryValue}
 use Rattle.rdm_log.specs.log.LogState.{LogState, is_full_log}
@@ -80,29 +81,41 @@ pub record PutsValue (value : OutcomeValue) (old new : Lane) : Type 0 where
   pub is : value_in item ≡ value
   pub puts : PutsOn item old new
 
--- what the worker does with the answer to a submit: it counts one more request, or puts a close's refusal on the ring
-abbrev pub AfterSubmitFault : Lane → SubmitFault → Lane → Type 0
-AfterSubmitFault old submit_faults.Closed new = PutsValue (RequestValue None (completion_of FailedToSend None)) old new
-AfterSubmitFault old _ new = new ≡ old
+-- the call that brings this work
+abbrev pub bringing : Work → ClientCall
+bringing (works.Submit request) = Submit request
+bringing (works.Discover kind) = Discover kind
 
-abbrev pub AfterSubmit : Lane → Result ℕ (SubmitFault × Request) → Lane → Type 0
-AfterSubmit old (Ok n) new = new ≡ record old { requests = old.requests + 1 }
-AfterSubmit old (Err e) new = AfterSubmitFault old e.0 new
+-- the kind of its outcome
+abbrev pub kind_of_work : Work → OutcomeKind
+kind_of_work (works.Submit request) = kinds.Request
+kind_of_work (works.Discover kind) = kinds.Discovery
 
--- the same for a discover's answer
-abbrev pub AfterAskFault : Lane → AskFault → Lane → Type 0
-AfterAskFault old ask_faults.Closed new = PutsValue (DiscoveryValue None never_begun) old new
-AfterAskFault old _ new = new ≡ old
+-- the outcome of work of this kind that a close refuses
+abbrev pub refused_value : OutcomeKind → OutcomeValue
+refused_value kinds.Request = RequestValue None (completion_of FailedToSend None)
+refused_value kinds.Discovery = DiscoveryValue None never_begun
 
-abbrev pub AfterDiscover : Lane → Result ℕ AskFault → Lane → Type 0
-AfterDiscover old (Ok n) new = new ≡ record old { asks = old.asks + 1 }
-AfterDiscover old (Err fault) new = AfterAskFault old fault new
+-- the client has capacity for work of this kind
+abbrev pub HasCapacityFor : OutcomeKind → Lane → Type 0
+HasCapacityFor kinds.Request lane = lane.requests < lane.places
+HasCapacityFor kinds.Discovery lane = lane.asks < 4
+
+-- one more of this kind is outstanding
+abbrev pub counted : OutcomeKind → Lane → Lane
+counted kinds.Request lane = record lane { requests = lane.requests + 1 }
+counted kinds.Discovery lane = record lane { asks = lane.asks + 1 }
+
+-- what the worker does with the answer to work: it counts it, or puts a close's refusal on the ring
+abbrev pub AfterFault : OutcomeKind → Lane → WorkFault → Lane → Type 0
+AfterFault kind old work_faults.Closed new = PutsValue (refused_value kind) old new
+AfterFault kind old _ new = new ≡ old
+
+abbrev pub AfterAnswer : OutcomeKind → Lane → Result ℕ (WorkFault × Work) → Lane → Type 0
+AfterAnswer kind old (Ok n) new = new ≡ counted kind old
+AfterAnswer kind old (Err e) new = AfterFault kind old e.0 new
 
 -- the lane has capacity for that
-abbrev pub FitsSubmitAnswer : Lane → Result ℕ (SubmitFault × Request) → Type 0
-FitsSubmitAnswer lane (Ok n) = lane.requests < lane.places
-FitsSubmitAnswer lane (Err e) = e.0 ≡ submit_faults.Closed → 0 < known_free lane.replies
-
-abbrev pub FitsDiscoverAnswer : Lane → Result ℕ AskFault → Type 0
-FitsDiscoverAnswer lane (Ok n) = lane.asks < 4
-FitsDiscoverAnswer lane (Err fault) = fault ≡ ask_faults.Closed → 0 < known_free lane.replies
+abbrev pub FitsAnswer : OutcomeKind → Lane → Result ℕ (WorkFault × Work) → Type 0
+FitsAnswer kind lane (Ok n) = HasCapacityFor kind lane
+FitsAnswer kind lane (Err e) = e.0 ≡ work_faults.Closed → 0 < known_free lane.replies

@@ -15,7 +15,8 @@ use crate::views::publishing::{Publisher, Shown};
 use crate::worker::comparing::shows_legal;
 use crate::worker::lane::Lane;
 use rdm_client::{Desk, DeviceView, Tells, TellsAsk};
-use rdm_queue::{JoinFault, Log, Session, Setup};
+use rdm_log::{JoinFault, Log, Setup};
+use rdm_queue::Session;
 use rdm_wire::DeviceSet;
 use rtrb::RingBuffer;
 use std::alloc::Global;
@@ -161,7 +162,7 @@ pub fn joined(
 {
     // Only for the proof: nothing was handed out.
     log.gone();
-    let mut session = match Session::new_with(alloc, setup, log) {
+    let mut session = match Session::new(alloc, setup, log) {
         Ok(session) => session,
         Err((_, log)) => return Err((OpenFault::NoMemory, log.cleared())),
     };

@@ -1,14 +1,9 @@
 //! The worker and the bodies in threads.
-ghost use Rattle.std.specs.Prelude.{◌≡◌, ◌≢◌, ◌≤◌, ◌+◌, true, false};
-ghost use Rattle.rdm_log.specs.log.LogState.{is_full_log};
-ghost use Rattle.rdm_client.specs.declared.worker_end.WorkerEnd.TheVariants.{AllLeft, Turns, LogFull as FullLog};
-ghost use Rattle.rdm_lanes.specs.Lines.{Exchanged, SameSwitches, exchange_count};
-ghost use Rattle.rdm_lanes.specs.Lanes.{SameLanes};
-ghost use Rattle.rdm_lanes.specs.body.Done.{IsDone};
-ghost use Rattle.rdm_lanes.specs.Pages.{HandsOut, SameMemory, pages_out, with_memory};
-ghost use Rattle.rdm_lanes.specs.declared.pages.Spare.TheVariants.{Nothing as NoSpare};
+ghost use Rattle.std.specs.Prelude.{◌≡◌, ◌≢◌, ◌≤◌};
+ghost use Rattle.rdm_client.specs.declared.worker_end.WorkerEnd.TheVariants.{Turns};
+ghost use Rattle.rdm_lanes.specs.body.Paging.{WorksInPages};
 ghost use Rattle.rdm_lanes.specs.body.Seats.{SameSeats};
-ghost use Rattle.rdm_lanes.specs.Workers.{session_of, lanes_of, operator_has_left, turns_made_of, HasPublishedAll};
+ghost use Rattle.rdm_lanes.specs.body.Steps.{Steps, Stops};
 
 use crate::opening::seat::Seat;
 use crate::pages::{PageSink, Pages};
@@ -18,7 +13,7 @@ use crate::views::publishing::Shown;
 use crate::worker::view_worker::ViewWorker;
 use rdm_client::WorkerEnd;
 use rdm_line::Line;
-use rdm_queue::MOST_CLIENTS;
+use rdm_log::MOST_CLIENTS;
 use std::alloc::Global;
 use std::sync::Wait;
 use std::thread;
@@ -72,21 +67,13 @@ pub fn all_in_threads<
     WorkerEnd,
     Pages<S>,
 )
-    ensures lanes { SameLanes (lanes_of worker) (lanes_of result.0) }
     ensures seats { SameSeats seats.items result.1.items }
-    ensures exchanged { Exchanged X.step line (session_of worker) result.2
-        (with_memory (session_of worker).room (session_of worker).gone (session_of result.0)) }
-    ensures handed { HandsOut (session_of worker) (session_of result.0) (pages_out S.taken pages)
-        (pages_out S.taken result.4) }
-    ensures still { pages.spare ≡ NoSpare → SameMemory (session_of worker) (session_of result.0) }
-    ensures all_left { result.3 ≡ AllLeft → IsDone (lanes_of result.0) (session_of result.0) }
-    ensures published { result.3 ≢ Turns → HasPublishedAll result.0 }
-    ensures full { result.3 ≡ FullLog → is_full_log (session_of result.0) ≡ true }
-    ensures turns { (turns_made_of result.0 ≤ turns) × (turns ≡ 0 → result.3 ≡ Turns) }
-    ensures all_turns { result.3 ≡ Turns → turns_made_of result.0 ≡ turns }
-    ensures exchanges { exchange_count (session_of result.0)
-        ≤ exchange_count (session_of worker) + turns_made_of result.0 }
-    ensures switches { operator_has_left worker ≡ true → SameSwitches (session_of worker) (session_of result.0) }
+    ensures worked { WorksInPages X.step S.taken result.0.turns_made line worker.server.session pages result.2
+        result.0.server.session result.4 }
+    ensures steps { Steps worker.server result.0.server }
+    ensures turns { (result.0.turns_made ≤ turns) × (turns ≡ 0 → result.3 ≡ Turns) }
+    ensures all_turns { result.3 ≡ Turns → result.0.turns_made ≡ turns }
+    ensures stops { result.3 ≢ Turns → Stops result.3 result.0.server result.0.views }
 {
     let mut worker = worker;
     let mut seats = seats;

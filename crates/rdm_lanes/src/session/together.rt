@@ -1,16 +1,15 @@
 //! A session over open lanes: the bodies in their seats, the worker beside them, and the comparison at the end.
-ghost use Rattle.std.specs.Prelude.{◌≡◌, ◌≤◌, ◌+◌, ℕ, List, length, map};
+ghost use Rattle.std.specs.Prelude.{◌≡◌, ◌≤◌, ℕ, List, length, map};
 ghost use Rattle.rdm_log.specs.log.Legal.{Legal};
 ghost use Rattle.rdm_log.specs.promises.Promised.{Promised};
 ghost use Rattle.rdm_client.specs.declared.worker_end.WorkerEnd.TheVariants.{Turns};
 ghost use Rattle.rdm_lanes.specs.declared.worker.lane.Lane.{Lane};
-ghost use Rattle.rdm_lanes.specs.Lines.{Exchanged, SameSwitches, IsBetweenTurns, exchange_count};
+ghost use Rattle.rdm_lanes.specs.Lines.{SameSwitches, IsBetweenTurns};
 ghost use Rattle.rdm_lanes.specs.Lanes.{AllFit};
-ghost use Rattle.rdm_lanes.specs.Pages.{HandsOut, SameMemory, pages_out, with_memory};
-ghost use Rattle.rdm_lanes.specs.declared.pages.Spare.TheVariants.{Nothing as NoSpare};
 ghost use Rattle.rdm_lanes.specs.Ended.{IsEnded};
 ghost use Rattle.rdm_lanes.specs.Ends.{AllHaveSlots};
 ghost use Rattle.rdm_lanes.specs.Pairs.{ClientsPair, client_rings};
+ghost use Rattle.rdm_lanes.specs.body.Paging.{WorksInPages};
 ghost use Rattle.rdm_lanes.specs.body.Rooms.{HasRoomFor};
 ghost use Rattle.rdm_lanes.specs.body.Seats.{RingsHaveSlots};
 ghost use Rattle.rdm_lanes.specs.Workers.{session_of, lanes_of};
@@ -76,11 +75,8 @@ pub fn lanes_in_threads<
     requires pairs { ClientsPair (lanes_of lanes.worker) lanes.clients.items }
     requires one_each { length bodies.items ≡ length lanes.clients.items }
     requires room { HasRoomFor (length bodies.items) rooms }
-    ensures exchanged { Exchanged X.step line (session_of lanes.worker) result.0.line (with_memory
-        (session_of lanes.worker).room (session_of lanes.worker).gone result.0.session) }
-    ensures handed { HandsOut (session_of lanes.worker) result.0.session (pages_out S.taken pages)
-        (pages_out S.taken result.1) }
-    ensures still { pages.spare ≡ NoSpare → SameMemory (session_of lanes.worker) result.0.session }
+    ensures worked { WorksInPages X.step S.taken result.0.turns line (session_of lanes.worker) pages result.0.line
+        result.0.session result.1 }
     ensures served { IsBetweenTurns result.0.session }
     ensures legal { Legal result.0.session.opening result.0.session.entries }
     ensures promised { Promised result.0.session }
@@ -92,8 +88,6 @@ pub fn lanes_in_threads<
         → AllHaveSlots n result.0.ends.items }
     ensures turns { (result.0.turns ≤ turns) × (turns ≡ 0 → result.0.worker ≡ Turns) }
     ensures all_turns { result.0.worker ≡ Turns → result.0.turns ≡ turns }
-    ensures exchanges { exchange_count result.0.session
-        ≤ exchange_count (session_of lanes.worker) + result.0.turns }
 {
     let Lanes {
         clients,

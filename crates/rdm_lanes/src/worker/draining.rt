@@ -3,12 +3,13 @@ ghost use Rattle.std.specs.Prelude.{◌≡◌, [], IfOk, IfErr, OnOk, OnErr, vec
 ghost use Rattle.rdm_log.specs.log.LogState.{stored, drained, MayGoOn};
 ghost use Rattle.rdm_lanes.specs.Workers.{session_of, lanes_of, operator_has_left, published_by};
 ghost use Rattle.rdm_lanes.specs.Workers.{operator_ring, turns_made_of};
+ghost use Rattle.rdm_lanes.specs.body.Steps.{SameEnds};
 
 use crate::views::history::ViewHistory;
 use crate::views::publishing::Shown;
 use crate::worker::Worker;
 use crate::worker::view_worker::ViewWorker;
-use rdm_queue::{Entry, LogFull, Page};
+use rdm_log::{Entry, LogFull, Page};
 use std::sync::Wait;
 
 impl Worker {
@@ -17,14 +18,14 @@ impl Worker {
         requires { next.items ≡ [] }
         ensures first { IfOk result (λ page. page.first ≡ self.old.session.gone) }
         ensures handed_out { IfOk result (λ page. page.entries.items ≡ stored self.old.session) }
+        ensures fits { OnOk result (MayGoOn self.old.session (vec_capacity next)) }
         ensures log { OnOk result (self.new.session ≡ drained self.old.session (vec_capacity next)) }
         ensures back { IfErr result (λ e. e.1 ≡ next) }
         ensures refused { OnErr result (MayGoOn self.old.session (vec_capacity next) → ⊥) }
         ensures unchanged { OnErr result (self.new.session ≡ self.old.session) }
         ensures opening { self.new.session.opening ≡ self.old.session.opening }
         ensures entries { self.new.session.entries ≡ self.old.session.entries }
-        ensures lanes { self.new.lanes ≡ self.old.lanes }
-        ensures operator { (self.new.operator ≡ self.old.operator) × (self.new.operator_left ≡ self.old.operator_left) }
+        ensures ends { SameEnds self.old self.new }
     {
         let first = self.session.log().gone();
         let entries = self.session.drain(next)?;
@@ -41,6 +42,7 @@ impl<J: ViewHistory, R: Wait + Drop> ViewWorker<J, Shown<J>, R> {
         requires { next.items ≡ [] }
         ensures first { IfOk result (λ page. page.first ≡ (session_of self.old).gone) }
         ensures handed_out { IfOk result (λ page. page.entries.items ≡ stored (session_of self.old)) }
+        ensures fits { OnOk result (MayGoOn (session_of self.old) (vec_capacity next)) }
         ensures log { OnOk result (session_of self.new ≡ drained (session_of self.old) (vec_capacity next)) }
         ensures back { IfErr result (λ e. e.1 ≡ next) }
         ensures refused { OnErr result (MayGoOn (session_of self.old) (vec_capacity next) → ⊥) }

@@ -9,7 +9,8 @@ ghost use Rattle.rdm_lanes.specs.body.Doing.{IsMoved, MayMoveOne, MovesFor, Move
 use crate::ring_outcome::RingOutcome;
 use crate::worker::lane::Lane;
 use rdm_client::BoxedAsk;
-use rdm_queue::{ClientId, OutcomeKind, Session};
+use rdm_log::{ClientId, OutcomeKind};
+use rdm_queue::Session;
 use rdm_wire::DeviceSet;
 use std::alloc::Global;
 

@@ -1,15 +1,12 @@
 //! The turns of a worker that hands out the entries of its log, page by page.
-ghost use Rattle.std.specs.Prelude.{◌≡◌, ◌≢◌, ◌<◌, ◌≤◌, ◌+◌, ◌-◌, ◌^◌, true, length, Some, IfSome};
-ghost use Rattle.rdm_log.specs.log.LogState.{is_full_log};
-ghost use Rattle.rdm_log.specs.log.MaySend.{NoSend};
-ghost use Rattle.rdm_lanes.specs.Lines.{Exchanged, SameSwitches, exchange_count};
-ghost use Rattle.rdm_lanes.specs.Lanes.{SameLanes, AllHaveLeft};
-ghost use Rattle.rdm_lanes.specs.body.Done.{IsDone};
-ghost use Rattle.rdm_lanes.specs.body.Showing.{AllPublished};
-ghost use Rattle.rdm_lanes.specs.Pages.{HandsOut, SameMemory, pages_out, with_memory};
-ghost use Rattle.rdm_lanes.specs.Workers.{session_of, lanes_of, operator_has_left, HasPublishedAll, turns_made_of};
-ghost use Rattle.rdm_lanes.specs.declared.pages.Spare.TheVariants.{Nothing as NoSpare};
-ghost use Rattle.rdm_client.specs.declared.worker_end.WorkerEnd.TheVariants.{AllLeft, Turns, LogFull as FullLog};
+ghost use Rattle.std.specs.Prelude.{◌≡◌, ◌≢◌, ◌<◌, ◌≤◌, ◌+◌, ◌-◌, ◌^◌, true, false, [], length, ◌⊎◌};
+ghost use Rattle.std.specs.Prelude.{Some, None, IfSome};
+ghost use Rattle.rdm_log.specs.log.LogState.{stored};
+ghost use Rattle.rdm_lanes.specs.Pages.{IsHalfUsed, IsDue, pages_out, spare_capacity, with_memory};
+ghost use Rattle.rdm_lanes.specs.body.Paging.{HandsPages, WorksInPages};
+ghost use Rattle.rdm_lanes.specs.body.Steps.{SameOperator, Steps, Stops};
+ghost use Rattle.rdm_client.specs.declared.worker_end.WorkerEnd.TheVariants.{Turns, LogFull as FullLog};
+ghost use Rattle.rdm_client.specs.declared.worker_end.WorkerEnd.{WorkerEnd};
 
 use crate::pages::{PageSink, Pages, Spare};
 use crate::views::history::ViewHistory;
@@ -21,8 +18,8 @@ use std::alloc::Global;
 use std::sync::Wait;
 
 impl<J: ViewHistory, R: Wait + Drop> ViewWorker<J, Shown<J>, R> {
-    /// Works as [`work`](ViewWorker::work) does. Before a turn it gives the entries that its log stores to the sink, if
-    /// there is spare memory and the log stores at least as many entries as are free: its log continues in that memory.
+    /// Works as [`work`](ViewWorker::work) does. After each turn, if a page is due, it gives what its log stores to the
+    /// sink, and its log continues in the spare memory. So a full log doesn't end the work if a page is due.
     pub(crate) fn work_in_pages<X: Line, S: PageSink>(
         &mut self,
         alloc: Global,
@@ -30,21 +27,12 @@ impl<J: ViewHistory, R: Wait + Drop> ViewWorker<J, Shown<J>, R> {
         turns: u64,
         pages: &mut Pages<S>,
     ) -> WorkerEnd
-        ensures exchanged { Exchanged X.step line.old (session_of self.old) line.new
-            (with_memory (session_of self.old).room (session_of self.old).gone (session_of self.new)) }
-        ensures handed { HandsOut (session_of self.old) (session_of self.new) (pages_out S.taken pages.old)
-            (pages_out S.taken pages.new) }
-        ensures still { pages.old.spare ≡ NoSpare → SameMemory (session_of self.old) (session_of self.new) }
-        ensures lanes { SameLanes (lanes_of self.old) (lanes_of self.new) }
-        ensures turns { (turns_made_of self.new ≤ turns) × (turns ≡ 0 → result ≡ Turns) }
-        ensures all_turns { result ≡ Turns → turns_made_of self.new ≡ turns }
-        ensures exchanges { exchange_count (session_of self.new)
-            ≤ exchange_count (session_of self.old) + turns_made_of self.new }
-        ensures all_left { result ≡ AllLeft → IsDone (lanes_of self.new) (session_of self.new) }
-        ensures published { result ≢ Turns → HasPublishedAll self.new }
-        ensures full { result ≡ FullLog → is_full_log (session_of self.new) ≡ true }
-        ensures switches { operator_has_left self.old ≡ true
-            → SameSwitches (session_of self.old) (session_of self.new) }
+        ensures worked { WorksInPages X.step S.taken self.new.turns_made line.old self.old.server.session pages.old
+            line.new self.new.server.session pages.new }
+        ensures steps { Steps self.old.server self.new.server }
+        ensures turns { (self.new.turns_made ≤ turns) × (turns ≡ 0 → result ≡ Turns) }
+        ensures all_turns { result ≡ Turns → self.new.turns_made ≡ turns }
+        ensures stops { result ≢ Turns → Stops result self.new.server self.new.views }
     {
         self.turns_made = 0;
         for _turn in 0..turns {
@@ -55,7 +43,7 @@ impl<J: ViewHistory, R: Wait + Drop> ViewWorker<J, Shown<J>, R> {
         WorkerEnd::Turns
     }
 
-    // One turn, which is counted, with the page before it. Some: the worker stops.
+    // One turn, which is counted, and then the page that is due. Some: the worker stops.
     fn turn_in_pages<X: Line, S: PageSink>(
         &mut self,
         alloc: Global,
@@ -64,49 +52,73 @@ impl<J: ViewHistory, R: Wait + Drop> ViewWorker<J, Shown<J>, R> {
     ) -> Option<WorkerEnd>
         requires few { self.old.turns_made < 2 ^ 64 - 1 }
         ensures counted { self.new.turns_made ≡ self.old.turns_made + 1 }
-        ensures exchanged { Exchanged X.step line.old self.old.server.session line.new
-            (with_memory self.old.server.session.room self.old.server.session.gone self.new.server.session) }
-        ensures handed { HandsOut self.old.server.session self.new.server.session (pages_out S.taken pages.old)
-            (pages_out S.taken pages.new) }
-        ensures still { pages.old.spare ≡ NoSpare
-            → SameMemory self.old.server.session self.new.server.session × (pages.new.spare ≡ NoSpare) }
-        ensures lanes { SameLanes self.old.server.lanes.items self.new.server.lanes.items }
-        ensures one { exchange_count self.new.server.session ≤ exchange_count self.old.server.session + 1 }
-        ensures no_turns { result ≢ Some Turns }
-        ensures all_left { result ≡ Some AllLeft → AllHaveLeft self.new.server.lanes.items
-            × NoSend self.new.server.session.opening self.new.server.session.entries }
-        ensures published { IfSome result (λ _. AllPublished self.new.server.session self.new.views) }
-        ensures full { result ≡ Some FullLog → is_full_log self.new.server.session ≡ true }
-        ensures operator { self.old.server.operator_left ≡ true → (self.new.server.operator_left ≡ true)
-            × SameSwitches self.old.server.session self.new.server.session }
+        ensures worked { WorksInPages X.step S.taken 1 line.old self.old.server.session pages.old line.new
+            self.new.server.session pages.new }
+        ensures steps { Steps self.old.server self.new.server }
+        ensures stops { IfSome result (λ end. Stops end self.new.server self.new.views) }
     {
-        self.hand_out(pages);
-        self.turn(alloc, line)
+        // Only for the proof: no more entries were handed out than there are.
+        self.server.session.log().gone();
+        let end = self.turn(alloc, line);
+        let handed = self.hand_out(pages);
+        end_after(end, handed)
     }
 
-    // Gives what the log stores to the sink, if there is spare memory and the log stores as many entries as are free.
-    fn hand_out<S: PageSink>(&mut self, pages: &mut Pages<S>)
+    // Gives what the log stores to the sink if a page is due, and returns whether one was.
+    fn hand_out<S: PageSink>(&mut self, pages: &mut Pages<S>) -> bool
+        ensures due { IsDue self.old.server.session pages.old.spare → result ≡ true }
+        ensures not_due { (IsDue self.old.server.session pages.old.spare → ⊥) → result ≡ false }
+        ensures out { result ≡ true → (stored self.new.server.session ≡ [])
+            × (length (pages_out S.taken pages.new) ≡ length (pages_out S.taken pages.old) + 1) }
+        ensures not_out { result ≡ false → (self.new.server.session ≡ self.old.server.session)
+            × (pages_out S.taken pages.new ≡ pages_out S.taken pages.old)
+            × (spare_capacity pages.new.spare ≡ spare_capacity pages.old.spare) }
         ensures kept { with_memory self.old.server.session.room self.old.server.session.gone self.new.server.session
             ≡ self.old.server.session }
-        ensures handed { HandsOut self.old.server.session self.new.server.session (pages_out S.taken pages.old)
-            (pages_out S.taken pages.new) }
-        ensures still { pages.old.spare ≡ NoSpare
-            → SameMemory self.old.server.session self.new.server.session × (pages.new.spare ≡ NoSpare) }
-        ensures within { self.new.server.session.gone ≤ length self.new.server.session.entries }
+        ensures handed { HandsPages S.taken 1 self.old.server.session self.new.server.session pages.old pages.new }
         ensures lanes { self.new.server.lanes.items ≡ self.old.server.lanes.items }
-        ensures operator { self.new.server.operator_left ≡ self.old.server.operator_left }
+        ensures operator { SameOperator self.old.server self.new.server }
+        ensures views { self.new.views.shown ≡ self.old.views.shown }
         ensures count { self.new.turns_made ≡ self.old.turns_made }
     {
-        let stored = self.server.session.log().entries().len();
-        if stored == 0 || stored < self.server.session.free() {
-            return;
+        if !self.is_half_used() {
+            return false;
         }
         let Some(next) = pages.memory() else {
-            return;
+            return false;
         };
         match self.drain(next) {
-            Ok(page) => pages.give(page),
-            Err((_, next)) => pages.spare = Spare::Memory(next),
+            Ok(page) => {
+                pages.give(page);
+                true
+            }
+            Err((_, next)) => {
+                pages.spare = Spare::Memory(next);
+                false
+            }
         }
+    }
+
+    // Whether the log stores some entries, and at least as many as are free.
+    fn is_half_used(&self) -> bool
+        ensures half_used { result ≡ true → IsHalfUsed self.now.server.session }
+        ensures not_half_used { result ≡ false → IsHalfUsed self.now.server.session → ⊥ }
+        ensures within { self.now.server.session.gone ≤ length self.now.server.session.entries }
+    {
+        let stored = self.server.session.log().entries().len();
+        stored > 0 && stored >= self.server.session.free()
+    }
+}
+
+// Why the worker stops after a turn that ended like this. Once a page was handed out, it goes on with a log that was
+// full before.
+fn end_after(end: Option<WorkerEnd>, handed: bool) -> Option<WorkerEnd>
+    ensures same { (e : WorkerEnd) → result ≡ Some e → end ≡ Some e }
+    ensures full { result ≡ Some FullLog → handed ≡ false }
+    ensures goes_on { result ≡ None → (end ≡ None) ⊎ ((end ≡ Some FullLog) × (handed ≡ true)) }
+{
+    match end {
+        Some(WorkerEnd::LogFull) => { if handed { None } else { end } }
+        _ => end,
     }
 }

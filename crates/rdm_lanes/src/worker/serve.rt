@@ -1,24 +1,24 @@
 //! How the worker makes a client's calls.
-ghost use Rattle.std.specs.Prelude.{◌≡◌, MatchOption, slice_get, ⊤, true, false, length, ◌<◌, Some};
+ghost use Rattle.std.specs.Prelude.{◌≡◌, MatchOption, slice_get, ⊤, true, false, length, ◌<◌, Some, IfSome, IfNone};
+ghost use Rattle.rdm_lanes.specs.declared.call.ClientCall.TheVariants.{Leave};
 ghost use Rattle.rtrb.specs.Ring.{known_items};
 ghost use Rattle.rdm_log.specs.log.History.{places};
-ghost use Rattle.rdm_lanes.specs.declared.call.ClientCall.TheVariants.{Submit, Discover};
 ghost use Rattle.rdm_lanes.specs.body.Doing.{IsServed, MayNotMakeNext};
 ghost use Rattle.rdm_lanes.specs.Lines.{IsBetweenTurns};
 ghost use Rattle.rdm_lanes.specs.Lanes.{Fits, SameLane};
 ghost use Rattle.rdm_lanes.specs.body.Serving.{IsReadyFor, ServesClient, HasRefusalSlot, MayMake, LooksForSlot};
-ghost use Rattle.rdm_lanes.specs.body.Serving.{AfterSubmit, AfterDiscover, FitsSubmitAnswer, FitsDiscoverAnswer};
+ghost use Rattle.rdm_lanes.specs.body.Serving.{AfterAnswer, FitsAnswer, HasCapacityFor, bringing, counted};
+ghost use Rattle.rdm_lanes.specs.body.Serving.{kind_of_work, refused_value};
+ghost use Rattle.rdm_lanes.specs.Told.{value_in};
 
 use crate::call::ClientCall;
 use crate::ring_outcome::RingOutcome;
 use crate::worker::lane::Lane;
-use rdm_agent::{AgentFault, Kind};
+use rdm_agent::AgentFault;
 use rdm_client::BoxedAsk;
 use rdm_join::Status;
-use rdm_queue::{
-    AskFault, ClientId, Completion, LEAST_FREE, MOST_DISCOVERIES, Session, SubmitFault,
-};
-use rdm_wire::Request;
+use rdm_log::{ClientId, Completion, LEAST_FREE, MOST_DISCOVERIES, OutcomeKind, Work, WorkFault};
+use rdm_queue::Session;
 use std::alloc::Global;
 
 /// Makes the oldest call of a client's ring, if it has one that may be made now.
@@ -36,11 +36,11 @@ pub fn serve_call(alloc: Global, session: &mut Session, client: ClientId, lane: 
     if !may_make(session, client, lane) {
         return;
     }
-    match lane.calls.pop_known() {
-        ClientCall::Submit(request) => make_submit(alloc, session, client, lane, request),
-        ClientCall::Discover(kind) => make_discover(session, client, lane, kind),
-        ClientCall::Leave => lane.left = true,
-    }
+    let Some(work) = work_of(lane.calls.pop_known()) else {
+        lane.left = true;
+        return;
+    };
+    make_work(alloc, session, client, lane, work);
 }
 
 // Whether the oldest call of the client's ring may be made. A submit waits until the client has fewer requests
@@ -81,66 +81,87 @@ fn has_refusal_slot(session: &Session, client: ClientId, lane: &mut Lane) -> boo
     lane.replies.slots() > 0 && session.oldest(client).is_none()
 }
 
-// Makes a submit. If a close refuses it, its outcome is put on the ring at once.
-fn make_submit(
-    alloc: Global,
-    session: &mut Session,
-    client: ClientId,
-    lane: &mut Lane,
-    request: Request,
-)
-    requires { IsReadyFor (Submit request) client.0 session.old lane.old }
+// The work that a call brings. None: it is a leave.
+fn work_of(call: ClientCall) -> Option<Work>
+    ensures work { IfSome result (λ work. call ≡ bringing work) }
+    ensures leave { IfNone result (call ≡ Leave) }
+{
+    match call {
+        ClientCall::Submit(request) => Some(Work::Submit(request)),
+        ClientCall::Discover(kind) => Some(Work::Discover(kind)),
+        ClientCall::Leave => None,
+    }
+}
+
+// Makes the call that brings this work. If a close refuses it, its outcome is put on the ring at once.
+fn make_work(alloc: Global, session: &mut Session, client: ClientId, lane: &mut Lane, work: Work)
+    requires { IsReadyFor (bringing work) client.0 session.old lane.old }
     ensures serves { ServesClient client.0 session.old lane.old session.new lane.new }
     ensures calls { lane.new.calls ≡ lane.old.calls }
 {
-    let answer = session.submit(client, request);
-    apply_submit_answer(alloc, lane, answer);
+    let kind = kind_of(&work);
+    let answer = session.accept(client, work);
+    apply_answer(alloc, lane, kind, answer);
 }
 
-// Counts an accepted request, or puts the outcome of one that a close refused on the ring.
-fn apply_submit_answer(alloc: Global, lane: &mut Lane, answer: Result<u64, (SubmitFault, Request)>)
-    requires { FitsSubmitAnswer lane.old answer }
-    ensures after { AfterSubmit lane.old answer lane.new }
+// The kind of the outcome of this work.
+fn kind_of(work: &Work) -> OutcomeKind
+    ensures { result ≡ kind_of_work work.now }
+{
+    match work {
+        Work::Submit(_) => OutcomeKind::Request,
+        Work::Discover(_) => OutcomeKind::Discovery,
+    }
+}
+
+// Counts accepted work, or puts the outcome of work that a close refused on the ring.
+fn apply_answer(
+    alloc: Global,
+    lane: &mut Lane,
+    kind: OutcomeKind,
+    answer: Result<u64, (WorkFault, Work)>,
+)
+    requires { FitsAnswer kind lane.old answer }
+    ensures after { AfterAnswer kind lane.old answer lane.new }
     ensures lane { SameLane lane.old lane.new }
     ensures calls { lane.new.calls ≡ lane.old.calls }
 {
     match answer {
-        Ok(_) => lane.requests += 1,
-        Err((SubmitFault::Closed, _)) => lane.replies.push_reserved(RingOutcome::Request {
+        Ok(_) => count(lane, kind),
+        Err((WorkFault::Closed, _)) => lane.replies.push_reserved(refused(alloc, kind)),
+        Err(_) => {}
+    }
+}
+
+// Counts accepted work.
+fn count(lane: &mut Lane, kind: OutcomeKind)
+    requires { HasCapacityFor kind lane.old }
+    ensures counted { lane.new ≡ counted kind lane.old }
+    ensures lane { SameLane lane.old lane.new }
+    ensures calls { lane.new.calls ≡ lane.old.calls }
+{
+    match kind {
+        OutcomeKind::Request => lane.requests += 1,
+        OutcomeKind::Discovery => lane.asks += 1,
+    }
+}
+
+// The outcome of work that a close refused.
+fn refused(alloc: Global, kind: OutcomeKind) -> RingOutcome
+    ensures { value_in result ≡ refused_value kind }
+{
+    match kind {
+        OutcomeKind::Request => RingOutcome::Request {
             number: None,
             done: Completion {
                 status: Status::FailedToSend,
                 reply: None,
                 bytes: Vec::new(alloc),
             },
-        }),
-        Err(_) => {}
-    }
-}
-
-// Makes a discover. If a close refuses it, its outcome is put on the ring at once.
-fn make_discover(session: &mut Session, client: ClientId, lane: &mut Lane, kind: Kind)
-    requires { IsReadyFor (Discover kind) client.0 session.old lane.old }
-    ensures serves { ServesClient client.0 session.old lane.old session.new lane.new }
-    ensures calls { lane.new.calls ≡ lane.old.calls }
-{
-    let answer = session.discover(client, kind);
-    apply_discover_answer(lane, answer);
-}
-
-// Counts an accepted discovery, or puts the outcome of one that a close refused on the ring.
-fn apply_discover_answer(lane: &mut Lane, answer: Result<u64, AskFault>)
-    requires { FitsDiscoverAnswer lane.old answer }
-    ensures after { AfterDiscover lane.old answer lane.new }
-    ensures lane { SameLane lane.old lane.new }
-    ensures calls { lane.new.calls ≡ lane.old.calls }
-{
-    match answer {
-        Ok(_) => lane.asks += 1,
-        Err(AskFault::Closed) => lane.replies.push_reserved(RingOutcome::Discovery {
+        },
+        OutcomeKind::Discovery => RingOutcome::Discovery {
             number: None,
             done: BoxedAsk::new(0, Some(AgentFault::Aborted), None),
-        }),
-        Err(_) => {}
+        },
     }
 }

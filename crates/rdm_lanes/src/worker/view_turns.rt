@@ -1,7 +1,6 @@
 //! What the worker does in its turns. After each exchange that ends a run without fault it publishes a view of the
 //! devices. Only then does it move that run's outcomes to the clients' rings.
-ghost use Rattle.std.specs.Prelude.{◌≡◌, ◌≢◌, ◌<◌, ◌≤◌, ◌+◌, ◌-◌, ◌^◌, true, false, Some, None, IfSome, IfNone};
-ghost use Rattle.std.specs.Prelude.{length};
+ghost use Rattle.std.specs.Prelude.{◌≡◌, ◌≢◌, ◌<◌, ◌≤◌, ◌+◌, ◌-◌, ◌^◌, true, false, length};
 ghost use mathlib.Core.List.{IsPrefix};
 ghost use Rattle.rtrb.specs.Ring.{SameConsumer};
 ghost use Rattle.rdm_log.specs.log.LogState.{is_full_log};
@@ -15,10 +14,9 @@ ghost use Rattle.rdm_lanes.specs.body.Showing.{Publishes, AllPublished};
 ghost use Rattle.rdm_lanes.specs.Operators.{switches, effective};
 ghost use Rattle.rdm_lanes.specs.Workers.{session_of, lanes_of, operator_has_left, published_by, HasPublishedAll};
 ghost use Rattle.rdm_lanes.specs.Workers.{operator_ring, received_by, turns_made_of};
-ghost use Rattle.rdm_lanes.specs.Turns.{IsTurn, AreTurns};
+ghost use Rattle.rdm_lanes.specs.Turns.{AreTurns};
+ghost use Rattle.rdm_lanes.specs.body.Steps.{Attempted, EndsTurn, SameEnds, SameViews, Steps, StepsAlone, Turned};
 ghost use Rattle.rdm_client.specs.declared.worker_end.WorkerEnd.TheVariants.{AllLeft, Turns, LogFull as FullLog};
-ghost use Rattle.rdm_lanes.specs.declared.worker.working.Attempt.TheVariants.{NothingToSend, LogFull as NoRoom};
-ghost use Rattle.rdm_lanes.specs.declared.worker.working.Attempt.TheVariants.{Exchanged as MadeOne};
 
 use crate::views::history::ViewHistory;
 use crate::views::publishing::{Publisher, Shown};
@@ -56,6 +54,7 @@ impl<J: ViewHistory, R: Wait + Drop> ViewWorker<J, Shown<J>, R> {
     ///
     /// A publication that fails changes nothing, and is tried again in the next turn. Until it is made, no call is
     /// taken, no exchange is made and no outcome is moved. Nor does the work end because all have left.
+    #[tactic(auto, using(crate::proofs::WorkLemmas::view_steps_join, crate::proofs::ExchangeLemmas::exchanged_join))]
     pub fn work<X: Line>(&mut self, alloc: Global, line: &mut X, turns: u64) -> WorkerEnd
         ensures exchanged { Exchanged X.step line.old (session_of self.old) line.new (session_of self.new) }
         ensures lanes { SameLanes (lanes_of self.old) (lanes_of self.new) }
@@ -88,21 +87,8 @@ impl<J: ViewHistory, R: Wait + Drop> ViewWorker<J, Shown<J>, R> {
     pub(crate) fn turn<X: Line>(&mut self, alloc: Global, line: &mut X) -> Option<WorkerEnd>
         requires few { self.old.turns_made < 2 ^ 64 - 1 }
         ensures counted { self.new.turns_made ≡ self.old.turns_made + 1 }
-        ensures exchanged { Exchanged X.step line.old self.old.server.session line.new self.new.server.session }
-        ensures lanes { SameLanes self.old.server.lanes.items self.new.server.lanes.items }
-        ensures one { exchange_count self.new.server.session ≤ exchange_count self.old.server.session + 1 }
-        ensures went_on { IfNone result (IsTurn self.old.server.session self.new.server.session
-            self.new.views.shown) }
-        ensures no_turns { result ≢ Some Turns }
-        ensures all_left { result ≡ Some AllLeft → AllHaveLeft self.new.server.lanes.items
-            × (self.new.server.operator_left ≡ true)
-            × NoSend self.new.server.session.opening self.new.server.session.entries }
-        ensures published { IfSome result (λ _. AllPublished self.new.server.session self.new.views) }
-        ensures views { IsPrefix self.old.views.shown self.new.views.shown }
-        ensures full { result ≡ Some FullLog → is_full_log self.new.server.session ≡ true }
-        ensures operator { self.old.server.operator_left ≡ true → (self.new.server.operator_left ≡ true)
-            × SameSwitches self.old.server.session self.new.server.session }
-        ensures ring { SameConsumer self.old.server.operator self.new.server.operator }
+        ensures turn { EndsTurn X.step line.old self.old.server self.old.views line.new self.new.server self.new.views
+            result }
     {
         self.turns_made += 1;
         match self.serve_all(alloc, line) {
@@ -118,20 +104,8 @@ impl<J: ViewHistory, R: Wait + Drop> ViewWorker<J, Shown<J>, R> {
     // was done after that. A view whose publication failed before comes first. A call that is taken after a close puts
     // its outcome on the ring at once.
     fn serve_all<X: Line>(&mut self, alloc: Global, line: &mut X) -> Option<Attempt>
-        ensures exchanged { Exchanged X.step line.old self.old.server.session line.new self.new.server.session }
-        ensures lanes { SameLanes self.old.server.lanes.items self.new.server.lanes.items }
-        ensures one { exchange_count self.new.server.session ≤ exchange_count self.old.server.session + 1 }
-        ensures made { result ≡ Some MadeOne
-            → exchange_count self.new.server.session ≡ exchange_count self.old.server.session + 1 }
-        ensures nothing { result ≡ Some NothingToSend
-            → NoSend self.new.server.session.opening self.new.server.session.entries }
-        ensures published { IfSome result (λ _. AllPublished self.new.server.session self.new.views) }
-        ensures refused { IfNone result (self.new.views.shown ≢ all_views self.new.server.session.entries) }
-        ensures views { IsPrefix self.old.views.shown self.new.views.shown }
-        ensures full { result ≡ Some NoRoom → is_full_log self.new.server.session ≡ true }
-        ensures operator { self.old.server.operator_left ≡ true → (self.new.server.operator_left ≡ true)
-            × SameSwitches self.old.server.session self.new.server.session }
-        ensures ring { SameConsumer self.old.server.operator self.new.server.operator }
+        ensures turn { Turned X.step line.old self.old.server self.old.views line.new self.new.server self.new.views
+            result }
         ensures count { self.new.turns_made ≡ self.old.turns_made }
     {
         if !self.publish(alloc) {
@@ -153,13 +127,9 @@ impl<J: ViewHistory, R: Wait + Drop> ViewWorker<J, Shown<J>, R> {
         ensures published { AllPublished self.new.server.session self.new.views }
         ensures served { AreServed (length self.old.server.lanes.items) self.old.server.session
             self.old.server.lanes.items self.new.server.session self.new.server.lanes.items }
-        ensures views { self.new.views ≡ self.old.views }
         ensures line { NoExchange self.old.server.session self.new.server.session }
-        ensures lanes { SameLanes self.old.server.lanes.items self.new.server.lanes.items }
-        ensures operator { self.old.server.operator_left ≡ true → (self.new.server.operator_left ≡ true)
-            × SameSwitches self.old.server.session self.new.server.session }
-        ensures ring { SameConsumer self.old.server.operator self.new.server.operator }
-        ensures count { self.new.turns_made ≡ self.old.turns_made }
+        ensures steps { Steps self.old.server self.new.server }
+        ensures views { SameViews self.old self.new }
     {
         self.server.serve_clients(alloc);
         self.server.serve_operator();
@@ -180,19 +150,9 @@ impl<J: ViewHistory, R: Wait + Drop> ViewWorker<J, Shown<J>, R> {
     // Makes an exchange with the line, if there is a frame to send. What it found isn't published yet.
     fn exchange<X: Line>(&mut self, alloc: Global, line: &mut X) -> Attempt
         requires { AllPublished self.old.server.session self.old.views }
-        ensures exchanged { Exchanged X.step line.old self.old.server.session line.new self.new.server.session }
-        ensures switches { SameSwitches self.old.server.session self.new.server.session }
-        ensures one { exchange_count self.new.server.session ≤ exchange_count self.old.server.session + 1 }
-        ensures made { result ≡ MadeOne
-            → exchange_count self.new.server.session ≡ exchange_count self.old.server.session + 1 }
-        ensures nothing { result ≡ NothingToSend
-            → NoSend self.new.server.session.opening self.new.server.session.entries }
-        ensures full { result ≡ NoRoom → is_full_log self.new.server.session ≡ true }
-        ensures lanes { self.new.server.lanes ≡ self.old.server.lanes }
-        ensures operator { self.new.server.operator_left ≡ self.old.server.operator_left }
-        ensures ring { self.new.server.operator ≡ self.old.server.operator }
-        ensures views { self.new.views ≡ self.old.views }
-        ensures count { self.new.turns_made ≡ self.old.turns_made }
+        ensures attempted { Attempted X.step line.old self.old.server.session line.new self.new.server.session result }
+        ensures ends { SameEnds self.old.server self.new.server }
+        ensures views { SameViews self.old self.new }
     {
         self.server.exchange(alloc, line)
     }
@@ -203,12 +163,9 @@ impl<J: ViewHistory, R: Wait + Drop> ViewWorker<J, Shown<J>, R> {
         ensures moved { AreMoved (length self.old.server.lanes.items) self.old.server.session self.new.server.session
             self.new.server.lanes.items }
         ensures collects { OnlyCollects self.old.server.session self.new.server.session }
-        ensures lanes { SameLanes self.old.server.lanes.items self.new.server.lanes.items }
-        ensures operator { self.new.server.operator_left ≡ self.old.server.operator_left }
-        ensures ring { self.new.server.operator ≡ self.old.server.operator }
         ensures published { AllPublished self.new.server.session self.new.views }
-        ensures views { self.new.views ≡ self.old.views }
-        ensures count { self.new.turns_made ≡ self.old.turns_made }
+        ensures steps { StepsAlone self.old.server self.new.server }
+        ensures views { SameViews self.old self.new }
     {
         self.server.move_all(alloc);
     }

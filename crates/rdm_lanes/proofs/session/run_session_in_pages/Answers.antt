@@ -1,6 +1,5 @@
-use Rattle.std.proofs.Common.{◌∙◌, ◌≡◌, length, sym, ap, arith}
+use Rattle.std.proofs.Common.{◌∙◌, ◌≡◌, length, sym, arith}
 use Rattle.std.proofs.lemmas.List.{length-map}
-use Rattle.rdm_log.specs.log.LogState.{LogState}
 use Rattle.rdm_lanes.specs.Pages.{pages_out}
 use Rattle.rdm_lanes.specs.Pairs.{client_rings}
 use Rattle.rdm_lanes.proofs.PageLemmas.{are_handed_out}
@@ -20,7 +19,8 @@ returns-in-Ok-clause-over g c =
     let none = nothing_exchanged c.args.setup c.args.log.room c.args.places.now first opened.session in
     record {
       session = session_over_pages g.X.Line.step c.args.setup c.args.log.room c.args.places.now c.args.line ended.line
-          first ended.session c.lanes_in_threads.ensures.fits.0 opened.session c.lanes_in_threads.ensures.exchanged
+          first ended.session c.lanes_in_threads.ensures.fits.0 opened.session
+          c.lanes_in_threads.ensures.worked.exchanged
           c.lanes_in_threads.ensures.served c.lanes_in_threads.ensures.legal c.lanes_in_threads.ensures.promised
           c.lanes_in_threads.ensures.switches (c.lanes_in_threads.ensures.fits.1 ∙ long)
           c.lanes_in_threads.ensures.fits.2;
@@ -29,16 +29,9 @@ returns-in-Ok-clause-over g c =
           (new_slots c.args.ring c.args.places.now lanes.clients.items opened.clients);
       in_turns = c.lanes_in_threads.ensures.turns;
       all_turns = c.lanes_in_threads.ensures.all_turns;
-      exchanges = omega (arith, none, c.lanes_in_threads.ensures.exchanges);
+      exchanges = omega (arith, none, c.lanes_in_threads.ensures.worked.few);
       handed_out = are_handed_out c.args.setup c.args.log.room c.args.places.now first ended.session
           (pages_out g.S.PageSink.taken c.args.pages)
-          (pages_out g.S.PageSink.taken c.lanes_in_threads.result.1) opened.session c.lanes_in_threads.ensures.handed;
+          (pages_out g.S.PageSink.taken c.lanes_in_threads.result.1) opened.session
+          c.lanes_in_threads.ensures.worked.out.handed;
     }
-
-pub returns-in-Ok-clause-still : goal.returns-in-Ok-clause-still
-returns-in-Ok-clause-still g c none =
-    let opened = c.in-Ok.ensures.opened in
-    let still = c.lanes_in_threads.ensures.still none in (
-      still.0 ∙ ap (λ (k : LogState). k.room) opened.session,
-      still.1 ∙ ap (λ (k : LogState). k.gone) opened.session,
-    )

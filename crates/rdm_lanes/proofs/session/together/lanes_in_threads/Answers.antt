@@ -5,6 +5,7 @@ use Rattle.rdm_lanes.specs.Views.{all_views}
 use Rattle.rdm_lanes.specs.Pairs.{Rings, RingsPair}
 use Rattle.rdm_lanes.specs.body.Seats.{seat_rings}
 use Rattle.rdm_lanes.specs.Ends.{end_rings}
+use Rattle.rdm_lanes.proofs.PagedWork.{left_apart, full_apart}
 use Rattle.rdm_lanes.proofs.SeatLemmas.{pairs_kept, slots_kept}
 use Rattle.rdm_lanes.proofs.session.together.lanes_in_threads.Goals as goal
 
@@ -15,32 +16,9 @@ end-session-requires g c =
     let seats = subst (λ (rings : List Rings). RingsPair first rings) (sym c.seated-paired.ensures.rings)
     c.requires.pairs in
     let kept = pairs_kept first news c.seated-paired.result.items c.all_in_threads-worker.result.1.items seats
-    (rw c.without_operator-alone.ensures.same.1 at c.all_in_threads-worker.ensures.lanes)
+    (rw c.without_operator-alone.ensures.same.1 at c.all_in_threads-worker.ensures.steps.lanes)
     c.all_in_threads-worker.ensures.seats in
     record { pairs = subst (λ (rings : List Rings). RingsPair news rings) (sym c.unseated-bodies.ensures.ends) kept }
-
-pub returns-clause-exchanged : goal.returns-clause-exchanged
-returns-clause-exchanged g c =
-    rw c.end-session.ensures.log
-    (rw c.without_operator-alone.ensures.same.0 at c.all_in_threads-worker.ensures.exchanged)
-
-pub returns-clause-handed : goal.returns-clause-handed
-returns-clause-handed g c =
-    rw c.end-session.ensures.log
-    (rw c.without_operator-alone.ensures.same.0 at c.all_in_threads-worker.ensures.handed)
-
-pub returns-clause-still : goal.returns-clause-still
-returns-clause-still g c none =
-    rw c.end-session.ensures.log
-    (rw c.without_operator-alone.ensures.same.0 at (c.all_in_threads-worker.ensures.still none))
-
-pub returns-clause-fits : goal.returns-clause-fits
-returns-clause-fits g c =
-    let news = c.all_in_threads-worker.result.0.server.lanes.items in (
-      news,
-      c.all_in_threads-worker.ensures.lanes.long ∙ ap (λ v. length v.items) c.without_operator-alone.ensures.same.1,
-      rw (sym c.end-session.ensures.log) at c.end-session.ensures.fits,
-    )
 
 pub returns-clause-ended : goal.returns-clause-ended
 returns-clause-ended g c =
@@ -49,30 +27,20 @@ returns-clause-ended g c =
     ∙ length-map c.all_in_threads-worker.result.1.items seat_rings in
     record {
       agree = rw c.end-session.ensures.log c.end-session.ensures.agree;
-      all_left = λ is. let left = c.all_in_threads-worker.ensures.all_left is in
-          (c.end-session.ensures.read left.left, rw c.end-session.ensures.log left.silent);
-      full = λ is. rw c.end-session.ensures.log (c.all_in_threads-worker.ensures.full is);
+      all_left = λ is.
+          let stops = (rw is at c.all_in_threads-worker.ensures.stops) left_apart in
+          (c.end-session.ensures.read stops.1.0, rw c.end-session.ensures.log stops.1.2);
+      full = λ is. rw c.end-session.ensures.log ((rw is at c.all_in_threads-worker.ensures.stops) full_apart).1;
       one_each = (c.end-session.ensures.show_same.long ∙ (rings ∙ seats), c.unseated-bodies.ensures.bodies ∙ seats);
       unspent = c.end-session.ensures.unspent;
       matched = c.end-session.ensures.matched;
       published = rw c.end-session.ensures.log c.end-session.ensures.published;
       all_published =
-          λ not. c.end-session.ensures.shown ∙ c.all_in_threads-worker.ensures.published not
+          λ not. c.end-session.ensures.shown ∙ (c.all_in_threads-worker.ensures.stops not).0.shown
           ∙ ap (λ (k : LogState). all_views k.entries) (sym c.end-session.ensures.log);
       views = c.end-session.ensures.views;
       shown_first = c.end-session.ensures.shown_first;
     }
-
-pub returns-clause-exchanges : goal.returns-clause-exchanges
-returns-clause-exchanges g c =
-    rw c.end-session.ensures.log
-    (rw c.without_operator-alone.ensures.same.0 at c.all_in_threads-worker.ensures.exchanges)
-
-pub returns-clause-switches : goal.returns-clause-switches
-returns-clause-switches g c =
-    rw c.end-session.ensures.log
-    (rw c.without_operator-alone.ensures.same.0 at (c.all_in_threads-worker.ensures.switches
-    c.without_operator-alone.ensures.left))
 
 pub returns-clause-slots : goal.returns-clause-slots
 returns-clause-slots g c n has =

@@ -24,13 +24,18 @@ invariant_of-self-clause-fits c =
     (collects_line me.session c.move_outcomes.new.session c.move_outcomes.ensures.moves.collects))
     c.move_outcomes.ensures.moves.others
 
-pub returns-clause-lanes : goal.returns-clause-lanes
-returns-clause-lanes c =
+pub returns-clause-steps : goal.returns-clause-steps
+returns-clause-steps c =
     let me = c.args.self.now in
     let lane = c.index_mut.result.now in
-    same_lanes_set me.lanes.items c.args.at lane c.move_outcomes.new.lane
-    (slice_get_read me.lanes.items (length me.lanes.items) c.args.at lane refl
-    (omega (arith, c.requires, me.lanes.ok.0)) c.index_mut.ensures.value) c.move_outcomes.ensures.moves.rings
+    let moves = c.move_outcomes.ensures.moves in
+    record {
+      lanes = same_lanes_set me.lanes.items c.args.at lane c.move_outcomes.new.lane
+          (slice_get_read me.lanes.items (length me.lanes.items) c.args.at lane refl
+          (omega (arith, c.requires, me.lanes.ok.0)) c.index_mut.ensures.value) moves.rings;
+      operator = (refl, refl);
+      switches = collects_switches me.session c.move_outcomes.new.session moves.collects;
+    }
 
 pub invariant_of-self-clause-operated : goal.invariant_of-self-clause-operated
 invariant_of-self-clause-operated c =
@@ -39,7 +44,3 @@ invariant_of-self-clause-operated c =
     let collects = c.move_outcomes.ensures.moves.collects in
     operated_quiet me.session next (popped me.operator) (collects_line me.session next collects)
     (collects_switches me.session next collects) me.operated
-
-pub returns-clause-moved : goal.returns-clause-moved
-returns-clause-moved c =
-    record { next = c.move_outcomes.new.lane; set = refl; moved = c.move_outcomes.ensures.all }

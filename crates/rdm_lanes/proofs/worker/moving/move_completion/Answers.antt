@@ -2,7 +2,7 @@ use Rattle.rdm_lanes.proofs.Common.{refl, true≢false, Some}
 use Rattle.rdm_log.specs.declared.outcome.Outcome.TheVariants as outcomes
 use Rattle.rdm_lanes.specs.declared.ring_outcome.RingOutcome.TheVariants.{Request}
 use Rattle.rdm_lanes.proofs.CollectedLemmas.{has_request, fits_completion}
-use Rattle.rdm_lanes.proofs.StepLemmas.{collects, collect_served, others_wait_collect}
+use Rattle.rdm_lanes.proofs.StepLemmas.{collects, collect_step}
 use Rattle.rdm_lanes.proofs.worker.moving.move_completion.Goals as goal
 
 pub overflow_sub-lane : goal.overflow_sub-lane
@@ -19,14 +19,15 @@ returns c =
     let outcome = outcomes.Request (Some number) done in
     let adds = c.in-Some.ensures.adds in
     let legal = c.in-Some.ensures.legal in
+    let step = collect_step old new c.args.client outcome adds legal in
     record {
       moves = record {
         fits = fits_completion old new c.args.client number done (Request (Some number) done) c.args.lane.now _ adds
             legal refl c.requires.fits
             (record { calls_are = refl; requests_are = refl; asks_are = refl; left_is = refl })
             c.push_reserved.ensures.sent.0;
-        served = collect_served old new c.args.client outcome adds c.requires.served;
-        others = λ other apart. others_wait_collect old new c.args.client outcome adds legal other apart;
+        served = step.served c.requires.served;
+        others = step.wait;
         collects = collects old new c.args.client outcome adds;
         rings = (((refl, refl, refl, refl), refl), c.push_reserved.ensures.ring, refl);
       };

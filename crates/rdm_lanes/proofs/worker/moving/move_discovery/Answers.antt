@@ -2,7 +2,7 @@ use Rattle.rdm_lanes.proofs.Common.{refl, true≢false, ap, Some, AskCompletion,
 use Rattle.rdm_log.specs.declared.outcome.Outcome.TheVariants as outcomes
 use Rattle.rdm_log.specs.promises.Outcomes.{discovery_outcome}
 use Rattle.rdm_lanes.proofs.CollectedLemmas.{has_ask, fits_discovery}
-use Rattle.rdm_lanes.proofs.StepLemmas.{collects, collect_served, others_wait_collect}
+use Rattle.rdm_lanes.proofs.StepLemmas.{collects, collect_step}
 use Rattle.rdm_lanes.proofs.worker.moving.move_discovery.Goals as goal
 
 pub overflow_sub-lane : goal.overflow_sub-lane
@@ -19,6 +19,7 @@ returns c =
     let outcome = discovery_outcome end c.next_discovery.new.set in
     let adds = c.in-Some.ensures.adds in
     let legal = c.in-Some.ensures.legal in
+    let step = collect_step old new c.args.client outcome adds legal in
     record {
       moves = record {
         fits = fits_discovery old new c.args.client end.number
@@ -28,8 +29,8 @@ returns c =
             c.requires.may.fits
             (record { calls_are = refl; requests_are = refl; asks_are = refl; left_is = refl })
             c.push_reserved.ensures.sent.0;
-        served = collect_served old new c.args.client outcome adds c.requires.may.served;
-        others = λ other apart. others_wait_collect old new c.args.client outcome adds legal other apart;
+        served = step.served c.requires.may.served;
+        others = step.wait;
         collects = collects old new c.args.client outcome adds;
         rings = (((refl, refl, refl, refl), refl), c.push_reserved.ensures.ring, refl);
       };

@@ -4,9 +4,9 @@ use Rattle.rdm_lanes.proofs.worker.view_turns.ViewWorker+J+Shown+J+R.exchange.Go
 pub invariant_of-self : goal.invariant_of-self
 invariant_of-self g c =
     let me = c.args.self.now in
-    let made = c.exchange.ensures.exchanged in
+    let made = c.exchange.ensures.attempted in
     record {
-      publishes = publishes_found me.server.session c.exchange.new.self.session made.block me.views c.requires
-          made.grows c.exchange.ensures.found me.publishes;
-      shown_first = rw c.exchange.ensures.lanes me.shown_first;
+      publishes = publishes_found me.server.session c.exchange.new.self.session made.exchanged.block me.views c.requires
+          made.exchanged.grows made.found me.publishes;
+      shown_first = rw c.exchange.ensures.ends.0 me.shown_first;
     }

@@ -1,7 +1,6 @@
-use Rattle.rdm_lanes.proofs.Common.{◌∙◌, length, subst, SameConsumer}
-use Rattle.rdm_lanes.proofs.WorkLemmas.{OperatorEnd}
+use Rattle.rdm_lanes.proofs.Common.{length}
 use Rattle.rdm_lanes.proofs.TurnLemmas.{served_later}
-use Rattle.rdm_lanes.proofs.LineLemmas.{line_join, switches_join}
+use Rattle.rdm_lanes.proofs.LineLemmas.{line_join}
 use Rattle.rdm_lanes.proofs.ShowingLemmas.{publishes_same, all_published_same}
 use Rattle.rdm_lanes.proofs.FirstLemmas.{first_shown}
 use Rattle.rdm_lanes.proofs.worker.view_turns.ViewWorker+J+Shown+J+R.serve_calls.Goals as goal
@@ -19,31 +18,9 @@ invariant_of-self g c =
           (all_published_same me.server.session served.session me.views line c.requires).shown;
     }
 
-pub returns-clause-published : goal.returns-clause-published
-returns-clause-published g c =
-    let me = c.args.self.now in
-    all_published_same me.server.session c.serve_operator.new.self.session me.views
-    (line_join _ _ _ c.serve_clients.ensures.line c.serve_operator.ensures.line) c.requires
-
 pub returns-clause-served : goal.returns-clause-served
 returns-clause-served g c =
     let me = c.args.self.now.server in
     rw (c.serve_operator.ensures.lanes)
     (served_later (length me.lanes.items) me.session c.serve_clients.new.self.session c.serve_operator.new.self.session
     me.lanes.items c.serve_clients.new.self.lanes.items c.serve_clients.ensures.served c.serve_operator.ensures.line)
-
-pub returns-clause-line : goal.returns-clause-line
-returns-clause-line g c = line_join _ _ _ c.serve_clients.ensures.line c.serve_operator.ensures.line
-
-pub returns-clause-operator : goal.returns-clause-operator
-returns-clause-operator g c left =
-    let operator = c.serve_operator.ensures.operator (c.serve_clients.ensures.operator ∙ left) in (
-      operator.0,
-      switches_join c.args.self.now.server.session c.serve_clients.new.self.session c.serve_operator.new.self.session
-          c.serve_clients.ensures.switches operator.1,
-    )
-
-pub returns-clause-ring : goal.returns-clause-ring
-returns-clause-ring g c =
-    subst (λ (q : OperatorEnd). SameConsumer q c.serve_operator.new.self.operator) c.serve_clients.ensures.ring
-    c.serve_operator.ensures.ring

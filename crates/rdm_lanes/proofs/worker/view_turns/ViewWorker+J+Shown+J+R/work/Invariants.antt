@@ -3,5 +3,5 @@ use Rattle.rdm_lanes.proofs.worker.view_turns.ViewWorker+J+Shown+J+R.work.Given 
 
 abbrev pub invariant-loop-turn : goal.invariant-loop-turn
 invariant-loop-turn g l =
-    Worked g.X.Line.step l._turn l.fn.line l.fn.self.server l.line l.self.server l.self.turns_made
-    l.fn.self.views.shown l.self.views.shown
+    Worked g.X.Line.step l._turn l.fn.line l.fn.self.server l.fn.self.views l.line l.self.server l.self.views
+    l.self.turns_made
