@@ -1,6 +1,5 @@
 -- What comes of a collision, by what its value has.
-use Rattle.std.proofs.Common.{◌≡◌, ℕ, List, None, codes, subst, sym, ◌∙◌}
-use Rattle.std.specs.Prelude.{MatchOption}
+use Rattle.std.proofs.Common.{◌≡◌, ℕ, None, codes, sym, ◌∙◌}
 use Rattle.arrayvec.specs.ArrayVec.{ArrayVec}
 use Rattle.serde_json.specs.Data.{Data}
 use Rattle.serde_json.specs.Find.{get, as_str}
@@ -8,10 +7,7 @@ use Rattle.rdm_line.specs.declared.collision.Collision.{Collision}
 use Rattle.rdm_line.specs.declared.collision.Collision.TheVariants.{Or, Uid, Bytes}
 use Rattle.rdm_files.specs.Forms.{IsUid, IsBytesText, Has}
 use Rattle.rdm_files.specs.SceneFiles.{IsCollision}
-
--- a key that is absent has no value
-absent : (key : List ℕ) {A : Type 0} (P : Data → A → Type 0) (d : Data) (x : A) → get key d ≡ None → Has key P d x → ⊥
-absent key P d x none has = subst (λ o. MatchOption o ⊥ (λ v. P v x)) none has
+use Rattle.rdm_files.proofs.FormLemmas.{absent}
 
 pub no_bytes : (d : Data) → get (codes "uid") d ≡ None → as_str d ≡ None
     → ((bytes : ArrayVec ℕ) → Has (codes "bytes") (λ e (b : ArrayVec ℕ). IsBytesText 1 257 e b.items) d bytes → ⊥)

@@ -3,7 +3,7 @@ use Rattle.std.proofs.Common.{◌≡◌, ℕ, zero, suc, ◌+◌, ◌<◌, ◌++
 use Rattle.std.proofs.Common.{Some, refl, sym, ap, ◌∙◌, subst, arith}
 use Rattle.std.specs.Prelude.{if◌then◌else◌, option_and_then}
 use Rattle.std.specs.Option.{option_map_or}
-use Rattle.std.proofs.Math.Seq.{take-suc}
+use Rattle.std.proofs.lemmas.List.{take_more}
 use Rattle.serde_json.specs.Data.{Data, Items}
 use Rattle.serde_json.specs.Find.{get, as_array}
 use Rattle.serde_json.specs.View.{view, items_view}
@@ -44,12 +44,8 @@ pub any_next : (p : Data → Bool) (vs : List Value) (i : ℕ) (v : Value) → i
     → any_item p (items_view (take i vs)) ≡ false → p (view v) ≡ false
     → any_item p (items_view (take (i + 1) vs)) ≡ false
 any_next p vs i v lt is none here =
-    let more : take (i + 1) vs ≡ take i vs ++ v ∷ [] = ap (λ k. take k vs) (next i) ∙ take-suc vs i v lt
-    ∙ ap (λ w. take i vs ++ w ∷ []) (sym is) in
+    let more = take_more vs i v lt ∙ ap (λ w. take i vs ++ w ∷ []) (sym is) in
     subst (λ us. any_item p (items_view us) ≡ false) (sym more) (any_more p (take i vs) v none here)
-  where
-    next : (n : ℕ) → n + 1 ≡ suc n
-    next n = omega arith
 
 -- the list under a key
 pub any_in : (key : List ℕ) (p : Data → Bool) (d e : Data) (items : Items) (b : Bool) → Some e ≡ get key d

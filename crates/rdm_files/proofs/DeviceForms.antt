@@ -3,7 +3,7 @@ use Rattle.std.proofs.Common.{◌≡◌, ℕ, suc, ◌+◌, ◌<◌, ◌≤◌, 
 use Rattle.std.proofs.Common.{get_or, Option, Some, refl, sym, ap, ◌∙◌, subst, true≢false, arith}
 use Rattle.std.specs.Prelude.{◌==◌, ◌||◌, nat_lt, codes}
 use Rattle.std.proofs.lemmas.Grind.{fold-append}
-use Rattle.std.proofs.lemmas.List.{map-append, take_all}
+use Rattle.std.proofs.lemmas.List.{map-append}
 use Rattle.std.proofs.lemmas.List.Folds.{list_any-append}
 use Rattle.std.proofs.lemmas.Bool.{eqb-true, eqb-false}
 use Rattle.serde_json.specs.Data.{Data}
@@ -17,7 +17,7 @@ use Rattle.rdm_files.specs.Forms.{Each, IsWhole, IsOwnUid, MayHave, MayGive}
 use Rattle.rdm_files.specs.SceneFiles.{IsDeviceOf, AreDevices, AllDiffer, in_uid_order, leaves_first}
 use Rattle.rdm_files.specs.body.Elements.{IsAdded}
 use Rattle.rdm_files.proofs.FormLemmas.{one_has, one_may_have, one_may_give, one_whole, one_own_uid, each_next}
-use Rattle.rdm_files.proofs.FormLemmas.{each_many, cut_at, listed_items}
+use Rattle.rdm_files.proofs.FormLemmas.{list_of, list_many, cut_at, listed_items}
 
 -- a value says when its device comes and leaves
 pub leaves : (d : Data) (device : SceneDevice) (from : ℕ) (until : Option ℕ) → IsDeviceOf d device
@@ -42,16 +42,16 @@ in_uid_order-more : (xs : List SceneDevice) (x : SceneDevice)
     → in_uid_order (xs ++ x ∷ []) ≡ with_scene_device x (in_uid_order xs)
 in_uid_order-more xs x = fold-append (λ ordered d. with_scene_device d ordered) [] xs (x ∷ [])
 
+swap : (a b c : Bool) → (a || (b || c)) ≡ (b || (a || c))
+swap true true c = refl
+swap true false c = refl
+swap false b c = refl
+
 has-with : (x : SceneDevice) (ds : List SceneDevice) (u : ℕ)
     → has (uids_of_scene (with_scene_device x ds)) u ≡ ((u == x.device.uid) || has (uids_of_scene ds) u)
 has-with x [] u = refl
 has-with x (d ∷ ds) u = by_test (nat_lt d.device.uid x.device.uid) (has-with x ds u)
   where
-    swap : (a b c : Bool) → (a || (b || c)) ≡ (b || (a || c))
-    swap true true c = refl
-    swap true false c = refl
-    swap false b c = refl
-
     by_test : (t : Bool)
         → has (uids_of_scene (with_scene_device x ds)) u ≡ ((u == x.device.uid) || has (uids_of_scene ds) u)
         → has (uids_of_scene (cond t (d ∷ with_scene_device x ds) (x ∷ d ∷ ds))) u
@@ -94,11 +94,6 @@ has-pushed [] x u = refl
 has-pushed (y ∷ xs) x u =
     ap (λ b. (u == y.device.uid) || b) (has-pushed xs x u)
     ∙ swap (u == y.device.uid) (u == x.device.uid) (has (uids_of_scene xs) u)
-  where
-    swap : (a b c : Bool) → (a || (b || c)) ≡ (b || (a || c))
-    swap true true c = refl
-    swap true false c = refl
-    swap false b c = refl
 
 -- the devices listed so far, and these ascending by UID
 pub record Ordered (vs : List Value) (i : ℕ) (devices : List SceneDevice) : Type 0 where
@@ -147,21 +142,12 @@ one_ordered vs i v old new lt is p a = record {
 -- at the end
 pub all_ordered : (d : Data) (vs : List Value) (i : ℕ) (devices : List SceneDevice) → Some (items_view vs) ≡ as_array d
     → length vs ≡ i → length vs ≤ 1024 → Ordered vs i devices → AreDevices d devices
-all_ordered d vs i devices is all few p =
-    let each : Each IsDeviceOf (items_view vs) p.listed = subst (λ ws. Each IsDeviceOf (items_view ws) p.listed)
-    (take_all i vs (omega (arith, all))) p.each in
-    let many = each_many IsDeviceOf vs p.listed each in record {
-      listed = p.listed;
-      list = record {
-        items = items_view vs;
-        is_list = sym is;
-        each = each;
-        at_least = omega arith;
-        at_most = omega (arith, many, few);
-      };
-      differ = p.differ;
-      ordered = p.ordered;
-    }
+all_ordered d vs i devices is all few p = record {
+  listed = p.listed;
+  list = list_of IsDeviceOf 0 1024 d vs i p.listed is all (omega arith) few p.each;
+  differ = p.differ;
+  ordered = p.ordered;
+}
 
 -- the devices of the same values have the same UIDs
 same_uids : (vs : List Value) (xs ys : List SceneDevice) → Each IsDeviceOf (items_view vs) xs
@@ -204,6 +190,6 @@ none_listed d vs i v old is lt few at p refused devices h =
 pub too_many : (d : Data) (vs : List Value) → Some (items_view vs) ≡ as_array d → 1024 < length vs
     → (devices : List SceneDevice) → AreDevices d devices → ⊥
 too_many d vs is long devices h =
-    let many = each_many IsDeviceOf vs h.listed (listed_items IsDeviceOf 0 1024 d vs h.listed is h.list) in
+    let many = list_many IsDeviceOf 0 1024 d vs is h.listed h.list in
     let most : length h.listed ≤ 1024 = h.list.at_most in
     omega (arith, many, most, long)

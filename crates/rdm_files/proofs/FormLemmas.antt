@@ -1,9 +1,8 @@
 -- Lists of values, read one after another, and texts that say nothing.
-use Rattle.std.proofs.Common.{◌≡◌, ℕ, zero, suc, ◌+◌, ◌<◌, List, [], ◌∷◌, ◌++◌, length, take, drop, get_or, Option}
-use Rattle.std.proofs.Common.{Some, None, Result, Ok, Err, false, refl, sym, ap, ◌∙◌, subst, arith}
-use Rattle.std.proofs.Math.Seq.{take-suc}
+use Rattle.std.proofs.Common.{◌≡◌, ℕ, zero, suc, ◌+◌, ◌<◌, ◌≤◌, List, [], ◌∷◌, ◌++◌, length, take, drop, get_or}
+use Rattle.std.proofs.Common.{Option, Some, None, Result, Ok, Err, false, refl, sym, ap, ◌∙◌, subst, arith}
 use Rattle.std.specs.Prelude.{IsErrAnd, MatchOption}
-use Rattle.std.proofs.lemmas.List.{take-append-drop}
+use Rattle.std.proofs.lemmas.List.{take-append-drop, take_all, take_more}
 use Rattle.hex.proofs.HexLemmas.{decode_sized-twice, decode_of-ok}
 use Rattle.serde_json.specs.Data.{Data, Items, no_items}
 use Rattle.serde_json.specs.Find.{get, as_array, as_str}
@@ -47,34 +46,44 @@ pub each_next : {A : Type 0} (P : Data → A → Type 0) (vs : List Value) (xs :
     → i < length vs → v ≡ get_or vs i v → Each P (items_view (take i vs)) xs → P (view v) x
     → Each P (items_view (take (i + 1) vs)) (xs ++ x ∷ [])
 each_next P vs xs i v x lt is all here =
-    let more : take (i + 1) vs ≡ take i vs ++ v ∷ [] = ap (λ k. take k vs) (next i) ∙ take-suc vs i v lt
-    ∙ ap (λ w. take i vs ++ w ∷ []) (sym is) in
+    let more = take_more vs i v lt ∙ ap (λ w. take i vs ++ w ∷ []) (sym is) in
     subst (λ us. Each P (items_view us) (xs ++ x ∷ [])) (sym more) (each_more P (take i vs) xs v x all here)
-  where
-    next : (n : ℕ) → n + 1 ≡ suc n
-    next n = omega arith
+
+-- two values of one option
+some_same : {A : Type 0} (a b : A) → Some a ≡ Some b → a ≡ b
+some_same a b e = cc
+
+-- the items of a list that is read as such
+pub listed_items : {A : Type 0} (P : Data → A → Type 0) (least most : ℕ) (d : Data) (vs : List Value) (xs : List A)
+    → Some (items_view vs) ≡ as_array d → IsListOf A P least most d xs → Each P (items_view vs) xs
+listed_items P least most d vs xs is list =
+    subst (λ ds. Each P ds xs) (some_same list.items (items_view vs) (sym list.is_list ∙ sym is)) list.each
+
+-- a list of items that were read to the end
+pub list_of : {A : Type 0} (P : Data → A → Type 0) (least most : ℕ) (d : Data) (vs : List Value) (i : ℕ) (xs : List A)
+    → Some (items_view vs) ≡ as_array d → length vs ≡ i → least ≤ length vs → length vs ≤ most
+    → Each P (items_view (take i vs)) xs → IsListOf A P least most d xs
+list_of P least most d vs i xs is all low high read =
+    let each = subst (λ ws. Each P (items_view ws) xs) (take_all i vs (omega (arith, all))) read in
+    let many = each_many P vs xs each in record {
+      items = items_view vs;
+      is_list = sym is;
+      each = each;
+      at_least = omega (arith, many, low);
+      at_most = omega (arith, many, high);
+    }
 
 -- an item that says nothing makes a list that says nothing
 pub no_list : {A : Type 0} (P : Data → A → Type 0) (least most : ℕ) (d : Data) (vs : List Value) (i : ℕ) (v : Value)
     → Some (items_view vs) ≡ as_array d → i < length vs → v ≡ get_or vs i v → ((x : A) → P (view v) x → ⊥)
     → (xs : List A) → IsListOf A P least most d xs → ⊥
 no_list P least most d vs i v is lt at none xs list =
-    let one = each_at P vs xs i v
-    lt at (subst (λ ds. Each P ds xs) (same list.items (items_view vs) (sym list.is_list ∙ sym is)) list.each) in
-    none one.0 one.1
-  where
-    same : (a b : Items) → Some a ≡ Some b → a ≡ b
-    same a b e = cc
+    let one = each_at P vs xs i v lt at (listed_items P least most d vs xs is list) in none one.0 one.1
 
 -- how many items a list has
 pub list_many : {A : Type 0} (P : Data → A → Type 0) (least most : ℕ) (d : Data) (vs : List Value)
     → Some (items_view vs) ≡ as_array d → (xs : List A) → IsListOf A P least most d xs → length xs ≡ length vs
-list_many P least most d vs is xs list =
-    each_many P vs xs
-    (subst (λ ds. Each P ds xs) (same list.items (items_view vs) (sym list.is_list ∙ sym is)) list.each)
-  where
-    same : (a b : Items) → Some a ≡ Some b → a ≡ b
-    same a b e = cc
+list_many P least most d vs is xs list = each_many P vs xs (listed_items P least most d vs xs is list)
 
 -- what is no list says nothing
 pub not_a_list : {A : Type 0} (P : Data → A → Type 0) (least most : ℕ) (d : Data) → as_array d ≡ None → (xs : List A)
@@ -84,10 +93,8 @@ not_a_list P least most d none xs list = let never = sym none ∙ list.is_list i
 -- a text that spells no UID
 pub no_uid : (d : Data) (text : List ℕ) → Some text ≡ as_str d → ((u : ℕ) → UidText text u → ⊥) → (u : ℕ) → IsUid d u
     → ⊥
-no_uid d text is none u h = none u (subst (λ t. UidText t u) (same h.text text (sym h.is_text ∙ sym is)) h.spells)
-  where
-    same : (a b : List ℕ) → Some a ≡ Some b → a ≡ b
-    same a b e = cc
+no_uid d text is none u h =
+    none u (subst (λ t. UidText t u) (some_same h.text text (sym h.is_text ∙ sym is)) h.spells)
 
 -- no items
 pub each_none : {A : Type 0} (P : Data → A → Type 0) (xs : List A) → xs ≡ [] → Each P no_items xs
@@ -98,11 +105,8 @@ each_none P (x ∷ xs) is = cc
 pub no_digits : (d : Data) (text : List ℕ) → Some text ≡ as_str d
     → ((bytes : List ℕ) → decode_sized text 2 ≡ Ok bytes → ⊥) → (n : ℕ) → IsFourDigits d n → ⊥
 no_digits d text is none n h =
-    let digits = ap decode_of (same text h.text (is ∙ h.is_text)) ∙ h.digits in
+    let digits = ap decode_of (some_same text h.text (is ∙ h.is_text)) ∙ h.digits in
     none (h.high ∷ h.low ∷ []) (decode_sized-twice text 2 (decode_of-ok text (h.high ∷ h.low ∷ []) digits).2 ∙ digits)
-  where
-    same : (a b : List ℕ) → Some a ≡ Some b → a ≡ b
-    same a b e = cc
 
 -- a fault that is passed on
 pub passed : {A : Type 0} (r : Result A SceneFault) (fault : SceneFault) (P : A → Type 0) → IsErrAnd r (λ e. e ≡ fault)
@@ -141,21 +145,15 @@ one_text_uid text u v a b =
 
 pub one_uid : (d : Data) (u v : ℕ) → IsUid d u → IsUid d v → u ≡ v
 one_uid d u v a b =
-    one_text_uid b.text u v (subst (λ t. UidText t u) (same a.text b.text (sym a.is_text ∙ b.is_text)) a.spells)
+    one_text_uid b.text u v (subst (λ t. UidText t u) (some_same a.text b.text (sym a.is_text ∙ b.is_text)) a.spells)
     b.spells
-  where
-    same : (s t : List ℕ) → Some s ≡ Some t → s ≡ t
-    same s t e = cc
 
 -- what one value says at most
 abbrev pub SaysOne : {A : Type 0} → (Data → A → Type 0) → Type 0
 SaysOne {A} P = (d : Data) (x y : A) → P d x → P d y → x ≡ y
 
 pub one_whole : (least most : ℕ) → SaysOne (IsWhole least most)
-one_whole least most d m n a b = same m n (sym a.number ∙ b.number)
-  where
-    same : (i j : ℕ) → Some i ≡ Some j → i ≡ j
-    same i j e = cc
+one_whole least most d m n a b = some_same m n (sym a.number ∙ b.number)
 
 pub one_own_uid : SaysOne IsOwnUid
 one_own_uid d u v a b = one_uid d u v a.uid b.uid
@@ -218,14 +216,10 @@ cut_at P (w ∷ ws) (y ∷ ys) (suc i) v lt is all =
       says = rest.says;
     }
 
--- the items of a list that is read as such
-pub listed_items : {A : Type 0} (P : Data → A → Type 0) (least most : ℕ) (d : Data) (vs : List Value) (xs : List A)
-    → Some (items_view vs) ≡ as_array d → IsListOf A P least most d xs → Each P (items_view vs) xs
-listed_items P least most d vs xs is list =
-    subst (λ ds. Each P ds xs) (same list.items (items_view vs) (sym list.is_list ∙ sym is)) list.each
-  where
-    same : (a b : Items) → Some a ≡ Some b → a ≡ b
-    same a b e = cc
+-- a key that is absent has no value
+pub absent : (key : List ℕ) {A : Type 0} (P : Data → A → Type 0) (d : Data) (x : A) → get key d ≡ None → Has key P d x
+    → ⊥
+absent key P d x none has = subst (λ o. MatchOption o ⊥ (λ v. P v x)) none has
 
 -- a key with the same default
 pub by_default : {A : Type 0} (key : List ℕ) (P : Data → A → Type 0) (a b : A) (d : Data) (x : A) → a ≡ b

@@ -1,8 +1,7 @@
 -- Known devices of a scene file, one after another.
 use Rattle.std.proofs.Common.{◌≡◌, ℕ, suc, ◌+◌, ◌<◌, ◌≤◌, Bool, true, false, cond, List, [], ◌∷◌, ◌++◌, length, take}
-use Rattle.std.proofs.Common.{get_or, Some, Result, refl, sym, ap, ◌∙◌, subst, arith, length-append}
+use Rattle.std.proofs.Common.{get_or, Some, Result, refl, sym, ap, ◌∙◌, arith, length-append}
 use Rattle.std.specs.Prelude.{◌==◌, nat_lt, OnOk, IsErr}
-use Rattle.std.proofs.lemmas.List.{take_all}
 use Rattle.serde_json.specs.Data.{Data}
 use Rattle.serde_json.specs.Find.{as_array}
 use Rattle.serde_json.specs.View.{view, items_view}
@@ -13,7 +12,7 @@ use Rattle.rdm_line.proofs.SoundLemmas.{put_in}
 use Rattle.rdm_agent.proofs.Sets.{set_of-push}
 use Rattle.rdm_files.specs.Forms.{Each, IsOwnUid}
 use Rattle.rdm_files.specs.SceneFiles.{AreKnown}
-use Rattle.rdm_files.proofs.FormLemmas.{each_next, each_many, listed_items, no_list}
+use Rattle.rdm_files.proofs.FormLemmas.{each_next, list_of, list_many, no_list}
 
 -- the UIDs listed so far, and their set
 pub record KnownSoFar (vs : List Value) (i : ℕ) (known : List ℕ) : Type 0 where
@@ -35,7 +34,8 @@ length-with_uid u (v ∷ us) = by_test (nat_lt u v) (u == v) (length-with_uid u 
     by_test false true rest = omega arith
     by_test false false rest = omega (arith, rest)
 
-few_in_set : (us : List ℕ) → length (set_of us) ≤ length us
+-- a set has no more elements than its list
+pub few_in_set : (us : List ℕ) → length (set_of us) ≤ length us
 few_in_set [] = omega arith
 few_in_set (u ∷ us) = let rest = few_in_set us in let one = length-with_uid u (set_of us) in omega (arith, rest, one)
 
@@ -55,26 +55,17 @@ one_known vs i u v old new r lt few at k own ok err = record {
 
 pub all_known : (d : Data) (vs : List Value) (i : ℕ) (known : List ℕ) → Some (items_view vs) ≡ as_array d
     → length vs ≡ i → length vs ≤ 1024 → KnownSoFar vs i known → AreKnown d known
-all_known d vs i known is all few k =
-    let each : Each IsOwnUid (items_view vs) k.listed = subst (λ ws. Each IsOwnUid (items_view ws) k.listed)
-    (take_all i vs (omega (arith, all))) k.each in
-    let many = each_many IsOwnUid vs k.listed each in record {
-      listed = k.listed;
-      list = record {
-        items = items_view vs;
-        is_list = sym is;
-        each = each;
-        at_least = omega arith;
-        at_most = omega (arith, many, few);
-      };
-      set = k.set;
-    }
+all_known d vs i known is all few k = record {
+  listed = k.listed;
+  list = list_of IsOwnUid 0 1024 d vs i k.listed is all (omega arith) few k.each;
+  set = k.set;
+}
 
 -- a list that is too long says nothing, and one with another item
 pub too_many_known : (d : Data) (vs : List Value) → Some (items_view vs) ≡ as_array d → 1024 < length vs
     → (known : List ℕ) → AreKnown d known → ⊥
 too_many_known d vs is long known h =
-    let many = each_many IsOwnUid vs h.listed (listed_items IsOwnUid 0 1024 d vs h.listed is h.list) in
+    let many = list_many IsOwnUid 0 1024 d vs is h.listed h.list in
     let most : length h.listed ≤ 1024 = h.list.at_most in
     omega (arith, many, most, long)
 

@@ -1,18 +1,20 @@
 -- Calls, clients and sessions that a value doesn't say.
-use Rattle.std.proofs.Common.{◌≡◌, ℕ, List, [], None, Result, Ok, Err, codes, sym, ap, subst}
-use Rattle.std.specs.Prelude.{MatchOption}
+use Rattle.std.proofs.Common.{◌≡◌, ℕ, Bool, true, false, List, [], Option, None, Some, Result, Ok, Err, codes, refl}
+use Rattle.std.proofs.Common.{sym, ap, subst}
 use Rattle.arrayvec.specs.ArrayVec.{ArrayVec}
 use Rattle.serde_json.specs.Data.{Data}
-use Rattle.serde_json.specs.Find.{get}
 use Rattle.rdm_wire.specs.declared.request.ReqClass.{ReqClass}
 use Rattle.rdm_wire.specs.declared.request.ReqClass.TheVariants as classes
 use Rattle.rdm_files.specs.Forms.{Reads, IsWhole, IsUid, IsBytesText, Has, MayHave}
-use Rattle.rdm_files.specs.SessionFiles.{IsRequestTo, IsKind, IsSubmit, IsCall, HasNeither}
+use Rattle.rdm_line.specs.declared.scene.Scene.{Scene}
+use Rattle.rdm_files.specs.SceneFiles.{IsSceneFile}
+use Rattle.rdm_files.specs.SessionFiles.{IsRequestTo, IsKind, IsSubmit, IsCall, HasNeither, IsSessionLine}
 use Rattle.rdm_files.specs.body.Elements.{IsRequest, IsAsk}
 use Rattle.rdm_files.specs.declared.session.call.ClientCall.{ClientCall}
 use Rattle.rdm_files.specs.declared.session.call.ClientCall.TheVariants.{Submit, Discover}
 use Rattle.rdm_files.specs.declared.scene.fault.SceneFault.{SceneFault}
-use Rattle.rdm_files.proofs.FormLemmas.{by_default}
+use Rattle.rdm_files.specs.declared.scene.file.SceneFile.{SceneFile}
+use Rattle.rdm_files.proofs.FormLemmas.{absent, by_default}
 
 pub no_sub : (key : List ℕ) (class : ReqClass) (d : Data)
     → ((n : ℕ) → MayHave (codes "sub") (IsWhole 0 65535) 0 d n → ⊥) → (call : ClientCall) → IsRequest key class d call
@@ -27,10 +29,6 @@ no_param key class d default is none (Submit r) h =
     none r.param (by_default (codes "param") (λ v (b : ArrayVec ℕ). IsBytesText 0 231 v b.items) (record { items = [] })
     default d r.param (ap (λ items. record { items = items }) (sym is)) h.param)
 no_param key class d default is none (Discover kind) h = absurd h
-
--- a key that is absent has no value
-absent : (key : List ℕ) {A : Type 0} (P : Data → A → Type 0) (d : Data) (x : A) → get key d ≡ None → Has key P d x → ⊥
-absent key P d x none has = subst (λ o. MatchOption o ⊥ (λ v. P v x)) none has
 
 -- a call with the key `get` alone is a request of that class, and says nothing else; so are the others
 pub is_get : (d : Data) (call : ClientCall) → HasNeither (codes "set") (codes "discover") d
@@ -79,3 +77,16 @@ pub reads_same : {A : Type 0} (r : Result A SceneFault) (P Q : A → Type 0) →
     → ((x : A) → Q x → P x) → Reads r P → Reads r Q
 reads_same (Ok x) P Q to back h = to x h
 reads_same (Err e) P Q to back h = λ other x q. h other x (back x q)
+
+-- the line of a session's scene, and the caller's own without a budget
+pub scene_line : (own_line : Bool) (d : Data) (file : SceneFile) → own_line ≡ false
+    → Has (codes "scene") IsSceneFile d file
+    → IsSessionLine own_line d (Some file.scene) file.scene.source file.budget
+scene_line false d file is has = record { file = file; reads = has; scene = refl; source = refl; budget = refl }
+scene_line true d file is has = cc
+
+pub no_budget : (own_line : Bool) (d : Data) → own_line ≡ true
+    → ((n : ℕ) → MayHave (codes "budget") (IsWhole 1 1000000000) 384008 d n → ⊥) → (scene : Option Scene)
+    (source budget : ℕ) → IsSessionLine own_line d scene source budget → ⊥
+no_budget false d is none scene source budget line = cc
+no_budget true d is none scene source budget line = none budget line.budget

@@ -2,7 +2,6 @@ pub mod Forms
 pub mod SceneFiles
 pub mod Input
 pub mod SessionFiles
-pub mod LineSessionFiles
 pub mod Commands
 pub mod Losses
 pub mod FileKinds

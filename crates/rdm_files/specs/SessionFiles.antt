@@ -1,5 +1,5 @@
 -- Session files: what each key means, and its default.
-use Rattle.std.specs.Prelude.{◌≡◌, ℕ, List, [], None, Some, codes}
+use Rattle.std.specs.Prelude.{◌≡◌, ℕ, Bool, true, false, List, [], Option, None, Some, codes}
 use Rattle.serde_json.specs.Data.{Data}
 use Rattle.serde_json.specs.Find.{get, as_str}
 use Rattle.rdm_wire.specs.declared.request.ReqClass.{ReqClass}
@@ -9,8 +9,10 @@ use Rattle.rdm_agent.specs.declared.search.Search.{Search}
 use Rattle.rdm_agent.specs.declared.search.Search.TheVariants.{Steady, Quick}
 use Rattle.rdm_agent.specs.declared.kind.Kind.{Kind}
 use Rattle.rdm_agent.specs.declared.kind.Kind.TheVariants.{Full, Incremental}
-use Rattle.rdm_files.specs.Forms.{IsWhole, IsUid, IsFourDigits, IsBytesText, IsListOf, Has, MayHave}
+use Rattle.rdm_line.specs.declared.scene.Scene.{Scene}
+use Rattle.rdm_files.specs.Forms.{IsWhole, IsUid, IsOwnUid, IsFourDigits, IsBytesText, IsListOf, Has, MayHave}
 use Rattle.rdm_files.specs.SceneFiles.{IsSceneFile, any_length}
+use Rattle.rdm_files.specs.declared.scene.file.SceneFile.{SceneFile}
 use Rattle.rdm_files.specs.declared.session.call.ClientCall.{ClientCall}
 use Rattle.rdm_files.specs.declared.session.call.ClientCall.TheVariants.{Submit, Discover}
 use Rattle.rdm_files.specs.declared.session.client.ClientFile.{ClientFile}
@@ -55,9 +57,30 @@ abbrev pub IsSearch : Data → Search → Type 0
 IsSearch d Steady = as_str d ≡ Some (codes "steady")
 IsSearch d Quick = as_str d ≡ Some (codes "quick")
 
--- a session file: its scene, 1 to 16 clients, and settings that may be left out
-pub record IsSessionFile (d : Data) (f : SessionFile) : Type 0 where
-  pub scene : Has (codes "scene") IsSceneFile d f.scene
+-- the scene of a session, with the source and the budget that the scene has
+pub record IsSceneLine (d : Data) (simulated : Option Scene) (from frames : ℕ) : Type 0 where
+  pub file : SceneFile
+  pub reads : Has (codes "scene") IsSceneFile d file
+  pub scene : simulated ≡ Some file.scene
+  pub source : from ≡ file.scene.source
+  pub budget : frames ≡ file.budget
+
+-- the source and the budget that a session has itself, and no scene
+pub record IsOwnLine (d : Data) (simulated : Option Scene) (from frames : ℕ) : Type 0 where
+  pub absent : get (codes "scene") d ≡ None
+  pub scene : simulated ≡ None
+  pub source : Has (codes "source") IsOwnUid d from
+  pub budget : MayHave (codes "budget") (IsWhole 1 1000000000) 384008 d frames
+
+-- the scene, the source and the budget of a session: those of its scene if the line is simulated, and otherwise the
+-- session's keys, without a scene
+abbrev pub IsSessionLine : Bool → Data → Option Scene → ℕ → ℕ → Type 0
+IsSessionLine false d scene source budget = IsSceneLine d scene source budget
+IsSessionLine true d scene source budget = IsOwnLine d scene source budget
+
+-- a session file: its line, which may be the caller's own, 1 to 16 clients, and settings that may be left out
+pub record IsSessionFile (own_line : Bool) (d : Data) (f : SessionFile) : Type 0 where
+  pub line : IsSessionLine own_line d f.scene f.source f.budget
   pub clients : Has (codes "clients") (IsListOf ClientFile IsClient 1 16) d f.clients.items
   pub ring : MayHave (codes "ring") (IsWhole 1 255) 8 d f.ring
   pub search : MayHave (codes "search") IsSearch Steady d f.search

@@ -5,10 +5,8 @@ mod call;
 mod client;
 mod command;
 mod file;
-mod line_file;
 
 pub use call::ClientCall;
 pub use client::ClientFile;
 pub use command::discovery_command;
 pub use file::{SessionFile, read_session, unknown_in_session};
-pub use line_file::{LineSessionFile, read_line_session, unknown_in_line_session};

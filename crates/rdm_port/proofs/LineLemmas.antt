@@ -1,30 +1,15 @@
 -- The known UIDs of a discovery on a line, read one after another.
-use Rattle.std.proofs.Common.{◌≡◌, ℕ, zero, suc, ◌+◌, ◌<◌, ◌≤◌, Bool, true, false, cond, List, [], ◌∷◌, ◌++◌, length}
+use Rattle.std.proofs.Common.{◌≡◌, ℕ, zero, suc, ◌+◌, ◌<◌, ◌≤◌, Bool, false, List, [], ◌∷◌, ◌++◌, length}
 use Rattle.std.proofs.Common.{take, get_or, Result, refl, sym, ap, ◌∙◌, subst, arith, length-append}
-use Rattle.std.specs.Prelude.{◌==◌, nat_lt, OnOk, IsErr}
+use Rattle.std.specs.Prelude.{OnOk, IsErr}
 use Rattle.std.specs.Borrow.{Bor}
-use Rattle.std.proofs.Math.Seq.{take-suc}
-use Rattle.std.proofs.lemmas.List.{take_all}
+use Rattle.std.proofs.lemmas.List.{take_all, take_more}
 use Rattle.rdm_wire.specs.Uid.{has, with_uid, set_of}
 use Rattle.rdm_wire.specs.declared.uid_set.SetFull.{SetFull}
 use Rattle.rdm_line.proofs.SoundLemmas.{put_in}
+use Rattle.rdm_files.proofs.KnownForms.{few_in_set}
 use Rattle.rdm_agent.proofs.Sets.{set_of-push}
 use Rattle.rdm_port.specs.LineOutcome.{SpellsDevice, SpellDevices}
-
--- a list has no fewer elements than its set
-length-with_uid : (u : ℕ) (us : List ℕ) → length (with_uid u us) ≤ length us + 1
-length-with_uid u [] = omega arith
-length-with_uid u (v ∷ us) = by_test (nat_lt u v) (u == v) (length-with_uid u us)
-  where
-    by_test : (s t : Bool) → length (with_uid u us) ≤ length us + 1
-        → length (cond s (u ∷ v ∷ us) (cond t (v ∷ us) (v ∷ with_uid u us))) ≤ suc (length us) + 1
-    by_test true t rest = omega arith
-    by_test false true rest = omega arith
-    by_test false false rest = omega (arith, rest)
-
-few_in_set : (us : List ℕ) → length (set_of us) ≤ length us
-few_in_set [] = omega arith
-few_in_set (u ∷ us) = let rest = few_in_set us in let one = length-with_uid u (set_of us) in omega (arith, rest, one)
 
 -- the UIDs that the first i texts spell, and their set
 pub record SpelledSoFar (texts : List (Bor (List ℕ))) (i : ℕ) (known : List ℕ) : Type 0 where
@@ -48,13 +33,8 @@ spelled_next : (texts : List (Bor (List ℕ))) (us : List ℕ) (i : ℕ) (d : Bo
     → SpellDevices (take i texts) us → SpellsDevice (get_or texts i d).now u
     → SpellDevices (take (i + 1) texts) (us ++ u ∷ [])
 spelled_next texts us i d u lt all here =
-    let more : take (i + 1) texts ≡ take i texts ++ get_or texts i d ∷ [] = ap (λ k. take k texts) (next i)
-    ∙ take-suc texts i d lt in
-    subst (λ ts. SpellDevices ts (us ++ u ∷ [])) (sym more)
+    subst (λ ts. SpellDevices ts (us ++ u ∷ [])) (sym (take_more texts i d lt))
     (spelled_more (take i texts) us (get_or texts i d) u all here)
-  where
-    next : (n : ℕ) → n + 1 ≡ suc n
-    next n = omega arith
 
 pub one_spelled : (texts : List (Bor (List ℕ))) (i u : ℕ) (d : Bor (List ℕ)) (old new : List ℕ)
     (r : Result Bool SetFull) → i < length texts → length texts ≤ 1024

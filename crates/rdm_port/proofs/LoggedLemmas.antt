@@ -8,16 +8,15 @@ use Rattle.rdm_reports.specs.Report.{line_of}
 use Rattle.rdm_reports.specs.Writing.{IsWritten, LogState, LogsFrom, Logs}
 use Rattle.rdm_reports.proofs.WritingLemmas.{kept_appends}
 use Rattle.rdm_port.specs.Fault.{fault_line, fault_status}
-use Rattle.rdm_port.specs.Outcome.{Answers, IsLogUnreported, IsLogged, IsLoggedWith, IsPrinted, has_log}
-use Rattle.rdm_words.specs.Words.{keeps_log}
+use Rattle.rdm_port.specs.Outcome.{IsLogUnreported, IsLogged, IsPrinted}
+use Rattle.rdm_port.specs.Program.{has_log}
 use Rattle.rdm_port.specs.body.Logged.{IsOpened, HasTextAndStatus, HasLogged, failed_or, status_after}
 use Rattle.rdm_port.specs.body.Texts.{answer_bytes}
 use Rattle.rdm_port.specs.declared.answer.Answered.{Answered}
 use Rattle.rdm_port.specs.declared.fault.Fault.{Fault}
 use Rattle.rdm_port.specs.declared.fault.Fault.TheVariants.{Memory}
-use Rattle.rdm_words.specs.declared.job.Job.{Job}
-use Rattle.rdm_words.specs.declared.job.Job.TheVariants.{Decode, Encode, Discover, Run}
-use Rattle.rdm_words.specs.declared.job.WordsFault.{WordsFault}
+use Rattle.rdm_arguments.specs.declared.job.Job.{Job}
+use Rattle.rdm_arguments.specs.declared.job.WordsFault.{WordsFault}
 
 -- what is written to a writer whose bytes were kept before
 written_after : (failed : Bool) (a b c : Option (List ℕ)) (text : List ℕ) → Keeps a b → IsWritten failed b c text
@@ -110,33 +109,19 @@ printed_after (Err e) Done Failed With wanted old new was is result _ failed (lo
 )
 
 -- an answer without a log
-pub done_unlogged : {E : Type 0} (r : Result Answered (Fault × E)) (command : Result Job WordsFault) (job : Job)
-    (known : Option (List ℕ)) (log : LogState)
-    → command ≡ Ok job → log.is_failed ≡ false → IfOk r (λ a. Answers job known (answer_bytes a.text) [] a.status)
-    → IfOk r (λ a. (logged : List ℕ)
-    × ((j : Job) × (command ≡ Ok j) × Answers j known (answer_bytes a.text) logged a.status)
-    × HasLogged (has_log command) log log logged)
-done_unlogged (Err e) command job known log is sound done = tt
-done_unlogged (Ok a) command job known log is sound done =
-    ([], (job, is, done), same_logged (has_log command) log log sound refl)
-
--- each fault may come before anything is logged
-pub none_logged : (command : Result Job WordsFault) (known : Option (List ℕ)) (fault : Fault)
-    → IsLoggedWith command known fault []
-none_logged (Ok (Decode digits)) known fault = refl
-none_logged (Ok (Encode uid)) known fault = refl
-none_logged (Ok (Discover file incremental quick log)) known fault = inl refl
-none_logged (Ok (Run file port log)) known fault = refl
-none_logged (Err refusal) known fault = refl
+pub done_unlogged : {E : Type 0} (r : Result Answered (Fault × E)) (Done : List ℕ → List ℕ → ℕ → Type 0)
+    (wanted : Bool) (log : LogState)
+    → log.is_failed ≡ false → IfOk r (λ a. Done (answer_bytes a.text) [] a.status)
+    → IfOk r (λ a. (logged : List ℕ) × Done (answer_bytes a.text) logged a.status × HasLogged wanted log log logged)
+done_unlogged (Err e) Done wanted log sound done = tt
+done_unlogged (Ok a) Done wanted log sound done = ([], done, same_logged wanted log log sound refl)
 
 -- a fault without a log
-pub fault_unlogged : {E : Type 0} (r : Result Answered (Fault × E)) (command : Result Job WordsFault)
-    (known : Option (List ℕ)) (log : LogState) → log.is_failed ≡ false
-    → IfErr r (λ e. (logged : List ℕ) × IsLoggedWith command known e.0 logged
-    × HasLogged (has_log command) log log logged)
-fault_unlogged (Err e) command known log sound =
-    ([], none_logged command known e.0, same_logged (has_log command) log log sound refl)
-fault_unlogged (Ok a) command known log sound = tt
+pub fault_unlogged : {E : Type 0} (r : Result Answered (Fault × E)) (wanted : Bool) (log : LogState)
+    → log.is_failed ≡ false
+    → IfErr r (λ e. (logged : List ℕ) × (logged ≡ []) × HasLogged wanted log log logged)
+fault_unlogged (Err e) wanted log sound = ([], refl, same_logged wanted log log sound refl)
+fault_unlogged (Ok a) wanted log sound = tt
 
 -- a fault after which nothing was logged
 pub fault_logged_none : {E : Type 0} (r : Result Answered (Fault × E)) (wanted : Bool) (old new : LogState)
@@ -147,32 +132,28 @@ fault_logged_none (Ok a) wanted old new has = tt
 
 -- an answer to a job, with its log
 pub done_logged : {E : Type 0} (r : Result Answered (Fault × E)) (command : Result Job WordsFault) (job : Job)
-    (known : Option (List ℕ)) (wanted : Bool) (old new : LogState)
-    → command ≡ Ok job → wanted ≡ keeps_log job
-    → IfOk r (λ a. (logged : List ℕ) × Answers job known (answer_bytes a.text) logged a.status
-    × HasLogged wanted old new logged)
+    (Done : Job → List ℕ → List ℕ → ℕ → Type 0) (old new : LogState)
+    → command ≡ Ok job
+    → IfOk r (λ a. (logged : List ℕ) × Done job (answer_bytes a.text) logged a.status
+    × HasLogged (has_log (Ok job)) old new logged)
     → IfOk r (λ a. (logged : List ℕ)
-    × ((j : Job) × (command ≡ Ok j) × Answers j known (answer_bytes a.text) logged a.status)
+    × ((j : Job) × (command ≡ Ok j) × Done j (answer_bytes a.text) logged a.status)
     × HasLogged (has_log command) old new logged)
-done_logged (Err e) command job known wanted old new is keeps done = tt
-done_logged (Ok a) command job known wanted old new is keeps (logged, done, has) = (
-  logged,
-  (job, is, done),
-  subst (λ c. HasLogged (has_log c) old new logged) (sym is) (subst (λ w. HasLogged w old new logged) keeps has),
-)
+done_logged (Err e) command job Done old new is done = tt
+done_logged (Ok a) command job Done old new is (logged, done, has) =
+    (logged, (job, is, done), subst (λ c. HasLogged (has_log c) old new logged) (sym is) has)
 
 -- a fault of a job, with its log
 pub fault_logged : {E : Type 0} (r : Result Answered (Fault × E)) (command : Result Job WordsFault) (job : Job)
-    (known : Option (List ℕ)) (wanted : Bool) (old new : LogState)
-    → command ≡ Ok job → wanted ≡ keeps_log job
-    → IfErr r (λ e. (logged : List ℕ) × IsLoggedWith (Ok job) known e.0 logged × HasLogged wanted old new logged)
-    → IfErr r (λ e. (logged : List ℕ) × IsLoggedWith command known e.0 logged
-    × HasLogged (has_log command) old new logged)
-fault_logged (Ok a) command job known wanted old new is keeps failed = tt
-fault_logged (Err e) command job known wanted old new is keeps (logged, kept, has) = (
+    (With : Result Job WordsFault → Fault → List ℕ → Type 0) (old new : LogState)
+    → command ≡ Ok job
+    → IfErr r (λ e. (logged : List ℕ) × With (Ok job) e.0 logged × HasLogged (has_log (Ok job)) old new logged)
+    → IfErr r (λ e. (logged : List ℕ) × With command e.0 logged × HasLogged (has_log command) old new logged)
+fault_logged (Ok a) command job With old new is failed = tt
+fault_logged (Err e) command job With old new is (logged, kept, has) = (
   logged,
-  subst (λ c. IsLoggedWith c known e.0 logged) (sym is) kept,
-  subst (λ c. HasLogged (has_log c) old new logged) (sym is) (subst (λ w. HasLogged w old new logged) keeps has),
+  subst (λ c. With c e.0 logged) (sym is) kept,
+  subst (λ c. HasLogged (has_log c) old new logged) (sym is) has,
 )
 
 -- what is printed of an answer
@@ -208,37 +189,27 @@ fault_printed (Err e) to_print after log was is result of text_kept status_kept 
     text_printed to_print after log was is (line_of (fault_line e.0)) (fault_status e.0) result of text_kept status_kept
     printed
 
--- a discovery that fails before its log is opened
-pub unreported_unlogged : (Reports : List ℕ → List ℕ → ℕ → Type 0) (fault : Fault) (wanted : Bool) (log : LogState)
-    → log.is_failed ≡ false
-    → (logged : List ℕ) × IsLogUnreported Reports fault logged × HasLogged wanted log log logged
-unreported_unlogged Reports fault wanted log sound = ([], inl refl, same_logged wanted log log sound refl)
-
 -- a run that is logged, whose report is printed
 pub report_logged : {E : Type 0} (r : Result Answered (Fault × E)) (Reports : List ℕ → List ℕ → ℕ → Type 0)
-    (text logged : List ℕ) (status : ℕ)
-    (wanted : Bool) (old mid new : LogState) → IsOpened wanted old mid → Logs mid new logged
-    → Reports text logged status
-    → IfOk r (λ a. answer_bytes a.text ≡ text) → IfOk r (λ a. a.status ≡ status)
+    (text logged : List ℕ) (status : ℕ) (wanted : Bool) (old new : LogState) → HasLogged wanted old new logged
+    → Reports text logged status → IfOk r (λ a. answer_bytes a.text ≡ text) → IfOk r (λ a. a.status ≡ status)
     → IfOk r (λ a. (written : List ℕ) × Reports (answer_bytes a.text) written a.status
     × HasLogged wanted old new written)
-report_logged (Err e) Reports text logged status wanted old mid new opened logs reports printed ended = tt
-report_logged (Ok a) Reports text logged status wanted old mid new opened logs reports printed ended = (
+report_logged (Err e) Reports text logged status wanted old new has reports printed ended = tt
+report_logged (Ok a) Reports text logged status wanted old new has reports printed ended = (
   logged,
   subst (λ t. Reports t logged a.status) (sym printed) (subst (λ s. Reports text logged s) (sym ended) reports),
-  opened_then wanted old mid new logged opened logs,
+  has,
 )
 
 -- a run that is logged, whose report finds no memory
 pub memory_logged : {E : Type 0} (r : Result Answered (Fault × E)) (Reports : List ℕ → List ℕ → ℕ → Type 0)
-    (text logged : List ℕ) (status : ℕ)
-    (wanted : Bool) (old mid new : LogState) → IsOpened wanted old mid → Logs mid new logged
-    → Reports text logged status
-    → IfErr r (λ e. e.0 ≡ Memory)
+    (text logged : List ℕ) (status : ℕ) (wanted : Bool) (old new : LogState) → HasLogged wanted old new logged
+    → Reports text logged status → IfErr r (λ e. e.0 ≡ Memory)
     → IfErr r (λ e. (written : List ℕ) × IsLogUnreported Reports e.0 written × HasLogged wanted old new written)
-memory_logged (Ok a) Reports text logged status wanted old mid new opened logs reports memory = tt
-memory_logged (Err e) Reports text logged status wanted old mid new opened logs reports memory =
-    (logged, inr (memory, text, status, reports), opened_then wanted old mid new logged opened logs)
+memory_logged (Ok a) Reports text logged status wanted old new has reports memory = tt
+memory_logged (Err e) Reports text logged status wanted old new has reports memory =
+    (logged, inr (memory, text, status, reports), has)
 
 -- a log whose contents aren't known
 pub unknown_log : (wanted : Bool) (new : Option (List ℕ)) (text : List ℕ) (status result : ℕ)

@@ -1,105 +1,107 @@
 -- What is said of a session that was read, and of one that was served.
-use Rattle.std.proofs.Common.{◌≡◌, ◌⊎◌, inl, inr, ℕ, Bool, List, Option, Some, None, Result, Ok, Err, refl}
-use Rattle.std.specs.Prelude.{IfOk, OnOk, unwrap_or}
-use Rattle.std.specs.Borrow.{Bor}
+use Rattle.std.proofs.Common.{◌≡◌, ℕ, ◌≤◌, Bool, true, false, List, Option, Some, None, Result, Ok, Err}
+use Rattle.std.proofs.Common.{refl, ap, arith}
+use Rattle.std.specs.Prelude.{IfOk, IfSome, OnOk, MatchOption, codes, is_some}
 use Rattle.clap.specs.Words.{Text}
 use Rattle.serde_json.specs.Data.{Data}
-use Rattle.rdm_files.specs.declared.session.client.ClientFile.{ClientFile}
-use Rattle.rdm_reports.specs.LogText.{log_text}
-use Rattle.rdm_serving.specs.Serving.{IsServedBy}
+use Rattle.serde_json.specs.Find.{get}
+use Rattle.rdm_wire.specs.Uid.{IsDevice}
+use Rattle.rdm_agent.specs.declared.search.Search.{Search}
+use Rattle.rdm_line.specs.declared.scene.Scene.{Scene}
+use Rattle.rdm_files.specs.Forms.{IsOwnUid, IsWhole}
+use Rattle.rdm_files.specs.SceneFiles.{IsSceneFile}
+use Rattle.rdm_files.specs.SessionFiles.{IsSessionLine}
+use Rattle.rdm_files.specs.declared.session.file.SessionFile.{SessionFile}
+use Rattle.rdm_reports.specs.OpeningText.{session_log}
 use Rattle.rdm_reports.specs.SessionReport.{session_text}
 use Rattle.rdm_reports.specs.Writing.{LogState, Logs}
+use Rattle.rdm_serving.specs.Serving.{IsServedBy, IsSetUp}
 use Rattle.rdm_serving.specs.declared.serving.Served.{Served}
-use Rattle.rdm_words.specs.declared.port_kind.PortKind.{PortKind}
-use Rattle.rdm_port.specs.Fault.{ReadsSession, IsRunFault, IsSessionTextFault}
-use Rattle.rdm_port.specs.LineOutcome.{replies_path}
-use Rattle.rdm_port.specs.Outcome.{HasServed}
+use Rattle.rdm_serving.specs.declared.serving.ServeFault.{ServeFault}
+use Rattle.rdm_serving.specs.declared.serving.ServeFault.TheVariants as serves
+use Rattle.rdm_serving.proofs.TurnLemmas.{calls_in_turns}
+use Rattle.rdm_arguments.specs.declared.job.Streams.{Streams}
+use Rattle.rdm_arguments.specs.declared.port_kind.PortKind.{PortKind}
+use Rattle.rdm_port.specs.Fault.{ReadsFile, IsSessionFault, sessions}
+use Rattle.rdm_port.specs.Outcome.{Runs}
+use Rattle.rdm_port.specs.body.Faults.{fault_of_serve}
 use Rattle.rdm_port.specs.body.Logged.{IsOpened, HasLogged}
-use Rattle.rdm_port.specs.body.Sessions.{IsNoValue}
 use Rattle.rdm_port.specs.body.Texts.{answer_bytes}
 use Rattle.rdm_port.specs.declared.answer.Answered.{Answered}
 use Rattle.rdm_port.specs.declared.fault.Fault.{Fault}
-use Rattle.rdm_port.specs.declared.fault.Fault.TheVariants.{CommandLine, Hex, Uid, File, Json, DiscoveryCommand, Scene}
-use Rattle.rdm_port.specs.declared.fault.Fault.TheVariants.{Log, Turns, Memory}
 use Rattle.rdm_port.proofs.LoggedLemmas.{opened_then}
-use Rattle.rdm_serving.proofs.TurnLemmas.{calls_in_turns}
+
+-- a UID and a budget under a key
+own_device : (o : Option Data) (u : ℕ) → MatchOption o ⊥ (λ v. IsOwnUid v u) → IsDevice u
+own_device None u none = absurd none
+own_device (Some v) u own = record { in_range = own.uid.spells.in_range; own = own.own }
+
+some_frames : (o : Option Data) (n : ℕ) → MatchOption o (n ≡ 384008) (λ v. IsWhole 1 1000000000 v n) → 1 ≤ n
+some_frames None n is = omega (arith, is)
+some_frames (Some v) n whole = whole.at_least
+
+-- the line of a session that was read
+pub line_in_range : (own_line : Bool) (d : Data) (scene : Option Scene) (source budget : ℕ)
+    → IsSessionLine own_line d scene source budget
+    → (own_line ≡ false → is_some scene ≡ true) × IsDevice source × (1 ≤ budget)
+line_in_range false d scene source budget line = by_scene (get (codes "scene") d) line.reads
+  where
+    by_scene : (o : Option Data) → MatchOption o ⊥ (λ v. IsSceneFile v line.file)
+        → (false ≡ false → is_some scene ≡ true) × IsDevice source × (1 ≤ budget)
+    by_scene None none = absurd none
+    by_scene (Some v) says = (
+      λ simulated. ap is_some line.scene,
+      rw line.source (own_device (get (codes "source") v) line.file.scene.source says.source),
+      rw line.budget (some_frames (get (codes "budget") v) line.file.budget says.budget),
+    )
+line_in_range true d scene source budget line = (
+  λ simulated. cc,
+  own_device (get (codes "source") d) source line.source,
+  some_frames (get (codes "budget") d) budget line.budget,
+)
 
 -- why a session that was read isn't answered
-pub served_fault : (F : Type 0) (P : Data → F → Type 0) (known : Option (List ℕ)) (file : F)
-    → ReadsSession F P known file → (f : Fault)
-    → (f ≡ Memory) ⊎ (f ≡ Log) ⊎ (f ≡ Turns) → IsRunFault F P known f
-served_fault F P known file reads f (inl is) = rw is (inl tt)
-served_fault F P known file reads f (inr (inl is)) = rw is (inl (file, reads))
-served_fault F P known file reads f (inr (inr is)) = rw is (inl (file, reads))
-
--- memory that ran out, and what can't be opened
-pub memory_fault : (F : Type 0) (P : Data → F → Type 0) (known : Option (List ℕ)) (f : Fault) → f ≡ Memory
-    → IsRunFault F P known f
-memory_fault F P known f is = rw is (inl tt)
-
-pub file_fault : (F : Type 0) (P : Data → F → Type 0) (known : Option (List ℕ)) (f : Fault) → f ≡ File
-    → IsRunFault F P known f
-file_fault F P known f is = rw is (inr tt)
-
-pub unopened_fault : (F : Type 0) (P : Data → F → Type 0) (known : Option (List ℕ)) (f : Fault) → (f ≡ File)
-    ⊎ (f ≡ Memory) → IsRunFault F P known f
-unopened_fault F P known f (inl is) = file_fault F P known f is
-unopened_fault F P known f (inr is) = memory_fault F P known f is
-
--- bytes that are no JSON without a discovery command say no session
-pub no_value : (F : Type 0) (P : Data → F → Type 0) (bytes : List ℕ) (f : Fault) → IsNoValue bytes f
-    → IsSessionTextFault F P bytes f
-no_value F P bytes CommandLine none = none
-no_value F P bytes Hex none = none
-no_value F P bytes Uid none = none
-no_value F P bytes File none = none
-no_value F P bytes Json none = none
-no_value F P bytes DiscoveryCommand none = none
-no_value F P bytes Scene none = absurd none
-no_value F P bytes Log none = none
-no_value F P bytes Turns none = none
-no_value F P bytes Memory none = none
+pub served_fault : (own_line : Bool) (known : Option (List ℕ)) (file : SessionFile)
+    → ReadsFile (sessions own_line) known file → (e : ServeFault) (f : Fault) → f ≡ fault_of_serve e
+    → IsSessionFault own_line known f
+served_fault own_line known file reads serves.Memory f is = rw is tt
+served_fault own_line known file reads serves.Log f is = rw is (file, reads)
+served_fault own_line known file reads serves.Turns f is = rw is (file, reads)
+served_fault own_line known file reads serves.Defect f is = rw is (file, reads)
 
 -- a session that was served, whose text is printed and whose log is written
-pub served_then : {E : Type 0} (r : Result Answered (Fault × E)) (port : PortKind) (clients : List ClientFile)
-    (ring turns : ℕ) (s : Served) (wanted : Bool) (old mid new : LogState) → IsOpened wanted old mid
-    → IsServedBy port clients ring turns s
+pub served_then : {E : Type 0} (L : Type 0) (opens : Text → Text → L → Type 0) (streams : Option Streams)
+    (known : Option (List ℕ)) (file : SessionFile) (r : Result Answered (Fault × E)) (port : PortKind) (s : Served)
+    (wanted : Bool) (old mid new : LogState)
+    → IfSome streams (λ s. (line : L) × opens s.out.now s.replies.now line)
+    → ReadsFile (sessions (is_some streams)) known file
+    → IsOpened wanted old mid → IsServedBy port file.clients.items file.ring file.turns s
+    → IsSetUp file.source file.budget file.search s.session
     → IfOk r (λ a. answer_bytes a.text ≡ session_text s.outcomes.items) → IfOk r (λ a. a.status ≡ 0)
-    → OnOk r (Logs mid new (log_text s.session.entries))
-    → IfOk r (λ a. (logged : List ℕ) × HasServed clients turns (answer_bytes a.text) logged a.status
+    → OnOk r (Logs mid new (session_log s.session.opening s.session.search 0 s.session.entries))
+    → IfOk r (λ a. (logged : List ℕ) × Runs L opens streams known (answer_bytes a.text) logged a.status
     × HasLogged wanted old new logged)
-served_then (Err e) port clients ring turns s wanted old mid new opened by text status logs = tt
-served_then (Ok a) port clients ring turns s wanted old mid new opened by text status logs = (
-  log_text s.session.entries,
+served_then L opens streams known file (Err e) port s wanted old mid new begins reads opened by set text status logs =
+    tt
+served_then L opens streams known file (Ok a) port s wanted old mid new begins reads opened by set text status logs = (
+  session_log s.session.opening s.session.search 0 s.session.entries,
   record {
+    begins = begins;
+    file = file;
+    reads = reads;
     outcomes = s.outcomes.items;
     settled = by.settled;
     opening = s.session.opening;
+    from = set.from;
+    frames = set.frames;
     entries = s.session.entries;
     log = by.logged;
     called = by.called;
     in_turns = by.in_turns;
-    client_turns = calls_in_turns clients s.outcomes.items turns by.settled by.client_turns;
+    client_turns = calls_in_turns file.clients.items s.outcomes.items file.turns by.settled by.client_turns;
     prints = text;
-    logs = refl;
+    logs = ap (λ (x : Search). session_log s.session.opening x 0 s.session.entries) set.searched;
     ends = status;
   },
-  opened_then wanted old mid new (log_text s.session.entries) opened logs,
+  opened_then wanted old mid new (session_log s.session.opening s.session.search 0 s.session.entries) opened logs,
 )
-
--- what holds of its three texts holds with more
-pub served_as : {E : Type 0} (r : Result Answered (Fault × E)) (P Q : List ℕ → List ℕ → ℕ → Type 0) (wanted : Bool)
-    (old new : LogState)
-    → ((text logged : List ℕ) (status : ℕ) → P text logged status → Q text logged status)
-    → IfOk r (λ a. (logged : List ℕ) × P (answer_bytes a.text) logged a.status × HasLogged wanted old new logged)
-    → IfOk r (λ a. (logged : List ℕ) × Q (answer_bytes a.text) logged a.status × HasLogged wanted old new logged)
-served_as (Err e) P Q wanted old new to here = tt
-served_as (Ok a) P Q wanted old new to (logged, served, has) =
-    (logged, to (answer_bytes a.text) logged a.status served, has)
-
--- a line that was opened by the path for replies, or else by that for frames
-pub opened_by : {L : Type 0} (opens : Text → L → Type 0) (out : Bor Text) (replies : Option (Bor Text))
-    (path : Bor Text) (line : L)
-    → path ≡ unwrap_or replies out → opens path.now line → opens (replies_path out replies) line
-opened_by opens out None path line is opened = rw is at opened
-opened_by opens out (Some given) path line is opened = rw is at opened

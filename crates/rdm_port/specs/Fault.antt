@@ -1,23 +1,20 @@
 -- Faults of a command: when each occurs, and the line that reports it.
-use Rattle.std.specs.Prelude.{◌≡◌, ◌⊎◌, ℕ, true, false, List, Option, Some, None, codes}
-use Rattle.std.specs.Prelude.{Result, Ok, Err, ⊤, IsErr, IsUtf8}
+use Rattle.std.specs.Prelude.{◌≡◌, ℕ, Bool, true, false, List, Option, Some, None, codes, ⊤, IsErr, IsUtf8}
 use Rattle.hex.specs.Hex.{decode_of}
 use Rattle.serde_json.specs.Data.{Data}
 use Rattle.serde_json.specs.Read.{read}
 use Rattle.rdm_wire.specs.UidText.{UidText}
 use Rattle.rdm_files.specs.Input.{IsContent}
 use Rattle.rdm_files.specs.SceneFiles.{IsSceneFile}
+use Rattle.rdm_files.specs.SessionFiles.{IsSessionFile}
 use Rattle.rdm_files.specs.Commands.{has_discovery_command}
 use Rattle.rdm_files.specs.declared.scene.file.SceneFile.{SceneFile}
+use Rattle.rdm_files.specs.declared.session.file.SessionFile.{SessionFile}
 use Rattle.rdm_port.specs.declared.fault.Fault.{Fault}
 use Rattle.rdm_port.specs.declared.fault.Fault.TheVariants.{CommandLine, Hex, Uid, File, Json, Memory}
-use Rattle.rdm_port.specs.declared.fault.Fault.TheVariants.{DiscoveryCommand, Scene, Log, Turns}
-use Rattle.rdm_words.specs.declared.job.Job.{Job}
-use Rattle.rdm_words.specs.declared.job.Job.TheVariants.{Decode, Encode, Discover, Run}
-use Rattle.rdm_files.specs.SessionFiles.{IsSessionFile}
-use Rattle.rdm_files.specs.declared.session.file.SessionFile.{SessionFile}
-use Rattle.rdm_words.specs.declared.job.WordsFault.{WordsFault}
-use Rattle.rdm_words.specs.declared.job.WordsFault.TheVariants.{Words, NoMemory}
+use Rattle.rdm_port.specs.declared.fault.Fault.TheVariants.{DiscoveryCommand, Scene, Log, Turns, Defect}
+use Rattle.rdm_arguments.specs.declared.job.WordsFault.{WordsFault}
+use Rattle.rdm_arguments.specs.declared.job.WordsFault.TheVariants.{Words, NoMemory}
 
 -- the line that reports a fault
 abbrev pub fault_line : Fault → List ℕ
@@ -30,20 +27,13 @@ fault_line DiscoveryCommand = codes "fault: discovery command"
 fault_line Scene = codes "fault: scene"
 fault_line Log = codes "fault: log"
 fault_line Turns = codes "fault: turns"
+fault_line Defect = codes "fault: defect"
 fault_line Memory = codes "fault: memory"
 
 -- the program's status with this fault
 abbrev pub fault_status : Fault → ℕ
 fault_status CommandLine = 2
-fault_status Hex = 1
-fault_status Uid = 1
-fault_status File = 1
-fault_status Json = 1
-fault_status DiscoveryCommand = 1
-fault_status Scene = 1
-fault_status Log = 1
-fault_status Turns = 1
-fault_status Memory = 1
+fault_status _ = 1
 
 -- the fault of arguments that fit no command
 abbrev pub fault_of_words : WordsFault → Fault
@@ -61,95 +51,51 @@ abbrev pub IsEncodeFault : List ℕ → Fault → Type 0
 IsEncodeFault text Uid = (u : ℕ) → UidText text u → ⊥
 IsEncodeFault text _ = ⊥
 
--- the bytes encode this scene
-pub record SaysScene (bytes : List ℕ) (file : SceneFile) : Type 0 where
+-- how the JSON of a file is read: which JSON has a call that no client may make, and what JSON means
+pub record Format (F : Type 0) : Type 1 where
+  pub forbids : Data → Bool
+  pub means : Data → F → Type 0
+
+-- scene files, which have no calls
+abbrev pub scenes : Format SceneFile
+scenes = record { forbids = λ value. false; means = IsSceneFile }
+
+-- session files for a simulated line, or for one of the caller's own
+abbrev pub sessions : Bool → Format SessionFile
+sessions own_line = record { forbids = has_discovery_command; means = IsSessionFile own_line }
+
+-- the bytes encode this file
+pub record SaysFile {F : Type 0} (format : Format F) (bytes : List ℕ) (file : F) : Type 0 where
   pub value : Data
   pub json : read bytes ≡ Some value
-  pub scene : IsSceneFile value file
+  pub no_command : format.forbids value ≡ false
+  pub means : format.means value file
 
--- the reader's file encodes this scene
-pub record ReadsScene (known : Option (List ℕ)) (file : SceneFile) : Type 0 where
+-- the same for the bytes that a reader has
+pub record ReadsFile {F : Type 0} (format : Format F) (known : Option (List ℕ)) (file : F) : Type 0 where
   pub bytes : List ℕ
   pub content : IsContent known bytes
-  pub says : SaysScene bytes file
+  pub says : SaysFile format bytes file
 
--- the bytes are JSON, but not that of a scene
-pub record IsNoScene (bytes : List ℕ) : Type 0 where
-  pub value : Data
-  pub json : read bytes ≡ Some value
-  pub none : (file : SceneFile) → IsSceneFile value file → ⊥
-
--- the faults of bytes that encode no scene
-abbrev pub IsTextFault : List ℕ → Fault → Type 0
-IsTextFault bytes Json = IsUtf8 bytes → read bytes ≡ None
-IsTextFault bytes Scene = IsNoScene bytes
-IsTextFault bytes Memory = ⊤
-IsTextFault bytes _ = ⊥
-
--- the faults of a file with such bytes. Any file may be unreadable, and so may the log that is opened after it
-abbrev pub IsFileFault : Option (List ℕ) → Fault → Type 0
-IsFileFault known File = ⊤
-IsFileFault known fault = (bytes : List ℕ) × IsContent known bytes × IsTextFault bytes fault
-
--- the bytes encode this session, without a discovery command; P relates JSON to sessions
-pub record SaysSession (F : Type 0) (P : Data → F → Type 0) (bytes : List ℕ) (file : F) : Type 0 where
-  pub value : Data
-  pub json : read bytes ≡ Some value
-  pub no_command : has_discovery_command value ≡ false
-  pub session : P value file
-
--- the reader's file encodes this session
-pub record ReadsSession (F : Type 0) (P : Data → F → Type 0) (known : Option (List ℕ)) (file : F) : Type 0 where
-  pub bytes : List ℕ
-  pub content : IsContent known bytes
-  pub says : SaysSession F P bytes file
-
--- the bytes are JSON with a discovery command
-pub record IsCommandText (bytes : List ℕ) : Type 0 where
-  pub value : Data
-  pub json : read bytes ≡ Some value
-  pub command : has_discovery_command value ≡ true
-
--- the bytes are JSON without a discovery command, but not that of a session
-pub record IsNoSession (F : Type 0) (P : Data → F → Type 0) (bytes : List ℕ) : Type 0 where
-  pub value : Data
-  pub json : read bytes ≡ Some value
-  pub no_command : has_discovery_command value ≡ false
-  pub none : (file : F) → P value file → ⊥
-
--- the faults of bytes that encode no session: they are no JSON, or else have a discovery command, or else aren't those
--- of a session
-abbrev pub IsSessionTextFault : (F : Type 0) → (Data → F → Type 0) → List ℕ → Fault → Type 0
-IsSessionTextFault F P bytes Json = IsUtf8 bytes → read bytes ≡ None
-IsSessionTextFault F P bytes DiscoveryCommand = IsCommandText bytes
-IsSessionTextFault F P bytes Scene = IsNoSession F P bytes
-IsSessionTextFault F P bytes Memory = ⊤
-IsSessionTextFault F P bytes _ = ⊥
+-- the faults of bytes that encode no such file: no JSON, or else a discovery command, or else other JSON
+abbrev pub IsTextFault : {F : Type 0} → Format F → List ℕ → Fault → Type 0
+IsTextFault format bytes Json = IsUtf8 bytes → read bytes ≡ None
+IsTextFault format bytes DiscoveryCommand = (value : Data) × (read bytes ≡ Some value) × (format.forbids value ≡ true)
+IsTextFault {F} format bytes Scene =
+    (value : Data) × (read bytes ≡ Some value) × (format.forbids value ≡ false)
+    × ((file : F) → format.means value file → ⊥)
+IsTextFault format bytes Memory = ⊤
+IsTextFault format bytes _ = ⊥
 
 -- the faults of a file with such bytes. Any file may be unreadable, and so may each stream and log opened after it
-abbrev pub IsSessionFileFault : (F : Type 0) → (Data → F → Type 0) → Option (List ℕ) → Fault → Type 0
-IsSessionFileFault F P known File = ⊤
-IsSessionFileFault F P known fault = (bytes : List ℕ) × IsContent known bytes × IsSessionTextFault F P bytes fault
-
--- the faults that may occur while the session of a file is served
-abbrev pub IsServeFault : (F : Type 0) → (Data → F → Type 0) → Option (List ℕ) → Fault → Type 0
-IsServeFault F P known Log = (file : F) × ReadsSession F P known file
-IsServeFault F P known Turns = (file : F) × ReadsSession F P known file
-IsServeFault F P known Memory = ⊤
-IsServeFault F P known _ = ⊥
+abbrev pub IsFileFault : {F : Type 0} → Format F → Option (List ℕ) → Fault → Type 0
+IsFileFault format known File = ⊤
+IsFileFault format known Memory = ⊤
+IsFileFault format known fault = (bytes : List ℕ) × IsContent known bytes × IsTextFault format bytes fault
 
 -- the faults of a session, from its file to its end
-abbrev pub IsRunFault : (F : Type 0) → (Data → F → Type 0) → Option (List ℕ) → Fault → Type 0
-IsRunFault F P known fault = IsServeFault F P known fault ⊎ IsSessionFileFault F P known fault
-
--- the faults of a job whose file has these bytes, if they are known
-abbrev pub HasFault : Job → Option (List ℕ) → Fault → Type 0
-HasFault (Decode digits) known fault = IsDecodeFault digits.now fault
-HasFault (Encode uid) known fault = IsEncodeFault uid.now fault
-HasFault (Discover file incremental quick log) known fault = (fault ≡ Memory) ⊎ IsFileFault known fault
-HasFault (Run file port log) known fault = IsRunFault SessionFile IsSessionFile known fault
-
--- the faults of a command
-abbrev pub IsFaultOf : Result Job WordsFault → Option (List ℕ) → Fault → Type 0
-IsFaultOf (Ok job) known fault = HasFault job known fault
-IsFaultOf (Err refusal) known fault = fault ≡ fault_of_words refusal
+abbrev pub IsSessionFault : (own_line : Bool) → Option (List ℕ) → Fault → Type 0
+IsSessionFault own_line known Log = (file : SessionFile) × ReadsFile (sessions own_line) known file
+IsSessionFault own_line known Turns = (file : SessionFile) × ReadsFile (sessions own_line) known file
+IsSessionFault own_line known Defect = (file : SessionFile) × ReadsFile (sessions own_line) known file
+IsSessionFault own_line known fault = IsFileFault (sessions own_line) known fault

@@ -2,3 +2,4 @@ pub mod Fault
 pub mod Outcome
 pub mod body
 pub mod LineOutcome
+pub mod Program

@@ -1,4 +1,4 @@
 -- What only the proofs need.
 pub mod Texts
 pub mod Logged
-pub mod Sessions
+pub mod Faults

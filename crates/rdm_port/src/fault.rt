@@ -23,6 +23,8 @@ pub enum Fault {
     Log,
     /// A client or the worker has made all its turns.
     Turns,
+    /// The outcomes of a session differ from its log or its file. Only a defect of the program causes this.
+    Defect,
     /// Out of memory.
     Memory,
 }
@@ -42,6 +44,7 @@ impl Fault {
             Fault::Scene => "fault: scene",
             Fault::Log => "fault: log",
             Fault::Turns => "fault: turns",
+            Fault::Defect => "fault: defect",
             Fault::Memory => "fault: memory",
         }
     }

@@ -3,9 +3,8 @@
 //! All of it is the profile of this project.
 //!
 //! [`parse_words`] finds the [`Job`] that arguments give, and [`perform`] prints its answer. [`carry_out`] also keeps
-//! its log. [`parse_line_words`] finds a [`LineJob`], which [`carry_out_on_line`] or [`run_on_line`] does. A session
-//! file is read by [`read_session`] and served by [`serve`]. [`session_text`] returns what is printed for it. For
-//! people there are these:
+//! its log, and opens its line. A session file is read by [`read_session`] and served by [`serve`]. [`session_text`]
+//! returns what is printed for it. For people there are these:
 //! - a [`Reason`] says why something isn't done;
 //! - a [`Remark`] says what they should know about a file before its work begins;
 //! - a [`Complaint`] says what is wrong with arguments that fit no command.
@@ -17,10 +16,9 @@ mod discovering;
 mod fault;
 mod input;
 pub mod laws;
-mod line_performing;
-mod line_run;
 mod line_values;
 mod logging;
+mod opening;
 mod performing;
 mod position;
 mod reason;
@@ -29,22 +27,22 @@ mod run;
 mod standard_error;
 
 pub use fault::Fault;
-pub use line_performing::{Opens, Unopened, carry_out_on_line, run_on_line};
 pub use line_values::LineValues;
+pub use opening::{NoLine, Opens, Unopened};
 pub use performing::{Silent, carry_out, perform};
 pub use position::Position;
+pub use rdm_arguments::{
+    Complaint, DiscoverJob, DiscoveryLine, Job, LineDiscovery, PortKind, RunJob, Streams, Usage,
+    VERSION, WordsFault, complaint_of, parse_words,
+};
 pub use rdm_files::{
-    ClientCall, ClientFile, FileFault, FileKind, Found, LineSessionFile, MOST_BYTES, Mismatch,
-    Path, Remark, SceneFault, SceneFile, SessionFile, Step, UnknownKey, discovery_command,
-    five_losses, looks_like, read_file, read_line_session, read_scene, read_session,
+    ClientCall, ClientFile, FileFault, FileKind, Found, MOST_BYTES, Mismatch, Path, Remark,
+    SceneFault, SceneFile, SessionFile, Step, UnknownKey, discovery_command, five_losses,
+    looks_like, read_file, read_scene, read_session,
 };
 pub use rdm_serving::{
     Discovered, Discovery, LogOutput, OpensLog, Outcomes, Progress, ServeFault, Served, discover,
-    discover_in, report, serve, serve_on_line, session_text,
-};
-pub use rdm_words::{
-    Complaint, Job, LineDiscovery, LineJob, LineRun, PortKind, USAGE, VERSION, WordsFault,
-    complaint_of, parse_line_words, parse_words,
+    discover_in, report, serve, session_text,
 };
 pub use reason::Reason;
 pub use standard_error::{Progressing, print_reason, print_usage};

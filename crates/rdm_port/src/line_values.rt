@@ -6,8 +6,8 @@ ghost use Rattle.rdm_port.specs.LineOutcome.{SaysValues, SpellsDevice, SpellDevi
 use crate::answer::Refused;
 use crate::fault::Fault;
 use crate::reason::Reason;
+use rdm_arguments::LineDiscovery;
 use rdm_wire::{MOST_DEVICES, Uid, UidSet};
-use rdm_words::LineDiscovery;
 
 /// The UIDs that a discovery's texts spell.
 #[derive(Debug, Drop)]
@@ -18,17 +18,20 @@ pub struct LineValues {
     pub known: UidSet,
 }
 
-/// The UIDs that a discovery's texts spell. Err: one of them spells no device's UID; the first one is the reason.
-pub(crate) fn values_of<'a>(job: &LineDiscovery<'a>) -> Result<LineValues, Refused<'a>>
-    requires { length job.now.known.items ≤ MOST_DEVICES }
-    ensures ok { IfOk result (SaysValues job.now) }
-    ensures fault { IfErr result (λ e. (e.0 ≡ Fault.Uid) × ((values : LineValues) → SaysValues job.now values → ⊥)) }
+/// The UIDs that a discovery's texts spell. Err: one of them spells no device's UID; the first one is the reason. Or
+/// more than 1,024 are known, which no arguments give.
+pub(crate) fn values_of<'a>(own: &LineDiscovery<'a>) -> Result<LineValues, Refused<'a>>
+    ensures ok { IfOk result (SaysValues own.now) }
+    ensures fault { IfErr result (λ e. (e.0 ≡ Fault.Uid) × ((values : LineValues) → SaysValues own.now values → ⊥)) }
 {
-    let source = match device_of("--source", job.source) {
+    let source = match device_of("--source", own.source) {
         Ok(source) => source,
         Err(refused) => return Err(refused),
     };
-    match devices_of("--known", &job.known) {
+    if MOST_DEVICES < own.known.len() {
+        return Err((Fault::Uid, None));
+    }
+    match devices_of("--known", &own.known) {
         Ok(known) => Ok(LineValues { source, known }),
         Err(refused) => Err(refused),
     }

@@ -7,7 +7,7 @@ use crate::answer::{Answered, Refused};
 use crate::fault::Fault;
 use crate::performing::NOT_WRITTEN;
 use crate::reason::Reason;
-use rdm_serving::{LogOutput, OpensLog};
+use rdm_reports::{LogOutput, OpensLog};
 use std::io;
 use std::io::{ErrorKind, Write};
 

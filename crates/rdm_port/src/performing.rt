@@ -1,8 +1,10 @@
 //! What is printed for a command, its status, and the reason if it isn't done.
-ghost use Rattle.std.specs.Prelude.{◌≡◌, ℕ, List, None, Ok, IfOk, IfErr, false};
-ghost use Rattle.rdm_port.specs.Fault.{IsFaultOf, fault_line, fault_status};
+ghost use Rattle.std.specs.Prelude.{◌≡◌, ℕ, List, [], None, Ok, IfOk, IfErr, OnErr, false, is_some};
+ghost use Rattle.rdm_line.specs.Sim.{SimState, SimStep};
 ghost use Rattle.rdm_reports.specs.Report.{line_of};
-ghost use Rattle.rdm_port.specs.Outcome.{Answers, IsLogged, IsLoggedWith, IsOutcome, IsPrinted, has_log};
+ghost use Rattle.rdm_port.specs.Fault.{fault_line, fault_status};
+ghost use Rattle.rdm_port.specs.Outcome.{IsLogged, IsPrinted};
+ghost use Rattle.rdm_port.specs.Program.{Answers, IsFaultOf, IsLoggedWith, IsOutcome, has_log};
 ghost use Rattle.rdm_port.specs.body.Logged.{HasLogged, HasTextAndStatus, status_after};
 ghost use Rattle.rdm_port.specs.body.Texts.{answer_bytes};
 
@@ -11,11 +13,13 @@ use crate::branch::{decode, encode};
 use crate::discovering::answer_discover;
 use crate::fault::Fault;
 use crate::logging::{NoLog, after_log};
+use crate::opening::{NoLine, Opens};
 use crate::reason::Reason;
 use crate::run::answer_run;
+use rdm_arguments::{Job, WordsFault};
 use rdm_files::Remark;
-use rdm_serving::{LogOutput, OpensLog, Progress, write_all};
-use rdm_words::{Job, WordsFault};
+use rdm_line::{Line, SimLine};
+use rdm_reports::{LogOutput, OpensLog, Progress, write_all};
 use std::alloc::Global;
 use std::io::{Read, Write};
 use std::sync::Wait;
@@ -31,10 +35,12 @@ pub(crate) const NOT_WRITTEN: u8 = 1;
 ///
 /// Of several faults the first in this order is printed: the arguments; `fault: hex` or `fault: uid`; `fault: file`;
 /// `fault: json`; `fault: discovery command`; `fault: scene`; then those of the run, with `fault: log` before
-/// `fault: turns`. `fault: memory` is printed when it occurs. If the writer fails, it has a prefix of the text.
+/// `fault: turns`, and `fault: defect` last. `fault: memory` is printed when it occurs. If the writer fails, it has a
+/// prefix of the text.
 ///
-/// The reader is for a command that reads a file. If the file can't be opened, pass a reader whose reads fail. No log
-/// is kept here: a command with a log is `fault: file` once its file has been read.
+/// The reader is for a command that reads a file. If the file can't be opened, pass a reader whose reads fail. No line
+/// is opened here, and no log is kept: a command with a line of the caller's own, or with a log, is `fault: file` once
+/// its file has been read.
 pub fn perform<R: Read, W: Write, T: Threads + Wait + Sync>(
     rt: &T,
     alloc: Global,
@@ -43,29 +49,52 @@ pub fn perform<R: Read, W: Write, T: Threads + Wait + Sync>(
     writer: &mut W,
 ) -> u8
     ensures { (text logged : List ℕ) × (status status_printed : ℕ)
-        × IsOutcome job.entry (R.remaining reader.old) text logged status
+        × IsOutcome SimState SimStep (λ out replies line. ⊥) job.entry (R.remaining reader.old) text logged status
         × IsLogged (has_log job.entry) None None logged status status_printed
         × IsPrinted (W.contents writer.old) (W.contents writer.new) text status_printed result }
 {
     let mut log = LogOutput::new(NoLog);
-    let (status, _) = carry_out(rt, alloc, job, reader, &mut log, writer, &mut Silent);
+    let (status, _) = carry_out::<SimLine, _, _, _, _, _, _>(
+        rt,
+        alloc,
+        job,
+        reader,
+        &mut NoLine,
+        &mut log,
+        writer,
+        &mut Silent,
+    );
     status
 }
 
-/// As [`perform`], and keeps the log that the arguments name. It also returns the reason if the command isn't done, for
-/// instance because a writer fails.
+/// As [`perform`], and opens the line and keeps the log that the arguments name. It also returns the reason if the
+/// command isn't done, for instance because a writer fails.
 ///
-/// The log is opened once the file is read, and before the first frame. If it can't be opened, that is `fault: file`. A
-/// discovery's exchanges are written as they are made, and a session's log after its end. If the log's writer fails, it
-/// has a prefix of the text, and the status is 1. The progress first receives what people should know about a file, and
-/// then how many exchanges its session or discovery has made.
+/// The line and then the log are opened once the file is read, and before the first frame. If one of them can't be
+/// opened, that is `fault: file`. The line is dropped at the end. A discovery's exchanges are written as they are made,
+/// and a session's log after its end. If the log's writer fails, it has a prefix of the text, and the status is 1. The
+/// progress first receives what people should know about a file, and then how many exchanges its session or discovery
+/// has made.
+///
+/// On a line of the caller's own, a discovery is one by the line's own steps. The caller has to know whether the line
+/// is honest. If a line always fails, each request ends with FailedToSend, and each discovery with its fault.
 ///
 /// The log must not be open yet ([`LogOutput::is_open`]), and must not have failed ([`LogOutput::failure`]).
-pub fn carry_out<'a, R: Read, G: OpensLog, W: Write, P: Progress + Send, T: Threads + Wait + Sync>(
+pub fn carry_out<
+    'a,
+    L: Line + Send + Drop,
+    O: Opens<L>,
+    R: Read,
+    G: OpensLog,
+    W: Write,
+    P: Progress + Send,
+    T: Threads + Wait + Sync,
+>(
     rt: &T,
     alloc: Global,
     job: Result<Job<'a>, WordsFault>,
     reader: &mut R,
+    opener: &mut O,
     log: &mut LogOutput<G>,
     writer: &mut W,
     progress: &mut P,
@@ -73,7 +102,7 @@ pub fn carry_out<'a, R: Read, G: OpensLog, W: Write, P: Progress + Send, T: Thre
     requires closed { log.old.is_open ≡ false }
     requires sound { log.old.is_failed ≡ false }
     ensures { (text logged : List ℕ) × (status status_printed : ℕ)
-        × IsOutcome job.entry (R.remaining reader.old) text logged status
+        × IsOutcome L L.step (O.opens opener.old) job.entry (R.remaining reader.old) text logged status
         × IsLogged (has_log job.entry) log.old.contents log.new.contents logged status status_printed
         × IsPrinted (W.contents writer.old) (W.contents writer.new) text status_printed result.0 }
 {
@@ -81,13 +110,13 @@ pub fn carry_out<'a, R: Read, G: OpensLog, W: Write, P: Progress + Send, T: Thre
         Ok(job) => job.log(),
         Err(_) => None,
     };
-    let answer = answer(rt, alloc, job, reader, log, progress);
+    let answer = answer(rt, alloc, job, reader, opener, log, progress);
     print(writer, log, path, answer)
 }
 
-/// Prints an answer, or the line of its fault. The status is also 1 if the log at this path has failed, or if the
-/// writer fails. Then that is the reason.
-pub(crate) fn print<'a, G: Write, W: Write>(
+// Prints an answer, or the line of its fault. The status is also 1 if the log at this path has failed, or if the writer
+// fails. Then that is the reason.
+fn print<'a, G: Write, W: Write>(
     writer: &mut W,
     log: &LogOutput<G>,
     path: Option<&'a str>,
@@ -143,43 +172,42 @@ impl Progress for Silent {
 }
 
 // The answer to a command.
-fn answer<'a, R: Read, G: OpensLog, P: Progress + Send, T: Threads + Wait + Sync>(
+fn answer<
+    'a,
+    L: Line + Send + Drop,
+    O: Opens<L>,
+    R: Read,
+    G: OpensLog,
+    P: Progress + Send,
+    T: Threads + Wait + Sync,
+>(
     rt: &T,
     alloc: Global,
     job: Result<Job<'a>, WordsFault>,
     reader: &mut R,
+    opener: &mut O,
     log: &mut LogOutput<G>,
     progress: &mut P,
 ) -> Result<Answered<'a>, Refused<'a>>
     requires closed { log.old.is_open ≡ false }
     requires sound { log.old.is_failed ≡ false }
     ensures ok { IfOk result (λ a. (logged : List ℕ)
-        × ((j : Job) × (job.entry ≡ Ok j) × Answers j (R.remaining reader.old) (answer_bytes a.text) logged a.status)
+        × ((j : Job) × (job.entry ≡ Ok j)
+        × Answers L L.step (O.opens opener.old) j (R.remaining reader.old) (answer_bytes a.text) logged a.status)
         × HasLogged (has_log job.entry) log.old log.new logged) }
     ensures fault { IfErr result (λ e. IsFaultOf job.entry (R.remaining reader.old) e.0) }
     ensures logged { IfErr result (λ e. (logged : List ℕ)
-        × IsLoggedWith job.entry (R.remaining reader.old) e.0 logged
+        × IsLoggedWith L L.step (O.opens opener.old) job.entry (R.remaining reader.old) e.0 logged
         × HasLogged (has_log job.entry) log.old log.new logged) }
 {
     match job {
         Ok(Job::Decode(digits)) => decode(alloc, digits),
         Ok(Job::Encode(uid)) => encode(uid),
-        Ok(
-            Job::Discover {
-                file,
-                incremental,
-                quick,
-                log: path,
-            },
-        ) => answer_discover(alloc, file, incremental, quick, path, reader, log, progress),
-        Ok(
-            Job::Run {
-                file,
-                port,
-                log: path,
-            },
-        ) => answer_run(rt, alloc, file, port, path, reader, log, progress),
-        Err(WordsFault::Words) => Err((Fault::CommandLine, Some(Reason::Usage))),
+        Ok(Job::Discover(discovery)) => {
+            answer_discover(alloc, &discovery, reader, opener, log, progress)
+        }
+        Ok(Job::Run(session)) => answer_run(rt, alloc, session, reader, opener, log, progress),
+        Err(WordsFault::Words) => Err((Fault::CommandLine, Some(Reason::Arguments))),
         Err(WordsFault::NoMemory) => Err((Fault::Memory, None)),
     }
 }

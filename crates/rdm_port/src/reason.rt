@@ -1,10 +1,10 @@
 //! Why something isn't done, for people.
 use crate::position::Position;
 use rdm_agent::AgentFault;
+use rdm_arguments::Complaint;
 use rdm_files::{FileFault, FileKind, MOST_BYTES, Mismatch, SceneFault, looks_like};
-use rdm_serving::{Discovered, Outcomes, device_lines};
+use rdm_reports::{Discovered, Outcomes, device_lines};
 use rdm_wire::{DeviceSet, Uid};
-use rdm_words::USAGE;
 use serde_json::Value;
 use std::alloc::Global;
 use std::io::ErrorKind;
@@ -16,11 +16,14 @@ const UID_LEN: usize = 13;
 // The index of a UID's colon.
 const COLON_AT: usize = 4;
 
+const DEFECT: &str =
+    "the session's outcomes and its log differ; this is a defect of the program, please report it";
+
 /// Why something isn't done, or what people should know about what was done. It borrows the arguments.
 #[derive(Debug, Drop)]
 pub enum Reason<'a> {
     /// The arguments fit no command.
-    Usage,
+    Arguments,
     /// The text spells no bytes.
     NoBytes(&'a str),
     /// The text isn't a UID.
@@ -52,6 +55,8 @@ pub enum Reason<'a> {
         /// A value that may be enough.
         hint: &'static str,
     },
+    /// A session's outcomes and its log differ.
+    Defect,
     /// A run had this fault. These lines have the devices that it found until then.
     Fault(AgentFault, Vec<u8>),
     /// Discoveries of a session's clients had faults.
@@ -117,7 +122,7 @@ impl<'a> Reason<'a> {
 impl fmt::Display for Reason<'_> {
     fn fmt<W: fmt::Write>(&self, f: &mut fmt::Formatter<W>) -> fmt::Result {
         match self {
-            Reason::Usage => write!(f, "{USAGE}"),
+            Reason::Arguments => write!(f, "{}", Complaint::Misfit),
             Reason::NoBytes(text) => write_no_bytes(f, text),
             Reason::NoUid(text) => write_no_uid(f, text),
             Reason::Broadcast => write!(f, "no device has a broadcast UID for its own"),
@@ -145,6 +150,7 @@ impl fmt::Display for Reason<'_> {
                     "{key}: expected enough for the whole session, found {found}; {hint}"
                 )
             }
+            Reason::Defect => write!(f, "{DEFECT}"),
             Reason::Fault(fault, found) => write_fault(f, *fault, found),
             Reason::Discoveries(outcomes) => write_discoveries(f, outcomes),
             Reason::Unwritten(kind) => write!(f, "the answer can't be written: {kind}"),

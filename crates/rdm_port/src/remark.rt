@@ -1,6 +1,6 @@
 //! What people should know about a file before its work begins.
 use rdm_files::{Remark, UnknownKey, five_losses};
-use rdm_serving::Progress;
+use rdm_reports::Progress;
 use std::alloc::Global;
 
 /// Reports the first unknown key, if there is one, and then five losses in a row, if this key has them. If memory runs
@@ -12,15 +12,10 @@ pub(crate) fn remark_on<P: Progress>(
     losses: &[u64],
     progress: &mut P,
 ) {
-    remark_on_key(unknown, progress);
-    if let Ok(Some(first)) = five_losses(alloc, losses) {
-        progress.remark(&Remark::FiveLosses { path, first });
-    }
-}
-
-/// Reports the first unknown key, if there is one.
-pub(crate) fn remark_on_key<P: Progress>(unknown: Option<UnknownKey>, progress: &mut P) {
     if let Some(key) = unknown {
         progress.remark(&Remark::UnknownKey(key));
+    }
+    if let Ok(Some(first)) = five_losses(alloc, losses) {
+        progress.remark(&Remark::FiveLosses { path, first });
     }
 }

@@ -1,23 +1,20 @@
 //! Standard error, for people: why something isn't done, what they should know about a file, and how many exchanges a
 //! session or a discovery has made.
 use crate::reason::Reason;
+use rdm_arguments::Complaint;
 use rdm_files::Remark;
-use rdm_serving::Progress;
-use rdm_words::Complaint;
+use rdm_reports::Progress;
 use std::io;
 use std::rt::Clock;
 use std::time::Instant;
 
 /// Prints a reason. Err: the error of standard error, which may have received a prefix of the line.
 pub fn print_reason(rt: &impl Eprint, reason: &Reason<'_>) -> io::Result<()> {
-    match reason {
-        Reason::Usage => eprintln!(rt; "{reason}"),
-        _ => eprintln!(rt; "wurstlinen: {reason}"),
-    }
+    eprintln!(rt; "wurstlinen: {reason}")
 }
 
-/// Prints what is wrong with arguments that fit no command, and then the usage. If they ask for the usage, it prints
-/// only that. Err: the error of standard error, which may have received a prefix of the text.
+/// Prints what is wrong with arguments that fit no command, or the usage, if they ask for it. Err: the error of
+/// standard error, which may have received a prefix of the text.
 pub fn print_usage(rt: &impl Eprint, complaint: &Complaint<'_>) -> io::Result<()> {
     match complaint {
         Complaint::Help | Complaint::Version => eprintln!(rt; "{complaint}"),

@@ -1,7 +1,6 @@
 -- Texts of numbered elements, one after another.
 use Rattle.std.proofs.Common.{◌≡◌, ℕ, suc, ◌+◌, ◌<◌, ◌++◌, ◌∷◌, [], List, length, take, get_or, sym, ap, ◌∙◌, arith}
-use Rattle.std.proofs.Math.Seq.{take-suc}
-use Rattle.std.proofs.lemmas.List.{append_assoc, append-nil, length-take-le}
+use Rattle.std.proofs.lemmas.List.{append_assoc, append-nil, length-take-le, take_more}
 use Rattle.rdm_reports.specs.SessionReport.{numbered}
 
 -- one more element
@@ -25,16 +24,12 @@ pub numbered_next : {A : Type 0} (text : ℕ → A → List ℕ) (xs : List A) (
     → now ≡ before ++ numbered text 0 (take i xs) → later ≡ now ++ text i x
     → later ≡ before ++ numbered text 0 (take (i + 1) xs)
 numbered_next text xs i x before now later lt at is grows =
-    let more : take (i + 1) xs ≡ take i xs ++ x ∷ [] = ap (λ k. take k xs) (next i) ∙ take-suc xs i x lt
-    ∙ ap (λ w. take i xs ++ w ∷ []) (sym at) in
+    let more = take_more xs i x lt ∙ ap (λ w. take i xs ++ w ∷ []) (sym at) in
     let many : 0 + length (take i xs) ≡ i = none_more (length (take i xs)) ∙ length-take-le i xs (omega (arith, lt)) in
     grows ∙ ap (λ l. l ++ text i x) is ∙ append_assoc before (numbered text 0 (take i xs)) (text i x)
     ∙ ap (λ l. before ++ l)
     (sym (ap (λ l. numbered text 0 l) more ∙ numbered_more text 0 (take i xs) x
     ∙ ap (λ k. numbered text 0 (take i xs) ++ text k x) many))
   where
-    next : (n : ℕ) → n + 1 ≡ suc n
-    next n = omega arith
-
     none_more : (n : ℕ) → 0 + n ≡ n
     none_more n = omega arith

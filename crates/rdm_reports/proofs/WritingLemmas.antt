@@ -109,6 +109,13 @@ entries_next entries i e was now later lt at before more =
         ∙ flat_map-append entry_line (take i entries) (e ∷ [])
         ∙ ap (λ l. log_text (take i entries) ++ l) (append-nil (entry_line e))
 
+-- three texts, one after another
+pub three_written : {A E : Type 0} (r : Result A E) (t0 t1 t2 t3 a b c : List ℕ) → t1 ≡ t0 ++ a → t2 ≡ t1 ++ b
+    → OnOk r (t3 ≡ t2 ++ c) → OnOk r (t3 ≡ t0 ++ ((a ++ b) ++ c))
+three_written (Err e) t0 t1 t2 t3 a b c p q u = tt
+three_written (Ok x) t0 t1 t2 t3 a b c p q u =
+    u ∙ ap (λ l. l ++ c) (q ∙ ap (λ l. l ++ b) p) ∙ ap (λ l. l ++ c) (append_assoc t0 a b) ∙ append_assoc t0 (a ++ b) c
+
 -- four texts, one after another
 pub four_written : {A E : Type 0} (r : Result A E) (t0 t1 t2 t3 t4 a b c d : List ℕ) → t1 ≡ t0 ++ a → t2 ≡ t1 ++ b
     → t3 ≡ t2 ++ c → OnOk r (t4 ≡ t3 ++ d)

@@ -4,3 +4,4 @@ pub mod Report
 pub mod SessionReport
 pub mod Writing
 pub mod LogText
+pub mod OpeningText

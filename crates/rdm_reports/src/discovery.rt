@@ -12,14 +12,16 @@ ghost use Rattle.rdm_reports.specs.Discovery.{GoesOn, IsDiscovery};
 ghost use Rattle.rdm_reports.specs.SceneDiscovery.{IsSceneDiscovery, IsHonestReport};
 ghost use Rattle.rdm_reports.specs.Writing.{Logs};
 ghost use Rattle.rdm_reports.specs.LogText.{exchange_line, exchanges_text};
+ghost use Rattle.rdm_reports.specs.OpeningText.{discovery_log};
 
 use crate::log_output::LogOutput;
 use crate::log_text::write_exchange;
+use crate::opening_text::write_discovery_opening;
 use crate::progress::{Progress, write_often};
 use rdm_agent::{Agent, AgentFault, Kind, Op, OpReply, Search};
 use rdm_join::LineEvent;
-use rdm_line::{Line, NoMemory, Scene, SimLine};
-use rdm_wire::{DeviceSet, Uid, UidSet};
+use rdm_line::{Line, Scene, SimLine};
+use rdm_wire::{DeviceSet, NoMemory, Uid, UidSet};
 use std::alloc::Global;
 use std::io::Write;
 
@@ -33,9 +35,34 @@ pub struct Discovery {
 }
 
 /// Makes a discovery run with this search on a line, from the controller `source`. The agent's frames, numbered from 0,
-/// are sent on the line, and the agent takes the replies, until it asks nothing more. Each exchange is written to the
-/// log when it has been made, and every hundredth is reported.
+/// are sent on the line, and the agent takes the replies, until it asks nothing more. The log's opening is written
+/// first, each exchange when it has been made, and every hundredth is reported.
 pub fn discover<L: Line, P: Progress, W: Write>(
+    alloc: Global,
+    line: &mut L,
+    source: Uid,
+    search: Search,
+    kind: Kind,
+    known: &UidSet,
+    budget: u64,
+    progress: &mut P,
+    log: &mut LogOutput<W>,
+) -> Discovery
+    ensures run { IsDiscovery L L.step source search kind known.now budget
+        line.old line.new result.found result.frames }
+    ensures countable { result.frames < 2 ^ 64 }
+    ensures logged { (run : IsDiscovery L L.step source search kind known.now budget
+        line.old line.new result.found result.frames)
+        × Logs log.old log.new (discovery_log source search kind known.now budget run.driven.exchanges) }
+{
+    write_discovery_opening(alloc, log, source, search, kind, known.as_slice(), budget);
+    make_run(
+        alloc, line, source, search, kind, known, budget, progress, log,
+    )
+}
+
+// Makes the run, after its opening.
+fn make_run<L: Line, P: Progress, W: Write>(
     alloc: Global,
     line: &mut L,
     source: Uid,
@@ -106,8 +133,8 @@ fn read(op: Op, source: Uid, tn: u8, event: &LineEvent) -> OpReply
 /// memory, and no run was made. The scene isn't returned, and nothing is written to the log.
 ///
 /// A run without fault finds each device that is on the line throughout, and no run finds one that never is. The
-/// premise: no five replies of a kind are lost in a row. Each exchange is written to the log, and every hundredth is
-/// reported.
+/// premise: no five replies of a kind are lost in a row. The opening and each exchange are written to the log, and
+/// every hundredth is reported.
 pub fn discover_in<P: Progress, W: Write>(
     alloc: Global,
     scene: Scene,
@@ -123,7 +150,8 @@ pub fn discover_in<P: Progress, W: Write>(
         → IfOk result (λ d. IsHonestReport scene search kind known.now budget d.found d.frames) }
     ensures logged { IfOk result (λ d.
         (run : IsSceneDiscovery scene search kind known.now budget d.found d.frames)
-        × Logs log.old log.new (exchanges_text run.discovery.driven.exchanges)) }
+        × Logs log.old log.new
+        (discovery_log scene.source search kind known.now budget run.discovery.driven.exchanges)) }
     ensures unlogged { OnErr result (log.new ≡ log.old) }
 {
     let source = scene.source;

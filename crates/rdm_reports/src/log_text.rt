@@ -59,7 +59,8 @@ pub(crate) fn write_exchange<W: Write>(
     }
 }
 
-fn entry_line(alloc: Global, entry: &Entry) -> Result<Vec<u8>, AllocError>
+/// The line of an entry, with its newline. Err: there was no memory.
+pub fn entry_line(alloc: Global, entry: &Entry) -> Result<Vec<u8>, AllocError>
     ensures { IfOk result (λ line. line.items ≡ entry_line entry.now) }
 {
     let mut line = Vec::new(alloc);
@@ -71,7 +72,8 @@ fn entry_line(alloc: Global, entry: &Entry) -> Result<Vec<u8>, AllocError>
     Ok(line)
 }
 
-fn exchange_line(
+/// The line of a discovery's exchange, with its newline. Err: there was no memory.
+pub fn exchange_line(
     alloc: Global,
     number: u64,
     frame: &Frame,
@@ -314,7 +316,7 @@ fn class_key(class: ReqClass) -> &'static str
     }
 }
 
-fn write_kind(text: &mut Vec<u8>, kind: Kind) -> Result<(), AllocError>
+pub(crate) fn write_kind(text: &mut Vec<u8>, kind: Kind) -> Result<(), AllocError>
     ensures { OnOk result (text.new.items ≡ text.old.items ++ kind_member kind) }
 {
     match kind {
@@ -324,7 +326,7 @@ fn write_kind(text: &mut Vec<u8>, kind: Kind) -> Result<(), AllocError>
 }
 
 // A member with a number.
-fn write_number(text: &mut Vec<u8>, key: &str, number: u64) -> Result<(), AllocError>
+pub(crate) fn write_number(text: &mut Vec<u8>, key: &str, number: u64) -> Result<(), AllocError>
     ensures { OnOk result (text.new.items ≡ text.old.items ++ number_member key.now number) }
 {
     write_key(text, key)?;
@@ -332,14 +334,19 @@ fn write_number(text: &mut Vec<u8>, key: &str, number: u64) -> Result<(), AllocE
 }
 
 // A member with bytes in hexadecimal.
-fn write_bytes(alloc: Global, text: &mut Vec<u8>, key: &str, bytes: &[u8]) -> Result<(), AllocError>
+pub(crate) fn write_bytes(
+    alloc: Global,
+    text: &mut Vec<u8>,
+    key: &str,
+    bytes: &[u8],
+) -> Result<(), AllocError>
     ensures { OnOk result (text.new.items ≡ text.old.items ++ bytes_member key.now bytes.now) }
 {
     write_text(text, key, hex::encode(alloc, bytes)?.as_bytes())
 }
 
 // A member with a text.
-fn write_text(text: &mut Vec<u8>, key: &str, value: &[u8]) -> Result<(), AllocError>
+pub(crate) fn write_text(text: &mut Vec<u8>, key: &str, value: &[u8]) -> Result<(), AllocError>
     ensures { OnOk result (text.new.items ≡ text.old.items ++ text_member key.now value.now) }
 {
     write_key(text, key)?;
@@ -350,7 +357,7 @@ fn write_text(text: &mut Vec<u8>, key: &str, value: &[u8]) -> Result<(), AllocEr
 }
 
 // A member's key, after the members before it.
-fn write_key(text: &mut Vec<u8>, key: &str) -> Result<(), AllocError>
+pub(crate) fn write_key(text: &mut Vec<u8>, key: &str) -> Result<(), AllocError>
     ensures { OnOk result (text.new.items ≡ text.old.items ++ codes ",\"" ++ key.now ++ codes "\":") }
 {
     text.extend_from_slice(b",\"")?;

@@ -4,8 +4,7 @@ use Rattle.std.proofs.Common.{◌∙◌, Bool, true, false, arith}
 use Rattle.std.specs.Prelude.{◌==◌}
 use Rattle.std.specs.Bool.{OnTrue}
 use Rattle.std.proofs.lemmas.Bool.{eqb-true}
-use Rattle.std.proofs.Math.Seq.{take-suc}
-use Rattle.std.proofs.lemmas.List.{length-take-le}
+use Rattle.std.proofs.lemmas.List.{length-take-le, take_more}
 use Rattle.rdm_log.specs.declared.entry.Entry.{Entry}
 use Rattle.rdm_files.specs.declared.session.client.ClientFile.{ClientFile}
 use Rattle.rdm_serving.specs.LoggedCalls.{AllCalled, calls_logged}
@@ -38,15 +37,11 @@ called_more h c (y ∷ ys) x all here =
 pub called_next : (h : List Entry) (cs : List ClientFile) (i : ℕ) (x : ClientFile) → i < length cs → x ≡ get_or cs i x
     → AllCalled h 0 (take i cs) → calls_logged i h ≡ x.calls.items → AllCalled h 0 (take (i + 1) cs)
 called_next h cs i x lt at all here =
-    let more : take (i + 1) cs ≡ take i cs ++ x ∷ [] = ap (λ k. take k cs) (next i) ∙ take-suc cs i x lt
-    ∙ ap (λ w. take i cs ++ w ∷ []) (sym at) in
+    let more = take_more cs i x lt ∙ ap (λ w. take i cs ++ w ∷ []) (sym at) in
     let many : i
     ≡ 0 + length (take i cs) = sym (none_more (length (take i cs)) ∙ length-take-le i cs (omega (arith, lt))) in
     subst (λ xs. AllCalled h 0 xs) (sym more)
     (called_more h 0 (take i cs) x all (subst (λ n. calls_logged n h ≡ x.calls.items) many here))
   where
-    next : (n : ℕ) → n + 1 ≡ suc n
-    next n = omega arith
-
     none_more : (n : ℕ) → 0 + n ≡ n
     none_more n = omega arith

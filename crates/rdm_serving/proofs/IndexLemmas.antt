@@ -2,8 +2,7 @@
 use Rattle.std.proofs.Common.{◌≡◌, ℕ, suc, ◌+◌, ◌<◌, ◌++◌, ◌∷◌, [], Bool, true, false, List, length, take, get_or, map}
 use Rattle.std.proofs.Common.{refl, sym, ap, ◌∙◌, arith}
 use Rattle.std.specs.Prelude.{if◌then◌else◌}
-use Rattle.std.proofs.Math.Seq.{take-suc}
-use Rattle.std.proofs.lemmas.List.{map-append, append-nil, length-take-le}
+use Rattle.std.proofs.lemmas.List.{map-append, append-nil, length-take-le, take_more}
 use Rattle.rdm_reports.specs.SessionReport.{indices_of}
 use Rattle.rdm_files.specs.declared.session.call.ClientCall.{ClientCall}
 
@@ -43,16 +42,12 @@ module _ (is_of_kind : ClientCall → Bool) where
       → indices_of is_of_kind 0 (take (call_index + 1) calls) ≡ indices_of is_of_kind 0 (take call_index calls)
       ++ index_if call call_index
   indices_next calls call_index call lt at =
-      ap (λ k. indices_of is_of_kind 0 (take k calls)) (next call_index)
-      ∙ ap (λ l. indices_of is_of_kind 0 l)
-      (take-suc calls call_index call lt ∙ ap (λ c. take call_index calls ++ c ∷ []) (sym at))
+      ap (λ l. indices_of is_of_kind 0 l)
+      (take_more calls call_index call lt ∙ ap (λ c. take call_index calls ++ c ∷ []) (sym at))
       ∙ indices_more 0 (take call_index calls) call
       ∙ ap (λ k. indices_of is_of_kind 0 (take call_index calls) ++ index_if call k)
       (many (length (take call_index calls)) call_index (length-take-le call_index calls (omega (arith, lt))))
     where
-      next : (n : ℕ) → n + 1 ≡ suc n
-      next n = omega arith
-
       many : (k n : ℕ) → k ≡ n → 0 + k ≡ n
       many k n is = omega (arith, is)
 
@@ -75,13 +70,9 @@ module _ (is_of_kind : ClientCall → Bool) where
       → map tag (take count outcomes) ≡ indices_of is_of_kind 0 (take call_index calls)
       → map tag (take (count + 1) outcomes) ≡ indices_of is_of_kind 0 (take (call_index + 1) calls)
   next_call tag calls outcomes call_index count call outcome lt few at there same own is =
-      ap (λ k. map tag (take k outcomes)) (next count)
-      ∙ ap (λ l. map tag l) (take-suc outcomes count outcome few ∙ ap (λ t. take count outcomes ++ t ∷ []) (sym there))
+      ap (λ l. map tag l) (take_more outcomes count outcome few ∙ ap (λ t. take count outcomes ++ t ∷ []) (sym there))
       ∙ map-append tag (take count outcomes) (outcome ∷ [])
       ∙ ap (λ l. l ++ tag outcome ∷ []) is
       ∙ ap (λ k. indices_of is_of_kind 0 (take call_index calls) ++ k ∷ []) own
       ∙ sym (indices_next calls call_index call lt at ∙ ap
       (λ (b : Bool). indices_of is_of_kind 0 (take call_index calls) ++ (if b then call_index ∷ [] else [])) same)
-    where
-      next : (n : ℕ) → n + 1 ≡ suc n
-      next n = omega arith

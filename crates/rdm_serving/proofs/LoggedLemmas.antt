@@ -4,8 +4,7 @@ use Rattle.std.proofs.Common.{refl, ap, sym, ◌∙◌, Option, Some, None, Bool
 use Rattle.std.specs.Prelude.{◌==◌, filter_map}
 use Rattle.std.specs.Bool.{OnTrue}
 use Rattle.std.proofs.lemmas.Bool.{eqb-true}
-use Rattle.std.proofs.Math.Seq.{take-suc}
-use Rattle.std.proofs.lemmas.List.{at_drop_more, append_assoc, append-nil, length-take-le}
+use Rattle.std.proofs.lemmas.List.{at_drop_more, append_assoc, append-nil, length-take-le, take_more}
 use Rattle.std.proofs.Math.ListN.{drop_of_length-le}
 use Rattle.rdm_wire.specs.declared.request.Request.{Request}
 use Rattle.rdm_agent.specs.declared.kind.Kind.{Kind}
@@ -14,7 +13,7 @@ use Rattle.rdm_log.specs.declared.entry.Opening.{Opening}
 use Rattle.rdm_log.specs.declared.entry.Entry.{Entry}
 use Rattle.rdm_log.specs.declared.entry.Entry.TheVariants.{Join, Refuse, Accept, Ask, Send, Came, Finish, Answer}
 use Rattle.rdm_log.specs.declared.entry.Entry.TheVariants.{Collect, Pause, Resume, Close}
-use Rattle.rdm_log.specs.log.Entries.{accepted_of, asked_of, accepts, asks}
+use Rattle.rdm_log.specs.log.Entries.{accepted_of, asked_of}
 use Rattle.rdm_client.specs.declared.told.Told.{Told}
 use Rattle.rdm_client.specs.declared.told.AskTold.{AskTold}
 use Rattle.rdm_client.specs.declared.told.Collected.{Collected}
@@ -71,6 +70,11 @@ module _ {X : Type 0} where
       append_assoc before (number x ∷ []) (map number (filter_map f (drop (i + 1) h)))
       ∙ ap (λ xs. before ++ map number xs) (sym (found_next f h i e x within is there)) ∙ whole
 
+  pub numbers_end : (f : Entry → Option X) (number : X → ℕ) (h : List Entry) (i : ℕ) (before all : List ℕ)
+      → length h ≤ i → before ++ map number (filter_map f (drop i h)) ≡ all → before ≡ all
+  numbers_end f number h i before all past whole =
+      sym (append-nil before) ∙ ap (λ xs. before ++ map number xs) (sym (found_end f h i past)) ∙ whole
+
 -- an entry that is no Accept, and no Ask
 pub no_accept : (e : Entry) → ((c : ClientId) (n : ℕ) (request : Request) → e ≡ Accept c n request → ⊥)
     → accepted_of e ≡ None
@@ -101,54 +105,6 @@ no_ask Pause other = refl
 no_ask Resume other = refl
 no_ask Close other = refl
 
--- the clients of Accepts, entry by entry
-pub accepts_skip : (h : List Entry) (i : ℕ) (e : Entry) (before all : List ℕ) → i < length h → e ≡ get_or h i e
-    → accepted_of e ≡ None
-    → before ++ map (λ s. s.client) (accepts (drop i h)) ≡ all
-    → before ++ map (λ s. s.client) (accepts (drop (i + 1) h)) ≡ all
-unfolding accepts
-accepts_skip h i e before all within is other whole =
-    numbers_skip accepted_of (λ s. s.client) h i e before all within is other whole
-
-pub accepts_next : (h : List Entry) (i : ℕ) (e : Entry) (c : ClientId) (n : ℕ) (request : Request) (before all : List ℕ)
-    → i < length h → e ≡ get_or h i e → e ≡ Accept c n request
-    → before ++ map (λ s. s.client) (accepts (drop i h)) ≡ all
-    → (before ++ c.0 ∷ []) ++ map (λ s. s.client) (accepts (drop (i + 1) h)) ≡ all
-unfolding accepts
-accepts_next h i e c n request before all within is there whole =
-    numbers_next accepted_of (λ s. s.client) h i e (record { client = c.0; number = n; request = request }) before all
-    within is (ap accepted_of there) whole
-
-pub accepts_end : (h : List Entry) (i : ℕ) (before all : List ℕ) → length h ≤ i
-    → before ++ map (λ s. s.client) (accepts (drop i h)) ≡ all → before ≡ all
-unfolding accepts
-accepts_end h i before all past whole =
-    sym (append-nil before) ∙ ap (λ xs. before ++ map (λ s. s.client) xs) (sym (found_end accepted_of h i past)) ∙ whole
-
--- of Asks
-pub asks_skip : (h : List Entry) (i : ℕ) (e : Entry) (before all : List ℕ) → i < length h → e ≡ get_or h i e
-    → asked_of e ≡ None
-    → before ++ map (λ s. s.client) (asks (drop i h)) ≡ all
-    → before ++ map (λ s. s.client) (asks (drop (i + 1) h)) ≡ all
-unfolding asks
-asks_skip h i e before all within is other whole =
-    numbers_skip asked_of (λ s. s.client) h i e before all within is other whole
-
-pub asks_next : (h : List Entry) (i : ℕ) (e : Entry) (c : ClientId) (n : ℕ) (kind : Kind) (before all : List ℕ)
-    → i < length h → e ≡ get_or h i e → e ≡ Ask c n kind
-    → before ++ map (λ s. s.client) (asks (drop i h)) ≡ all
-    → (before ++ c.0 ∷ []) ++ map (λ s. s.client) (asks (drop (i + 1) h)) ≡ all
-unfolding asks
-asks_next h i e c n kind before all within is there whole =
-    numbers_next asked_of (λ s. s.client) h i e (record { client = c.0; number = n; kind = kind }) before all within is
-    (ap asked_of there) whole
-
-pub asks_end : (h : List Entry) (i : ℕ) (before all : List ℕ) → length h ≤ i
-    → before ++ map (λ s. s.client) (asks (drop i h)) ≡ all → before ≡ all
-unfolding asks
-asks_end h i before all past whole =
-    sym (append-nil before) ∙ ap (λ xs. before ++ map (λ s. s.client) xs) (sym (found_end asked_of h i past)) ∙ whole
-
 logged_more : (o : Opening) (h : List Entry) (c : ℕ) (xs : List Outcomes) (x : Outcomes) → AllLogged o h c xs
     → AreLogged o h (c + length xs) x → AllLogged o h c (xs ++ x ∷ [])
 logged_more o h c [] x all here = (subst (λ n. AreLogged o h n x) (plain c) here, tt)
@@ -166,17 +122,13 @@ pub logged_next : (o : Opening) (h : List Entry) (told : List Outcomes) (i : ℕ
     → x ≡ get_or told i x
     → AllLogged o h 0 (take i told) → AreLogged o h i x → AllLogged o h 0 (take (i + 1) told)
 logged_next o h told i x lt at all here =
-    let more : take (i + 1) told ≡ take i told ++ x ∷ [] = ap (λ k. take k told) (next i) ∙ take-suc told i x lt
-    ∙ ap (λ w. take i told ++ w ∷ []) (sym at) in
+    let more = take_more told i x lt ∙ ap (λ w. take i told ++ w ∷ []) (sym at) in
     let many : i
     ≡ 0 + length (take i told) =
     sym (none_more (length (take i told)) ∙ length-take-le i told (omega (arith, lt))) in
     subst (λ xs. AllLogged o h 0 xs) (sym more)
     (logged_more o h 0 (take i told) x all (subst (λ n. AreLogged o h n x) many here))
   where
-    next : (n : ℕ) → n + 1 ≡ suc n
-    next n = omega arith
-
     none_more : (n : ℕ) → 0 + n ≡ n
     none_more n = omega arith
 

@@ -4,7 +4,7 @@ use Rattle.std.specs.Prelude.{option_map, IfSome}
 use Rattle.rdm_client.specs.declared.worker_end.WorkerEnd.{WorkerEnd}
 use Rattle.rdm_client.specs.declared.worker_end.WorkerEnd.TheVariants.{AllLeft, Turns, LogFull}
 use Rattle.rdm_files.specs.declared.session.client.ClientFile.{ClientFile}
-use Rattle.rdm_words.specs.declared.port_kind.PortKind.TheVariants.{Rings}
+use Rattle.rdm_arguments.specs.declared.port_kind.PortKind.TheVariants.{Rings}
 use Rattle.rdm_lanes.specs.declared.views.history.ViewHistory.{Ghosts}
 use Rattle.rdm_lanes.specs.declared.client.ends.ClientEnd.{ClientEnd}
 use Rattle.rdm_lanes.specs.Ends.{end_slots, AllHaveSlots}

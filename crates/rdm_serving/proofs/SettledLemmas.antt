@@ -1,7 +1,6 @@
 -- Clients whose calls have all their outcomes, one after another.
-use Rattle.std.proofs.Common.{◌≡◌, ℕ, suc, ◌+◌, ◌<◌, ◌++◌, ◌∷◌, [], List, length, take, get_or, sym, ap, ◌∙◌, subst}
-use Rattle.std.proofs.Common.{arith}
-use Rattle.std.proofs.Math.Seq.{take-suc}
+use Rattle.std.proofs.Common.{◌≡◌, ℕ, ◌+◌, ◌<◌, ◌++◌, ◌∷◌, [], List, length, take, get_or, sym, ap, ◌∙◌, subst}
+use Rattle.std.proofs.lemmas.List.{take_more}
 use Rattle.rdm_reports.specs.SessionReport.{IsSettled, AllSettled}
 use Rattle.rdm_reports.specs.declared.outcomes.Outcomes.{Outcomes}
 use Rattle.rdm_files.specs.declared.session.client.ClientFile.{ClientFile}
@@ -18,13 +17,8 @@ pub settled_next : (cs : List ClientFile) (os : List Outcomes) (i : ℕ) (c : Cl
     → i < length os → c ≡ get_or cs i c → o ≡ get_or os i o
     → AllSettled (take i cs) (take i os) → IsSettled c.calls.items o → AllSettled (take (i + 1) cs) (take (i + 1) os)
 settled_next cs os i c o lt few at there all here =
-    let clients : take (i + 1) cs ≡ take i cs ++ c ∷ [] = ap (λ k. take k cs) (next i) ∙ take-suc cs i c lt
-    ∙ ap (λ w. take i cs ++ w ∷ []) (sym at) in
-    let outcomes : take (i + 1) os ≡ take i os ++ o ∷ [] = ap (λ k. take k os) (next i) ∙ take-suc os i o few
-    ∙ ap (λ w. take i os ++ w ∷ []) (sym there) in
+    let clients = take_more cs i c lt ∙ ap (λ w. take i cs ++ w ∷ []) (sym at) in
+    let outcomes = take_more os i o few ∙ ap (λ w. take i os ++ w ∷ []) (sym there) in
     subst (λ xs. AllSettled xs (take (i + 1) os)) (sym clients)
     (subst (λ ys. AllSettled (take i cs ++ c ∷ []) ys) (sym outcomes)
     (settled_more (take i cs) (take i os) c o all here))
-  where
-    next : (n : ℕ) → n + 1 ≡ suc n
-    next n = omega arith

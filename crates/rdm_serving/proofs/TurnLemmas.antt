@@ -1,5 +1,6 @@
 -- How many turns the clients of a session that was served need.
-use Rattle.std.proofs.Common.{◌≡◌, ℕ, ◌+◌, ◌*◌, ◌≤◌, List, [], ◌∷◌, length, refl, sym, ap, ◌∙◌, arith}
+use Rattle.std.proofs.Common.{◌≡◌, ℕ, zero, suc, ◌+◌, ◌*◌, ◌<◌, ◌≤◌, List, [], ◌∷◌, length, get_or}
+use Rattle.std.proofs.Common.{refl, sym, ap, ◌∙◌, arith}
 use Rattle.std.specs.List.{All}
 use Rattle.std.proofs.lemmas.List.{length-map}
 use Rattle.std.proofs.lemmas.List.Elements.{All-nil, All-cons, All-head, All-tail}
@@ -29,6 +30,17 @@ one_outcome_each calls o settled =
     sym (length-map o.discoveries.items (λ (d : Discovered). d.tag)) ∙ ap length settled.discoveries in
     let all = all_indices 0 calls in
     omega (arith, requests, discoveries, all)
+
+-- so where all clients are settled, none has fewer outcomes than calls
+pub none_lacks : (clients : List ClientFile) (outcomes : List Outcomes) (i : ℕ) (c : ClientFile) (o : Outcomes)
+    → i < length clients → i < length outcomes → c ≡ get_or clients i c → o ≡ get_or outcomes i o
+    → AllSettled clients outcomes → length c.calls.items ≤ length o.requests.items + length o.discoveries.items
+none_lacks [] outcomes i c o lt few at there settled = absurd (omega (arith, lt))
+none_lacks (k ∷ cs) [] i c o lt few at there settled = absurd settled
+none_lacks (k ∷ cs) (p ∷ os) zero c o lt few at there settled =
+    let many = one_outcome_each k.calls.items p settled.0 in rw (at, there) (omega (arith, many))
+none_lacks (k ∷ cs) (p ∷ os) (suc i) c o lt few at there settled =
+    none_lacks cs os i c o (omega (arith, lt)) (omega (arith, few)) at there settled.1
 
 pub calls_in_turns : (clients : List ClientFile) (outcomes : List Outcomes) (turns : ℕ) → AllSettled clients outcomes
     → All (IsInTurns turns) outcomes → All (λ (c : ClientFile). 2 * length c.calls.items ≤ turns) clients

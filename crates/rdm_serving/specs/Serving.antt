@@ -3,10 +3,12 @@ use Rattle.std.specs.Prelude.{◌≡◌, ℕ, ◌+◌, ◌*◌, ◌≤◌, List,
 use Rattle.std.specs.List.{All}
 use Rattle.std.specs.declared.sync.ledger.Blank.{Blank}
 use Rattle.rdm_wire.specs.Uid.{IsDevice}
+use Rattle.rdm_agent.specs.declared.search.Search.{Search}
+use Rattle.rdm_log.specs.log.LogState.{LogState}
 use Rattle.rdm_lanes.specs.Lines.{exchange_count}
 use Rattle.rdm_files.specs.declared.session.client.ClientFile.{ClientFile}
-use Rattle.rdm_words.specs.declared.port_kind.PortKind.{PortKind}
-use Rattle.rdm_words.specs.declared.port_kind.PortKind.TheVariants.{Locked, Rings}
+use Rattle.rdm_arguments.specs.declared.port_kind.PortKind.{PortKind}
+use Rattle.rdm_arguments.specs.declared.port_kind.PortKind.TheVariants.{Locked, Rings}
 use Rattle.rdm_serving.specs.LoggedCalls.{HasCalls}
 use Rattle.rdm_serving.specs.LoggedOutcomes.{IsLogOf}
 use Rattle.rdm_reports.specs.SessionReport.{AllSettled}
@@ -35,6 +37,12 @@ slots_by Rings ring (client ∷ later) = Some (ring, ring)
 pub record IsInTurns (turns : ℕ) (o : Outcomes) : Type 0 where
   pub counted : 2 * (length o.requests.items + length o.discoveries.items) ≤ o.turns
   pub few : o.turns ≤ turns
+
+-- the session began with this controller's UID and this budget, and its runs search like this
+pub record IsSetUp (source budget : ℕ) (search : Search) (k : LogState) : Type 0 where
+  pub from : k.opening.source ≡ source
+  pub frames : k.opening.budget ≡ budget
+  pub searched : k.search ≡ search
 
 -- What is left of a session with these clients: the outcomes of all their calls, which agree with its log. The log has
 -- exactly these clients and calls, and all its entries are stored. The worker made at most this many exchanges, and

@@ -1,11 +1,11 @@
 //! Serves the clients of a session file on a line: each in a thread of its own, and a worker in another.
-ghost use Rattle.std.specs.Prelude.{◌≡◌, ◌≤◌, [], IfOk, map};
+ghost use Rattle.std.specs.Prelude.{◌≡◌, ◌≤◌, [], Err, IfOk, map, true};
 ghost use Rattle.std.specs.Bool.{OnTrue};
 ghost use Rattle.std.specs.List.{All};
 ghost use Rattle.rdm_wire.specs.Uid.{IsDevice};
 ghost use Rattle.rdm_log.specs.log.Config.{IsConfig};
 ghost use Rattle.rdm_client.specs.declared.told.Told.{Told};
-ghost use Rattle.rdm_serving.specs.Serving.{MayServe, IsInTurns, IsServedBy};
+ghost use Rattle.rdm_serving.specs.Serving.{MayServe, IsInTurns, IsServedBy, IsSetUp};
 ghost use Rattle.rdm_serving.specs.LoggedOutcomes.{IsLogOf};
 ghost use Rattle.rdm_serving.specs.LoggedCalls.{HasCalls};
 ghost use Rattle.rdm_reports.specs.SessionReport.{AllSettled, IsSettled, is_request, is_ask, indices_of};
@@ -27,13 +27,14 @@ pub use crate::serving::logged::{all_entries, are_logged};
 pub use crate::serving::playing::{Player, play};
 use crate::serving::progress_line::ProgressLine;
 use crate::serving::rings::serve_rings;
+use rdm_arguments::PortKind;
 use rdm_client::Told;
-use rdm_files::{ClientCall, ClientFile, LineSessionFile, SceneFile, SessionFile};
-use rdm_line::{Line, SimLine};
-use rdm_queue::{Config, LEAST_FREE, Log, MOST_PLACES, Session, Setup, laws};
+use rdm_files::{ClientCall, ClientFile, SessionFile};
+use rdm_line::Line;
+use rdm_log::{Config, LEAST_FREE, Log, MOST_PLACES, Setup, laws};
+use rdm_queue::Session;
 use rdm_reports::{Discovered, Outcomes, Progress};
 use rdm_wire::Uid;
-use rdm_words::PortKind;
 use std::alloc::Global;
 use std::sync::Wait;
 use std::sync::ledger::{Blank, Ledger};
@@ -48,6 +49,8 @@ pub enum ServeFault {
     Log,
     /// A client or the worker has made all its turns.
     Turns,
+    /// The outcomes of a session differ from its log or its file. Only a defect of the program causes this.
+    Defect,
 }
 
 /// What a session starts with.
@@ -76,54 +79,20 @@ pub struct Served {
     pub ran_out: Option<u64>,
 }
 
-/// Serves a session on the line of its scene, and returns the outcomes of each client's calls, with the session and its
-/// log. The log has exactly the file's clients and calls. Each outcome has its call's tag. It agrees with that log in
-/// its status and the number of its bytes, or in its fault. The worker made at most as many exchanges as `turns` says,
-/// and each client at most as many turns. With ring buffers, each of the first client's rings had as many slots as the
-/// file says.
+/// Serves a session on a line, which is dropped at the end. It returns the outcomes of each client's calls, with the
+/// session and its log. The log has exactly the file's clients and calls, and its opening the file's source and budget.
+/// Each outcome has its call's tag. It agrees with that log in its status and the number of its bytes, or in its fault.
+/// The worker made at most as many exchanges as `turns` says, and each client at most as many turns. With ring buffers,
+/// each of the first client's rings had as many slots as the file says. The file's scene isn't used. To serve it, take
+/// it out of the file and pass `SimLine::new(alloc, scene)` as the line.
 ///
 /// The file's fields must be in their ranges: the source isn't broadcast ([`Uid::is_broadcast`]), the budget and the
 /// ring are at least 1, and the log is at most [`MOST_FREE_ENTRIES`](rdm_queue::MOST_FREE_ENTRIES). Those of a file
 /// that was read are.
 ///
-/// Err: there was no memory; or else the log is full; or else a client or the worker has made all its turns.
-pub fn serve<L: Ledger + Send + Sync, P: Progress + Send, R: Threads + Wait + Sync>(
-    rt: &R,
-    alloc: Global,
-    blank: Blank,
-    port: PortKind,
-    file: SessionFile,
-    progress: &mut P,
-) -> Result<Served, ServeFault>
-    requires may_serve { MayServe L.name L.parts blank file.scene.scene.source file.scene.budget file.ring file.log }
-    ensures served { IfOk result (IsServedBy port file.clients.items file.ring file.turns) }
-{
-    let SessionFile {
-        scene,
-        clients,
-        ring,
-        search,
-        log,
-        turns,
-    } = file;
-    let SceneFile { scene, budget, .. } = scene;
-    let file = LineSessionFile {
-        source: scene.source,
-        budget,
-        clients,
-        ring,
-        search,
-        log,
-        turns,
-    };
-    match SimLine::new(alloc, scene) {
-        Ok(line) => serve_on_line::<L, _, P, R>(rt, alloc, blank, port, file, line, progress),
-        Err(_) => Err(ServeFault::Memory),
-    }
-}
-
-/// The same on any line, which is dropped at the end.
-pub fn serve_on_line<
+/// Err: there was no memory; or else the log is full; or else a client or the worker has made all its turns; or else
+/// the outcomes differ from the log or the file.
+pub fn serve<
     L: Ledger + Send + Sync,
     X: Line + Send + Drop,
     P: Progress + Send,
@@ -133,58 +102,52 @@ pub fn serve_on_line<
     alloc: Global,
     blank: Blank,
     port: PortKind,
-    file: LineSessionFile,
+    file: SessionFile,
     line: X,
     progress: &mut P,
 ) -> Result<Served, ServeFault>
     requires may_serve { MayServe L.name L.parts blank file.source file.budget file.ring file.log }
     ensures served { IfOk result (IsServedBy port file.clients.items file.ring file.turns) }
+    ensures set_up { IfOk result (λ s. IsSetUp file.source file.budget file.search s.session) }
 {
-    let LineSessionFile {
-        source,
-        budget,
-        clients,
-        ring,
-        search,
-        log,
-        turns,
-    } = file;
-    let config = config_of(source, budget, &clients);
-    let Ok(log) = Log::new(alloc, log as usize) else {
+    let clients = &file.clients;
+    let Ok(log) = Log::new(alloc, file.log as usize) else {
         return Err(ServeFault::Memory);
     };
     let line = ProgressLine::new(line, progress);
     let start = Start {
-        setup: Setup { config, search },
+        setup: Setup {
+            config: config_of(file.source, file.budget, clients),
+            search: file.search,
+        },
         log,
-        turns,
+        turns: file.turns,
     };
     let served = match port {
-        PortKind::Locked => serve_locked::<L, _, R>(rt, alloc, blank, start, &clients, line),
-        PortKind::Rings => serve_rings(rt, alloc, start, ring, &clients, line),
+        PortKind::Locked => serve_locked::<L, _, R>(rt, alloc, blank, start, clients, line),
+        PortKind::Rings => serve_rings(rt, alloc, start, file.ring, clients, line),
     };
     match served {
-        Ok(served) => settled(alloc, &clients, turns, served),
+        Ok(served) => settled(alloc, &file, served),
         Err(fault) => Err(fault),
     }
 }
 
 // What is left of the session, if each call has an outcome. A log with fewer than three free entries would have
-// refused the worker's next frame, so it is full, even if no frame was left. It never happens that the log lacks an
-// outcome, or has other calls than the file's, or that a client made more turns than these, or fewer than it needed.
-fn settled(
-    alloc: Global,
-    clients: &[ClientFile],
-    turns: u64,
-    served: Served,
-) -> Result<Served, ServeFault>
-    ensures settled { IfOk result (λ s. AllSettled clients.now s.outcomes.items) }
+// refused the worker's next frame, so it is full, even if no frame was left. If all calls have outcomes, these can't
+// differ unless the program has a defect: the log has each outcome, the file's set-up and exactly its calls, and each
+// client made enough turns and not too many.
+fn settled(alloc: Global, file: &SessionFile, served: Served) -> Result<Served, ServeFault>
+    ensures settled { IfOk result (λ s. AllSettled file.now.clients.items s.outcomes.items) }
     ensures logged { IfOk result (λ s. IsLogOf s.session.opening s.session.entries s.outcomes.items) }
-    ensures called { IfOk result (λ s. HasCalls s.session.entries clients.now) }
+    ensures called { IfOk result (λ s. HasCalls s.session.entries file.now.clients.items) }
+    ensures set_up { IfOk result (λ s. IsSetUp file.now.source file.now.budget file.now.search s.session) }
     ensures whole { IfOk result (λ s. s.session.gone ≡ 0) }
-    ensures client_turns { IfOk result (λ s. All (IsInTurns turns) s.outcomes.items) }
+    ensures client_turns { IfOk result (λ s. All (IsInTurns file.now.turns) s.outcomes.items) }
     ensures same { IfOk result (λ s. s ≡ served) }
+    ensures turns { result ≡ Err ServeFault.Turns → AllSettled file.now.clients.items served.outcomes.items → ⊥ }
 {
+    let (clients, turns) = (&file.clients, file.turns);
     // Nobody drains the log here, so all its entries are stored.
     if served.session.free() < LEAST_FREE || served.session.log().gone() > 0 {
         return Err(ServeFault::Log);
@@ -194,11 +157,16 @@ fn settled(
         return Err(ServeFault::Memory);
     };
     let is_called = has_calls(all_entries(served.session.log()), clients);
+    let is_set_up = is_set_up(served.session.log(), file);
     let are_in_turns = all_in_turns(turns, &served.outcomes);
-    if is_logged && is_called && are_in_turns && all_settled(clients, &served.outcomes) {
+    if !have_all(clients, &served.outcomes) {
+        return Err(ServeFault::Turns);
+    }
+    let is_settled = all_settled(clients, &served.outcomes);
+    if is_logged && is_called && is_set_up && are_in_turns && is_settled {
         Ok(served)
     } else {
-        Err(ServeFault::Turns)
+        Err(ServeFault::Defect)
     }
 }
 
@@ -219,6 +187,14 @@ fn config_of(source: Uid, budget: u64, clients: &[ClientFile]) -> Config
     }
 }
 
+// Whether a session began as the file says.
+fn is_set_up(log: &Log, file: &SessionFile) -> bool
+    ensures { OnTrue result (IsSetUp file.now.source file.now.budget file.now.search log.now) }
+{
+    let opening = log.opening();
+    opening.source == file.source && opening.budget == file.budget && log.search() == file.search
+}
+
 // Whether a client made at most this many turns, and at least two for each outcome.
 fn is_in_turns(turns: u64, outcomes: &Outcomes) -> bool
     ensures { OnTrue result (IsInTurns turns outcomes.now) }
@@ -232,6 +208,20 @@ fn all_in_turns(turns: u64, outcomes: &[Outcomes]) -> bool
     ensures { OnTrue result (All (IsInTurns turns) outcomes.now) }
 {
     outcomes.iter().all(|client| is_in_turns(turns, client))
+}
+
+// Whether no client has fewer outcomes than calls. Clients without outcomes of their own aren't compared.
+fn have_all(clients: &[ClientFile], outcomes: &[Outcomes]) -> bool
+    ensures { AllSettled clients.now outcomes.now → result ≡ true }
+{
+    let count = clients.len().min(outcomes.len());
+    for i in 0..count {
+        let told = &outcomes[i];
+        if told.requests.len() + told.discoveries.len() < clients[i].calls.len() {
+            return false;
+        }
+    }
+    true
 }
 
 // Whether each client's calls have all their outcomes.

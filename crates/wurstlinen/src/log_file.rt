@@ -1,5 +1,5 @@
 //! The file of a log.
-use rdm_port::OpensLog;
+use rdm_reports::OpensLog;
 use std::fs::File;
 use std::io::{ErrorKind, Write};
 use std::rt::Files;

@@ -3,19 +3,17 @@
 //! the process, its files and its streams.
 #![tactic(auto)]
 
-ghost use Rattle.std.specs.Prelude.{◌≡◌, ◌≤◌, IfOk, length, map, string_bytes};
-ghost use Rattle.rdm_words.specs.Words.{texts_of};
+ghost use Rattle.std.specs.Prelude.{◌≡◌, IfOk, map, string_bytes};
+ghost use Rattle.rdm_arguments.specs.Arguments.{texts_of};
 
 mod log_file;
 mod opening;
 
 use crate::log_file::LogFile;
 use crate::opening::{FileOpener, TextLine};
-use rdm_port::{
-    Complaint, Job, LineDiscovery, LineJob, LineRun, LogOutput, Progressing, Reason, WordsFault,
-    carry_out, carry_out_on_line, complaint_of, parse_line_words, parse_words, print_reason,
-    print_usage, run_on_line,
-};
+use rdm_arguments::{Complaint, Job, WordsFault, complaint_of, parse_words};
+use rdm_port::{Progressing, Reason, carry_out, print_reason, print_usage};
+use rdm_reports::LogOutput;
 use std::alloc::{AllocError, Global};
 use std::fs::File;
 use std::io::Read;
@@ -28,7 +26,7 @@ use std::{env, fs, io};
 fn main(rt: HostRuntime) -> ExitCode {
     let status = match args(&rt) {
         Ok(args) => obey(&rt, rt.alloc(), &args),
-        Err(fault) => print(&rt, rt.alloc(), Err(fault), &Complaint::NoText),
+        Err(fault) => print(&rt, rt.alloc(), Err(fault), None),
     };
     ExitCode::from(status)
 }
@@ -39,111 +37,29 @@ fn obey<T: Runtime + Threads + Wait + Sync + Files<File = File>>(
     args: &[String],
 ) -> u8 {
     match words(alloc, args) {
-        Ok(words) => obey_words(rt, alloc, &words),
-        Err(_) => print(rt, alloc, Err(WordsFault::NoMemory), &Complaint::Words),
+        Ok(words) => print(rt, alloc, parse_words(alloc, &words), Some(&words)),
+        Err(_) => print(rt, alloc, Err(WordsFault::NoMemory), None),
     }
 }
 
-// Arguments that fit no command on a simulated line may fit one on a line of the caller's own.
-fn obey_words<T: Runtime + Threads + Wait + Sync + Files<File = File>>(
-    rt: &T,
-    alloc: Global,
-    words: &[&str],
-) -> u8 {
-    match parse_words(alloc, words) {
-        Err(WordsFault::Words) => match parse_line_words(alloc, words) {
-            Ok(LineJob::Discover(job)) => discover_on_line(rt, alloc, &job),
-            Ok(LineJob::Run(job)) => open_and_run_on_line(rt, alloc, &job),
-            Err(fault) => print(rt, alloc, Err(fault), &complaint_of(words)),
-        },
-        job => print(rt, alloc, job, &complaint_of(words)),
-    }
-}
-
-// Prints the answer to a discovery on a line on standard output, and the reason if it isn't done on standard error.
-fn discover_on_line<T: Runtime + Files<File = File>>(
-    rt: &T,
-    alloc: Global,
-    job: &LineDiscovery<'_>,
-) -> u8
-    requires few { length job.now.known.items ≤ 1024 }
-{
-    let mut progress = Progressing::on_line(rt);
-    let mut opener = FileOpener::new(rt, alloc);
-    let mut log = LogOutput::new(LogFile::new(rt));
-    let (status, reason) = carry_out_on_line::<TextLine, _, _, _, _>(
-        alloc,
-        job,
-        &mut opener,
-        &mut log,
-        &mut io::writer(rt),
-        &mut progress,
-    );
-    print_if_any(rt, reason);
-    status
-}
-
-// The same for a session on a line, whose file is opened first.
-fn open_and_run_on_line<T: Runtime + Threads + Wait + Sync + Files<File = File>>(
-    rt: &T,
-    alloc: Global,
-    job: &LineRun<'_>,
-) -> u8 {
-    match fs::open(rt, job.file) {
-        Ok(mut file) => run_from(rt, alloc, job, &mut file),
-        Err(error) => run_from(rt, alloc, job, &mut Unopened(error.kind())),
-    }
-}
-
-fn run_from<R: Read, T: Runtime + Threads + Wait + Sync + Files<File = File>>(
-    rt: &T,
-    alloc: Global,
-    job: &LineRun<'_>,
-    reader: &mut R,
-) -> u8 {
-    let mut progress = Progressing::on_line(rt);
-    let mut opener = FileOpener::new(rt, alloc);
-    let mut log = LogOutput::new(LogFile::new(rt));
-    let (status, reason) = run_on_line::<TextLine, _, _, _, _, _, _>(
-        rt,
-        alloc,
-        job,
-        reader,
-        &mut opener,
-        &mut log,
-        &mut io::writer(rt),
-        &mut progress,
-    );
-    print_if_any(rt, reason);
-    status
-}
-
-// If standard error fails too, the status shows it.
-fn print_if_any(rt: &impl Eprint, reason: Option<Reason<'_>>) {
-    let _ = match reason {
-        Some(reason) => print_reason(rt, &reason),
-        None => Ok(()),
-    };
-}
-
-// Prints the answer on standard output, and the reason if it isn't done on standard error: the complaint, if the
-// arguments fit no command.
+// Prints the answer on standard output, and the reason if it isn't done on standard error. The words are the arguments,
+// if all of them are text.
 fn print<T: Runtime + Threads + Wait + Sync + Files<File = File>>(
     rt: &T,
     alloc: Global,
     job: Result<Job<'_>, WordsFault>,
-    complaint: &Complaint<'_>,
+    words: Option<&[&str]>,
 ) -> u8 {
     let file = match &job {
         Ok(job) => job.file(),
         Err(_) => None,
     };
     let Some(path) = file else {
-        return print_from(rt, alloc, job, complaint, &mut io::empty());
+        return print_from(rt, alloc, job, words, &mut io::empty());
     };
     match fs::open(rt, path) {
-        Ok(mut file) => print_from(rt, alloc, job, complaint, &mut file),
-        Err(error) => print_from(rt, alloc, job, complaint, &mut Unopened(error.kind())),
+        Ok(mut file) => print_from(rt, alloc, job, words, &mut file),
+        Err(error) => print_from(rt, alloc, job, words, &mut Unopened(error.kind())),
     }
 }
 
@@ -151,20 +67,38 @@ fn print_from<R: Read, T: Runtime + Threads + Wait + Sync + Files<File = File>>(
     rt: &T,
     alloc: Global,
     job: Result<Job<'_>, WordsFault>,
-    complaint: &Complaint<'_>,
+    words: Option<&[&str]>,
     reader: &mut R,
 ) -> u8 {
-    let mut progress = Progressing::new(rt);
-    let mut log = LogOutput::new(LogFile::new(rt));
-    let mut writer = io::writer(rt);
-    let (status, reason) = carry_out(rt, alloc, job, reader, &mut log, &mut writer, &mut progress);
+    let mut progress = match &job {
+        Ok(job) if job.is_on_line() => Progressing::on_line(rt),
+        _ => Progressing::new(rt),
+    };
+    let (status, reason) = carry_out::<TextLine, _, _, _, _, _, _>(
+        rt,
+        alloc,
+        job,
+        reader,
+        &mut FileOpener::new(rt, alloc),
+        &mut LogOutput::new(LogFile::new(rt)),
+        &mut io::writer(rt),
+        &mut progress,
+    );
     // If standard error fails too, the status shows it.
     let _ = match reason {
-        Some(Reason::Usage) => print_usage(rt, complaint),
+        Some(Reason::Arguments) => print_usage(rt, &complaint(words)),
         Some(reason) => print_reason(rt, &reason),
         None => Ok(()),
     };
     status
+}
+
+// What is wrong with the arguments. Those that aren't text fit no command.
+fn complaint<'a>(words: Option<&[&'a str]>) -> Complaint<'a> {
+    match words {
+        Some(words) => complaint_of(words),
+        None => Complaint::NoText,
+    }
 }
 
 // A file that can't be opened: each read of it fails with this error.

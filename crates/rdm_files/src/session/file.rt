@@ -2,23 +2,29 @@
 ghost use Rattle.serde_json.specs.View.{view};
 ghost use Rattle.rdm_files.specs.Forms.{Reads};
 ghost use Rattle.rdm_files.specs.SceneFiles.{IsSceneFile};
-ghost use Rattle.rdm_files.specs.SessionFiles.{IsSessionFile};
+ghost use Rattle.rdm_files.specs.SessionFiles.{IsSessionFile, IsSessionLine};
 
 use crate::scene::{
-    Form, Keyed, ListOf, SceneFault, SceneFile, UnknownKey, Whole, optional, read_scene, required,
-    unknown_in_list, unknown_in_scene, unknown_of, unknown_under,
+    BUDGET, Form, Keyed, ListOf, OwnUid, SceneFault, SceneFile, UnknownKey, Whole, optional,
+    read_scene, required, unknown_in_list, unknown_in_scene, unknown_of, unknown_under,
 };
 use crate::session::client::{ClientFile, ClientForm};
-use rdm_agent::Search;
+use rdm_agent::{DEFAULT_BUDGET, Search};
+use rdm_line::Scene;
 use rdm_log::MOST_CLIENTS;
+use rdm_wire::Uid;
 use serde_json::Value;
 use std::alloc::Global;
 
 /// The contents of a session file.
 #[derive(Debug, Drop)]
 pub struct SessionFile {
-    /// The line, and how many frames a discovery run may send.
-    pub scene: SceneFile,
+    /// The line to be simulated; none if the line is the caller's own.
+    pub scene: Option<Scene>,
+    /// The controller's UID, which isn't broadcast. With a scene, that of its file.
+    pub source: Uid,
+    /// How many frames a discovery run may send: 1 to 1,000,000,000. With a scene, that of its file.
+    pub budget: u64,
     /// The clients: 1 to 16.
     pub clients: Vec<ClientFile>,
     /// How many slots each ring has: 1 to 255.
@@ -33,37 +39,45 @@ pub struct SessionFile {
 
 const KEYS: &[&str] = &["scene", "clients", "ring", "search", "log", "turns"];
 
-pub(super) const CLIENTS: ListOf<ClientForm> = ListOf {
+const OWN_LINE_KEYS: &[&str] = &[
+    "source", "budget", "clients", "ring", "search", "log", "turns",
+];
+
+const NO_SCENE: &str = "with --line a session file has the key source and no scene";
+
+const CLIENTS: ListOf<ClientForm> = ListOf {
     form: ClientForm,
     least: 1,
     most: MOST_CLIENTS,
     expected: "a list of 1 to 16 clients",
 };
 
-pub(super) const RING: Whole = Whole {
+const RING: Whole = Whole {
     least: 1,
     most: 255,
     expected: "a whole number from 1 to 255",
 };
 
-pub(super) const LOG: Whole = Whole {
+const LOG: Whole = Whole {
     least: 0,
     most: 1_000_000,
     expected: "a whole number from 0 to 1000000",
 };
 
-pub(super) const TURNS: Whole = Whole {
+const TURNS: Whole = Whole {
     least: 1,
     most: 1_000_000_000,
     expected: "a whole number from 1 to 1000000000",
 };
 
-/// Reads a session file. An error is the first mismatch in the order of the keys `scene`, `clients`, `ring`, `search`,
-/// `log`, `turns`, or NoMemory if an allocation failed before it.
-pub fn read_session(alloc: Global, value: &Value) -> Result<SessionFile, SceneFault>
-    ensures { Reads result (IsSessionFile (view value.now)) }
+/// Reads a session file. `own_line` says that the line is the caller's own. Then the file has the keys `source` and
+/// `budget`, and must not have `scene`. Otherwise these two are unknown keys. An error is such a scene, or the first
+/// mismatch in the order of the keys `scene`, `source`, `budget`, `clients`, `ring`, `search`, `log`, `turns`, or
+/// NoMemory if an allocation failed before it.
+pub fn read_session(alloc: Global, value: &Value, own_line: bool) -> Result<SessionFile, SceneFault>
+    ensures { Reads result (IsSessionFile own_line (view value.now)) }
 {
-    let scene = required(alloc, value, "scene", &SceneForm)?;
+    let (scene, source, budget) = read_line(alloc, value, own_line)?;
     let clients = required(alloc, value, "clients", &CLIENTS)?;
     let ring = optional(alloc, value, "ring", &RING, 8)?;
     let search = optional(alloc, value, "search", &SearchForm, Search::Steady)?;
@@ -71,6 +85,8 @@ pub fn read_session(alloc: Global, value: &Value) -> Result<SessionFile, SceneFa
     let turns = optional(alloc, value, "turns", &TURNS, 100_000_000)?;
     Ok(SessionFile {
         scene,
+        source,
+        budget,
         clients: clients.into_vec(),
         ring: ring as u8,
         search,
@@ -79,9 +95,31 @@ pub fn read_session(alloc: Global, value: &Value) -> Result<SessionFile, SceneFa
     })
 }
 
-/// The first unknown key of a session, if there is one: its own, else one in the scene, else one in a client.
-pub fn unknown_in_session(value: &Value) -> Option<UnknownKey> {
-    if let Some(unknown) = unknown_of(value, KEYS) {
+// The line of a session: its scene if the line is simulated, the controller's UID, and the budget of a run.
+fn read_line(
+    alloc: Global,
+    value: &Value,
+    own_line: bool,
+) -> Result<(Option<Scene>, Uid, u64), SceneFault>
+    ensures { Reads result (λ line. IsSessionLine own_line (view value.now) line.0 line.1 line.2) }
+{
+    if !own_line {
+        let SceneFile { scene, budget, .. } = required(alloc, value, "scene", &SceneForm)?;
+        let source = scene.source;
+        return Ok((Some(scene), source, budget));
+    }
+    if value.get("scene").is_some() {
+        return Err(SceneFault::unwanted(NO_SCENE).under("scene"));
+    }
+    let source = required(alloc, value, "source", &OwnUid)?;
+    let budget = optional(alloc, value, "budget", &BUDGET, DEFAULT_BUDGET)?;
+    Ok((None, source, budget))
+}
+
+/// The first unknown key of a session that [`read_session`] read with the same `own_line`, if any: one of the session,
+/// else one in the scene, else one in a client.
+pub fn unknown_in_session(value: &Value, own_line: bool) -> Option<UnknownKey> {
+    if let Some(unknown) = unknown_of(value, if own_line { OWN_LINE_KEYS } else { KEYS }) {
         return Some(unknown);
     }
     match unknown_under(value, "scene", &SceneForm) {
@@ -116,9 +154,9 @@ impl Keyed for SceneForm {
 
 const EXPECTED_SEARCH: &str = "\"steady\" or \"quick\"";
 
-/// A search.
+// A search.
 #[derive(Clone, Copy, Drop)]
-pub(super) struct SearchForm;
+struct SearchForm;
 
 impl Form for SearchForm {
     type Out = Search;

@@ -6,7 +6,7 @@ ghost use Rattle.rdm_serving.specs.LoggedCalls.{AllCalled, HasCalls, call_logged
 ghost use Rattle.rdm_files.specs.declared.session.client.ClientFile.{ClientFile as ClientState};
 
 use rdm_files::{ClientCall, ClientFile};
-use rdm_queue::Entry;
+use rdm_log::Entry;
 
 /// Whether the log has exactly these clients, with their queue depths, and for each client exactly its calls, in order:
 /// each request as a whole, and each discovery with its kind.

@@ -12,8 +12,8 @@ use rdm_agent::Kind;
 use rdm_client::{Collected, Tells, TellsAsk};
 use rdm_files::{ClientCall, ClientFile};
 use rdm_line::Line;
-use rdm_locked::{CallShare, DiscoverFault, Exchange, Left, LockedClient, Port};
-use rdm_queue::{AskFault, JoinFault, SubmitFault};
+use rdm_locked::{CallShare, Exchange, Left, LockedClient, Port};
+use rdm_log::{AskFault, JoinFault, SubmitFault};
 use rdm_reports::Outcomes;
 use rdm_wire::Request;
 use std::alloc::Global;
@@ -44,7 +44,7 @@ pub fn serve_locked<L: Ledger + Send + Sync, X: Line + Send + Drop, R: Threads +
     ensures slots { IfOk result (λ s. (s.slots ≡ None) × (s.ran_out ≡ None)) }
 {
     let Start { setup, log, turns } = start;
-    let port = match Port::<L>::new_with(alloc, blank, setup, log) {
+    let port = match Port::<L>::new(alloc, blank, setup, log) {
         Ok(port) => port,
         Err(_) => return Err(ServeFault::Memory),
     };
@@ -74,8 +74,8 @@ fn finish<L: Ledger>(
             slots: None,
             ran_out: None,
         }),
-        // This never happens: all shares are there, and the record is the worker's own.
-        Err(_) => Err(ServeFault::Log),
+        // Only a defect of the program causes this: all shares are there, and the record is the worker's own.
+        Err(_) => Err(ServeFault::Defect),
     }
 }
 
@@ -355,7 +355,7 @@ fn is_accepted<L: Ledger, R: Wait>(
                 RequestTicket(call_index),
             )
         }
-        ClientCall::Discover(kind) => is_asked(rt, alloc, client, *kind, AskTicket(call_index)),
+        ClientCall::Discover(kind) => is_asked(rt, client, *kind, AskTicket(call_index)),
     }
 }
 
@@ -383,21 +383,20 @@ fn is_submitted<L: Ledger, R: Wait>(
 
 fn is_asked<L: Ledger, R: Wait>(
     rt: &R,
-    alloc: Global,
     client: &mut Client<'_, L>,
     kind: Kind,
     callback: AskTicket,
 ) -> Result<bool, ServeFault>
-    ensures { IfErr result (λ e. (e ≡ ServeFault.Log) ⊎ (e ≡ ServeFault.Memory)) }
+    ensures { IfErr result (λ e. e ≡ ServeFault.Log) }
 {
-    match client.discover(rt, alloc, kind, callback) {
+    match client.discover(rt, kind, callback) {
         Ok(_) => Ok(true),
         Err((fault, callback)) => {
             drop(callback.cancel());
-            match fault {
-                DiscoverFault::NoMemory => Err(ServeFault::Memory),
-                DiscoverFault::Refused(AskFault::LogFull) => Err(ServeFault::Log),
-                DiscoverFault::Refused(_) => Ok(false),
+            if fault == AskFault::LogFull {
+                Err(ServeFault::Log)
+            } else {
+                Ok(false)
             }
         }
     }

@@ -11,7 +11,7 @@ ghost use Rattle.rdm_serving.specs.LoggedOutcomes.{fault_logged, faults_logged};
 use rdm_agent::AgentFault;
 use rdm_client::Told;
 use rdm_join::Status;
-use rdm_queue::{Entry, Log, Opening};
+use rdm_log::{Entry, Log, Opening};
 use rdm_reports::{Discovered, Outcomes};
 use std::alloc::{AllocError, Global};
 

@@ -1,8 +1,8 @@
 //! A line that reports how many exchanges it has made.
 ghost use Rattle.std.specs.Prelude.{◌≡◌};
 
-use rdm_join::LineReply;
-use rdm_line::{Line, LineFault};
+use rdm_join::{LineFault, LineReply};
+use rdm_line::Line;
 use rdm_reports::{Progress, write_often};
 use rdm_wire::Frame;
 

@@ -3,7 +3,7 @@ ghost use Rattle.std.specs.Prelude.{◌≡◌, ◌≤◌, [], ⊤, length, slice
 ghost use Rattle.std.specs.List.{All};
 ghost use Rattle.std.proofs.Common.{rules};
 ghost use Rattle.rdm_log.specs.log.Config.{IsConfig};
-ghost use Rattle.rdm_words.specs.declared.port_kind.PortKind.TheVariants.{Rings};
+ghost use Rattle.rdm_arguments.specs.declared.port_kind.PortKind.TheVariants.{Rings};
 ghost use Rattle.rdm_lanes.specs.Clients.{SameClient};
 ghost use Rattle.rdm_lanes.specs.Ends.{end_slots};
 ghost use Rattle.rdm_lanes.specs.Lines.{exchange_count};

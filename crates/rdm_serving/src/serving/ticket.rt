@@ -5,7 +5,7 @@ ghost use Rattle.rdm_client.specs.Callbacks.{told, ask_told};
 use rdm_agent::AgentFault;
 use rdm_client::{AskTold, BoxedAsk, Tells, TellsAsk, Told};
 use rdm_join::Status;
-use rdm_queue::Completion;
+use rdm_log::Completion;
 use std::alloc::Global;
 
 /// The callback of a request: the index of its call among the client's calls, from 0. It isn't [`Drop`].

@@ -1,92 +1,55 @@
-use Rattle.std.proofs.Common.{◌≡◌, ℕ, Bool, List, Option, subst, refl}
+use Rattle.std.proofs.Common.{◌≡◌, List, [], ℕ, Option, subst, refl, inl}
 use Rattle.std.specs.Prelude.{is_some}
+use Rattle.clap.specs.Words.{Text}
 use Rattle.rdm_agent.specs.declared.kind.Kind.{Kind}
 use Rattle.rdm_agent.specs.declared.search.Search.{Search}
-use Rattle.rdm_line.specs.SimSteps.{NoFiveSuccessive}
-use Rattle.rdm_reports.specs.LogText.{exchanges_text}
-use Rattle.rdm_reports.specs.SceneDiscovery.{IsSceneDiscovery, IsHonestReport}
-use Rattle.rdm_reports.specs.Writing.{LogState, Logs}
-use Rattle.rdm_port.specs.Fault.{ReadsScene}
-use Rattle.rdm_port.specs.Outcome.{Discovers, kind_of, search_of}
+use Rattle.rdm_line.specs.Events.{Exchange}
+use Rattle.rdm_arguments.specs.declared.job.DiscoverJob.{DiscoverJob}
 use Rattle.rdm_reports.specs.Report.{report_text, report_status}
 use Rattle.rdm_reports.specs.declared.discovery.Discovery.{Discovery}
-use Rattle.rdm_files.specs.declared.scene.file.SceneFile.{SceneFile}
-use Rattle.rdm_port.proofs.LoggedLemmas.{unreported_unlogged, report_logged, memory_logged}
+use Rattle.rdm_port.specs.Outcome.{kind_of, search_of}
+use Rattle.rdm_port.specs.Program.{Discovers, IsRun}
+use Rattle.rdm_port.proofs.LoggedLemmas.{report_logged, memory_logged}
 use Rattle.rdm_port.proofs.discovering.answer_discover.Goals as goal
 
--- a run of a scene, whose exchanges are logged
-abbrev IsRun : SceneFile → Discovery → LogState → LogState → Search → Kind → Type 0
-IsRun file run mid new search kind =
-    (ran : IsSceneDiscovery file.scene search kind file.known file.budget run.found run.frames)
-    × Logs mid new (exchanges_text ran.discovery.driven.exchanges)
-
--- its devices, if not too many exchanges are lost
-abbrev IsSure : SceneFile → Discovery → Search → Kind → Type 0
-IsSure file run search kind =
-    NoFiveSuccessive file.scene.losses.items
-    → IsHonestReport file.scene search kind file.known file.budget run.found run.frames
-
--- its report, whether there is memory for it or not
-reported : (incremental quick : Bool) (known : Option (List ℕ)) (file : SceneFile) (run : Discovery)
-    (mid new : LogState) (search : Search) (kind : Kind)
-    → search ≡ search_of quick → kind ≡ kind_of incremental → ReadsScene known file → IsRun file run mid new search kind
-    → IsSure file run search kind
-    → (logged : List ℕ)
-    × Discovers incremental quick known (report_text run.found run.frames) logged (report_status run.found)
-    × Logs mid new logged
-reported incremental quick known file run mid new search kind searched of_kind reads ran sure =
-    by_run (subst (λ k. IsRun file run mid new (search_of quick) k) of_kind
-    (subst (λ s. IsRun file run mid new s kind) searched ran))
-    (subst (λ k. IsSure file run (search_of quick) k) of_kind (subst (λ s. IsSure file run s kind) searched sure))
-  where
-    by_run : IsRun file run mid new (search_of quick) (kind_of incremental)
-        → IsSure file run (search_of quick) (kind_of incremental)
-        → (logged : List ℕ)
-        × Discovers incremental quick known (report_text run.found run.frames) logged (report_status run.found)
-        × Logs mid new logged
-    by_run (ran, logs) honest = (
-      exchanges_text ran.discovery.driven.exchanges,
-      record {
-        file = file;
-        reads = reads;
-        found = run.found;
-        frames = run.frames;
-        run = ran;
-        honest = honest;
-        prints = refl;
-        logs = refl;
-        ends = refl;
-      },
-      logs,
-    )
+-- the report of a run, whether there is memory for it or not
+reported : (L : Type 0) (step : L → Exchange → L → Type 0) (opens : Text → Text → L → Type 0) (job : DiscoverJob)
+    (known : Option (List ℕ)) (run : Discovery) (logged : List ℕ) (search : Search) (kind : Kind)
+    → search ≡ search_of job.quick → kind ≡ kind_of job.incremental
+    → IsRun L step opens job.line search kind known run.found run.frames logged
+    → Discovers L step opens job known (report_text run.found run.frames) logged (report_status run.found)
+reported L step opens job known run logged search kind searched of_kind ran = record {
+  found = run.found;
+  frames = run.frames;
+  run = subst (λ k. IsRun L step opens job.line (search_of job.quick) k known run.found run.frames logged) of_kind
+      (subst (λ s. IsRun L step opens job.line s kind known run.found run.frames logged) searched ran);
+  prints = refl;
+  ends = refl;
+}
 
 pub returns-in-Err-clause-logged : goal.returns-in-Err-clause-logged
-returns-in-Err-clause-logged g c =
-    unreported_unlogged (Discovers c.args.incremental c.args.quick (g.R.Read.remaining c.args.reader.now))
-    c.in-Err.refused.0 (is_some c.args.log_path) c.args.log.now c.requires.sound
+returns-in-Err-clause-logged g c = ([], inl refl, c.in-Err.ensures.logged)
 
-pub returns-clause-ok : goal.returns-clause-ok
-returns-clause-ok g c =
+pub returns-in-Ok-clause-ok : goal.returns-in-Ok-clause-ok
+returns-in-Ok-clause-ok g c =
+    let job = c.args.job.now in
     let known = g.R.Read.remaining c.args.reader.now in
-    let run = c.in-Ok-discover_in.run' in
-    let r = reported c.args.incremental c.args.quick known c.in-Ok.file run c.open_log.new.log c.discover_in.new.log
-    c.search_of-search.result c.kind_of-kind.result
-    c.search_of-search.ensures c.kind_of-kind.ensures c.in-Ok.ensures.ok c.in-Ok-discover_in.ensures.logged
-    c.in-Ok-discover_in.ensures.honest in
-    report_logged c.answered.result (Discovers c.args.incremental c.args.quick known) (report_text run.found run.frames)
-    r.0 (report_status run.found)
-    (is_some c.args.log_path) c.args.log.now c.open_log.new.log c.discover_in.new.log c.in_default.ensures.opened r.2
-    r.1 c.answered.ensures.text c.answered.ensures.status
+    let opens = g.O.Opens.opens c.args.opener.now in
+    let run = c.in-Ok.run' in
+    let (logged, ran, has) = c.in-Ok.ensures.ok in
+    report_logged c.answered.result (Discovers _ g.L.Line.step opens job known) (report_text run.found run.frames)
+    logged (report_status run.found) (is_some job.log) c.args.log.now c.run_on.new.log has
+    (reported _ g.L.Line.step opens job known run logged c.search_of-search.result c.kind_of-kind.result
+    c.search_of-search.ensures c.kind_of-kind.ensures ran) c.answered.ensures.text c.answered.ensures.status
 
-pub returns-clause-logged : goal.returns-clause-logged
-returns-clause-logged g c =
+pub returns-in-Ok-clause-logged : goal.returns-in-Ok-clause-logged
+returns-in-Ok-clause-logged g c =
+    let job = c.args.job.now in
     let known = g.R.Read.remaining c.args.reader.now in
-    let run = c.in-Ok-discover_in.run' in
-    let r = reported c.args.incremental c.args.quick known c.in-Ok.file run c.open_log.new.log c.discover_in.new.log
-    c.search_of-search.result c.kind_of-kind.result
-    c.search_of-search.ensures c.kind_of-kind.ensures c.in-Ok.ensures.ok c.in-Ok-discover_in.ensures.logged
-    c.in-Ok-discover_in.ensures.honest in
-    memory_logged c.answered.result (Discovers c.args.incremental c.args.quick known) (report_text run.found run.frames)
-    r.0 (report_status run.found)
-    (is_some c.args.log_path) c.args.log.now c.open_log.new.log c.discover_in.new.log c.in_default.ensures.opened r.2
-    r.1 c.answered.ensures.memory
+    let opens = g.O.Opens.opens c.args.opener.now in
+    let run = c.in-Ok.run' in
+    let (logged, ran, has) = c.in-Ok.ensures.ok in
+    memory_logged c.answered.result (Discovers _ g.L.Line.step opens job known) (report_text run.found run.frames)
+    logged (report_status run.found) (is_some job.log) c.args.log.now c.run_on.new.log has
+    (reported _ g.L.Line.step opens job known run logged c.search_of-search.result c.kind_of-kind.result
+    c.search_of-search.ensures c.kind_of-kind.ensures ran) c.answered.ensures.memory

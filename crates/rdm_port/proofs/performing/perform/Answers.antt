@@ -1,4 +1,4 @@
-use Rattle.rdm_port.specs.Outcome.{has_log}
+use Rattle.rdm_port.specs.Program.{has_log}
 use Rattle.rdm_port.proofs.LoggedLemmas.{unknown_log}
 use Rattle.rdm_port.proofs.performing.perform.Goals as goal
 

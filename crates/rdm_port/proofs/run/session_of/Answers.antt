@@ -4,9 +4,9 @@ use Rattle.serde_json.specs.View.{view}
 use Rattle.rdm_port.proofs.run.session_of.Goals as goal
 
 pub returns-in-Err-Mismatch-clause-fault : goal.returns-in-Err-Mismatch-clause-fault
-returns-in-Err-Mismatch-clause-fault g c = record {
-  value = view c.in-Ok.value;
-  json = c.in-Ok.ensures.ok.json;
-  no_command = c.in-Ok.ensures.ok.no_command;
-  none = c.in-Err-Mismatch.ensures (ap is_memory c.in-Err-Mismatch.field-0-is);
-}
+returns-in-Err-Mismatch-clause-fault g c = (
+  view c.in-Ok.value,
+  c.in-Ok.ensures.ok.1,
+  c.in_default.ensures.none,
+  c.in-Err-Mismatch.ensures (ap is_memory c.in-Err-Mismatch.field-0-is),
+)

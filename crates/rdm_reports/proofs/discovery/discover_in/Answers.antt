@@ -1,4 +1,4 @@
-use Rattle.rdm_reports.specs.LogText.{exchanges_text}
+use Rattle.rdm_reports.specs.OpeningText.{discovery_log}
 use Rattle.rdm_reports.specs.SceneDiscovery.{IsSceneDiscovery}
 use Rattle.rdm_reports.specs.Writing.{Logs}
 use Rattle.rdm_reports.proofs.SceneRuns.{on_scene, on_scene_with, loses_few, honest_report}
@@ -31,7 +31,8 @@ pub returns-in-Ok-clause-logged : goal.returns-in-Ok-clause-logged
 returns-in-Ok-clause-logged g c =
     on_scene_with c.args.scene c.args.search c.args.kind c.args.known.now c.args.budget c.discover-run.result.frames
     c.discover-run.result.found c.in-Ok.line c.discover-run.new.line
-    (λ exchanges. Logs c.args.log.now c.discover-run.new.log (exchanges_text exchanges))
+    (λ exchanges. Logs c.args.log.now c.discover-run.new.log (discovery_log
+    c.args.scene.source c.args.search c.args.kind c.args.known.now c.args.budget exchanges))
     (record {
       devices = c.in-Ok.ensures.devices;
       unmuted = c.in-Ok.ensures.unmuted;

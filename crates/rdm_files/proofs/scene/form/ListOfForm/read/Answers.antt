@@ -1,8 +1,7 @@
 use Rattle.std.proofs.Common.{◌≡◌, ◌+◌, ◌++◌, ◌∷◌, [], sym, ◌∙◌, subst, arith, take, rules}
-use Rattle.std.proofs.lemmas.List.{take_all}
 use Rattle.serde_json.specs.View.{view, items_view}
 use Rattle.rdm_files.specs.Forms.{Each}
-use Rattle.rdm_files.proofs.FormLemmas.{each_none, each_next, each_many, no_list, list_many}
+use Rattle.rdm_files.proofs.FormLemmas.{each_none, each_next, no_list, list_many, list_of}
 use Rattle.rdm_files.proofs.scene.form.ListOfForm.read.Goals as goal
 use Rattle.rdm_files.proofs.scene.form.ListOfForm.read.Goals.{then-len-self-via-then-len-self}
 use Rattle.rdm_files.proofs.scene.form.ListOfForm.read.Goals.{then-len-self-via-else-len-self+then-self-len}
@@ -35,16 +34,6 @@ items-preserved g c =
     c.index.result.now c.in-Ok.item (omega arith) c.index.ensures c.items.invariant c.in-Ok.ensures)
 
 pub returns : goal.returns
-returns g c =
-    let all : take c.items.i c.in-Some.values.now.items
-    ≡ c.in-Some.values.now.items = take_all c.items.i c.in-Some.values.now.items (omega arith) in
-    let each = subst (λ vs. Each (g.F.Form.says c.args.self.now.form) (items_view vs) c.items.items.items) all
-    c.items.invariant in
-    let many = each_many (g.F.Form.says c.args.self.now.form) c.in-Some.values.now.items c.items.items.items each in
-    record {
-      items = items_view c.in-Some.values.now.items;
-      is_list = sym c.in-Some.ensures;
-      each = each;
-      at_least = omega (arith, many);
-      at_most = omega (arith, many);
-    }
+returns g c = list_of (g.F.Form.says c.args.self.now.form) c.args.self.now.least c.args.self.now.most
+    (view c.args.value.now) c.in-Some.values.now.items c.items.i c.items.items.items c.in-Some.ensures (omega arith)
+    (omega arith) (omega arith) c.items.invariant

@@ -1,15 +1,11 @@
-use Rattle.serde_json.specs.View.{view}
-use Rattle.rdm_files.specs.SessionFiles.{IsClient}
 use Rattle.rdm_files.proofs.FormLemmas.{passed}
 use Rattle.rdm_files.proofs.session.client.ClientFormForm.read.Goals as goal
 
 pub returns-in_err-places : goal.returns-in_err-places
 returns-in_err-places c =
-    passed c.from_residual.result c.in_err-places.field-0.0 (IsClient (view c.args.value.now)) c.from_residual.ensures.1
-    (λ other client h. c.in_err-places.ensures other client.places h.places)
+    passed _ _ _ c.from_residual.ensures.1 (λ other client h. c.in_err-places.ensures other client.places h.places)
 
 pub returns-in_err-calls : goal.returns-in_err-calls
 returns-in_err-calls c =
-    passed c.from_residual-in_err-calls.result c.in_err-calls.field-0.0 (IsClient (view c.args.value.now))
-    c.from_residual-in_err-calls.ensures.1
+    passed _ _ _ c.from_residual-in_err-calls.ensures.1
     (λ other client h. c.in_err-calls.ensures other client.calls.items h.calls)

@@ -1,0 +1,4 @@
+pub mod ArgumentLemmas
+mod CommandLemmas
+mod ComplaintLemmas
+mod ReadingLemmas

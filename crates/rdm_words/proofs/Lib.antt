@@ -1,4 +1,0 @@
-pub mod WordsLemmas
-mod CommandLemmas
-mod ComplaintLemmas
-mod LineWordLemmas

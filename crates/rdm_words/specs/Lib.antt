@@ -1,4 +1,0 @@
-pub mod Words
-pub mod Complaints
-pub mod body
-pub mod LineWords
