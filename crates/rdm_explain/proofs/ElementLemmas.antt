@@ -13,14 +13,14 @@ use Rattle.rdm_agent.specs.Run.{acked_in}
 use Rattle.rdm_agent.proofs.Members.{member}
 use Rattle.rdm_agent.proofs.Pushes.{All-push}
 use Rattle.rdm_agent.proofs.Sets.{same_members, ascending-set_of, has-set_of}
-use Rattle.rdm_explain.specs.Certificates.{IsFirstOf, FirstMisreported}
+use Rattle.rdm_explain.specs.Certificates.{IsFirstElementWithout, FirstMisreported}
 use Rattle.rdm_explain.specs.declared.exchange.Exchange.{Exchange}
 use Rattle.rdm_explain.specs.Exchanges.{seen_all}
 use Rattle.rdm_explain.specs.body.Leasts.{Least, IsLeast}
 use Rattle.rdm_explain.specs.body.Firsts.{or_else}
 
 pub first_of : {X : Type 0} (P : X → Type 0) (xs : List X) (i : ℕ) (x : X) → i < length xs → x ≡ get_or xs i x
-    → AllByRecursion P (take i xs) → (P x → ⊥) → IsFirstOf P xs x
+    → AllByRecursion P (take i xs) → (P x → ⊥) → IsFirstElementWithout P xs x
 first_of P xs i x within read before here = record {
   front = take i xs;
   back = drop (i + 1) xs;

@@ -16,7 +16,8 @@ use Rattle.rdm_explain.specs.declared.certificate.RunFinding.{RunFinding}
 use Rattle.rdm_explain.specs.declared.certificate.KnownFinding.{KnownFinding}
 use Rattle.rdm_explain.specs.Exchanges.{seen_all}
 use Rattle.rdm_explain.specs.Covers.{FirstUncovered, IsCovered}
-use Rattle.rdm_explain.specs.Certificates.{FirstWithout, FirstOf, FirstMissing, FirstMisreported, NoFailure, AreTried}
+use Rattle.rdm_explain.specs.Certificates.{FirstWithout, FirstElementWithout, FirstMissing, FirstMisreported, NoFailure}
+use Rattle.rdm_explain.specs.Certificates.{AreTried}
 use Rattle.rdm_explain.specs.Certificates.{IsAsFirstAcked, IsMutedFirst, MutesAreNamed, ExplainsRun, ExplainsKnown}
 use Rattle.rdm_explain.specs.Certificates.{IsComplete, IsKnownComplete}
 
@@ -44,10 +45,11 @@ certificate_of kind known xs s run names e k complete named = record {
     set = set;
     tried = subst (λ l. AllByRecursion (IsTried l (seen_all xs)) (muted_in (seen_all xs))) (sym set) tried;
     cleared = λ u below. cleared_of (uids_of s) (seen_all xs) u set (covered u below);
-    known_first = subst (FirstOf (IsMutedFirst (seen_all xs)) (known_of kind known)) named.known_first k.known_first;
+    known_first = subst (FirstElementWithout (IsMutedFirst (seen_all xs)) (known_of kind known)) named.known_first
+        k.known_first;
     read_first = subst (FirstWithout (MutesAreNamed (known_of kind known)) xs) named.read_first k.read_first;
   };
-  first = subst (FirstOf (IsAsFirstAcked (seen_all xs)) s) complete.first e.first;
+  first = subst (FirstElementWithout (IsAsFirstAcked (seen_all xs)) s) complete.first e.first;
 }
   where
     set : uids_of s ≡ set_of (acked_in (seen_all xs))
@@ -69,14 +71,15 @@ complete_of kind known xs s run e c = record {
       (subst (λ l. AllByRecursion (IsTried l (seen_all xs)) (muted_in (seen_all xs))) c.search.set c.search.tried));
   cleared = is_none (FirstUncovered xs) run.uncovered e.cleared (λ u m. m.uncovered
       (covered_of (uids_of s) (seen_all xs) u c.search.set (c.search.cleared u m.below)));
-  first = is_none (FirstOf (IsAsFirstAcked (seen_all xs)) s) run.other_data e.first (λ d m. m.here
+  first = is_none (FirstElementWithout (IsAsFirstAcked (seen_all xs)) s) run.other_data e.first (λ d m. m.here
       (All-at (IsAsFirstAcked (seen_all xs)) s m.front m.back d c.first m.whole));
 }
 
 pub named_of : (kind : Kind) (known : List ℕ) (xs : List Exchange) (s : List Device) (names : KnownFinding)
     → ExplainsKnown (known_of kind known) xs names → Certificate kind known (seen_all xs) s → IsKnownComplete names
 named_of kind known xs s names k c = record {
-  known_first = is_none (FirstOf (IsMutedFirst (seen_all xs)) (known_of kind known)) names.not_muted_first k.known_first
+  known_first = is_none (FirstElementWithout (IsMutedFirst (seen_all xs)) (known_of kind known)) names.not_muted_first
+      k.known_first
       (λ u m. m.here (All-at (IsMutedFirst (seen_all xs)) (known_of kind known) m.front m.back u c.search.known_first
       m.whole));
   read_first = is_none (FirstWithout (MutesAreNamed (known_of kind known)) xs) names.unread k.read_first

@@ -31,7 +31,7 @@ FirstWithout P xs None = P (seen_all xs)
 FirstWithout P xs (Some at) = IsFirstWithout P xs at
 
 -- x is an element that doesn't have P, and each before it does
-pub record IsFirstOf {X : Type 0} (P : X → Type 0) (xs : List X) (x : X) : Type 0 where
+pub record IsFirstElementWithout {X : Type 0} (P : X → Type 0) (xs : List X) (x : X) : Type 0 where
   pub front : List X
   pub back : List X
   pub whole : xs ≡ front ++ x ∷ back
@@ -39,9 +39,9 @@ pub record IsFirstOf {X : Type 0} (P : X → Type 0) (xs : List X) (x : X) : Typ
   pub here : P x → ⊥
 
 -- each element has P, or this is the first that doesn't
-abbrev pub FirstOf : {X : Type 0} → (X → Type 0) → List X → Option X → Type 0
-FirstOf P xs None = AllByRecursion P xs
-FirstOf P xs (Some x) = IsFirstOf P xs x
+abbrev pub FirstElementWithout : {X : Type 0} → (X → Type 0) → List X → Option X → Type 0
+FirstElementWithout P xs None = AllByRecursion P xs
+FirstElementWithout P xs (Some x) = IsFirstElementWithout P xs x
 
 -- the first n exchanges are unmutes
 abbrev pub BeginsByUnmutes : ℕ → List Seen → Type 0
@@ -96,11 +96,11 @@ pub record ExplainsRun (s : List Device) (xs : List Exchange) (f : RunFinding) :
   pub set : FirstMisreported (uids_of s) xs f.misreported
   pub tried : FirstWithout (AreTried (seen_all xs)) xs f.untried
   pub cleared : FirstUncovered xs f.uncovered
-  pub first : FirstOf (IsAsFirstAcked (seen_all xs)) s f.other_data
+  pub first : FirstElementWithout (IsAsFirstAcked (seen_all xs)) s f.other_data
 
 -- the parts of the certificate that need the UIDs that the run was to mute first
 pub record ExplainsKnown (known : List ℕ) (xs : List Exchange) (f : KnownFinding) : Type 0 where
-  pub known_first : FirstOf (IsMutedFirst (seen_all xs)) known f.not_muted_first
+  pub known_first : FirstElementWithout (IsMutedFirst (seen_all xs)) known f.not_muted_first
   pub read_first : FirstWithout (MutesAreNamed known) xs f.unread
 
 -- no part fails

@@ -3,4 +3,5 @@ pub mod Rules
 pub mod Covers
 pub mod Strays
 pub mod Certificates
+pub mod Reported
 pub mod body

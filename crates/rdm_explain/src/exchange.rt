@@ -1,14 +1,14 @@
 //! An exchange, as the definitions of an honest line see it.
-ghost use Rattle.std.specs.Prelude.{◌≡◌, ◌≢◌, ℕ, []};
+ghost use Rattle.std.specs.Prelude.{◌≡◌, ◌≢◌, ℕ, [], ◌∷◌, ◌++◌, OnOk, OnErr};
 ghost use Rattle.rdm_wire.specs.Reading.{text_read, ack_read};
 ghost use Rattle.rdm_wire.specs.Frames.{heard_bytes, one_or_noise, acked_or_noise};
 ghost use Rattle.rdm_join.specs.Exchange.{seen_event, bytes_heard};
-ghost use Rattle.rdm_explain.specs.Exchanges.{seen_of, asked_of, heard_of};
+ghost use Rattle.rdm_explain.specs.Exchanges.{seen_of, seen_all, asked_of, heard_of};
 ghost use Rattle.rdm_explain.specs.body.FrameTests.{heard_event};
 
 use crate::frame::{Sent, read_frame};
 use rdm_join::LineEvent;
-use rdm_wire::{BranchReply, Frame, MuteAck, Uid, read_branch_reply, reads_mute_ack};
+use rdm_wire::{BranchReply, Frame, MuteAck, NoMemory, Uid, read_branch_reply, reads_mute_ack};
 
 /// What a frame asks (E1.20, discovery commands).
 #[derive(Clone, Copy, Debug)]
@@ -90,6 +90,25 @@ pub fn read_exchange(frame: &Frame, event: &LineEvent) -> Exchange
         asked: sent.asked,
         heard,
     }
+}
+
+/// Adds an exchange of a frame and what came from the line. Err: out of memory, and the exchanges are unchanged.
+pub fn push_exchange(
+    exchanges: &mut Vec<Exchange>,
+    frame: &Frame,
+    event: &LineEvent,
+) -> Result<(), NoMemory>
+    ensures added { OnOk result (seen_all exchanges.new.items
+        ≡ seen_all exchanges.old.items ++ seen_event (frame.now, event.now) ∷ []) }
+    ensures same { OnErr result (exchanges.new.items ≡ exchanges.old.items) }
+{
+    if exchanges
+        .extend_from_slice(&[read_exchange(frame, event)])
+        .is_err()
+    {
+        return Err(NoMemory);
+    }
+    Ok(())
 }
 
 // How an event is heard after a frame.

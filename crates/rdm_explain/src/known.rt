@@ -3,7 +3,7 @@ ghost use Rattle.std.specs.Prelude.{◌≡◌, ◌∷◌, [], IfOk, OnOk};
 ghost use Rattle.std.specs.List.{before_first};
 ghost use Rattle.rdm_agent.specs.Run.{is_branch, muted_in, read_in};
 ghost use Rattle.rdm_explain.specs.Exchanges.{seen_of, seen_all};
-ghost use Rattle.rdm_explain.specs.Certificates.{FirstOf, FirstWithout, IsMutedFirst, MutesAreNamed};
+ghost use Rattle.rdm_explain.specs.Certificates.{FirstElementWithout, FirstWithout, IsMutedFirst, MutesAreNamed};
 ghost use Rattle.rdm_explain.specs.body.Trees.{Holds, Gains};
 ghost use Rattle.rdm_explain.specs.body.Naming.{mutes_other};
 
@@ -19,7 +19,7 @@ pub fn first_not_muted_first(
     known: &[Uid],
     exchanges: &[Exchange],
 ) -> Result<Option<Uid>, NoMemory>
-    ensures { IfOk result (λ found. FirstOf (IsMutedFirst (seen_all exchanges.now)) known.now found) }
+    ensures { IfOk result (λ found. FirstElementWithout (IsMutedFirst (seen_all exchanges.now)) known.now found) }
 {
     let muted = muted_before_branches(alloc, exchanges)?;
     for uid in known {

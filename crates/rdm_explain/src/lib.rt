@@ -19,10 +19,10 @@ mod uids;
 
 pub use certificate::{KnownFinding, RunFinding, explain_known, explain_run};
 pub use cover::first_uncovered;
-pub use exchange::{Asked, Exchange, Heard, read_exchange};
+pub use exchange::{Asked, Exchange, Heard, push_exchange, read_exchange};
 pub use known::{first_not_muted_first, first_unread};
 pub use order::{first_failure, first_missing_unmute};
-pub use reported::{first_misreported, first_other_data};
+pub use reported::{acknowledged_devices, first_misreported, first_other_data};
 pub use rule::{Breach, DeviceFinding, Rule, first_breaches};
 pub use stray::first_stray;
 pub use tried::first_untried;

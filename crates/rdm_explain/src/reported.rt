@@ -1,11 +1,12 @@
 //! Whether a set is that of the acknowledged devices.
-ghost use Rattle.std.specs.Prelude.{◌≡◌, ◌↔◌, ◌||◌, ◌&&◌, not, ℕ, ◌∷◌, [], Bool, true, Some, IfOk, OnOk};
+ghost use Rattle.std.specs.Prelude.{◌≡◌, ◌↔◌, ◌||◌, ◌&&◌, not, ℕ, ◌∷◌, [], Bool, true, Some, IfOk, OnOk, fold};
 ghost use Rattle.rdm_wire.specs.Uid.{has, IsAscending};
 ghost use Rattle.rdm_wire.specs.Honest.Asked.{Mute};
 ghost use Rattle.rdm_wire.specs.Devices.{uids_of, device_with};
 ghost use Rattle.rdm_agent.specs.Run.{acked_in, devices_in, device_by, acked_device};
 ghost use Rattle.rdm_explain.specs.Exchanges.{seen_of, seen_all, heard_of};
-ghost use Rattle.rdm_explain.specs.Certificates.{FirstMisreported, FirstOf, IsAsFirstAcked};
+ghost use Rattle.rdm_explain.specs.Certificates.{FirstMisreported, FirstElementWithout, IsAsFirstAcked};
+ghost use Rattle.rdm_explain.specs.Reported.{with_reported, reported_in};
 ghost use Rattle.rdm_explain.specs.body.Trees.{Holds, Gains, in_tree};
 ghost use Rattle.rdm_explain.specs.body.Leasts.{Least};
 ghost use Rattle.rdm_explain.specs.body.Firsts.{first_in, or_else};
@@ -40,6 +41,36 @@ fn acknowledged(alloc: Global, exchanges: &[Exchange]) -> Result<Uids, NoMemory>
         add_acked(&mut acked, exchange)?;
     }
     Ok(acked)
+}
+
+/// The devices whose mutes were acknowledged, each as in its first acknowledgement: of more than 1,024 the first. UIDs
+/// that are no device's are left out. The findings about a certificate say whether any is missing.
+pub fn acknowledged_devices(exchanges: &[Exchange]) -> DeviceSet
+    ensures { result ≡ reported_in (seen_all exchanges.now) }
+{
+    let mut devices = DeviceSet::new();
+    for exchange in exchanges {
+        add_device(&mut devices, exchange);
+    }
+    devices
+}
+
+// Adds the device whose mute an exchange finds acknowledged.
+fn add_device(devices: &mut DeviceSet, exchange: &Exchange)
+    ensures { devices.new ≡ fold with_reported devices.old (devices_in (seen_of exchange.now ∷ [])) }
+{
+    if let Some(device) = acknowledgement(exchange) {
+        add_reported(devices, device);
+    }
+}
+
+// Adds a device, unless its UID is no device's or the set is full.
+fn add_reported(devices: &mut DeviceSet, device: Device)
+    ensures { devices.new ≡ with_reported devices.old device }
+{
+    if !device.uid.is_broadcast() && !devices.is_full() {
+        let _ = devices.insert(device);
+    }
 }
 
 // Adds the UID whose mute an exchange finds acknowledged.
@@ -128,7 +159,7 @@ pub fn first_other_data(
     set: &DeviceSet,
     exchanges: &[Exchange],
 ) -> Result<Option<Device>, NoMemory>
-    ensures { IfOk result (λ found. FirstOf (IsAsFirstAcked (seen_all exchanges.now)) set.now found) }
+    ensures { IfOk result (λ found. FirstElementWithout (IsAsFirstAcked (seen_all exchanges.now)) set.now found) }
 {
     let first = first_acknowledgements(alloc, set, exchanges)?;
     for device in set.as_slice() {

@@ -1,0 +1,7 @@
+-- Nothing was consumed so far.
+use Rattle.std.proofs.Common.{[]}
+use Rattle.std.specs.Io.KnownBytes.{Consumes}
+use Rattle.rdm_findings.proofs.input.next_byte.Given as goal
+
+abbrev pub invariant-tries : goal.invariant-tries
+invariant-tries g l = Consumes (g.R.Read.remaining l.initial.reader) (g.R.Read.remaining l.reader) []

@@ -1,0 +1,7 @@
+use Rattle.rdm_findings.proofs.LogLemmas.{IsSoFar}
+use Rattle.rdm_findings.proofs.log.explain_log.Given as goal
+
+abbrev pub invariant-lines : goal.invariant-lines
+invariant-lines g l =
+    IsSoFar l.present (g.R.Read.remaining l.fn.reader) (g.R.Read.remaining l.reader) (g.W.Write.contents l.fn.writer)
+    (g.W.Write.contents l.writer) l.reading l.broken

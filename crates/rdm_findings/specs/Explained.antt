@@ -1,0 +1,57 @@
+-- What is printed for a run: the findings about exactly its exchanges.
+use Rattle.std.specs.Prelude.{◌≡◌, ℕ, Bool, not, List, [], ◌++◌, Option, Some, None, flat_map, filter}
+use Rattle.rdm_wire.specs.Uid.{has}
+use Rattle.rdm_wire.specs.Devices.{uids_of}
+use Rattle.rdm_agent.specs.declared.kind.Kind.{Kind}
+use Rattle.rdm_agent.specs.declared.kind.Kind.TheVariants.{Full, Incremental}
+use Rattle.rdm_explain.specs.declared.certificate.KnownFinding.{KnownFinding}
+use Rattle.rdm_explain.specs.declared.exchange.Exchange.{Exchange}
+use Rattle.rdm_explain.specs.Certificates.{ExplainsRun, ExplainsKnown}
+use Rattle.rdm_explain.specs.Exchanges.{seen_all}
+use Rattle.rdm_explain.specs.Reported.{reported_in}
+use Rattle.rdm_explain.specs.Rules.{AreFirstBreaches, uids_of_findings}
+use Rattle.rdm_explain.specs.Strays.{FirstStray}
+use Rattle.rdm_findings.specs.declared.explaining.Findings.{Findings}
+use Rattle.rdm_findings.specs.declared.head.RunHead.{RunHead}
+use Rattle.rdm_findings.specs.FindingText.{head_line, gaps_text, known_gaps, device_line, stray_line, is_broken}
+
+-- the reported devices, and then the others of the list
+abbrev pub listed : List ℕ → List ℕ → List ℕ
+listed reported present = reported ++ filter (λ u. not (has reported u)) present
+
+-- the UIDs that a run was to mute first, if its kind is known and, for an incremental one, the known UIDs are
+abbrev pub first_of : Option Kind → Option (List ℕ) → Option (List ℕ)
+first_of None known = None
+first_of (Some Full) known = Some []
+first_of (Some Incremental) known = known
+
+-- the findings that depend on the UIDs that the run was to mute first; none if these aren't known
+abbrev pub ExplainsNames : Option (List ℕ) → List Exchange → Option KnownFinding → Type 0
+ExplainsNames None xs names = names ≡ None
+ExplainsNames (Some first) xs None = ⊥
+ExplainsNames (Some first) xs (Some names) = ExplainsKnown first xs names
+
+-- the findings about these exchanges of a run: about its certificate of the devices whose mutes were acknowledged,
+-- about each of these and each of the list `present`, and about bytes that came though none of these was due
+pub record Finds (first : Option (List ℕ)) (present : List ℕ) (xs : List Exchange) (f : Findings) : Type 0 where
+  pub acknowledged : f.reported ≡ reported_in (seen_all xs)
+  pub certifies : ExplainsRun f.reported xs f.certificate
+  pub named : ExplainsNames first xs f.names
+  pub all : uids_of_findings f.devices.items ≡ listed (uids_of f.reported) present
+  pub first_breaches : AreFirstBreaches xs f.devices.items
+  pub first_stray : FirstStray (listed (uids_of f.reported) present) xs f.stray
+
+-- their text, a finding a line
+abbrev pub findings_text : RunHead → List Exchange → Findings → List ℕ
+findings_text head xs f =
+    head_line head xs f.reported f.certificate f.names ++ gaps_text f.certificate ++ known_gaps f.names
+    ++ flat_map device_line f.devices.items ++ stray_line xs f.stray
+
+-- The text has the findings about these exchanges of a run, and says whether a rule was broken. `known` has the UIDs
+-- that were known before it, if the log has them.
+pub record IsExplained (head : RunHead) (known : Option (List ℕ)) (present : List ℕ) (xs : List Exchange)
+    (text : List ℕ) (broken : Bool) : Type 0 where
+  pub findings : Findings
+  pub finds : Finds (first_of head.kind known) present xs findings
+  pub prints : text ≡ findings_text head xs findings
+  pub breaks : broken ≡ is_broken findings.devices.items findings.stray

@@ -1,0 +1,198 @@
+-- The text of findings about a run: one finding a line.
+use Rattle.std.specs.Prelude.{ℕ, Bool, false, ◌&&◌, ◌||◌, not, List, [], ◌∷◌, ◌++◌, Option, Some, None, codes, decimal}
+use Rattle.std.specs.Prelude.{length, slice_get, is_some, ◌==◌, if◌then◌else◌}
+use Rattle.rdm_wire.specs.UidText.{uid_text}
+use Rattle.rdm_wire.specs.declared.device.Device.{Device}
+use Rattle.rdm_agent.specs.declared.kind.Kind.{Kind}
+use Rattle.rdm_agent.specs.declared.kind.Kind.TheVariants.{Full, Incremental}
+use Rattle.rdm_agent.specs.declared.search.Search.{Search}
+use Rattle.rdm_agent.specs.declared.search.Search.TheVariants.{Steady, Quick}
+use Rattle.rdm_agent.specs.declared.fault.AgentFault.{AgentFault}
+use Rattle.rdm_reports.specs.Report.{line_of, fault_text}
+use Rattle.rdm_explain.specs.declared.certificate.RunFinding.{RunFinding}
+use Rattle.rdm_explain.specs.declared.certificate.KnownFinding.{KnownFinding}
+use Rattle.rdm_explain.specs.declared.exchange.Asked.{Asked}
+use Rattle.rdm_explain.specs.declared.exchange.Asked.TheVariants.{Unmute, Branch, Mute, Other}
+use Rattle.rdm_explain.specs.declared.exchange.Exchange.{Exchange}
+use Rattle.rdm_explain.specs.declared.rule.Rule.{Rule}
+use Rattle.rdm_explain.specs.declared.rule.Rule.TheVariants.{SilentBranches, SilentMutes, GarbledMute}
+use Rattle.rdm_explain.specs.declared.rule.Breach.{Breach}
+use Rattle.rdm_explain.specs.declared.rule.DeviceFinding.{DeviceFinding}
+use Rattle.rdm_findings.specs.declared.head.RunHead.{RunHead}
+
+-- an exchange, by its number
+abbrev pub exchange_name : ℕ → List ℕ
+exchange_name at = codes "exchange " ++ decimal at
+
+-- a line about an exchange
+abbrev pub exchange_line : ℕ → List ℕ → List ℕ
+exchange_line at text = exchange_name at ++ line_of text
+
+-- a line about a UID
+abbrev pub uid_line : ℕ → List ℕ → List ℕ
+uid_line u text = uid_text u ++ line_of text
+
+-- the run's name: its number in its session; a discovery has none
+abbrev pub name_text : Option ℕ → List ℕ
+name_text (Some number) = codes "run " ++ decimal number
+name_text None = codes "discovery"
+
+-- the run's kind, if it is known
+abbrev pub kind_text : Option Kind → List ℕ
+kind_text None = []
+kind_text (Some Full) = codes "full, "
+kind_text (Some Incremental) = codes "incremental, "
+
+-- how it searched, if that is known
+abbrev pub search_text : Option Search → List ℕ
+search_text None = []
+search_text (Some Steady) = codes "steady, "
+search_text (Some Quick) = codes "quick, "
+
+-- a number of things
+abbrev pub count_text : ℕ → List ℕ → List ℕ
+count_text n thing = decimal n ++ thing ++ (if n == 1 then [] else codes "s")
+
+-- how it ended, if that is known
+abbrev pub end_text : Option (Option AgentFault) → List ℕ
+end_text None = []
+end_text (Some None) = codes ", no fault"
+end_text (Some (Some fault)) = codes ", " ++ fault_text fault
+
+-- whether no part of a certificate fails
+abbrev pub is_complete : RunFinding → Bool
+is_complete f =
+    not (is_some f.missing_unmute) && not (is_some f.failure) && not (is_some f.misreported)
+    && not (is_some f.untried) && not (is_some f.uncovered) && not (is_some f.other_data)
+
+abbrev pub is_known_complete : KnownFinding → Bool
+is_known_complete f = not (is_some f.not_muted_first) && not (is_some f.unread)
+
+-- the certificate, by the findings about its parts
+abbrev pub certificate_text : RunFinding → Option KnownFinding → List ℕ
+certificate_text f (Some names) =
+    if is_complete f && is_known_complete names then codes "; its certificate is complete"
+    else codes "; its certificate is incomplete"
+certificate_text f None =
+    if is_complete f then codes "; its certificate is complete but for its known devices, which the log doesn't have"
+    else codes "; its certificate is incomplete"
+
+-- the run's name, its kind, and how it searched
+abbrev pub what_text : RunHead → List ℕ
+what_text head = name_text head.number ++ codes ": " ++ (kind_text head.kind ++ search_text head.search)
+
+-- how it ended, and how many devices it reports
+abbrev pub outcome_text : Option (Option AgentFault) → ℕ → List ℕ
+outcome_text fault devices = end_text fault ++ codes ", " ++ count_text devices (codes " device")
+
+-- what the run was, and how many exchanges and devices it had
+abbrev pub head_text : RunHead → ℕ → ℕ → List ℕ
+head_text head exchanges devices =
+    what_text head ++ count_text exchanges (codes " exchange") ++ outcome_text head.fault devices
+
+-- the first line of a run
+abbrev pub head_line : RunHead → List Exchange → List Device → RunFinding → Option KnownFinding → List ℕ
+head_line head xs reported f names =
+    line_of (head_text head (length xs) (length reported) ++ certificate_text f names)
+
+-- a part of the certificate that fails at an exchange
+abbrev pub exchange_gap : Option ℕ → List ℕ → List ℕ
+exchange_gap None text = []
+exchange_gap (Some at) text = exchange_line at text
+
+-- a part of the certificate that fails for a UID
+abbrev pub uid_gap : Option ℕ → List ℕ → List ℕ
+uid_gap None text = []
+uid_gap (Some u) text = uid_line u text
+
+abbrev pub device_gap : Option Device → List ℕ → List ℕ
+device_gap None text = []
+device_gap (Some d) text = uid_line d.uid text
+
+abbrev pub start_gaps : RunFinding → List ℕ
+start_gaps f =
+    exchange_gap f.missing_unmute (codes " should be one of the three unmutes that begin a run")
+    ++ exchange_gap f.failure (codes " failed: check the adapter and the cable")
+    ++ uid_gap f.misreported (codes " is reported without an acknowledgement, or acknowledged and not reported")
+
+abbrev pub end_gaps : RunFinding → List ℕ
+end_gaps f =
+    exchange_gap f.untried
+    (codes " mutes a UID that neither acknowledged nor was muted five times in a row: it may be no device's")
+    ++ uid_gap f.uncovered
+    (codes " is the first UID that wasn't ruled out: it needs five silences in a row of a range that holds it")
+    ++ device_gap f.other_data (codes " isn't reported as in its first acknowledgement")
+
+-- the parts of the certificate that fail
+abbrev pub gaps_text : RunFinding → List ℕ
+gaps_text f = start_gaps f ++ end_gaps f
+
+abbrev pub names_gaps : KnownFinding → List ℕ
+names_gaps f =
+    uid_gap f.not_muted_first (codes " is known, but wasn't muted before the first branch")
+    ++ exchange_gap f.unread (codes " mutes a UID that no earlier branch had read")
+
+-- the parts that depend on the known UIDs
+abbrev pub known_gaps : Option KnownFinding → List ℕ
+known_gaps None = []
+known_gaps (Some f) = names_gaps f
+
+-- a breach, before its exchange
+abbrev pub breach_before : Rule → List ℕ
+breach_before SilentBranches = codes " wasn't heard: exchange "
+breach_before SilentMutes = codes " didn't mute: exchange "
+breach_before GarbledMute = codes " was muted, and other bytes came: exchange "
+
+-- and after it
+abbrev pub breach_after : Rule → List ℕ
+breach_after SilentBranches =
+    codes " is the fifth silence in a row in a range that holds it; check its power and its cable"
+breach_after SilentMutes =
+    codes " is the fifth mute of it in a row without an answer; try it alone on the line"
+breach_after GarbledMute = codes " has no acknowledgement; try it alone on the line"
+
+-- whether a device followed the rules, or which it broke first, and where
+abbrev pub verdict_text : Option Breach → List ℕ
+verdict_text None = codes " followed the rules"
+verdict_text (Some b) = breach_before b.rule ++ decimal b.at ++ breach_after b.rule
+
+-- the line of a device
+abbrev pub device_line : DeviceFinding → List ℕ
+device_line f = line_of (uid_text f.uid ++ verdict_text f.breach)
+
+-- a range, from which bytes came
+abbrev pub range_text : ℕ → ℕ → List ℕ
+range_text lo hi = codes ": bytes came from " ++ uid_text lo ++ (codes " to " ++ uid_text hi)
+
+-- a mute, after which bytes came
+abbrev pub mute_text : ℕ → List ℕ
+mute_text u = codes ": bytes came after a mute of " ++ uid_text u ++ codes ", which isn't listed"
+
+-- after what bytes came, though nobody was due
+abbrev pub stray_text : Asked → List ℕ
+stray_text (Branch lo hi) =
+    range_text lo hi ++ codes ", where no listed device was due; look for a device that isn't listed"
+stray_text (Mute u) = mute_text u
+stray_text Unmute = codes ": bytes came after an unmute"
+stray_text Other = codes ": bytes came"
+
+abbrev pub stray_found : ℕ → Option Exchange → List ℕ
+stray_found at None = []
+stray_found at (Some e) = line_of (exchange_name at ++ stray_text e.asked)
+
+abbrev pub stray_at : List Exchange → ℕ → List ℕ
+stray_at xs at = stray_found at (slice_get xs at)
+
+-- the line of the first stray exchange, if there is one
+abbrev pub stray_line : List Exchange → Option ℕ → List ℕ
+stray_line xs None = []
+stray_line xs (Some at) = stray_at xs at
+
+-- whether a device broke a rule
+abbrev pub any_broke : List DeviceFinding → Bool
+any_broke [] = false
+any_broke (f ∷ fs) = is_some f.breach || any_broke fs
+
+-- whether any finding is that a rule was broken
+abbrev pub is_broken : List DeviceFinding → Option ℕ → Bool
+is_broken found stray = any_broke found || is_some stray

@@ -1,0 +1,5 @@
+pub mod Lines
+pub mod FindingText
+pub mod Explained
+pub mod Runs
+pub mod Logs

@@ -1,0 +1,97 @@
+//! The parts of a certificate that fail.
+ghost use Rattle.std.specs.Prelude.{◌≡◌, ◌++◌, [], OnOk, codes};
+ghost use Rattle.rdm_findings.specs.FindingText.{device_gap, start_gaps, end_gaps, gaps_text};
+ghost use Rattle.rdm_findings.specs.FindingText.{names_gaps, known_gaps};
+
+use crate::writing::{write_exchange_gap, write_uid_gap};
+use rdm_explain::{KnownFinding, RunFinding};
+use rdm_wire::Device;
+use std::alloc::AllocError;
+
+/// Writes the parts of a certificate that fail.
+pub(crate) fn write_gaps(text: &mut Vec<u8>, found: &RunFinding) -> Result<(), AllocError>
+    ensures { OnOk result (text.new.items ≡ text.old.items ++ gaps_text found.now) }
+{
+    write_start_gaps(text, found)?;
+    write_end_gaps(text, found)
+}
+
+fn write_start_gaps(text: &mut Vec<u8>, found: &RunFinding) -> Result<(), AllocError>
+    ensures { OnOk result (text.new.items ≡ text.old.items ++ start_gaps found.now) }
+{
+    write_exchange_gap(
+        text,
+        found.missing_unmute,
+        " should be one of the three unmutes that begin a run",
+    )?;
+    write_exchange_gap(
+        text,
+        found.failure,
+        " failed: check the adapter and the cable",
+    )?;
+    write_uid_gap(
+        text,
+        found.misreported,
+        " is reported without an acknowledgement, or acknowledged and not reported",
+    )
+}
+
+const UNTRIED: &str =
+    " mutes a UID that neither acknowledged nor was muted five times in a row: it may be no device's";
+
+fn write_end_gaps(text: &mut Vec<u8>, found: &RunFinding) -> Result<(), AllocError>
+    ensures { OnOk result (text.new.items ≡ text.old.items ++ end_gaps found.now) }
+{
+    write_exchange_gap(text, found.untried, UNTRIED)?;
+    write_uid_gap(
+        text,
+        found.uncovered,
+        " is the first UID that wasn't ruled out: it needs five silences in a row of a range that holds it",
+    )?;
+    write_device_gap(
+        text,
+        &found.other_data,
+        " isn't reported as in its first acknowledgement",
+    )
+}
+
+fn write_device_gap(
+    text: &mut Vec<u8>,
+    device: &Option<Device>,
+    last: &str,
+) -> Result<(), AllocError>
+    ensures { OnOk result (text.new.items ≡ text.old.items ++ device_gap device.now last.now) }
+{
+    match device {
+        Some(device) => write_uid_gap(text, Some(device.uid), last),
+        None => Ok(()),
+    }
+}
+
+/// Writes the parts that fail of those that depend on the known UIDs, if these parts are known.
+pub(crate) fn write_known_gaps(
+    text: &mut Vec<u8>,
+    found: &Option<KnownFinding>,
+) -> Result<(), AllocError>
+    ensures { OnOk result (text.new.items ≡ text.old.items ++ known_gaps found.now) }
+{
+    match found {
+        Some(found) => write_names_gaps(text, found),
+        None => Ok(()),
+    }
+}
+
+fn write_names_gaps(text: &mut Vec<u8>, found: &KnownFinding) -> Result<(), AllocError>
+    ensures { OnOk result (text.new.items ≡ text.old.items ++ names_gaps found.now) }
+{
+    write_uid_gap(
+        text,
+        found.not_muted_first,
+        " is known, but wasn't muted before the first branch",
+    )?;
+    write_exchange_gap(
+        text,
+        found.unread,
+        " mutes a UID that no earlier branch had read",
+    )
+}

@@ -1,0 +1,22 @@
+//! Reads logs and prints what they show: which devices broke a rule, where bytes came that no device was due to send,
+//! and whether a run's certificate is complete. All of it is the profile of this project.
+#![tactic(auto)]
+
+mod device_text;
+mod entry;
+mod explaining;
+mod fields;
+mod gap_text;
+mod head;
+mod head_text;
+mod input;
+mod line;
+mod log;
+mod opening;
+mod reading;
+mod writing;
+
+pub use explaining::{Explained, explain};
+pub use head::RunHead;
+pub use line::{DiscoveryOpening, LogLine, SessionOpening, read_line};
+pub use log::{LogFault, explain_log};

@@ -1,0 +1,150 @@
+//! The lines of a log: read loosely, written back by the writer of logs, and compared.
+ghost use Rattle.std.specs.Prelude.{◌≡◌, IfOk, IfSome};
+ghost use Rattle.rdm_reports.specs.OpeningText.{session_opening};
+ghost use Rattle.rdm_findings.specs.Lines.{line_text};
+
+use crate::fields::{bytes, has, number};
+use crate::{entry, opening};
+use rdm_agent::{Kind, Search};
+use rdm_join::LineEvent;
+use rdm_log::{Entry, Opening};
+use rdm_reports::{discovery_opening, entry_line, exchange_line, session_opening};
+use rdm_wire::{Frame, NoMemory, Uid, UidSet};
+use std::alloc::{AllocError, Global};
+use std::str;
+
+/// The opening of a discovery's log.
+#[derive(Drop)]
+pub struct DiscoveryOpening {
+    /// The controller's own UID.
+    pub source: Uid,
+    /// How the run searches.
+    pub search: Search,
+    /// The run's kind.
+    pub kind: Kind,
+    /// The known UIDs.
+    pub known: UidSet,
+    /// How many frames the run may send.
+    pub budget: u64,
+}
+
+/// The opening of a session's log.
+#[derive(Drop)]
+pub struct SessionOpening {
+    /// The state of the queue.
+    pub opening: Opening,
+    /// How runs search.
+    pub search: Search,
+    /// The number of the next entry, from 0.
+    pub first: u64,
+}
+
+/// A line of a log.
+#[derive(Drop)]
+pub enum LogLine {
+    /// The opening of a discovery's log.
+    Discovery(Box<DiscoveryOpening>),
+    /// The opening of a session's log.
+    Session(Box<SessionOpening>),
+    /// An entry of a session.
+    Entered(Entry),
+    /// An exchange of a discovery.
+    Exchanged {
+        /// Its number, from 0.
+        number: u64,
+        /// Its frame.
+        frame: Frame,
+        /// What came after it.
+        event: LineEvent,
+    },
+}
+
+/// The line of a log that has this text, with its newline. `None`: no line that the writer of logs writes was found to
+/// have it. The only error: out of memory.
+pub fn read_line(alloc: Global, text: &[u8]) -> Result<Option<LogLine>, NoMemory>
+    ensures { IfOk result (λ found. IfSome found (λ line. line_text line ≡ text.now)) }
+{
+    let Some(line) = seeming_line(alloc, text)? else {
+        return Ok(None);
+    };
+    match written(alloc, &line) {
+        Ok(own) => Ok(if own.as_slice() == text {
+            Some(line)
+        } else {
+            None
+        }),
+        Err(_) => Err(NoMemory),
+    }
+}
+
+// The text of a line.
+fn written(alloc: Global, line: &LogLine) -> Result<Vec<u8>, AllocError>
+    ensures { IfOk result (λ text. text.items ≡ line_text line.now) }
+{
+    match line {
+        LogLine::Discovery(o) => discovery_opening(
+            alloc,
+            o.source,
+            o.search,
+            o.kind,
+            o.known.as_slice(),
+            o.budget,
+        ),
+        LogLine::Session(o) => session_text(alloc, o),
+        LogLine::Entered(entry) => entry_line(alloc, entry),
+        LogLine::Exchanged {
+            number,
+            frame,
+            event,
+        } => exchange_line(alloc, *number, frame, event),
+    }
+}
+
+// The text of a session's opening.
+fn session_text(alloc: Global, o: &SessionOpening) -> Result<Vec<u8>, AllocError>
+    ensures { IfOk result (λ text. text.items ≡ session_opening o.now.opening o.now.search o.now.first) }
+{
+    session_opening(alloc, &o.opening, o.search, o.first)
+}
+
+// The line that a text seems to be.
+fn seeming_line(alloc: Global, text: &[u8]) -> Result<Option<LogLine>, NoMemory> {
+    let Ok(line) = str::from_utf8(text) else {
+        return Ok(None);
+    };
+    if line.starts_with("{\"entry\":\"opening\"") {
+        seeming_opening(alloc, line)
+    } else if line.starts_with("{\"entry\"") {
+        Ok(entry::entry(line).map(LogLine::Entered))
+    } else {
+        Ok(exchange(line))
+    }
+}
+
+fn seeming_opening(alloc: Global, line: &str) -> Result<Option<LogLine>, NoMemory> {
+    if has(line, "\"known\":") {
+        let Some(found) = opening::discovery(line) else {
+            return Ok(None);
+        };
+        match Box::new(alloc, found) {
+            Ok(boxed) => Ok(Some(LogLine::Discovery(boxed))),
+            Err(_) => Err(NoMemory),
+        }
+    } else {
+        let Some(found) = opening::session(line) else {
+            return Ok(None);
+        };
+        match Box::new(alloc, found) {
+            Ok(boxed) => Ok(Some(LogLine::Session(boxed))),
+            Err(_) => Err(NoMemory),
+        }
+    }
+}
+
+fn exchange(line: &str) -> Option<LogLine> {
+    Some(LogLine::Exchanged {
+        number: number(line, "\"number\":")?,
+        frame: bytes(line, "\"frame\":\"")?,
+        event: entry::event(line)?,
+    })
+}
