@@ -67,7 +67,10 @@ for _ in {1..40}; do
     kill -0 "$bridge" 2> /dev/null || break
     sleep 0.05
 done
-kill "$bridge" 2> /dev/null
+# A bridge that has to be ended here hasn't failed.
+ended_here=false
+kill "$bridge" 2> /dev/null && ended_here=true
 wait "$bridge"
 bridged=$?
+[ "$ended_here" = false ] || bridged=0
 exit $((status != 0 ? status : bridged))

@@ -51,7 +51,7 @@ def check_line(checks: Checks, files: Tuple[Path, Path], count: int, firmware: T
                 checks.check(daemon.set(uid, "device_label", value) == "", f"{name}: the SET isn't acknowledged")
                 check_value(checks, loss, f"{name}: new label of {uid}", value, daemon, uid, "device_label")
         checks.check(": the proved discovery" in daemon.messages, f"{name}: the bridge isn't told")
-    checks.check(daemon.status == 0, f"{name}: olad ended with {daemon.status}")
+    checks.check(daemon.ended_well, f"{name}: {daemon.end}")
 
 
 def check_value(checks: Checks, loss: float, name: str, wanted: str, daemon: Daemon, uid: str, pid: str) -> None:

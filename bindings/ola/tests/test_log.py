@@ -71,7 +71,8 @@ def check_stuck_disk(checks: Checks, files: Files) -> None:
         checks.check((with_log.folder / "log").stat().st_size < MEGABYTE // 10, "the disk wasn't stuck")
         began = time.monotonic()
         with_log.signal(signal.SIGTERM)
-        checks.check(with_log.wait() == 0, f"olad ended with {with_log.status}")
+        with_log.wait()
+        checks.check(with_log.ended_well, with_log.end)
         checks.check(time.monotonic() - began < MOST_SECONDS_TO_END, "a stuck disk holds up the end")
 
 
@@ -86,7 +87,7 @@ def check_kinds_of_files(checks: Checks, files: Files) -> None:
             text = f"WURSTLINEN_LOG={name.replace('FOLDER', str(daemon.folder))}: "
             checks.check(becomes(lambda: text in daemon.messages, SOON_SECONDS), f"{name}: it isn't reported")
             checks.check(daemon.messages.count(text) == 1, f"{name}: it is reported more than once")
-        checks.check(daemon.status == 0, f"{name}: olad ended with {daemon.status}")
+        checks.check(daemon.ended_well, f"{name}: {daemon.end}")
 
 
 def check_rotation(checks: Checks, files: Files) -> None:
@@ -114,7 +115,8 @@ def check_end(checks: Checks, files: Files) -> None:
     with start(files, scene, WURSTLINEN_LOG="FOLDER/log") as daemon:
         daemon.discover(True)
         daemon.signal(signal.SIGTERM)
-        checks.check(daemon.wait() == 0, f"olad ended with {daemon.status}")
+        daemon.wait()
+        checks.check(daemon.ended_well, daemon.end)
         records = records_of(daemon.folder / "log")
         checks.check(records[-1].get("call") == "close", f"the last record is {records[-1]}")
         checks.check((daemon.folder / "log").stat().st_mode & 0o777 == 0o640, "the log's mode")

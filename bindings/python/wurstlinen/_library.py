@@ -18,7 +18,7 @@ class VersionDiffers(ImportError):
 
 
 class Handle(ctypes.Structure):
-    _fields_ = [("at", c_void_p), ("is_open", c_bool)]
+    _fields_ = [("at", c_void_p), ("is_open", c_bool), ("kind", c_uint32)]
 
 
 class Setup(ctypes.Structure):

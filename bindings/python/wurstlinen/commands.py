@@ -59,7 +59,11 @@ class WatchedLine:
 
 def main(arguments: Optional[Sequence[str]] = None) -> int:
     """Runs a command, and returns its status."""
-    return run(parser().parse_args(arguments))
+    try:
+        chosen = parser().parse_args(arguments)
+    except KeyboardInterrupt:
+        return INTERRUPTED
+    return run(chosen)
 
 
 def run(chosen: argparse.Namespace) -> int:

@@ -13,7 +13,7 @@ import sys
 import threading
 import unittest
 from pathlib import Path
-from typing import List, Optional, Tuple
+from typing import Iterator, List, Optional, Tuple
 from unittest import mock
 
 from common import PACKAGE, ROOT, TestCase, folder, needs_library
@@ -150,8 +150,15 @@ class Bridges(TestCase):
 
 
 class Rigs(TestCase):
-    def start(self, *arguments: str) -> "subprocess.Popen[str]":
-        return subprocess.Popen([*COMMAND, "rig", *arguments], stdout=subprocess.PIPE, text=True, env=ENVIRONMENT)
+    @contextlib.contextmanager
+    def start(self, *arguments: str) -> Iterator["subprocess.Popen[str]"]:
+        """A rig that is ended with the test, also if that fails."""
+        command = [*COMMAND, "rig", *arguments]
+        with subprocess.Popen(command, stdout=subprocess.PIPE, text=True, env=ENVIRONMENT) as rig:
+            try:
+                yield rig
+            finally:
+                rig.terminate()
 
     def test_a_rig_is_an_adapter_on_a_pseudo_terminal(self) -> None:
         for arguments in ([str(FIVE)], ["--line", f"rig:{FIVE}", "--firmware", "4.15"]):
@@ -200,14 +207,12 @@ class Rigs(TestCase):
     def test_an_adapter_behind_an_adapter(self) -> None:
         with folder() as locks, self.start(str(FIVE)) as first:
             assert first.stdout is not None
-            bridge = f"{sys.executable} -m wurstlinen bridge --line rig:{FIVE}"
+            bridge = f"{sys.executable} -m wurstlinen bridge --line {first.stdout.readline().strip()}"
             with self.start("--line", f"exec:{bridge}") as second:
                 assert second.stdout is not None
                 path = second.stdout.readline().strip().partition(":")[2]
                 with EnttecPro(path, locks) as driver:
                     self.assertEqual(len(discover(driver)), 5)
-                second.terminate()
-            first.terminate()
 
 
 class Adapters(TestCase):

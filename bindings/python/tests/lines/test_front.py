@@ -402,8 +402,47 @@ class Frames(TestCase):
                                                               f"0001  GET {LEFT} device_info  -> silence\n", ""))
         found = [json.loads(line) for line in called("trace", "-", "--json", text=text)[1].splitlines()]
         self.assertEqual(found, [
-            {"number": 0, "text": f"GET {LEFT} device_info", "frame": get, "failed": True},
-            {"number": 1, "text": f"GET {LEFT} device_info", "frame": get, "reply": ""}])
+            {"number": 0, "text": f"GET {LEFT} device_info", "frame": get, "answer": {"text": "the line failed"},
+             "failed": True},
+            {"number": 1, "text": f"GET {LEFT} device_info", "frame": get, "answer": {"text": "silence"},
+             "reply": ""}])
+
+    def test_answers_as_json(self) -> None:
+        scene = open_line(FIVE_LINE)
+        label = {"uid": LEFT, "parameter": "device_label", "pid": "0x0082"}
+        for head, wanted in (
+                (f"{LEFT} 20 0082 00", {"text": "ACK device_label Front left", **label,
+                                        "values": {"label": "Front left"}}),
+                (f"{LEFT} 20 00f0 00", {"text": "ACK dmx_start_address 1", "uid": LEFT, "pid": "0x00f0",
+                                        "parameter": "dmx_start_address", "values": {"dmx_start_address": 1}}),
+                (f"{LEFT} 30 0082 01 41", {"text": "ACK", **label, "values": {}}),
+                (f"{LEFT} 20 8001 00", {"text": "NACK unknown_pid", "uid": LEFT, "nack": "unknown_pid"}),
+                (f"{SLOW} 20 0082 00", {"text": "ACK_TIMER 0.3 s", "uid": SLOW}),
+                ("9999:00000001 20 0082 00", {"text": "silence"})):
+            uid, _, rest = head.partition(" ")
+            data = bytes.fromhex(f"{uid.replace(':', '')} 7ff000000001 00 01 00 0000 {rest}")
+            data = bytes([0xcc, 1, len(data) + 3]) + data
+            data += (sum(data) % 0x10000).to_bytes(2, "big")
+            self.assertEqual(frames.answer_keys(data, scene.exchange(data)), wanted, head)
+
+    def test_other_answers_as_json(self) -> None:
+        get = bytes.fromhex("cc01181234000000017a70000001000001000000200060000298")
+        command = decode_packet(get)
+        assert command is not None
+        reply = command.answer(command.destination, ResponseType.ACK, b"\x08")
+        wanted = {"text": "ACK device_info 0x08", "uid": LEFT, "parameter": "device_info", "pid": "0x0060",
+                  "raw": "0x08", "misfit": "this doesn't fit device_info: the data ends in protocol_version_minor"}
+        self.assertEqual(frames.answer_keys(get, reply.encode()), wanted)
+        self.assertEqual(frames.answer_keys(get, b"\1"), {"text": "damaged, 0x01"})
+        self.assertEqual(frames.answer_keys(get, None), {"text": "the line failed"})
+        reply = command.answer(command.destination, ResponseType.NACK_REASON, b"\0\6\0")
+        self.assertEqual(frames.answer_keys(get, reply.encode()),
+                         {"text": "NACK 0x000600", "uid": LEFT, "nack": "malformed_reason"})
+        with_branch = LOGS.read_text(encoding="utf-8").partition("text exchanges\n")[2].partition("\n\n")[0]
+        printed = called("trace", "-", "--json", text=with_branch)[1]
+        found = [json.loads(line)["answer"] for line in printed.splitlines()]
+        self.assertEqual(found[2:6], [{"text": "silence"}, {"text": LEFT, "uid": LEFT},
+                                      {"text": "ACK 0x0002123400000005", "uid": LEFT}, {"text": "silence"}])
 
     def test_files_that_are_no_logs(self) -> None:
         for text in ("[" * 100_000, "x\n", "7\n", "null\n",

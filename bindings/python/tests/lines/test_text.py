@@ -1,6 +1,7 @@
 """Lines as text, from both ends."""
 from __future__ import annotations
 
+import contextlib
 import io
 import os
 import select
@@ -8,7 +9,7 @@ import sys
 import threading
 import time
 import unittest
-from typing import BinaryIO, List, Optional, Set, Tuple
+from typing import BinaryIO, Callable, List, Optional, Set, Tuple
 from unittest import mock
 
 from common import ListLine, TestCase, folder, random_scene, uids_of
@@ -83,16 +84,30 @@ class Pipes:
         far_replies, replies = os.pipe()
         self.frames, self.replies = os.fdopen(frames, "rb", buffering=0), os.fdopen(replies, "wb", buffering=0)
         self.line = TextLine(os.fdopen(far_frames, "wb"), os.fdopen(far_replies, "rb"), seconds)
+        self._far_ends: List[threading.Thread] = []
 
     def __enter__(self) -> Pipes:
         return self
 
     def __exit__(self, *why: object) -> None:
         self.line.close()
+        # A far end that is still reading would read from whatever gets the number of its file next.
+        for far_end in self._far_ends:
+            far_end.join()
         self.frames.close()
         self.replies.close()
 
-    def answers(self, *answers: bytes) -> threading.Thread:
+    def start(self, serve: Callable[..., None], *arguments: object) -> None:
+        """Runs a far end in a thread, until it is done or the line is closed."""
+        def run() -> None:
+            with contextlib.suppress(BrokenPipeError):
+                serve(*arguments)
+
+        far_end = threading.Thread(target=run, daemon=True)
+        far_end.start()
+        self._far_ends.append(far_end)
+
+    def answers(self, *answers: bytes) -> None:
         """Writes the next of these after each frame."""
         def answer() -> None:
             for text in answers:
@@ -100,9 +115,7 @@ class Pipes:
                     return
                 self.replies.write(text)
 
-        thread = threading.Thread(target=answer, daemon=True)
-        thread.start()
-        return thread
+        self.start(answer)
 
 
 def get(transaction: int) -> bytes:
@@ -172,7 +185,7 @@ class Limits(TestCase):
     def test_a_far_end_that_stands_still_once(self) -> None:
         """Replies that are late by several exchanges shift none: each is the right one, or the exchange fails."""
         with Pipes(0.02) as pipes:
-            threading.Thread(target=self.echo, args=(pipes, 0.3), daemon=True).start()
+            pipes.start(self.echo, pipes, 0.3)
             sent = right = 0
             while right < 100:
                 frame = bytes(25) + bytes([sent % 256])
@@ -188,7 +201,7 @@ class Limits(TestCase):
         made = random_scene(5, 0, 0.0)
         with Pipes(5.0) as pipes:
             stands = threading.Event()
-            threading.Thread(target=self.serve_slowly, args=(pipes, Rig(made), stands), daemon=True).start()
+            pipes.start(self.serve_slowly, pipes, Rig(made), stands)
             self.assertEqual(self.discover(pipes.line), uids_of(made))
             pipes.line._seconds = 0.05
             stands.set()
@@ -328,8 +341,7 @@ class Limits(TestCase):
             self.assertEqual(pipes.line.exchange(get(1)), response(1))
         # An empty line can't be told from silence at once.
         with Pipes() as pipes:
-            slow = threading.Thread(target=self.answer_slowly, args=(pipes,), daemon=True)
-            slow.start()
+            pipes.start(self.answer_slowly, pipes)
             replies = [pipes.line.exchange(get(number)) for number in range(6)]
             self.assertEqual(replies[0], b"")
             self.assertEqual(replies[2:], [response(number) for number in range(2, 6)])
@@ -440,12 +452,14 @@ class Openings(TestCase):
 
     def test_a_terminal_in_both_directions(self) -> None:
         own, other = os.openpty()
-        with os.fdopen(own, "rb+", buffering=0) as far, open_line(f"text:{os.ttyname(other)}") as line:
-            os.close(other)
-            thread = threading.Thread(target=serve_text, args=(ListLine(b"\x05", b"\x06"), far, far), daemon=True)
-            thread.start()
-            self.assertEqual(line.exchange(FRAME), b"\x05")
-            self.assertEqual(line.exchange(FRAME), b"\x06")
+        with os.fdopen(own, "rb+", buffering=0) as far:
+            with open_line(f"text:{os.ttyname(other)}") as line:
+                os.close(other)
+                thread = threading.Thread(target=serve_text, args=(ListLine(b"\x05", b"\x06"), far, far), daemon=True)
+                thread.start()
+                self.assertEqual(line.exchange(FRAME), b"\x05")
+                self.assertEqual(line.exchange(FRAME), b"\x06")
+            thread.join()
 
     def test_what_is_not_there_is_not_made(self) -> None:
         with folder() as directory:

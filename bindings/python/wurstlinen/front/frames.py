@@ -1,14 +1,17 @@
-"""Frames and their replies as text."""
+"""Frames and their replies, decoded."""
 from __future__ import annotations
 
-from typing import Optional
+from typing import Any, Dict, Optional
 
 from ..lines.numbers import CommandClass, Pid, ResponseType
 from ..lines.packets import Packet, decode_branch_reply, decode_packet, uid_text
 from ..parameters import STANDARD, Misfit, decode
 from ..parameters.decoding import lines_of, values_of
 from ..parameters.names import NACK_REASONS
+from .naming import known_or_raw, nack_of
+from .output import reading_keys
 
+RESPONSES = (CommandClass.GET_RESPONSE, CommandClass.SET_RESPONSE)
 UID_BYTES = 6
 NACK_BYTES = 2
 TENTHS = 10
@@ -16,14 +19,34 @@ TENTHS = 10
 
 def exchange_text(number: int, frame: bytes, reply: Optional[bytes]) -> str:
     """A frame and its reply, on one line. None is a line that failed."""
+    return f"{number:04d}  {command_of(frame)}  -> {answer_text(frame, reply)}"
+
+
+def answer_text(frame: bytes, reply: Optional[bytes]) -> str:
+    """What a frame's reply says. None is a line that failed."""
     command = decode_packet(frame)
     if reply is None:
-        answer = "the line failed"
-    elif command is not None and command.is_branch:
-        answer = branch_text(reply)
-    else:
-        answer = reply_text(reply, command)
-    return f"{number:04d}  {command_of(frame)}  -> {answer}"
+        return "the line failed"
+    return branch_text(reply) if command is not None and command.is_branch else reply_text(reply, command)
+
+
+def answer_keys(frame: bytes, reply: Optional[bytes]) -> Dict[str, Any]:
+    """The same for JSON: the text, and what a device returned, or why it refused."""
+    command, response = decode_packet(frame), decode_packet(reply or b"")
+    keys: Dict[str, Any] = {"text": answer_text(frame, reply)}
+    if command is not None and command.is_branch:
+        found = decode_branch_reply(reply or b"")
+        return keys if found is None else {**keys, "uid": uid_text(found)}
+    if response is None:
+        return keys
+    keys["uid"] = uid_text(response.source)
+    if response.port_or_type == ResponseType.NACK_REASON:
+        return {**keys, "nack": nack_of(response.data)}
+    if response.port_or_type == ResponseType.ACK and response.command_class in RESPONSES:
+        parameter = known_or_raw(response.source >> 32, response.pid)
+        is_set = response.command_class == CommandClass.SET_RESPONSE
+        keys.update(reading_keys(keys["uid"], parameter, decode(parameter, is_set, response.data)))
+    return keys
 
 
 def command_of(frame: bytes) -> str:

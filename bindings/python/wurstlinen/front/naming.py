@@ -1,15 +1,18 @@
-"""Parameters and UIDs by the words of a command line."""
+"""Parameters by words and numbers, and the names of refusals."""
 from __future__ import annotations
 
 import functools
 from typing import Mapping
 
-from ..parameters import STANDARD, Table, WordFault, ola
+from ..parameters import STANDARD, Parameter, Table, WordFault, ola
+from ..parameters.fields import Bytes, Message, SubDevices
+from ..parameters.names import NACK_REASONS
 from ..parameters.words import is_name, is_only_a_name, name_of
 from .output import BAD_ARGUMENTS, Failure
 
 FIRST_MANUFACTURERS_PID = 0x8000
 LAST_MANUFACTURERS_PID = 0xFFDF
+NACK_BYTES = 2
 
 
 def is_manufacturers(pid: int) -> bool:
@@ -44,3 +47,22 @@ def pid_of(manufacturer: int, word: str) -> int:
         if is_only_a_name(word):
             text += f"{'' if text.endswith('?') else ';'} 'wurstlinen pids' lists those of the standards"
         raise Failure(BAD_ARGUMENTS, text, reason="parameter") from None
+
+
+def known_or_raw(manufacturer: int, pid: int) -> Parameter:
+    """The parameter of this number, without asking a device."""
+    return table_of(manufacturer, pid).numbered(pid) or raw_parameter(pid)
+
+
+def raw_parameter(pid: int) -> Parameter:
+    """A parameter of which nothing is known."""
+    fields = (Bytes("data"),)
+    message = Message(fields, fields, SubDevices.ROOT_ONE_OR_ALL)
+    return Parameter(f"0x{pid:04x}", pid, "", message, message)
+
+
+def nack_of(data: bytes) -> str:
+    """The name of a refusal's reason."""
+    if len(data) != NACK_BYTES:
+        return "malformed_reason"
+    return NACK_REASONS.get(int.from_bytes(data, "big"), "unknown_reason")

@@ -8,9 +8,9 @@ from .. import Uid
 from ..lines.numbers import Pid
 from ..lines.packets import is_broadcast, uid_text
 from ..parameters import STANDARD, Parameter, WordFault, decode, encode
-from .naming import pid_of
+from .naming import pid_of, raw_parameter
 from .output import BAD_ARGUMENTS, DONE, FAILED, Failure, Output
-from .work import Work, open_work, raw_parameter
+from .work import Work, open_work
 
 ON = b"\x01"
 OFF = b"\x00"

@@ -7,7 +7,7 @@ import json
 import sys
 from typing import Any, Dict, Iterable, Iterator, Optional, TextIO, Tuple
 
-from .frames import command_of, exchange_text
+from .frames import answer_keys, command_of, exchange_text
 from .output import BAD_ARGUMENTS, DONE, Failure, Output
 
 STANDARD_STREAM = "-"
@@ -30,7 +30,8 @@ def run_trace(chosen: argparse.Namespace, output: Output) -> int:
 def trace(name: str, file: TextIO, output: Output) -> int:
     """Prints the exchanges of an open log."""
     for number, (frame, reply) in enumerate(exchanges(name, file)):
-        keys: Dict[str, Any] = {"number": number, "text": command_of(frame), "frame": frame.hex()}
+        keys: Dict[str, Any] = {"number": number, "text": command_of(frame), "frame": frame.hex(),
+                                "answer": answer_keys(frame, reply)}
         keys.update({"failed": True} if reply is None else {"reply": reply.hex()})
         output.result([exchange_text(number, frame, reply)], **keys)
     return DONE

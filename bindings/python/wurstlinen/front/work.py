@@ -15,16 +15,13 @@ from ..line import LineFailed
 from ..lines import open_line
 from ..lines.numbers import Pid
 from ..parameters import Misfit, Parameter, Reading, decode, described
-from ..parameters.fields import Bytes, Message, SubDevices
-from ..parameters.names import NACK_REASONS
-from .naming import is_manufacturers, table_of
+from .naming import is_manufacturers, known_or_raw, nack_of, raw_parameter, table_of
 from .output import BAD_ARGUMENTS, FAILED, LINE_FAILED, REFUSED, Failure, Output
 from .watched import WatchedLine
 
 LINE_VARIABLE = "WURSTLINEN_LINE"
 # More than one command has outstanding.
 PLACES = 4
-NACK_BYTES = 2
 
 
 class Work:
@@ -93,7 +90,7 @@ class Work:
     def message(uid: Uid, message: Completion) -> Tuple[Parameter, Reading]:
         """What a message of a device says, whose parameter only the message names."""
         assert message.head is not None
-        parameter = known_or_raw(uid, message.head.pid)
+        parameter = known_or_raw(uid.manufacturer, message.head.pid)
         return parameter, decode(parameter, message.head.response_class == ResponseClass.SET, message.data)
 
     def read(self, uid: Uid, parameter: Parameter, data: bytes = b"", sub_device: int = 0) -> Reading:
@@ -151,24 +148,3 @@ def open_work(chosen: argparse.Namespace, output: Output) -> Iterator[Work]:
         watched = WatchedLine(line, output, chosen.frames)
         with Controller(Uid.from_number(source_of(chosen, line)), PLACES, search=Search.QUICK) as controller:
             yield Work(watched, controller.join(PLACES), chosen.wait, output)
-
-
-def nack_of(data: bytes) -> str:
-    """The name of a refusal's reason."""
-    if len(data) != NACK_BYTES:
-        return "malformed_reason"
-    return NACK_REASONS.get(int.from_bytes(data, "big"), "unknown_reason")
-
-
-def raw_parameter(pid: int) -> Parameter:
-    """A parameter of which nothing is known."""
-    fields = (Bytes("data"),)
-    message = Message(fields, fields, SubDevices.ROOT_ONE_OR_ALL)
-    return Parameter(f"0x{pid:04x}", pid, "", message, message)
-
-
-def known_or_raw(uid: Uid, pid: int) -> Parameter:
-    """The parameter of this number, without asking the device."""
-    return table_of(uid.manufacturer, pid).numbered(pid) or raw_parameter(pid)
-
-

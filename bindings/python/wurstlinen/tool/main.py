@@ -23,6 +23,10 @@ HELP_WORDS = ("-h", "--help")
 VALUED = ("--line", "--replies", "--source", "--known", "--budget", "--port", "--log")
 FRAMES = "--frames"
 NO_PROGRAM = 127
+# What the program answers to wrong words.
+WRONG_WORDS = "fault: command line"
+# Python ignores these, and a program that it becomes would, too.
+IGNORED = (signal.SIGPIPE, signal.SIGXFSZ)
 
 
 def run() -> int:
@@ -92,13 +96,22 @@ def run_proved(words: List[str]) -> int:
     if program is None:
         return no_program(f"'{words[0]}'")
     line = option(words, "--line")
-    if words[0] == "discover" and line is None and not has_file(words):
-        line = default_line()
+    if words[0] == "discover" and place_of(words, "--line") is None and not has_file(words):
+        line = line_of_discovery()
     elif words[0] not in ("discover", "run") or not serving.is_served(line):
         return become(program, words)
     assert line is not None
     shows_frames = place_of(words, FRAMES) is not None
     return serving.serve(program, without(without(words, "--line"), FRAMES), line, shows_frames)
+
+
+def line_of_discovery() -> str:
+    """The line of a discovery whose words name neither a line nor a file. Raises Failure."""
+    try:
+        return default_line()
+    except Failure:
+        print(WRONG_WORDS, flush=True)
+        raise
 
 
 def no_program(what: str) -> int:
@@ -116,6 +129,8 @@ def run_program() -> int:
 
 def become(program: Path, words: Sequence[str]) -> int:
     """Runs the proved program in the place of this process."""
+    for number in IGNORED:
+        signal.signal(number, signal.SIG_DFL)
     try:
         os.execv(program, ["wurstlinen", *words])
     except OSError as fault:
