@@ -18,8 +18,15 @@ put() (
     cp -- "$1" "$new" && chmod "${3-644}" -- "$new" && mv -fT -- "$new" "$2"
 )
 
-# The same with a folder of Python files. The old folder is moved away before the new one takes its name, and moved back
-# if that fails.
+# Puts a link to $1 in the place of $2, in one step.
+put_link() (
+    new="$(mktemp -u -- "$(dirname -- "$2")/.${2##*/}.XXXXXX")" || exit
+    trap 'rm -f -- "$new"' EXIT
+    ln -s -- "$1" "$new" && mv -fT -- "$new" "$2"
+)
+
+# Puts a copy of a folder of Python files in the place of $2. The old folder is moved away before the new one takes its
+# name, and moved back if that fails.
 put_package() (
     folder="$(mktemp -u -- "$(dirname -- "$2")/.${2##*/}.XXXXXX")" || exit
     trap 'end_put_package "$2" "$folder"' EXIT

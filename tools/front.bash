@@ -11,41 +11,6 @@ is_of_front() {
     [[ " ${without_library[*]} ${with_library[*]} " = *" $1 "* ]]
 }
 
-# Whether the program is called for a line that the command in Python serves.
-is_served() {
-    local word before=""
-    [[ "${1-}" = discover || "${1-}" = run ]] || return
-    for word in "$@"; do
-        [ "$before" != --line ] || word="--line=$word"
-        [[ "$word" != --line=@(enttec|text|exec|rig):* ]] || return 0
-        before="$word"
-    done
-    return 1
-}
-
-# Whether the program's command discover names neither a file nor a line, and there is a line that it can have.
-lacks_line() {
-    local word is_value=""
-    [ "${1-}" = discover ] || return
-    for word in "${@:2}"; do
-        if [ -n "$is_value" ]; then
-            is_value=""
-            continue
-        fi
-        case "$word" in
-            --line | --line=* | -- | [!-]* | "") return 1 ;;
-            --replies | --source | --known | --budget | --log) is_value=1 ;;
-        esac
-    done
-    [ -n "${WURSTLINEN_LINE-}" ] || has_adapter
-}
-
-# Whether an adapter is plugged in. If there are several, the command in Python lists the choice.
-has_adapter() (
-    export_front
-    python3 -c 'import sys; from wurstlinen.tool.adapters import chips; sys.exit(not chips())' 2> /dev/null
-)
-
 asks_for_help() {
     local word
     for word in "$@"; do
@@ -55,14 +20,10 @@ asks_for_help() {
     return 1
 }
 
-# Lets Python find the package. It writes no files into the sources.
-export_front() {
-    export PYTHONPATH="$root/bindings/python${PYTHONPATH:+:$PYTHONPATH}" PYTHONDONTWRITEBYTECODE=1
-}
-
-# Replaces the script by the command in Python.
+# Replaces the script by the command in Python, which knows all commands, and calls the program. It writes no files into
+# the sources.
 call_front() {
-    export_front
+    export PYTHONPATH="$root/bindings/python${PYTHONPATH:+:$PYTHONPATH}" PYTHONDONTWRITEBYTECODE=1
     export WURSTLINEN_PROGRAM="$program"
     exec python3 -m wurstlinen.tool "$@"
 }
@@ -79,7 +40,7 @@ find_costs() {
         || costs+=(--also OLA "no headers: --install-ola needs libola-dev")
 }
 
-# The same with the C library, if the command needs it.
+# Calls the command in Python with the C library, if it needs that.
 run_front() {
     local costs=()
     if [ "$1" = doctor ] && ! asks_for_help "$@"; then

@@ -81,8 +81,9 @@ built_for() {
 # can't be examined; no_process: there is none.
 check_ola_daemon() {
     local pid="$1" maps found path
-    if ! maps="$(cat "/proc/$pid/maps" 2> /dev/null)" || [ -z "$maps" ]; then
-        [ -e "/proc/$pid" ] || return "$no_process"
+    if ! maps="$(LC_ALL=C cat "/proc/$pid/maps" 2>&1)" || [ -z "$maps" ]; then
+        # One that is about to end has no memory any more.
+        [[ -e "/proc/$pid" && -n "$maps" && "$maps" != *": No such process" ]] || return "$no_process"
         say "process $pid can't be examined: call this as root, or as the user that runs it"
         return 125
     fi

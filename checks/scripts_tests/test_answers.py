@@ -18,7 +18,8 @@ from wurstlinen.front.output import Failure  # noqa: E402
 from wurstlinen.tool import adapters, arguments  # noqa: E402
 
 # Cases of the program whose standard error has this need no program.
-EARLY = re.compile(rb"wurstlinen: (the command is missing|.* is no command|the file .* no such file|.*no UTF-8 text)\n")
+EARLY = re.compile(rb"wurstlinen: (the command is missing;|unknown command|the file .* no such file\n|.* isn't UTF-8)")
+TRY_HELP = "; try 'wurstlinen --help'\n"
 PROVED = (b"decode", b"encode", b"discover", b"run")
 BUILDING = 'echo "building" >&2; exit 1'
 
@@ -94,8 +95,8 @@ class Answers(unittest.TestCase):
         version = (ROOT / "VERSION").read_text().strip()
         for words, err in ((["help"], usage()), (["--help"], usage()), (["-h"], usage()),
                            (["--version"], f"{usage()}version: {version}\n"),
-                           (["version"], f'wurstlinen: "version" is no command\n{usage()}'),
-                           ([], f"wurstlinen: the command is missing\n{usage()}")):
+                           (["version"], f'wurstlinen: unknown command "version"{TRY_HELP}'),
+                           ([], f"wurstlinen: the command is missing{TRY_HELP}")):
             done = self.clone.run("./rdm_port", *words)
             self.assertEqual((done.returncode, done.stdout, done.stderr), (2, "fault: command line\n", err))
         self.assertEqual(self.clone.rt_calls(), [])
@@ -112,7 +113,7 @@ class Answers(unittest.TestCase):
         written = '"w\\"\\\\\\u{301}\u00e4\\u{200b}\\t\\u{a0}\u0903\\u{ff9e}\u0e33\U0001f600"'
         done = self.clone.run("./rdm_port", word)
         self.assertEqual((done.returncode, done.stdout, done.stderr),
-                         (2, "fault: command line\n", f"wurstlinen: {written} is no command\n{usage()}"))
+                         (2, "fault: command line\n", f"wurstlinen: unknown command {written}{TRY_HELP}"))
         self.assertEqual(self.clone.rt_calls(), [])
 
     def test_other_arguments_are_left_to_the_program(self) -> None:
@@ -159,8 +160,8 @@ class Answers(unittest.TestCase):
 
     def test_what_cannot_be_answered_is_left_to_the_program(self) -> None:
         """Without the file that has the program's usage, and without Python."""
-        (self.clone.root / "crates/rdm_words/src/usage.rt").unlink()
-        done = self.clone.run("./rdm_port", "walk")
+        (self.clone.root / "crates/rdm_arguments/src/usage.rt").unlink()
+        done = self.clone.run("./rdm_port", "--help")
         self.assertEqual((done.returncode, done.stdout), (125, ""))
         self.assertIn("proving and building", done.stderr)
         (self.clone.bin / "python3").write_text("#!/bin/sh\nexit 127\n")

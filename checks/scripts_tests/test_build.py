@@ -14,7 +14,7 @@ from typing import List
 
 from clone import Clone, is_alive, new_clone, wait_for
 
-CRATES = ("rdm_words", "rdm_wire")
+CRATES = ("rdm_arguments", "rdm_wire")
 
 
 class Builds(unittest.TestCase):

@@ -48,6 +48,7 @@ echo "wurstlinen: two" >&2
 echo three
 exit 5
 """
+NO_ADAPTER = "wurstlinen: no adapter is plugged in; --line LINE or WURSTLINEN_LINE names another line\n"
 # Unmutes all devices, which none answers: the source is 7ff0:00000001.
 FRAME = "cc0118ffffffffffff7ff000000001000100000010000300"
 # The program waits for a reply that doesn't come, or for nothing, and says that it has begun.
@@ -121,6 +122,20 @@ class Commands(Place):
         done = self.call("discover", WURSTLINEN_LINE=f"rig:{FIXTURES}")
         self.assertEqual((done.returncode, done.stderr), (5, ""))
         self.assertRegex(done.stdout, r"^discover --line FD --replies FD --source 7ff0:00000001\n")
+
+    @unittest.skipIf(adapters.chips(), "an adapter is plugged in")
+    def test_a_discovery_without_a_line(self) -> None:
+        for words in (["discover"], ["discover", "--quick"], ["discover", "--log", "x"]):
+            self.expect(words, 2, "fault: command line\n", NO_ADAPTER)
+        # These name one, even if there is none.
+        for words in (["discover", "--quick", "--line"], ["discover", "--quick", "--line="]):
+            self.expect(words, 4, " ".join(words) + "\n", WURSTLINEN_LINE=f"rig:{FIXTURES}")
+
+    def test_the_program_has_signals_as_if_it_were_called_itself(self) -> None:
+        self.put_program("#!/bin/sh\ngrep SigIgn /proc/self/status\n")
+        alone = subprocess.run([self.folder / "program"], check=True, capture_output=True, text=True)
+        for words in (["decode", "00"], ["run", "x", "--line", f"rig:{FIXTURES}"]):
+            self.expect(words, 0, alone.stdout)
 
     def test_frames_are_shown(self) -> None:
         wanted = "0000  UNMUTE ffff:ffffffff  -> silence\n"
@@ -511,10 +526,13 @@ class Repository(unittest.TestCase):
         self.assertEqual(self.clone.run("./rdm_port", "discover").stdout, "the program: discover\n")
 
     @unittest.skipIf(adapters.chips(), "an adapter is plugged in")
-    def test_a_discovery_without_a_line_is_the_programs(self) -> None:
+    def test_a_discovery_without_a_line(self) -> None:
         self.clone.environment.pop("WURSTLINEN_LINE", None)
         self.assertEqual(self.clone.run("./wurstlinen", "decode", "00").returncode, 0)
-        self.assertEqual(self.clone.run("./wurstlinen", "discover").stdout, "the program: discover\n")
+        done = self.clone.run("./wurstlinen", "discover")
+        self.assertEqual((done.returncode, done.stdout), (2, "fault: command line\n"))
+        self.assertEqual(done.stderr, NO_ADAPTER)
+        self.assertEqual(self.clone.run("./rdm_port", "discover").stdout, "the program: discover\n")
 
     def test_the_version_says_what_was_proved(self) -> None:
         version = (ROOT / "VERSION").read_text().strip()
@@ -561,6 +579,7 @@ class Repository(unittest.TestCase):
         done = self.clone.run("./wurstlinen", "--install", str(target))
         self.assertEqual(done.returncode, 0, done.stderr)
         self.assertEqual({path.name for path in target.iterdir()}, {"wurstlinen", "rdm_port"})
+        self.assertEqual(os.readlink(target / "rdm_port"), "../libexec/wurstlinen/wurstlinen")
         for words, wanted in ((["decode", "00"], "the program: decode 00\n"), (["pids", "device_lab"], "0x0082"),
                               (["--version"], "(proved with kit-of-tests, commit ")):
             done = self.clone.run(str(target / "wurstlinen"), *words, cwd="/")

@@ -184,12 +184,41 @@ class Installs(unittest.TestCase):
         target, victim = self.clone.folder / "programs", self.clone.folder / "victim"
         target.mkdir()
         victim.write_text("mine")
-        for name in ("wurstlinen.new", "wurstlinen"):
+        for name in ("wurstlinen.new", "wurstlinen", "rdm_port"):
             (target / name).symlink_to(victim)
         self.assertEqual(self.clone.run("./wurstlinen", "--install", str(target)).returncode, 0)
         self.assertEqual(victim.read_text(), "mine")
         self.assertFalse((target / "wurstlinen").is_symlink())
-        self.assertEqual({path.name for path in target.iterdir()}, {"wurstlinen", "wurstlinen.new", "rdm_port"})
+        wanted = {"libexec", "wurstlinen", "wurstlinen.new", "rdm_port"}
+        self.assertEqual({path.name for path in target.iterdir()}, wanted)
+
+    def test_the_program_is_in_libexec(self) -> None:
+        below = "libexec/wurstlinen/wurstlinen"
+        for name, link in (("bin", f"../{below}"), ("usr/bin", f"../{below}"), ("programs", below),
+                           ("other", f"../{below}")):
+            target = self.clone.folder / "a b" / name
+            if name == "other":
+                target.symlink_to("usr/bin")
+            elif name == "programs":
+                target.mkdir()
+                # An earlier installation had the program itself here.
+                (target / "rdm_port").write_text("old")
+            done = self.clone.run("./wurstlinen", "--install", str(target))
+            self.assertEqual(done.returncode, 0, done.stderr)
+            self.assertIn(f"{target}/rdm_port, which is a link to {link}\n", done.stderr)
+            self.assertEqual(os.readlink(target / "rdm_port"), link)
+            self.assertEqual(self.clone.run(str(target / "rdm_port"), "x").stdout, "the program: x\n")
+            done = self.clone.run(str(target / "wurstlinen"), "decode", "0")
+            self.assertEqual(done.stdout, "the program: decode 0\n")
+        self.assertEqual(sorted(path.name for path in (self.clone.folder / "a b").iterdir()),
+                         ["bin", "libexec", "other", "programs", "usr"])
+
+    def test_a_folder_above_that_cannot_be_written(self) -> None:
+        (self.clone.folder / "libexec").write_text("")
+        done = self.clone.run("./wurstlinen", "--install", str(self.clone.folder / "bin"))
+        self.assertEqual(done.returncode, 125)
+        self.assertIn("libexec/wurstlinen can't be written\n", done.stderr)
+        self.assertEqual(self.clone.rt_calls(), [])
 
     def test_several_calls_at_once(self) -> None:
         self.install(self.prefix)
