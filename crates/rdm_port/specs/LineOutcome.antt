@@ -1,6 +1,7 @@
 -- What is printed for a discovery on a line of the caller's own.
-use Rattle.std.specs.Prelude.{◌≡◌, ◌∷◌, [], ℕ, ◌<◌, ◌≤◌, ◌^◌, false, List, Result, ⊤, length}
+use Rattle.std.specs.Prelude.{◌≡◌, ℕ, ◌<◌, ◌≤◌, ◌^◌, false, List, Result, ⊤, length}
 use Rattle.std.specs.Borrow.{Bor}
+use Rattle.std.specs.List.{AllZip}
 use Rattle.clap.specs.Words.{Text}
 use Rattle.rdm_wire.specs.Uid.{is_broadcast, set_of}
 use Rattle.rdm_wire.specs.UidText.{UidText}
@@ -22,10 +23,7 @@ SpellsDevice text u = UidText text u × (is_broadcast u ≡ false)
 
 -- each text spells the UID at the same index
 abbrev pub SpellDevices : List (Bor (List ℕ)) → List ℕ → Type 0
-SpellDevices [] [] = ⊤
-SpellDevices [] (u ∷ us) = ⊥
-SpellDevices (text ∷ texts) [] = ⊥
-SpellDevices (text ∷ texts) (u ∷ us) = SpellsDevice text.now u × SpellDevices texts us
+SpellDevices = AllZip (λ text u. SpellsDevice text.now u)
 
 -- the UIDs that a discovery's texts spell; at most 1,024 are known
 pub record SaysValues (own : LineDiscovery) (values : LineValues) : Type 0 where

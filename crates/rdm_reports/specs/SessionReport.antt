@@ -2,6 +2,7 @@
 use Rattle.std.specs.Prelude.{◌≡◌, ℕ, ◌+◌, Bool, true, false, List, [], ◌∷◌}
 use Rattle.std.specs.Prelude.{◌++◌, Option, Some, None, map, if◌then◌else◌}
 use Rattle.std.specs.Prelude.{codes, decimal, flat_map}
+use Rattle.std.specs.List.{AllZip}
 use Rattle.hex.specs.Hex.{encode_lower}
 use Rattle.rdm_wire.specs.UidText.{uid_text}
 use Rattle.rdm_wire.specs.declared.response.AckType.{AckType}
@@ -109,7 +110,4 @@ pub record IsSettled (calls : List ClientCall) (o : Outcomes) : Type 0 where
 
 -- there are outcomes for each client, and each client is settled
 abbrev pub AllSettled : List ClientFile → List Outcomes → Type 0
-AllSettled [] [] = Unit {0}
-AllSettled [] (o ∷ os) = ⊥
-AllSettled (c ∷ cs) [] = ⊥
-AllSettled (c ∷ cs) (o ∷ os) = IsSettled c.calls.items o × AllSettled cs os
+AllSettled = AllZip (λ c o. IsSettled c.calls.items o)
