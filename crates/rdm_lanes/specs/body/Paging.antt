@@ -8,8 +8,8 @@ use Rattle.rdm_lanes.specs.declared.pages.Spare.TheVariants.{Nothing}
 use Rattle.rdm_lanes.specs.Lines.{Exchanged, exchange_count}
 use Rattle.rdm_lanes.specs.Pages.{HandsOut, SameMemory, IsDue, pages_out, spare_capacity, with_memory}
 
--- In this many turns pages were handed out whenever they were due. After the last turn none is due. Spare memory stays
--- unless it is used, and without any the log's memory is the same.
+-- Pages were handed out in this many turns, and after the last one none is due. Spare memory stays unless it is used.
+-- Without any, the log keeps its memory.
 pub record HandsPages {S : Type 0} (taken : S → List Page) (turns : ℕ) (old new : LogState) (pages later : Pages S)
     : Type 0 where
   pub handed : HandsOut old new (pages_out taken pages) (pages_out taken later)
@@ -19,7 +19,7 @@ pub record HandsPages {S : Type 0} (taken : S → List Page) (turns : ℕ) (old 
       → spare_capacity later.spare ≡ spare_capacity pages.spare
   pub still : pages.spare ≡ Nothing → SameMemory old new × (later.spare ≡ Nothing)
 
--- the same, with at most one exchange in each turn
+-- the same, with at most as many exchanges as turns
 pub record WorksInPages {L S : Type 0} (step : L → Exchange → L → Type 0) (taken : S → List Page) (turns : ℕ)
     (before : L) (old : LogState) (pages : Pages S) (after : L) (new : LogState) (later : Pages S) : Type 0 where
   pub exchanged : Exchanged step before old after (with_memory old.room old.gone new)

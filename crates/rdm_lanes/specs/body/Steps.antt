@@ -73,7 +73,8 @@ pub record ViewSteps (old : Worker) (views : Publishing) (new : Worker) (later :
   pub server : Steps old new
   pub shown : IsPrefix views.shown later.shown
 
--- All was done that is done in a turn, and its attempt at an exchange came to this. None: a publication failed.
+-- A turn was made, and its attempt at an exchange came to this. None: a publication failed. Which calls were served and
+-- which outcomes were moved is said by AreServed and AreMoved.
 pub record Turned {L : Type 0} (step : L → Exchange → L → Type 0) (before : L) (old : Worker) (views : Publishing)
     (after : L) (new : Worker) (later : Publishing) (attempt : Option Attempt) : Type 0 where
   pub exchanged : Exchanged step before old.session after new.session
