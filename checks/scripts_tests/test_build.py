@@ -7,7 +7,6 @@ import signal
 import stat
 import subprocess
 import tempfile
-import time
 import unittest
 from pathlib import Path
 from typing import List
@@ -121,14 +120,20 @@ class Builds(unittest.TestCase):
 
     def test_two_calls_build_once(self) -> None:
         self.slow.touch()
-        first, second = (self.clone.start("./wurstlinen", "decode", "00") for _ in range(2))
-        wait_for(lambda: len(self.numbers()) >= len(CRATES))
-        time.sleep(0.3)
+        errors = [self.clone.folder / f"errors{number}" for number in range(2)]
+        calls = []
+        for path in errors:
+            with path.open("w") as file:
+                calls.append(self.clone.start("./wurstlinen", "decode", "00", stderr=file))
+        wait_for(lambda: len(self.numbers()) >= len(CRATES) and self.waiting(errors) == 1)
         self.slow.unlink()
-        texts = [each.communicate() for each in (first, second)]
-        self.assertEqual([out for out, _ in texts], ["the program: decode 00\n"] * 2)
-        self.assertEqual(sum("waiting for another call" in errors for _, errors in texts), 1)
+        self.assertEqual([call.communicate()[0] for call in calls], ["the program: decode 00\n"] * 2)
+        self.assertEqual(self.waiting(errors), 1)
         self.assertEqual(sum(" run " in call for call in self.clone.rt_calls()), 1)
+
+    def waiting(self, errors: List[Path]) -> int:
+        """How many calls said that they wait for another one."""
+        return sum("waiting for another call" in path.read_text() for path in errors)
 
     def test_without_rt_nothing_is_made(self) -> None:
         (self.clone.bin / "rt").unlink()
