@@ -47,7 +47,8 @@ end() {
     done
     rm -rf "$folder"
 }
-trap end EXIT
+# On a busy machine bash may complain in a trap that it has no record of a process that has just ended.
+trap 'end 2> /dev/null' EXIT
 trap 'exit 129' HUP
 trap 'exit 130' INT
 trap 'exit 131' QUIT

@@ -94,7 +94,7 @@ class Commands(Place):
     def call(self, *words: str, **more: str) -> "subprocess.CompletedProcess[str]":
         """Runs the command."""
         return subprocess.run([sys.executable, "-m", "wurstlinen.tool", *words], env=self.environment(**more),
-                              text=True, check=False, capture_output=True, timeout=60, cwd=self.folder, input="",
+                              text=True, check=False, capture_output=True, timeout=300, cwd=self.folder, input="",
                               errors="surrogateescape")
 
     def expect(self, words: List[str], status: int, out: str, err: str = "", **more: str) -> None:
