@@ -1,11 +1,11 @@
 //! How a sweep goes on after a reply.
-ghost use Rattle.std.specs.Prelude.{◌≡◌, ◌<◌, ◌≤◌, ◌^◌, ◌+◌, ℕ, List, []};
-ghost use Rattle.rdm_wire.specs.Uid.{IsDevice};
+ghost use Rattle.std.specs.Prelude.{◌≡◌, ◌<◌, ◌≤◌, ◌+◌, ℕ, List, []};
 ghost use Rattle.rdm_wire.specs.Devices.{uids_of};
 ghost use Rattle.rdm_agent.specs.Machine.{sweep_heard, swept_heard, sweep_on, sweep_silent, sweep_apart, is_wanted};
 ghost use Rattle.rdm_agent.specs.Run.{heard_of_mute, heard_of_branch};
 ghost use Rattle.rdm_agent.specs.body.Sound.{IsSound, IsSmall};
-ghost use Rattle.rdm_agent.specs.body.AgentFields.{seen_phase, phase_of, Steps};
+ghost use Rattle.rdm_agent.specs.body.AgentFields.{phase_of};
+ghost use Rattle.rdm_agent.specs.body.GoesOn.{GoesOn, IsConsistent};
 
 use crate::belief::{Belief, Part};
 use crate::fault::AgentFault;
@@ -18,13 +18,9 @@ use rdm_wire::{BranchReply, MuteAck, Uid};
 impl RunState {
     // After a branch of a sweep.
     pub(super) fn swept(&mut self, sweep: Sweep, reply: BranchReply) -> Phase
-        requires made { sweep.made < 2 ^ 20 }
-        requires silences { sweep.silences < TRIES }
-        requires small { IsSmall sweep.belief }
-        requires fresh { self.old.below ≡ [] }
-        ensures state { Steps (λ a. sweep_heard a sweep (heard_of_branch reply))
+        requires { IsConsistent (Phase.Sweeping sweep) self.old }
+        ensures goes_on { GoesOn (λ a. sweep_heard a sweep (heard_of_branch reply))
             (Phase.Sweeping sweep) self.old result self.new }
-        ensures sound { IsSound (seen_phase result self.new) }
         ensures fresh { self.new.below ≡ [] }
     {
         let found = self.found.len();
@@ -48,15 +44,9 @@ impl RunState {
         sweep: Sweep,
         ack: Option<MuteAck>,
     ) -> Phase
-        requires device { IsDevice uid }
-        requires tries { tries < TRIES }
-        requires made { sweep.made ≤ 2 ^ 20 + tries }
-        requires silences { sweep.silences < TRIES }
-        requires small { IsSmall sweep.belief }
-        requires fresh { self.old.below ≡ [] }
-        ensures state { Steps (λ a. swept_heard a uid tries sweep (heard_of_mute ack))
+        requires { IsConsistent (Phase.MutingSwept uid tries sweep) self.old }
+        ensures goes_on { GoesOn (λ a. swept_heard a uid tries sweep (heard_of_mute ack))
             (Phase.MutingSwept uid tries sweep) self.old result self.new }
-        ensures sound { IsSound (seen_phase result self.new) }
         ensures fresh { self.new.below ≡ [] }
     {
         let found = self.found.len();
