@@ -1,20 +1,19 @@
 //! How a run goes on after a reply.
-ghost use Rattle.std.specs.Prelude.{◌≡◌, ◌<◌, ◌-◌, ◌⊎◌, ℕ, List, Some, [], true, false};
-ghost use Rattle.std.specs.Prelude.{if◌then◌else◌, nat_lt};
+ghost use Rattle.std.specs.Prelude.{◌≡◌, ◌<◌, ◌⊎◌, Some, [], true, false};
 ghost use Rattle.std.specs.List.{AllByRecursion};
 ghost use Rattle.rdm_wire.specs.Span.{Span, whole};
 ghost use Rattle.rdm_wire.specs.Uid.{is_broadcast, IsDevice, IsDeviceSet};
 ghost use Rattle.rdm_wire.specs.Devices.{uids_of};
-ghost use Rattle.rdm_agent.specs.Machine.{fed, wanted, to_found, split, search_from, search_below, is_new};
-ghost use Rattle.rdm_agent.specs.Machine.{known_heard, branch_heard, mute_heard, first_phase};
-ghost use Rattle.rdm_agent.specs.Machine.Phase.{Unmuting as unmuting, Searching as searching};
+ghost use Rattle.rdm_wire.specs.Honest.Heard.{Silent};
+ghost use Rattle.rdm_agent.specs.Machine.{wanted, to_found, split, search_from, search_below, is_new, first_phase};
+ghost use Rattle.rdm_agent.specs.Machine.Phase.{Searching as searching};
 ghost use Rattle.rdm_agent.specs.Certificate.{known_of};
 ghost use Rattle.rdm_agent.specs.Run.{heard_by, heard_of_mute, heard_of_branch, device_from};
 ghost use Rattle.rdm_agent.specs.Calls.{fits, op_of};
-ghost use Rattle.rdm_agent.specs.body.Sound.{IsSound, IsStack};
+ghost use Rattle.rdm_agent.specs.body.Sound.{IsStack};
 ghost use Rattle.rdm_agent.specs.declared.fault.AgentFault.TheVariants.{TooMany};
-ghost use Rattle.rdm_agent.specs.body.AgentFields.{seen_phase, phase_of, Steps};
-ghost use Rattle.rdm_agent.specs.body.GoesOn.{GoesOn, MovesTo, IsConsistent};
+ghost use Rattle.rdm_agent.specs.body.AgentFields.{seen_phase, Steps};
+ghost use Rattle.rdm_agent.specs.body.GoesOn.{GoesOn, MovesTo, Follows, IsConsistent};
 
 mod sweeping;
 
@@ -61,7 +60,7 @@ impl RunState {
     pub(crate) fn heard(&mut self, phase: Phase, reply: OpReply) -> Phase
         requires fits { fits reply (op_of (wanted (seen_phase phase self.old))) ≡ true }
         requires consistent { IsConsistent phase self.old }
-        ensures { GoesOn (λ a. fed a (heard_by reply)) phase self.old result self.new }
+        ensures { GoesOn (heard_by reply) phase self.old result self.new }
     {
         match (phase, reply) {
             (_, OpReply::Failed) => Phase::Ended(Some(AgentFault::LineFailed)),
@@ -86,8 +85,7 @@ impl RunState {
     // After an unmute.
     fn unmuted(&mut self, more: u8) -> Phase
         requires { IsConsistent (Phase.Unmuting more) self.old }
-        ensures moves { MovesTo (if nat_lt 1 more then unmuting (more - 1) self.old.known
-            else search_from self.old.search self.old.known) self.old result self.new }
+        ensures goes_on { GoesOn Silent (Phase.Unmuting more) self.old result self.new }
         ensures fresh { self.new.below ≡ [] }
     {
         if more > 1 {
@@ -112,7 +110,7 @@ impl RunState {
 
     // The search begins; a quick one sweeps first.
     fn first_phase(&self) -> Phase
-        ensures { (known : List ℕ) → phase_of result known [] ≡ first_phase self.now.search }
+        ensures { Follows (first_phase self.now.search) result }
     {
         match self.search {
             Search::Steady => searching_all(0),
@@ -125,8 +123,7 @@ impl RunState {
     // After the mute of a known UID.
     fn known_muted(&mut self, uid: Uid, tries: u8, ack: Option<MuteAck>) -> Phase
         requires { IsConsistent (Phase.MutingKnown uid tries) self.old }
-        ensures goes_on { GoesOn (λ a. known_heard a uid tries self.old.known (heard_of_mute ack))
-            (Phase.MutingKnown uid tries) self.old result self.new }
+        ensures goes_on { GoesOn (heard_of_mute ack) (Phase.MutingKnown uid tries) self.old result self.new }
         ensures fresh { self.new.below ≡ [] }
     {
         if let Some(ack) = ack {
@@ -142,8 +139,7 @@ impl RunState {
     // After a branch of the top range.
     fn branched(&mut self, top: UidRange, silences: u8, reply: BranchReply) -> Phase
         requires { IsConsistent (Phase.Searching top silences) self.old }
-        ensures { GoesOn (λ a. branch_heard a silences top self.old.below (heard_of_branch reply))
-            (Phase.Searching top silences) self.old result self.new }
+        ensures { GoesOn (heard_of_branch reply) (Phase.Searching top silences) self.old result self.new }
     {
         match reply {
             BranchReply::Silent => match silences + 1 {
@@ -162,8 +158,7 @@ impl RunState {
     // After the mute of a UID that a branch of the top range spelt.
     fn read_muted(&mut self, uid: Uid, tries: u8, top: UidRange, ack: Option<MuteAck>) -> Phase
         requires { IsConsistent (Phase.MutingRead uid tries top) self.old }
-        ensures { GoesOn (λ a. mute_heard a uid tries top self.old.below (heard_of_mute ack))
-            (Phase.MutingRead uid tries top) self.old result self.new }
+        ensures { GoesOn (heard_of_mute ack) (Phase.MutingRead uid tries top) self.old result self.new }
     {
         if let Some(ack) = ack {
             return self.find(device_from(uid, ack), Phase::Searching { top, silences: 0 });
@@ -227,8 +222,7 @@ impl RunState {
 // The search of the whole range, which was silent this many times.
 fn searching_all(silences: u8) -> Phase
     requires { silences < TRIES }
-    ensures phase { (known : List ℕ) → phase_of result known [] ≡ searching silences whole [] }
-    ensures sound { (known : List ℕ) (below : List Span) → below ≡ [] → IsSound (phase_of result known below) }
+    ensures { Follows (searching silences whole []) result }
 {
     Phase::Searching {
         top: UidRange::whole(),

@@ -1,11 +1,10 @@
 //! How a sweep goes on after a reply.
-ghost use Rattle.std.specs.Prelude.{◌≡◌, ◌<◌, ◌≤◌, ◌+◌, ℕ, List, []};
+ghost use Rattle.std.specs.Prelude.{◌≡◌, ◌<◌, ◌≤◌, []};
 ghost use Rattle.rdm_wire.specs.Devices.{uids_of};
-ghost use Rattle.rdm_agent.specs.Machine.{sweep_heard, swept_heard, sweep_on, sweep_silent, sweep_apart, is_wanted};
+ghost use Rattle.rdm_agent.specs.Machine.{sweep_on, sweep_silent, sweep_apart, is_wanted};
 ghost use Rattle.rdm_agent.specs.Run.{heard_of_mute, heard_of_branch};
-ghost use Rattle.rdm_agent.specs.body.Sound.{IsSound, IsSmall};
-ghost use Rattle.rdm_agent.specs.body.AgentFields.{phase_of};
-ghost use Rattle.rdm_agent.specs.body.GoesOn.{GoesOn, IsConsistent};
+ghost use Rattle.rdm_agent.specs.body.Sound.{IsSmall};
+ghost use Rattle.rdm_agent.specs.body.GoesOn.{GoesOn, Follows, IsConsistent};
 
 use crate::belief::{Belief, Part};
 use crate::fault::AgentFault;
@@ -19,8 +18,7 @@ impl RunState {
     // After a branch of a sweep.
     pub(super) fn swept(&mut self, sweep: Sweep, reply: BranchReply) -> Phase
         requires { IsConsistent (Phase.Sweeping sweep) self.old }
-        ensures goes_on { GoesOn (λ a. sweep_heard a sweep (heard_of_branch reply))
-            (Phase.Sweeping sweep) self.old result self.new }
+        ensures goes_on { GoesOn (heard_of_branch reply) (Phase.Sweeping sweep) self.old result self.new }
         ensures fresh { self.new.below ≡ [] }
     {
         let found = self.found.len();
@@ -45,8 +43,7 @@ impl RunState {
         ack: Option<MuteAck>,
     ) -> Phase
         requires { IsConsistent (Phase.MutingSwept uid tries sweep) self.old }
-        ensures goes_on { GoesOn (λ a. swept_heard a uid tries sweep (heard_of_mute ack))
-            (Phase.MutingSwept uid tries sweep) self.old result self.new }
+        ensures goes_on { GoesOn (heard_of_mute ack) (Phase.MutingSwept uid tries sweep) self.old result self.new }
         ensures fresh { self.new.below ≡ [] }
     {
         let found = self.found.len();
@@ -81,8 +78,7 @@ fn sweep_on(sweep: Sweep, silences: u8, found: usize, belief: Belief) -> Phase
     requires found { found ≤ 1025 }
     requires silences { silences < TRIES }
     requires small { IsSmall belief }
-    ensures phase { (known : List ℕ) → phase_of result known [] ≡ sweep_on sweep silences found belief }
-    ensures sound { (known : List ℕ) → IsSound (phase_of result known []) }
+    ensures { Follows (sweep_on sweep silences found belief) result }
 {
     let asked = sweep.question.range;
     if sweep.made < SWEEP_FRAMES * (found + 2) {
@@ -98,8 +94,7 @@ fn sweep_silent(sweep: Sweep, found: usize) -> Phase
     requires found { found ≤ 1025 }
     requires silences { sweep.silences < TRIES }
     requires small { IsSmall sweep.belief }
-    ensures phase { (known : List ℕ) → phase_of result known [] ≡ sweep_silent sweep found }
-    ensures sound { (known : List ℕ) → IsSound (phase_of result known []) }
+    ensures { Follows (sweep_silent sweep found) result }
 {
     match sweep.silences + 1 {
         TRIES => Phase::Ended(None),
@@ -112,8 +107,7 @@ fn sweep_silent(sweep: Sweep, found: usize) -> Phase
 fn sweep_apart(sweep: Sweep, found: usize) -> Phase
     requires found { found ≤ 1025 }
     requires small { IsSmall sweep.belief }
-    ensures phase { (known : List ℕ) → phase_of result known [] ≡ sweep_apart sweep found }
-    ensures sound { (known : List ℕ) → IsSound (phase_of result known []) }
+    ensures { Follows (sweep_apart sweep found) result }
 {
     let asked = sweep.question;
     if asked.range.lo == asked.range.hi {
