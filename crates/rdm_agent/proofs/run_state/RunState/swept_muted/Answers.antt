@@ -1,5 +1,5 @@
-use Rattle.rdm_agent.proofs.Common.{◌≡◌, ◌+◌, length, refl, ap, ◌∙◌, rules, Device, Phase, AgentState, to_found, counted}
-use Rattle.rdm_agent.proofs.Common.{sweep_on, believed_found, device_from, state_of, seen_phase}
+use Rattle.rdm_agent.proofs.Common.{◌≡◌, ◌+◌, length, refl, ap, ◌∙◌, Device, Phase, AgentState, to_found, counted}
+use Rattle.rdm_agent.proofs.Common.{sweep_on, believed_found, device_from, state_of, seen_phase, rules}
 use Rattle.rdm_agent.proofs.run_state.RunState.swept_muted.Goals as goal
 
 pub returns-in-Some-clause-goes_on : goal.returns-in-Some-clause-goes_on
