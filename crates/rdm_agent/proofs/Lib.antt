@@ -1,6 +1,5 @@
 pub mod Common
 pub mod Members
-pub mod FedLemmas
 pub mod CallLemmas
 pub mod OneDevice
 pub mod AllDevices

@@ -1,3 +1,4 @@
 -- What only the proofs need.
 pub mod Sound
 pub mod AgentFields
+pub mod GoesOn

@@ -44,15 +44,14 @@ const _: () = prove!(size_of::<Agent>() == 41_944);
 
 impl Model for Agent {
     ghost use Rattle.rdm_agent.specs.Machine.{AgentState};
-    ghost use Rattle.rdm_agent.specs.body.Sound.{IsSound, IsFresh};
-    ghost use Rattle.rdm_agent.specs.body.AgentFields.{seen_phase, state_of};
+    ghost use Rattle.rdm_agent.specs.body.AgentFields.{state_of};
+    ghost use Rattle.rdm_agent.specs.body.GoesOn.{IsConsistent};
 
     ghost Value = { AgentState };
 
     ghost view = { λ a. state_of a.budget a.frames a.phase a.run_state };
 
-    ghost invariant = { λ a.
-        IsSound (seen_phase a.phase a.run_state) × IsFresh (seen_phase a.phase a.run_state) a.run_state.below };
+    ghost invariant = { λ a. IsConsistent a.phase a.run_state };
 }
 
 impl Agent {

@@ -1,19 +1,19 @@
 //! How a run goes on after a reply.
-ghost use Rattle.std.specs.Prelude.{◌≡◌, ◌<◌, ◌-◌, ◌⊎◌, ℕ, List, Some, [], true, false};
-ghost use Rattle.std.specs.Prelude.{if◌then◌else◌, nat_lt};
+ghost use Rattle.std.specs.Prelude.{◌≡◌, ◌<◌, ◌⊎◌, Some, [], true, false};
 ghost use Rattle.std.specs.List.{AllByRecursion};
 ghost use Rattle.rdm_wire.specs.Span.{Span, whole};
 ghost use Rattle.rdm_wire.specs.Uid.{is_broadcast, IsDevice, IsDeviceSet};
 ghost use Rattle.rdm_wire.specs.Devices.{uids_of};
-ghost use Rattle.rdm_agent.specs.Machine.{fed, wanted, to_found, split, search_from, search_below, is_new};
-ghost use Rattle.rdm_agent.specs.Machine.{known_heard, branch_heard, mute_heard, first_phase};
-ghost use Rattle.rdm_agent.specs.Machine.Phase.{Unmuting as unmuting, Searching as searching};
+ghost use Rattle.rdm_wire.specs.Honest.Heard.{Silent};
+ghost use Rattle.rdm_agent.specs.Machine.{wanted, to_found, split, search_from, search_below, is_new, first_phase};
+ghost use Rattle.rdm_agent.specs.Machine.Phase.{Searching as searching};
 ghost use Rattle.rdm_agent.specs.Certificate.{known_of};
 ghost use Rattle.rdm_agent.specs.Run.{heard_by, heard_of_mute, heard_of_branch, device_from};
 ghost use Rattle.rdm_agent.specs.Calls.{fits, op_of};
-ghost use Rattle.rdm_agent.specs.body.Sound.{IsSound, IsFresh, IsStack};
+ghost use Rattle.rdm_agent.specs.body.Sound.{IsStack};
 ghost use Rattle.rdm_agent.specs.declared.fault.AgentFault.TheVariants.{TooMany};
-ghost use Rattle.rdm_agent.specs.body.AgentFields.{seen_phase, phase_of, Steps};
+ghost use Rattle.rdm_agent.specs.body.AgentFields.{seen_phase, Steps};
+ghost use Rattle.rdm_agent.specs.body.GoesOn.{GoesOn, MovesTo, Follows, IsConsistent};
 
 mod sweeping;
 
@@ -59,11 +59,8 @@ impl RunState {
     /// The phase after a reply that fits what the phase before it asks.
     pub(crate) fn heard(&mut self, phase: Phase, reply: OpReply) -> Phase
         requires fits { fits reply (op_of (wanted (seen_phase phase self.old))) ≡ true }
-        requires sound { IsSound (seen_phase phase self.old) }
-        requires fresh { IsFresh (seen_phase phase self.old) self.old.below }
-        ensures state { Steps (λ a. fed a (heard_by reply)) phase self.old result self.new }
-        ensures sound { IsSound (seen_phase result self.new) }
-        ensures fresh { IsFresh (seen_phase result self.new) self.new.below }
+        requires consistent { IsConsistent phase self.old }
+        ensures { GoesOn (heard_by reply) phase self.old result self.new }
     {
         match (phase, reply) {
             (_, OpReply::Failed) => Phase::Ended(Some(AgentFault::LineFailed)),
@@ -87,13 +84,8 @@ impl RunState {
 
     // After an unmute.
     fn unmuted(&mut self, more: u8) -> Phase
-        requires devices { AllByRecursion IsDevice self.old.known }
-        requires fresh { self.old.below ≡ [] }
-        ensures phase { seen_phase result self.new ≡ (if nat_lt 1 more then unmuting (more - 1) self.old.known
-            else search_from self.old.search self.old.known) }
-        ensures search { self.new.search ≡ self.old.search }
-        ensures found { self.new.found ≡ self.old.found }
-        ensures sound { IsSound (seen_phase result self.new) }
+        requires { IsConsistent (Phase.Unmuting more) self.old }
+        ensures goes_on { GoesOn Silent (Phase.Unmuting more) self.old result self.new }
         ensures fresh { self.new.below ≡ [] }
     {
         if more > 1 {
@@ -107,10 +99,7 @@ impl RunState {
     fn next_known(&mut self) -> Phase
         requires devices { AllByRecursion IsDevice self.old.known }
         requires fresh { self.old.below ≡ [] }
-        ensures phase { seen_phase result self.new ≡ search_from self.old.search self.old.known }
-        ensures search { self.new.search ≡ self.old.search }
-        ensures found { self.new.found ≡ self.old.found }
-        ensures sound { IsSound (seen_phase result self.new) }
+        ensures moves { MovesTo (search_from self.old.search self.old.known) self.old result self.new }
         ensures fresh { self.new.below ≡ [] }
     {
         match self.known.next() {
@@ -121,7 +110,7 @@ impl RunState {
 
     // The search begins; a quick one sweeps first.
     fn first_phase(&self) -> Phase
-        ensures { (known : List ℕ) → phase_of result known [] ≡ first_phase self.now.search }
+        ensures { Follows (first_phase self.now.search) result }
     {
         match self.search {
             Search::Steady => searching_all(0),
@@ -133,13 +122,8 @@ impl RunState {
 
     // After the mute of a known UID.
     fn known_muted(&mut self, uid: Uid, tries: u8, ack: Option<MuteAck>) -> Phase
-        requires device { IsDevice uid }
-        requires tries { tries < TRIES }
-        requires devices { AllByRecursion IsDevice self.old.known }
-        requires fresh { self.old.below ≡ [] }
-        ensures state { Steps (λ a. known_heard a uid tries self.old.known (heard_of_mute ack))
-            (Phase.MutingKnown uid tries) self.old result self.new }
-        ensures sound { IsSound (seen_phase result self.new) }
+        requires { IsConsistent (Phase.MutingKnown uid tries) self.old }
+        ensures goes_on { GoesOn (heard_of_mute ack) (Phase.MutingKnown uid tries) self.old result self.new }
         ensures fresh { self.new.below ≡ [] }
     {
         if let Some(ack) = ack {
@@ -154,12 +138,8 @@ impl RunState {
 
     // After a branch of the top range.
     fn branched(&mut self, top: UidRange, silences: u8, reply: BranchReply) -> Phase
-        requires silences { silences < TRIES }
-        requires ranges { IsStack top self.old.below }
-        ensures state { Steps (λ a. branch_heard a silences top self.old.below (heard_of_branch reply))
-            (Phase.Searching top silences) self.old result self.new }
-        ensures sound { IsSound (seen_phase result self.new) }
-        ensures fresh { IsFresh (seen_phase result self.new) self.new.below }
+        requires { IsConsistent (Phase.Searching top silences) self.old }
+        ensures { GoesOn (heard_of_branch reply) (Phase.Searching top silences) self.old result self.new }
     {
         match reply {
             BranchReply::Silent => match silences + 1 {
@@ -177,13 +157,8 @@ impl RunState {
 
     // After the mute of a UID that a branch of the top range spelt.
     fn read_muted(&mut self, uid: Uid, tries: u8, top: UidRange, ack: Option<MuteAck>) -> Phase
-        requires device { IsDevice uid }
-        requires tries { tries < TRIES }
-        requires ranges { IsStack top self.old.below }
-        ensures state { Steps (λ a. mute_heard a uid tries top self.old.below (heard_of_mute ack))
-            (Phase.MutingRead uid tries top) self.old result self.new }
-        ensures sound { IsSound (seen_phase result self.new) }
-        ensures fresh { IsFresh (seen_phase result self.new) self.new.below }
+        requires { IsConsistent (Phase.MutingRead uid tries top) self.old }
+        ensures { GoesOn (heard_of_mute ack) (Phase.MutingRead uid tries top) self.old result self.new }
     {
         if let Some(ack) = ack {
             return self.find(device_from(uid, ack), Phase::Searching { top, silences: 0 });
@@ -211,11 +186,7 @@ impl RunState {
     // The range below the top one is searched. If there is none, the run ends.
     fn next_range(&mut self) -> Phase
         requires { (top : Span) × IsStack top self.old.below }
-        ensures phase { seen_phase result self.new ≡ search_below self.old.below }
-        ensures search { self.new.search ≡ self.old.search }
-        ensures found { self.new.found ≡ self.old.found }
-        ensures sound { IsSound (seen_phase result self.new) }
-        ensures fresh { IsFresh (seen_phase result self.new) self.new.below }
+        ensures { MovesTo (search_below self.old.below) self.old result self.new }
     {
         match self.below.pop() {
             Some(top) => Phase::Searching { top, silences: 0 },
@@ -226,11 +197,7 @@ impl RunState {
     // The halves of the top range are searched, the lower one first. A range of one UID has none.
     fn split(&mut self, top: UidRange) -> Phase
         requires { IsStack top self.old.below }
-        ensures phase { seen_phase result self.new ≡ split top self.old.below }
-        ensures search { self.new.search ≡ self.old.search }
-        ensures found { self.new.found ≡ self.old.found }
-        ensures sound { IsSound (seen_phase result self.new) }
-        ensures fresh { IsFresh (seen_phase result self.new) self.new.below }
+        ensures { MovesTo (split top self.old.below) self.old result self.new }
     {
         match top.halves() {
             Some((lower, upper)) => {
@@ -255,8 +222,7 @@ impl RunState {
 // The search of the whole range, which was silent this many times.
 fn searching_all(silences: u8) -> Phase
     requires { silences < TRIES }
-    ensures phase { (known : List ℕ) → phase_of result known [] ≡ searching silences whole [] }
-    ensures sound { (known : List ℕ) (below : List Span) → below ≡ [] → IsSound (phase_of result known below) }
+    ensures { Follows (searching silences whole []) result }
 {
     Phase::Searching {
         top: UidRange::whole(),

@@ -1,11 +1,10 @@
 //! How a sweep goes on after a reply.
-ghost use Rattle.std.specs.Prelude.{◌≡◌, ◌<◌, ◌≤◌, ◌^◌, ◌+◌, ℕ, List, []};
-ghost use Rattle.rdm_wire.specs.Uid.{IsDevice};
+ghost use Rattle.std.specs.Prelude.{◌≡◌, ◌<◌, ◌≤◌, []};
 ghost use Rattle.rdm_wire.specs.Devices.{uids_of};
-ghost use Rattle.rdm_agent.specs.Machine.{sweep_heard, swept_heard, sweep_on, sweep_silent, sweep_apart, is_wanted};
+ghost use Rattle.rdm_agent.specs.Machine.{sweep_on, sweep_silent, sweep_apart, is_wanted};
 ghost use Rattle.rdm_agent.specs.Run.{heard_of_mute, heard_of_branch};
-ghost use Rattle.rdm_agent.specs.body.Sound.{IsSound, IsSmall};
-ghost use Rattle.rdm_agent.specs.body.AgentFields.{seen_phase, phase_of, Steps};
+ghost use Rattle.rdm_agent.specs.body.Sound.{IsSmall};
+ghost use Rattle.rdm_agent.specs.body.GoesOn.{GoesOn, Follows, IsConsistent};
 
 use crate::belief::{Belief, Part};
 use crate::fault::AgentFault;
@@ -18,13 +17,8 @@ use rdm_wire::{BranchReply, MuteAck, Uid};
 impl RunState {
     // After a branch of a sweep.
     pub(super) fn swept(&mut self, sweep: Sweep, reply: BranchReply) -> Phase
-        requires made { sweep.made < 2 ^ 20 }
-        requires silences { sweep.silences < TRIES }
-        requires small { IsSmall sweep.belief }
-        requires fresh { self.old.below ≡ [] }
-        ensures state { Steps (λ a. sweep_heard a sweep (heard_of_branch reply))
-            (Phase.Sweeping sweep) self.old result self.new }
-        ensures sound { IsSound (seen_phase result self.new) }
+        requires { IsConsistent (Phase.Sweeping sweep) self.old }
+        ensures goes_on { GoesOn (heard_of_branch reply) (Phase.Sweeping sweep) self.old result self.new }
         ensures fresh { self.new.below ≡ [] }
     {
         let found = self.found.len();
@@ -48,15 +42,8 @@ impl RunState {
         sweep: Sweep,
         ack: Option<MuteAck>,
     ) -> Phase
-        requires device { IsDevice uid }
-        requires tries { tries < TRIES }
-        requires made { sweep.made ≤ 2 ^ 20 + tries }
-        requires silences { sweep.silences < TRIES }
-        requires small { IsSmall sweep.belief }
-        requires fresh { self.old.below ≡ [] }
-        ensures state { Steps (λ a. swept_heard a uid tries sweep (heard_of_mute ack))
-            (Phase.MutingSwept uid tries sweep) self.old result self.new }
-        ensures sound { IsSound (seen_phase result self.new) }
+        requires { IsConsistent (Phase.MutingSwept uid tries sweep) self.old }
+        ensures goes_on { GoesOn (heard_of_mute ack) (Phase.MutingSwept uid tries sweep) self.old result self.new }
         ensures fresh { self.new.below ≡ [] }
     {
         let found = self.found.len();
@@ -91,8 +78,7 @@ fn sweep_on(sweep: Sweep, silences: u8, found: usize, belief: Belief) -> Phase
     requires found { found ≤ 1025 }
     requires silences { silences < TRIES }
     requires small { IsSmall belief }
-    ensures phase { (known : List ℕ) → phase_of result known [] ≡ sweep_on sweep silences found belief }
-    ensures sound { (known : List ℕ) → IsSound (phase_of result known []) }
+    ensures { Follows (sweep_on sweep silences found belief) result }
 {
     let asked = sweep.question.range;
     if sweep.made < SWEEP_FRAMES * (found + 2) {
@@ -108,8 +94,7 @@ fn sweep_silent(sweep: Sweep, found: usize) -> Phase
     requires found { found ≤ 1025 }
     requires silences { sweep.silences < TRIES }
     requires small { IsSmall sweep.belief }
-    ensures phase { (known : List ℕ) → phase_of result known [] ≡ sweep_silent sweep found }
-    ensures sound { (known : List ℕ) → IsSound (phase_of result known []) }
+    ensures { Follows (sweep_silent sweep found) result }
 {
     match sweep.silences + 1 {
         TRIES => Phase::Ended(None),
@@ -122,8 +107,7 @@ fn sweep_silent(sweep: Sweep, found: usize) -> Phase
 fn sweep_apart(sweep: Sweep, found: usize) -> Phase
     requires found { found ≤ 1025 }
     requires small { IsSmall sweep.belief }
-    ensures phase { (known : List ℕ) → phase_of result known [] ≡ sweep_apart sweep found }
-    ensures sound { (known : List ℕ) → IsSound (phase_of result known []) }
+    ensures { Follows (sweep_apart sweep found) result }
 {
     let asked = sweep.question;
     if asked.range.lo == asked.range.hi {
