@@ -1,7 +1,6 @@
 -- What the calls of `Inside` change, and what they keep.
 use Rattle.std.specs.Prelude.{◌≡◌, ◌+◌, List, length, Some}
 use Rattle.std.specs.List.{sum_by}
-use Rattle.std.specs.declared.sync.ledger.Ledger.{Ghosts as Ledgers}
 use Rattle.rdm_log.specs.declared.entry.ClientId.{ClientId}
 use Rattle.rdm_log.specs.declared.entry.Entry.{Entry}
 use Rattle.rdm_log.specs.declared.outcome.Outcome.{Outcome}
@@ -15,27 +14,27 @@ use Rattle.rdm_locked.specs.declared.inside.finish.SessionEnd.{SessionEnd}
 use Rattle.rdm_locked.specs.declared.pages.PageRing.{Ghosts}
 use Rattle.rdm_locked.specs.declared.share.CallShare.{CallShare}
 
-module _ {L J : Type 0} {l : Ledgers L} {r : Ghosts J} where
+module _ {L J : Type 0} {r : Ghosts J} where
   -- nobody joined or left
-  pub record SameClients (old new : Inside L J l r) : Type 0 where
+  pub record SameClients (old new : Inside L J r) : Type 0 where
     pub joined : new.joined ≡ old.joined
     pub left : new.left ≡ old.left
 
   -- the log grew by a block for which this holds, and nobody joined or left
-  pub record AddsOnly (Adds : List Entry → Type 0) (old new : Inside L J l r) : Type 0 where
+  pub record AddsOnly (Adds : List Entry → Type 0) (old new : Inside L J r) : Type 0 where
     pub adds : GrowsBy old.session Adds new.session
     pub clients : SameClients old new
 
   -- this was the client's oldest uncollected outcome; it was collected, and the call was counted in a share
-  pub record IsCollected (client : ClientId) (outcome : Outcome) (old : Inside L J l r) (before : CallShare L l)
-      (new : Inside L J l r) (after : CallShare L l) : Type 0 where
+  pub record IsCollected (client : ClientId) (outcome : Outcome) (old : Inside L J r) (before : CallShare L)
+      (new : Inside L J r) (after : CallShare L) : Type 0 where
     pub adds : GrowsBy old.session (CollectAdds old.session.opening old.session.entries client (Some outcome))
         new.session
     pub counted : after.count ≡ before.count + 1
 
   -- The session was taken out, with one share for each client that joined. The shares add up to the calls in its log,
   -- which is legal and keeps all that clients are promised.
-  pub record IsTakenOut (inside : Inside L J l r) (shares : List (CallShare L l)) (end : SessionEnd) : Type 0 where
+  pub record IsTakenOut (inside : Inside L J r) (shares : List (CallShare L)) (end : SessionEnd) : Type 0 where
     pub session : end.session ≡ inside.session
     pub joined : length shares ≡ inside.joined
     pub each : length shares ≡ next_client end.session.opening end.session.entries

@@ -1,5 +1,5 @@
 //! What a port's mutex holds.
-ghost use Rattle.std.specs.Prelude.{◌≡◌, ◌≢◌, ◌≤◌, ◌<◌, ◌+◌, ℕ, [], length, Ok, Err, Some, OnOk, OnErr, IfOk, IfErr};
+ghost use Rattle.std.specs.Prelude.{◌≡◌, ◌≢◌, ◌+◌, ℕ, [], length, Ok, Err, Some, OnOk, OnErr, IfOk, IfErr};
 ghost use Rattle.std.specs.Prelude.{IfSome, IfNone, nat_lt, if◌then◌else◌, vec_capacity};
 ghost use Rattle.std.specs.Arc.{arc_value};
 ghost use Rattle.std.specs.Option.{ForSome};
@@ -14,11 +14,11 @@ ghost use Rattle.rdm_log.specs.promises.Outcomes.{oldest_kind, request_outcome, 
 ghost use Rattle.rdm_log.specs.declared.outcome.Outcome.TheVariants as outcomes;
 ghost use Rattle.rdm_log.specs.declared.outcome.OutcomeKind.TheVariants as kinds;
 ghost use Rattle.rdm_locked.specs.Calls.{count_calls, submits_logged, discovers_logged};
-ghost use Rattle.rdm_locked.specs.Inside.{SameClients, AddsOnly, IsCollected};
 ghost use Rattle.rdm_locked.specs.Openings.{MayOpen, IsOpened};
 ghost use Rattle.rdm_locked.specs.Turns.{TurnLogs};
 ghost use Rattle.rdm_locked.specs.Pages.{IsOf};
 ghost use Rattle.rdm_locked.specs.body.Compared.{HandedOut};
+ghost use Rattle.rdm_locked.specs.body.Parts.{HasParts};
 ghost use Rattle.rtrb.specs.Ring.{sent};
 
 mod finish;
@@ -66,10 +66,7 @@ pub struct Inside<L: Ledger, J: PageRing = NoPages> {
     of: PhantomData<J>,
     ghost counted: { count_calls session.entries ≡ calls.total },
     ghost clients: { next_client session.opening session.entries ≡ joined },
-    ghost one_part_each: { rest.parts + joined ≡ 17 },
-    ghost few: { joined ≤ 16 },
-    ghost unused: { rest.amount ≡ 0 },
-    ghost left_once: { left ≤ joined },
+    ghost parts: { HasParts rest.parts rest.amount joined left },
     ghost named: { ForSome pages (λ p. IsOf J.ring p.end) },
     ghost sent: { ForSome pages (λ p. HandedOut session (sent p)) },
 }
@@ -93,6 +90,8 @@ impl<L: Ledger> Inside<L> {
 }
 
 impl<L: Ledger, J: PageRing> Inside<L, J> {
+    ghost use Rattle.rdm_locked.specs.Inside.{SameClients, AddsOnly, IsCollected};
+
     // The same, with the end of a ring that no page went into.
     fn opened(
         alloc: Global,
