@@ -1,6 +1,7 @@
 pub mod Calls
 pub mod Collects
 pub mod Exchanges
+pub mod Inside
 pub mod Openings
 pub mod Pages
 pub mod Recorded

@@ -1,6 +1,6 @@
 //! What a port's mutex holds.
-ghost use Rattle.std.specs.Prelude.{◌≡◌, ◌≢◌, ◌≤◌, ◌<◌, ◌+◌, ℕ, [], length, Ok, Err, Some, OnOk, OnErr, IfOk, IfErr};
-ghost use Rattle.std.specs.Prelude.{IfSome, IfNone, OnSome, nat_lt, if◌then◌else◌, vec_capacity};
+ghost use Rattle.std.specs.Prelude.{◌≡◌, ◌≢◌, ◌+◌, ℕ, [], length, Ok, Err, Some, OnOk, OnErr, IfOk, IfErr};
+ghost use Rattle.std.specs.Prelude.{IfSome, IfNone, nat_lt, if◌then◌else◌, vec_capacity};
 ghost use Rattle.std.specs.Arc.{arc_value};
 ghost use Rattle.std.specs.Option.{ForSome};
 ghost use Rattle.rdm_log.specs.log.LogState.{stored, drained, MayGoOn};
@@ -8,7 +8,7 @@ ghost use Rattle.rdm_log.specs.log.History.{next_client};
 ghost use Rattle.rdm_log.specs.log.Legal.{Legal};
 ghost use Rattle.rdm_log.specs.log.Runs.{known_devices, devices_run};
 ghost use Rattle.rdm_log.specs.promises.Blocks.{JoinLogs, SubmitLogs, DiscoverLogs, PauseLogs, ResumeLogs, GrowsBy};
-ghost use Rattle.rdm_log.specs.promises.Blocks.{CloseAdds, DeliverAdds, CollectAdds};
+ghost use Rattle.rdm_log.specs.promises.Blocks.{CloseAdds, DeliverAdds};
 ghost use Rattle.rdm_log.specs.promises.Promised.{Promised};
 ghost use Rattle.rdm_log.specs.promises.Outcomes.{oldest_kind, request_outcome, discovery_outcome};
 ghost use Rattle.rdm_log.specs.declared.outcome.Outcome.TheVariants as outcomes;
@@ -18,6 +18,7 @@ ghost use Rattle.rdm_locked.specs.Openings.{MayOpen, IsOpened};
 ghost use Rattle.rdm_locked.specs.Turns.{TurnLogs};
 ghost use Rattle.rdm_locked.specs.Pages.{IsOf};
 ghost use Rattle.rdm_locked.specs.body.Compared.{HandedOut};
+ghost use Rattle.rdm_locked.specs.body.Parts.{HasParts};
 ghost use Rattle.rtrb.specs.Ring.{sent};
 
 mod finish;
@@ -65,10 +66,7 @@ pub struct Inside<L: Ledger, J: PageRing = NoPages> {
     of: PhantomData<J>,
     ghost counted: { count_calls session.entries ≡ calls.total },
     ghost clients: { next_client session.opening session.entries ≡ joined },
-    ghost one_part_each: { rest.parts + joined ≡ 17 },
-    ghost few: { joined ≤ 16 },
-    ghost unused: { rest.amount ≡ 0 },
-    ghost left_once: { left ≤ joined },
+    ghost parts: { HasParts rest.parts rest.amount joined left },
     ghost named: { ForSome pages (λ p. IsOf J.ring p.end) },
     ghost sent: { ForSome pages (λ p. HandedOut session (sent p)) },
 }
@@ -92,6 +90,8 @@ impl<L: Ledger> Inside<L> {
 }
 
 impl<L: Ledger, J: PageRing> Inside<L, J> {
+    ghost use Rattle.rdm_locked.specs.Inside.{SameClients, AddsOnly, IsCollected};
+
     // The same, with the end of a ring that no page went into.
     fn opened(
         alloc: Global,
@@ -159,9 +159,8 @@ impl<L: Ledger, J: PageRing> Inside<L, J> {
         request: Request,
         mine: &mut CallShare<L>,
     ) -> Result<u64, (SubmitFault, Request)>
-        ensures adds { GrowsBy self.old.session (SubmitLogs self.old.session client request result) self.new.session }
+        ensures adds { AddsOnly (SubmitLogs self.old.session client request result) self.old self.new }
         ensures counted { mine.new.count ≡ mine.old.count + submits_logged result }
-        ensures clients { (self.new.joined ≡ self.old.joined) × (self.new.left ≡ self.old.left) }
     {
         let Inside { session, calls, .. } = self;
         let answer = session.submit(client, request);
@@ -178,9 +177,8 @@ impl<L: Ledger, J: PageRing> Inside<L, J> {
         kind: Kind,
         mine: &mut CallShare<L>,
     ) -> Result<u64, AskFault>
-        ensures adds { GrowsBy self.old.session (DiscoverLogs self.old.session client kind result) self.new.session }
+        ensures adds { AddsOnly (DiscoverLogs self.old.session client kind result) self.old self.new }
         ensures counted { mine.new.count ≡ mine.old.count + discovers_logged result }
-        ensures clients { (self.new.joined ≡ self.old.joined) × (self.new.left ≡ self.old.left) }
     {
         let Inside { session, calls, .. } = self;
         let answer = session.discover(client, kind);
@@ -198,7 +196,7 @@ impl<L: Ledger, J: PageRing> Inside<L, J> {
         ensures back { IfErr result (λ e. e.1 ≡ next) }
         ensures refused { OnErr result (MayGoOn self.old.session (vec_capacity next) → ⊥) }
         ensures unchanged { OnErr result (self.new.session ≡ self.old.session) }
-        ensures clients { (self.new.joined ≡ self.old.joined) × (self.new.left ≡ self.old.left) }
+        ensures clients { SameClients self.old self.new }
     {
         let first = self.session.log().gone();
         let entries = self.session.drain(next)?;
@@ -222,15 +220,13 @@ impl<L: Ledger, J: PageRing> Inside<L, J> {
         client: ClientId,
         mine: &mut CallShare<L>,
     ) -> Option<(u64, Completion)>
-        ensures adds { IfSome result (λ r. GrowsBy self.old.session
-            (CollectAdds self.old.session.opening self.old.session.entries client (Some (request_outcome r)))
-            self.new.session) }
-        ensures counted { OnSome result (mine.new.count ≡ mine.old.count + 1) }
+        ensures collected { IfSome result (λ r.
+            IsCollected client (request_outcome r) self.old mine.old self.new mine.new) }
         ensures none { IfNone result
             (oldest_kind self.old.session.opening self.old.session.entries client.0 ≢ Some kinds.Request) }
         ensures unchanged { IfNone result
             ((self.new.session ≡ self.old.session) × (mine.new.count ≡ mine.old.count)) }
-        ensures clients { (self.new.joined ≡ self.old.joined) × (self.new.left ≡ self.old.left) }
+        ensures clients { SameClients self.old self.new }
     {
         let Inside { session, calls, .. } = self;
         let outcome = session.next_completion(client)?;
@@ -247,16 +243,13 @@ impl<L: Ledger, J: PageRing> Inside<L, J> {
         set: &mut DeviceSet,
         mine: &mut CallShare<L>,
     ) -> Option<DiscoveryEnd>
-        ensures adds { IfSome result (λ end. GrowsBy self.old.session
-            (CollectAdds self.old.session.opening self.old.session.entries client
-            (Some (discovery_outcome end set.new)))
-            self.new.session) }
-        ensures counted { OnSome result (mine.new.count ≡ mine.old.count + 1) }
+        ensures collected { IfSome result (λ end.
+            IsCollected client (discovery_outcome end set.new) self.old mine.old self.new mine.new) }
         ensures none { IfNone result
             (oldest_kind self.old.session.opening self.old.session.entries client.0 ≢ Some kinds.Discovery) }
         ensures unchanged { IfNone result
             ((self.new.session ≡ self.old.session) × (set.new ≡ set.old) × (mine.new.count ≡ mine.old.count)) }
-        ensures clients { (self.new.joined ≡ self.old.joined) × (self.new.left ≡ self.old.left) }
+        ensures clients { SameClients self.old self.new }
     {
         let Inside { session, calls, .. } = self;
         let end = session.next_discovery(client, set)?;
@@ -272,14 +265,11 @@ impl<L: Ledger, J: PageRing> Inside<L, J> {
         sets: &mut SharedSets,
         mine: &mut CallShare<L>,
     ) -> Option<BoxedAsk>
-        ensures adds { IfSome result (λ done. (n : ℕ) × GrowsBy self.old.session
-            (CollectAdds self.old.session.opening self.old.session.entries client
-            (Some (outcomes.Discovery (Some n) done)))
-            self.new.session) }
-        ensures counted { OnSome result (mine.new.count ≡ mine.old.count + 1) }
+        ensures collected { IfSome result (λ done. (n : ℕ)
+            × IsCollected client (outcomes.Discovery (Some n) done) self.old mine.old self.new mine.new) }
         ensures unchanged { IfNone result ((self.new.session ≡ self.old.session)
             × (length sets.new.sets.items ≡ length sets.old.sets.items) × (mine.new.count ≡ mine.old.count)) }
-        ensures clients { (self.new.joined ≡ self.old.joined) × (self.new.left ≡ self.old.left) }
+        ensures clients { SameClients self.old self.new }
     {
         let mut set = sets.take_unshared()?;
         let Some(end) = self.collect_into(client, &mut set, mine) else {
@@ -296,14 +286,11 @@ impl<L: Ledger, J: PageRing> Inside<L, J> {
         set: &mut Arc<DeviceSet>,
         mine: &mut CallShare<L>,
     ) -> Option<DiscoveryEnd>
-        ensures adds { IfSome result (λ end. GrowsBy self.old.session
-            (CollectAdds self.old.session.opening self.old.session.entries client
-            (Some (discovery_outcome end (arc_value set.new))))
-            self.new.session) }
-        ensures counted { OnSome result (mine.new.count ≡ mine.old.count + 1) }
+        ensures collected { IfSome result (λ end.
+            IsCollected client (discovery_outcome end (arc_value set.new)) self.old mine.old self.new mine.new) }
         ensures unchanged { IfNone result
             ((self.new.session ≡ self.old.session) × (mine.new.count ≡ mine.old.count)) }
-        ensures clients { (self.new.joined ≡ self.old.joined) × (self.new.left ≡ self.old.left) }
+        ensures clients { SameClients self.old self.new }
     {
         match Arc::get_mut(set) {
             Some(set) => self.collect_discovery(client, set, mine),
@@ -314,8 +301,7 @@ impl<L: Ledger, J: PageRing> Inside<L, J> {
     /// Pauses, as [`Session::pause`] does.
     /// Err: the log is full; nothing has changed.
     pub fn pause(&mut self) -> Result<(), LogFull>
-        ensures adds { GrowsBy self.old.session (PauseLogs self.old.session result) self.new.session }
-        ensures clients { (self.new.joined ≡ self.old.joined) × (self.new.left ≡ self.old.left) }
+        ensures { AddsOnly (PauseLogs self.old.session result) self.old self.new }
     {
         self.session.pause()
     }
@@ -323,26 +309,21 @@ impl<L: Ledger, J: PageRing> Inside<L, J> {
     /// Resumes, as [`Session::resume`] does.
     /// Err: the log is full; nothing has changed.
     pub fn resume(&mut self) -> Result<(), LogFull>
-        ensures adds { GrowsBy self.old.session (ResumeLogs self.old.session result) self.new.session }
-        ensures clients { (self.new.joined ≡ self.old.joined) × (self.new.left ≡ self.old.left) }
+        ensures { AddsOnly (ResumeLogs self.old.session result) self.old self.new }
     {
         self.session.resume()
     }
 
     /// Closes, as [`Session::close`] does.
     pub fn close(&mut self)
-        ensures adds { GrowsBy self.old.session (CloseAdds self.old.session.opening self.old.session.entries)
-            self.new.session }
-        ensures clients { (self.new.joined ≡ self.old.joined) × (self.new.left ≡ self.old.left) }
+        ensures { AddsOnly (CloseAdds self.old.session.opening self.old.session.entries) self.old self.new }
     {
         self.session.close();
     }
 
     /// What a worker has to do in its turn: send the next frame, as [`Session::take`] returns it, or why there is none.
     pub fn turn(&mut self) -> Turn
-        ensures adds { GrowsBy self.old.session (TurnLogs self.old.session self.old.joined self.old.left result)
-            self.new.session }
-        ensures clients { (self.new.joined ≡ self.old.joined) × (self.new.left ≡ self.old.left) }
+        ensures { AddsOnly (TurnLogs self.old.session self.old.joined self.old.left result) self.old self.new }
     {
         match self.session.take() {
             Ok(Some(frame)) => Turn::Exchange(frame),
@@ -355,8 +336,7 @@ impl<L: Ledger, J: PageRing> Inside<L, J> {
     /// Takes what came back over the line, as [`Session::deliver`] does.
     /// Err: no reply is awaited; nothing has changed, and the event is returned.
     pub fn deliver(&mut self, alloc: Global, event: LineEvent) -> Result<(), (NotAsked, LineEvent)>
-        ensures adds { GrowsBy self.old.session (DeliverAdds self.old.session event result) self.new.session }
-        ensures clients { (self.new.joined ≡ self.old.joined) × (self.new.left ≡ self.old.left) }
+        ensures { AddsOnly (DeliverAdds self.old.session event result) self.old self.new }
     {
         self.session.deliver(alloc, event)
     }

@@ -1,12 +1,9 @@
 //! How a session is taken out of its mutex.
-ghost use Rattle.std.specs.Prelude.{◌≡◌, ◌≢◌, ◌≤◌, ◌<◌, ◌+◌, length, Some, OnOk, IfOk, IfErr, IfNone};
+ghost use Rattle.std.specs.Prelude.{◌≡◌, ◌≢◌, ◌≤◌, ◌<◌, ◌+◌, length, Some, IfOk, IfErr, IfNone};
 ghost use Rattle.std.specs.List.{sum_by};
 ghost use Rattle.rdm_log.specs.log.Entries.{exchanges as log_exchanges};
-ghost use Rattle.rdm_log.specs.log.History.{next_client};
-ghost use Rattle.rdm_log.specs.log.Legal.{Legal};
-ghost use Rattle.rdm_log.specs.promises.Promised.{Promised};
-ghost use Rattle.rdm_locked.specs.Calls.{count_calls};
 ghost use Rattle.rdm_locked.specs.Exchanges.{recorded};
+ghost use Rattle.rdm_locked.specs.Inside.{IsTakenOut};
 
 use crate::exchange::{Exchange, has_exchanges};
 use crate::fault::FinishFault;
@@ -40,14 +37,8 @@ impl<L: Ledger, J: PageRing> Inside<L, J> {
         exchanges: &[Exchange],
     ) -> Result<SessionEnd, (FinishFault, Inside<L, J>, Vec<CallShare<L>>)>
         requires { L.parts ≡ 17 }
-        ensures session { IfOk result (λ e. e.session ≡ self.session) }
-        ensures joined { OnOk result (length shares.items ≡ self.joined) }
-        ensures each { IfOk result (λ e. length shares.items ≡ next_client e.session.opening e.session.entries) }
-        ensures calls { IfOk result (λ e. e.calls ≡ sum_by (λ s. s.count) shares.items) }
-        ensures counted { IfOk result (λ e. e.calls ≡ count_calls e.session.entries) }
+        ensures taken_out { IfOk result (λ e. IsTakenOut self shares.items e) }
         ensures exchanges { IfOk result (λ e. log_exchanges e.session.entries ≡ recorded exchanges.now) }
-        ensures legal { IfOk result (λ e. Legal e.session.opening e.session.entries) }
-        ensures promised { IfOk result (λ e. Promised e.session) }
         ensures back { IfErr result (λ e. (e.1 ≡ self) × (e.2 ≡ shares)) }
         ensures missing { IfErr result (λ e. e.0 ≡ FinishFault.SharesMissing → length shares.items < self.joined) }
         ensures handed_out { IfErr result (λ e. e.0 ≡ FinishFault.HandedOut → self.session.gone ≢ 0) }
@@ -87,13 +78,7 @@ impl<L: Ledger, J: PageRing> Inside<L, J> {
     pub(super) fn add_up(self, shares: Vec<CallShare<L>>) -> SessionEnd
         requires parts { L.parts ≡ 17 }
         requires each { self.joined ≤ length shares.items }
-        ensures session { result.session ≡ self.session }
-        ensures joined { length shares.items ≡ self.joined }
-        ensures each { length shares.items ≡ next_client result.session.opening result.session.entries }
-        ensures calls { result.calls ≡ sum_by (λ s. s.count) shares.items }
-        ensures counted { result.calls ≡ count_calls result.session.entries }
-        ensures legal { Legal result.session.opening result.session.entries }
-        ensures promised { Promised result.session }
+        ensures { IsTakenOut self shares.items result }
     {
         let most = self.session().log().len_in_all();
         let Inside {

@@ -1,16 +1,12 @@
 //! A session in a mutex whose pages go to a record.
 ghost use Rattle.std.specs.Prelude.{◌≡◌, ◌≢◌, ◌++◌, ◌≤◌, ◌<◌, [], length, Some, None, OnOk, OnErr, IfOk, IfErr, IfNone};
 ghost use Rattle.std.specs.Prelude.{vec_capacity};
-ghost use Rattle.std.specs.List.{sum_by};
 ghost use Rattle.std.specs.Option.{ForSome};
 ghost use Rattle.rtrb.specs.Ring.{sent};
 ghost use Rattle.rdm_log.specs.log.Entries.{exchanges as log_exchanges};
-ghost use Rattle.rdm_log.specs.log.History.{next_client};
-ghost use Rattle.rdm_log.specs.log.Legal.{Legal};
 ghost use Rattle.rdm_log.specs.log.LogState.{stored, drained, MayGoOn};
-ghost use Rattle.rdm_log.specs.promises.Promised.{Promised};
-ghost use Rattle.rdm_locked.specs.Calls.{count_calls};
 ghost use Rattle.rdm_locked.specs.Exchanges.{recorded};
+ghost use Rattle.rdm_locked.specs.Inside.{SameClients, IsTakenOut};
 ghost use Rattle.rdm_locked.specs.Openings.{MayOpen, IsOpened};
 ghost use Rattle.rdm_log.specs.log.Pages.{entries_of};
 ghost use Rattle.rdm_locked.specs.Pages.{Numbered};
@@ -61,7 +57,7 @@ impl<L: Ledger, J: PageRing> Inside<L, J> {
         ensures refused { IfErr result (λ e. (fault : LogFull) → e.0 ≡ DrainFault.Refused fault
             → MayGoOn self.old.session (vec_capacity next) → ⊥) }
         ensures unchanged { OnErr result (self.new.session ≡ self.old.session) }
-        ensures clients { (self.new.joined ≡ self.old.joined) × (self.new.left ≡ self.old.left) }
+        ensures clients { SameClients self.old self.new }
     {
         let Inside { session, pages, .. } = self;
         let Some(pages) = pages else {
@@ -87,16 +83,11 @@ impl<L: Ledger, J: PageRing> Inside<L, J> {
         kept: &mut Record<J>,
     ) -> Result<SessionEnd, (FinishFault, Inside<L, J>, Vec<CallShare<L>>)>
         requires { L.parts ≡ 17 }
-        ensures session { IfOk result (λ e. e.session ≡ self.session) }
-        ensures each { IfOk result (λ e. length shares.items ≡ next_client e.session.opening e.session.entries) }
-        ensures calls { IfOk result (λ e. e.calls ≡ sum_by (λ s. s.count) shares.items) }
-        ensures counted { IfOk result (λ e. e.calls ≡ count_calls e.session.entries) }
+        ensures taken_out { IfOk result (λ e. IsTakenOut self shares.items e) }
         ensures exchanges { IfOk result (λ e. log_exchanges e.session.entries ≡ recorded (exchanges_of kept.old)) }
         ensures pages { IfOk result (λ e.
             e.session.entries ≡ entries_of (pages_of kept.old) ++ stored e.session) }
         ensures numbered { OnOk result (Numbered (pages_of kept.old)) }
-        ensures legal { IfOk result (λ e. Legal e.session.opening e.session.entries) }
-        ensures promised { IfOk result (λ e. Promised e.session) }
         ensures same { (exchanges_of kept.new ≡ exchanges_of kept.old)
             × (pages_of kept.new ≡ pages_of kept.old) }
         ensures back { IfErr result (λ e. e.2 ≡ shares) }

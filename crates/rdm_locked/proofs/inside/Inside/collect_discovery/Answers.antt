@@ -22,10 +22,7 @@ invariant_of-self-2 g c =
     record {
       counted = rw c.add_calls.ensures.total (omega (arith, counts.calls_are, me.counted));
       clients = omega (arith, counts.clients_are, me.clients);
-      one_part_each = me.one_part_each;
-      few = me.few;
-      unused = me.unused;
-      left_once = me.left_once;
+      parts = me.parts;
       named = me.named;
       sent = sent_grown me.pages k _ c.next_discovery.new.self c.in_ok-end.ensures.adds me.sent;
     }

@@ -14,10 +14,7 @@ invariant_of-self g c =
     record {
       counted = omega (arith, counts.calls_are, me.counted);
       clients = omega (arith, counts.clients_are, me.clients);
-      one_part_each = me.one_part_each;
-      few = me.few;
-      unused = me.unused;
-      left_once = me.left_once;
+      parts = me.parts;
       named = me.named;
       sent = sent_grown me.pages k _ c.join_client.new.self c.in_err-client.ensures.adds me.sent;
     }
@@ -34,10 +31,12 @@ invariant_of-self-2 g c =
     record {
       counted = omega (arith, counts.calls_are, me.counted);
       clients = omega (arith, counts.clients_are, me.clients);
-      one_part_each = omega (arith, c.split_off.ensures.parts_left, me.one_part_each);
-      few = omega (arith, passes.few_clients, me.clients);
-      unused = omega (arith, c.split_off.ensures.amount_left, me.unused);
-      left_once = omega (arith, me.left_once);
+      parts = record {
+        one_each = omega (arith, c.split_off.ensures.parts_left, me.parts.one_each);
+        few = omega (arith, passes.few_clients, me.clients);
+        unused = omega (arith, c.split_off.ensures.amount_left, me.parts.unused);
+        left_once = omega (arith, me.parts.left_once);
+      };
       named = me.named;
       sent = sent_grown me.pages k _ c.join_client.new.self adds me.sent;
     }

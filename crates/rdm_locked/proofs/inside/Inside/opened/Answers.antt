@@ -12,10 +12,12 @@ invariant_of-result g c =
     record {
       counted = rw (session, c.requires.may_open.empty, c.open-calls.ensures.total) refl;
       clients = rw (session, c.requires.may_open.empty) refl;
-      one_part_each = omega (arith, parts);
-      few = omega arith;
-      unused = c.open-calls.ensures.amount;
-      left_once = omega arith;
+      parts = record {
+        one_each = omega (arith, parts);
+        few = omega arith;
+        unused = c.open-calls.ensures.amount;
+        left_once = omega arith;
+      };
       named = c.requires.named;
       sent = sent_begun c.args.pages _
           (rw session (omega (arith, c.gone.ensures.within, ap length c.requires.may_open.empty))) c.requires.unused;

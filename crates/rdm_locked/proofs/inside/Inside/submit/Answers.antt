@@ -23,10 +23,7 @@ invariant_of-self g c =
       counted = rw c.add_calls.ensures.total (rw c.submits_logged.ensures
           (omega (arith, counts.calls_are, me.counted)));
       clients = omega (arith, counts.clients_are, me.clients);
-      one_part_each = me.one_part_each;
-      few = me.few;
-      unused = me.unused;
-      left_once = me.left_once;
+      parts = me.parts;
       named = me.named;
       sent = sent_grown me.pages k _ c.submit-answer.new.self c.submit-answer.ensures.adds me.sent;
     }

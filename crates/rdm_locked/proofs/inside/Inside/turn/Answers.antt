@@ -12,10 +12,7 @@ invariant_of-self g c =
     record {
       counted = omega (arith, counts.calls_are, me.counted);
       clients = omega (arith, counts.clients_are, me.clients);
-      one_part_each = me.one_part_each;
-      few = me.few;
-      unused = me.unused;
-      left_once = me.left_once;
+      parts = me.parts;
       named = me.named;
       sent = sent_grown me.pages k _ c.take.new.self c.take.ensures.adds me.sent;
     }
