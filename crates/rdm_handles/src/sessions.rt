@@ -32,9 +32,7 @@ use crate::status::{
 };
 use arrayvec::ArrayVec;
 use rdm_join::{LineEvent, LineReply};
-use rdm_log::{
-    ClientId, Config, LEAST_FREE, Log, MOST_ENTRIES, MOST_FREE_ENTRIES, Setup,
-};
+use rdm_log::{ClientId, Config, LEAST_FREE, Log, MOST_ENTRIES, MOST_FREE_ENTRIES, Setup};
 use rdm_queue::{Oldest, Session};
 use rdm_wire::{DeviceSet, MOST_FRAME_BYTES, NoMemory, Uid};
 use std::alloc::Global;

@@ -3,7 +3,6 @@ ghost use Rattle.std.specs.Prelude.{◌≡◌, ◌≢◌, ◌+◌, ◌-◌, ◌<
 ghost use Rattle.std.specs.Prelude.{slice_get, nat_le, ◌||◌};
 ghost use Rattle.std.specs.VecDeque.{deque_len, deque_capacity};
 
-
 use crate::oldest::Oldest;
 use crate::set_ring::SetRing;
 use rdm_agent::AgentFault;

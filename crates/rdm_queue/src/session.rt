@@ -3,7 +3,6 @@ ghost use Rattle.std.specs.Prelude.{◌≡◌, if◌then◌else◌};
 ghost use Rattle.rdm_log.specs.log.LogState.{opened};
 ghost use Rattle.rdm_queue.specs.body.SessionInvariant.{SessionAmid, FinishesDue};
 
-
 use crate::controller::Controller;
 use crate::oldest::Oldest;
 use arrayvec::ArrayVec;
@@ -11,8 +10,8 @@ use rdm_agent::Kind;
 use rdm_join::LineEvent;
 use rdm_log::{
     AskFault, Call, Cause, ClientId, Completion, Config, DiscoveryEnd, Entry, IntoSetup, JoinFault,
-    LEAST_FREE, Log, LogFull, MOST_ENTRIES, NotAsked, NotIdle, Opening, Outcome,
-    SubmitFault, Work, WorkFault,
+    LEAST_FREE, Log, LogFull, MOST_ENTRIES, NotAsked, NotIdle, Opening, Outcome, SubmitFault, Work,
+    WorkFault,
 };
 use rdm_wire::{DeviceSet, Frame, NoMemory, Request, copy_of_frame};
 use std::alloc::Global;
