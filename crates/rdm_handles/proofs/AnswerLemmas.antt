@@ -1,5 +1,5 @@
 -- What a look at a client's oldest outcome shows is what a collect gives.
-use Rattle.std.proofs.Common.{◌≡◌, ℕ, List, length, Some, None, refl, ap, sym, ◌∙◌, Option}
+use Rattle.std.proofs.Common.{◌≡◌, ℕ, List, length, Option, Some, None, refl, ap, sym, ◌∙◌}
 use Rattle.std.specs.Prelude.{option_map, option_and_then, unwrap_or}
 use Rattle.rdm_log.specs.declared.entry.Opening.{Opening}
 use Rattle.rdm_log.specs.declared.entry.Entry.{Entry}
@@ -10,8 +10,6 @@ use Rattle.rdm_log.specs.declared.outcome.Outcome.{Outcome}
 use Rattle.rdm_log.specs.promises.Blocks.{IsOldest}
 use Rattle.rdm_log.specs.promises.Outcomes.{outcome_value}
 use Rattle.rdm_queue.specs.promises.Lengths.{length_of_value, answer_length, oldest_length}
-use Rattle.rdm_queue.specs.declared.oldest.Oldest.{Oldest}
-use Rattle.rdm_queue.specs.promises.Oldest.{outcome_shown}
 use Rattle.rdm_handles.specs.Forms.{form_with_head, form_of_completion}
 
 -- its length is that which was told
@@ -25,11 +23,6 @@ pub same_length : (o : Opening) (h : List Entry) (c : ℕ) (one other : Outcome)
     → IsOldest o h c other → length_of_value (outcome_value one) ≡ length_of_value (outcome_value other)
 same_length o h c one other first second =
     ap (λ n. unwrap_or n 0) (sym (length_of_oldest o h c one first) ∙ length_of_oldest o h c other second)
-
--- what a look at it shows is as long as a collect needs
-pub length_of_look : (o : Opening) (h : List Entry) (c : ℕ) (x : Oldest) → IsOldest o h c (outcome_shown x)
-    → oldest_length o h c ≡ Some (length_of_value (outcome_value (outcome_shown x)))
-length_of_look o h c x is = length_of_oldest o h c (outcome_shown x) is
 
 -- with and without a head
 form_len : (number len status : ℕ) (head : Option ReplyHead) → (form_with_head number len status head).len ≡ len

@@ -190,6 +190,7 @@ pub fn oldest(controller: &Controller, client: u8, kind: &mut u32) -> u32
 
 /// Collects a client's oldest outcome if it is a request's, and writes how it ended, with its data at the front of
 /// a buffer. `BUFFER_TOO_SMALL` writes how many bytes it needs into `len`.
+#[tactic(auto, using(crate::proofs::AnswerLemmas::length_of_oldest))]
 pub fn next_completion(
     controller: &mut Controller,
     client: u8,
@@ -233,6 +234,7 @@ pub fn next_completion(
 
 /// Collects a client's oldest outcome if it is a discovery's, and writes how it ended, with its devices at the
 /// front of a buffer. `BUFFER_TOO_SMALL` writes how many devices it needs into `count`.
+#[tactic(auto, using(crate::proofs::AnswerLemmas::length_of_oldest))]
 pub fn next_discovery(
     controller: &mut Controller,
     client: u8,

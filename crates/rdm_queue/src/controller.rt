@@ -36,7 +36,8 @@ impl Controller {
     ghost use Rattle.std.specs.Prelude.{◌≡◌, ◌∷◌, ◌<◌, [], true, false, length, IfOk, IfErr, IfSome};
     ghost use Rattle.std.specs.Prelude.{IfNone, OnErr, OnSome, Some, ◌≢◌, option_map};
     ghost use Rattle.rdm_log.specs.declared.entry.Entry.TheVariants.{Send, Came, Close};
-    ghost use Rattle.rdm_log.specs.log.History.{awaited, is_paused, is_closed, can_pause, can_resume, is_idle, next_client};
+    ghost use Rattle.rdm_log.specs.log.History.{awaited, is_paused, is_closed, can_pause, can_resume, is_idle};
+    ghost use Rattle.rdm_log.specs.log.History.{next_client};
     ghost use Rattle.rdm_log.specs.log.MaySend.{MaySend, NoSend};
     ghost use Rattle.rdm_log.specs.log.Config.{IsConfig};
     ghost use Rattle.rdm_log.specs.log.LogState.{opening_after};
