@@ -223,7 +223,7 @@ impl Served for Alone {
     #[inline(never)]
     fn collect_next(&mut self, client: usize) -> Option<Ending> {
         let client = id_of(client);
-        if self.session.oldest(client)? == OutcomeKind::Request {
+        if self.session.oldest(client)?.kind() == OutcomeKind::Request {
             let (number, done) = self.session.next_completion(client)?;
             let tag = tag_of(number);
             return Some(Ending::Request(Told { tag, done }));

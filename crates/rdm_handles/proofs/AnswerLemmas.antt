@@ -1,5 +1,5 @@
--- What is told of a client's oldest outcome is what a collect gives.
-use Rattle.std.proofs.Common.{◌≡◌, ℕ, List, length, Option, Some, None, refl, ap, ◌∙◌}
+-- What a look at a client's oldest outcome shows is what a collect gives.
+use Rattle.std.proofs.Common.{◌≡◌, ℕ, List, length, Option, Some, None, refl, ap, sym, ◌∙◌}
 use Rattle.std.specs.Prelude.{option_map, option_and_then, unwrap_or}
 use Rattle.rdm_log.specs.declared.entry.Opening.{Opening}
 use Rattle.rdm_log.specs.declared.entry.Entry.{Entry}
@@ -18,9 +18,11 @@ pub length_of_oldest : (o : Opening) (h : List Entry) (c : ℕ) (outcome : Outco
 length_of_oldest o h c outcome is =
     ap (λ e. option_and_then (answer_length h) e) is.oldest ∙ ap (λ v. option_map length_of_value v) is.told
 
-pub needed_is : (o : Opening) (h : List Entry) (c : ℕ) (outcome : Outcome) (told : Option ℕ)
-    → told ≡ oldest_length o h c → IsOldest o h c outcome → unwrap_or told 0 ≡ length_of_value (outcome_value outcome)
-needed_is o h c outcome told is oldest = ap (λ n. unwrap_or n 0) (is ∙ length_of_oldest o h c outcome oldest)
+-- what two of them have is as long, since both are the same one
+pub same_length : (o : Opening) (h : List Entry) (c : ℕ) (one other : Outcome) → IsOldest o h c one
+    → IsOldest o h c other → length_of_value (outcome_value one) ≡ length_of_value (outcome_value other)
+same_length o h c one other first second =
+    ap (λ n. unwrap_or n 0) (sym (length_of_oldest o h c one first) ∙ length_of_oldest o h c other second)
 
 -- with and without a head
 form_len : (number len status : ℕ) (head : Option ReplyHead) → (form_with_head number len status head).len ≡ len

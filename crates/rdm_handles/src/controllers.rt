@@ -29,8 +29,8 @@ use crate::status::{
 };
 use arrayvec::ArrayVec;
 use rdm_join::{LineEvent, LineReply};
-use rdm_log::{ClientId, OutcomeKind};
-use rdm_queue::Controller;
+use rdm_log::ClientId;
+use rdm_queue::{Controller, Oldest};
 use rdm_wire::{DeviceSet, MOST_FRAME_BYTES};
 use std::alloc::Global;
 
@@ -177,11 +177,11 @@ pub fn oldest(controller: &Controller, client: u8, kind: &mut u32) -> u32
     }
     match controller.oldest(ClientId(client)) {
         None => NOTHING,
-        Some(OutcomeKind::Request) => {
+        Some(Oldest::Request { .. }) => {
             *kind = 0;
             DONE
         }
-        Some(OutcomeKind::Discovery) => {
+        Some(Oldest::Discovery { .. }) => {
             *kind = 1;
             DONE
         }
@@ -190,6 +190,7 @@ pub fn oldest(controller: &Controller, client: u8, kind: &mut u32) -> u32
 
 /// Collects a client's oldest outcome if it is a request's, and writes how it ended, with its data at the front of
 /// a buffer. `BUFFER_TOO_SMALL` writes how many bytes it needs into `len`.
+#[tactic(auto, using(crate::proofs::AnswerLemmas::length_of_oldest))]
 pub fn next_completion(
     controller: &mut Controller,
     client: u8,
@@ -216,8 +217,8 @@ pub fn next_completion(
     let client = ClientId(client);
     let needed = match controller.oldest(client) {
         None => return NOTHING,
-        Some(OutcomeKind::Discovery) => return OTHER_OUTCOME,
-        Some(OutcomeKind::Request) => controller.oldest_length(client).unwrap_or(0),
+        Some(Oldest::Discovery { .. }) => return OTHER_OUTCOME,
+        Some(Oldest::Request { done, .. }) => done.bytes.len(),
     };
     if needed > buffer.len() {
         completion.len = needed;
@@ -233,6 +234,7 @@ pub fn next_completion(
 
 /// Collects a client's oldest outcome if it is a discovery's, and writes how it ended, with its devices at the
 /// front of a buffer. `BUFFER_TOO_SMALL` writes how many devices it needs into `count`.
+#[tactic(auto, using(crate::proofs::AnswerLemmas::length_of_oldest))]
 pub fn next_discovery(
     controller: &mut Controller,
     client: u8,
@@ -258,8 +260,8 @@ pub fn next_discovery(
     let client = ClientId(client);
     let needed = match controller.oldest(client) {
         None => return NOTHING,
-        Some(OutcomeKind::Request) => return OTHER_OUTCOME,
-        Some(OutcomeKind::Discovery) => controller.oldest_length(client).unwrap_or(0),
+        Some(Oldest::Request { .. }) => return OTHER_OUTCOME,
+        Some(Oldest::Discovery { set, .. }) => set.len(),
     };
     if needed > devices.len() {
         end.count = needed;

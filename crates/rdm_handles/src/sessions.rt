@@ -32,10 +32,8 @@ use crate::status::{
 };
 use arrayvec::ArrayVec;
 use rdm_join::{LineEvent, LineReply};
-use rdm_log::{
-    ClientId, Config, LEAST_FREE, Log, MOST_ENTRIES, MOST_FREE_ENTRIES, OutcomeKind, Setup,
-};
-use rdm_queue::Session;
+use rdm_log::{ClientId, Config, LEAST_FREE, Log, MOST_ENTRIES, MOST_FREE_ENTRIES, Setup};
+use rdm_queue::{Oldest, Session};
 use rdm_wire::{DeviceSet, MOST_FRAME_BYTES, NoMemory, Uid};
 use std::alloc::Global;
 use std::mem::replace;
@@ -226,11 +224,11 @@ pub fn oldest(session: &Session, client: u8, kind: &mut u32) -> u32
     }
     match session.oldest(ClientId(client)) {
         None => NOTHING,
-        Some(OutcomeKind::Request) => {
+        Some(Oldest::Request { .. }) => {
             *kind = 0;
             DONE
         }
-        Some(OutcomeKind::Discovery) => {
+        Some(Oldest::Discovery { .. }) => {
             *kind = 1;
             DONE
         }
@@ -239,6 +237,7 @@ pub fn oldest(session: &Session, client: u8, kind: &mut u32) -> u32
 
 /// Collects a client's oldest outcome if it is a request's, and writes how it ended, with its data at the front of
 /// a buffer. `BUFFER_TOO_SMALL` writes how many bytes it needs into `len`.
+#[tactic(auto, using(crate::proofs::AnswerLemmas::length_of_oldest))]
 pub fn next_completion(
     session: &mut Session,
     client: u8,
@@ -265,8 +264,8 @@ pub fn next_completion(
     let client = ClientId(client);
     let needed = match session.oldest(client) {
         None => return NOTHING,
-        Some(OutcomeKind::Discovery) => return OTHER_OUTCOME,
-        Some(OutcomeKind::Request) => session.oldest_length(client).unwrap_or(0),
+        Some(Oldest::Discovery { .. }) => return OTHER_OUTCOME,
+        Some(Oldest::Request { done, .. }) => done.bytes.len(),
     };
     if needed > buffer.len() {
         completion.len = needed;
@@ -282,6 +281,7 @@ pub fn next_completion(
 
 /// Collects a client's oldest outcome if it is a discovery's, and writes how it ended, with its devices at the
 /// front of a buffer. `BUFFER_TOO_SMALL` writes how many devices it needs into `count`.
+#[tactic(auto, using(crate::proofs::AnswerLemmas::length_of_oldest))]
 pub fn next_discovery(
     session: &mut Session,
     client: u8,
@@ -307,8 +307,8 @@ pub fn next_discovery(
     let client = ClientId(client);
     let needed = match session.oldest(client) {
         None => return NOTHING,
-        Some(OutcomeKind::Request) => return OTHER_OUTCOME,
-        Some(OutcomeKind::Discovery) => session.oldest_length(client).unwrap_or(0),
+        Some(Oldest::Request { .. }) => return OTHER_OUTCOME,
+        Some(Oldest::Discovery { set, .. }) => set.len(),
     };
     if needed > devices.len() {
         end.count = needed;

@@ -209,7 +209,7 @@ impl<L: Ledger, J: PageRing> Inside<L, J> {
     pub fn oldest(&self, client: ClientId) -> Option<OutcomeKind>
         ensures { result ≡ oldest_kind self.now.session.opening self.now.session.entries client.0 }
     {
-        self.session.oldest(client)
+        Some(self.session.oldest(client)?.kind())
     }
 
     /// Collects a client's oldest outcome if that is a request's, as [`Session::next_completion`] does, and counts the

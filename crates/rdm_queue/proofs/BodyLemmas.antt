@@ -22,7 +22,6 @@ pub mod EndRequests
 pub mod EndRuns
 pub mod EndLemmas
 pub mod CallLemmas
-pub mod LengthLemmas
 pub mod SessionLemmas
 pub mod RotateLemmas
 pub mod SearchLemmas

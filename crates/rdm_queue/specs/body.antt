@@ -6,7 +6,6 @@ pub mod Sending
 pub mod Ending
 pub mod Sets
 pub mod Rings
-pub mod Lengths
 pub mod Fields
 pub mod Agrees
 pub mod QueueInvariant

@@ -1,3 +1,4 @@
 -- What a controller's calls say.
 pub mod EachLog
 pub mod Lengths
+pub mod Oldest

@@ -3,13 +3,11 @@ ghost use Rattle.std.specs.Prelude.{◌≡◌, ◌≢◌, ◌+◌, ◌-◌, ◌<
 ghost use Rattle.std.specs.Prelude.{slice_get, nat_le, ◌||◌};
 ghost use Rattle.std.specs.VecDeque.{deque_len, deque_capacity};
 
-mod lengths;
-
+use crate::oldest::Oldest;
 use crate::set_ring::SetRing;
 use rdm_agent::AgentFault;
 use rdm_log::{
     Completion, DiscoveryEnd, Entry, MOST_DISCOVERIES, NEVER_GIVEN, NEVER_GIVEN_TO_A_DISCOVERY,
-    OutcomeKind,
 };
 use rdm_wire::{DeviceSet, Request};
 use std::alloc::{AllocError, Global};
@@ -52,7 +50,7 @@ pub(crate) struct Client {
 
 impl Client {
     ghost use Rattle.rdm_queue.specs.body.Rings.{IsNewClient, ClientAccepts, ClientFinishes, ClientAnswers};
-    ghost use Rattle.rdm_queue.specs.body.Rings.{ClientCollects, HasSets, first_kind_owed};
+    ghost use Rattle.rdm_queue.specs.body.Rings.{ClientCollects, HasSets, first_kind_owed, owed_values, value_shown};
     ghost use Rattle.rdm_log.specs.promises.Outcomes.{outcome_value, request_outcome, discovery_outcome};
     ghost use Rattle.rdm_log.specs.declared.outcome.OutcomeKind.TheVariants as kinds;
 
@@ -171,13 +169,32 @@ impl Client {
         self.sets.push_back(found);
     }
 
-    /// The kind of its oldest outcome.
-    pub(crate) fn oldest_outcome(&self) -> Option<OutcomeKind>
-        ensures { result ≡ first_kind_owed self.now }
+    /// A look at its oldest outcome.
+    #[tactic(auto, using(
+        crate::proofs::BodyLemmas::ValueLemmas::request_first,
+        crate::proofs::BodyLemmas::ValueLemmas::discovery_first,
+        crate::proofs::BodyLemmas::ValueLemmas::has_first
+    ))]
+    pub(crate) fn oldest_outcome(&self) -> Option<Oldest<'_>>
+        requires { HasSets self.now }
+        ensures { option_map value_shown result ≡ slice_get (owed_values self.now) 0 }
     {
         match self.outcomes.front()? {
-            Owed::Request { .. } => Some(OutcomeKind::Request),
-            Owed::Discovery { .. } => Some(OutcomeKind::Discovery),
+            Owed::Request { number, done } => Some(Oldest::Request {
+                number: *number,
+                done,
+            }),
+            Owed::Discovery { number, run, fault } => {
+                let Some(set) = self.sets.oldest() else {
+                    unreachable!();
+                };
+                let end = DiscoveryEnd {
+                    number: *number,
+                    run: *run,
+                    fault: *fault,
+                };
+                Some(Oldest::Discovery { end, set })
+            }
         }
     }
 
@@ -188,9 +205,9 @@ impl Client {
         ensures none { IfNone result (first_kind_owed self.old ≢ Some kinds.Request) }
         ensures unchanged { IfNone result (self.new ≡ self.old) }
     {
-        if self.oldest_outcome() != Some(OutcomeKind::Request) {
+        let Some(Owed::Request { .. }) = self.outcomes.front() else {
             return None;
-        }
+        };
         let Owed::Request { number, done } = self.outcomes.pop_front()? else {
             unreachable!();
         };
@@ -205,9 +222,9 @@ impl Client {
         ensures none { IfNone result (first_kind_owed self.old ≢ Some kinds.Discovery) }
         ensures unchanged { IfNone result ((self.new ≡ self.old) × (set.new ≡ set.old)) }
     {
-        if self.oldest_outcome() != Some(OutcomeKind::Discovery) {
+        let Some(Owed::Discovery { .. }) = self.outcomes.front() else {
             return None;
-        }
+        };
         let Owed::Discovery { number, run, fault } = self.outcomes.pop_front()? else {
             unreachable!();
         };

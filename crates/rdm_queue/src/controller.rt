@@ -1,12 +1,12 @@
 //! The queue of requests and discoveries on one RDM line.
-mod lengths;
 
+use crate::oldest::Oldest;
 use crate::queue::Queue;
 use rdm_agent::{Kind, Search};
 use rdm_join::LineEvent;
 use rdm_log::{
     AskFault, ClientId, Completion, DiscoveryEnd, Entry, IntoSetup, JoinFault, NotAsked, Opening,
-    Outcome, OutcomeKind, Owner, SubmitFault, Work, WorkFault,
+    Outcome, Owner, SubmitFault, Work, WorkFault,
 };
 use rdm_wire::{DeviceSet, Frame, NoMemory, Request};
 use std::alloc::Global;
@@ -34,16 +34,18 @@ impl Model for Controller {
 
 impl Controller {
     ghost use Rattle.std.specs.Prelude.{◌≡◌, ◌∷◌, ◌<◌, [], true, false, length, IfOk, IfErr, IfSome};
-    ghost use Rattle.std.specs.Prelude.{IfNone, OnErr, OnSome, Some, ◌≢◌};
+    ghost use Rattle.std.specs.Prelude.{IfNone, OnErr, OnSome, Some, ◌≢◌, option_map};
     ghost use Rattle.rdm_log.specs.declared.entry.Entry.TheVariants.{Send, Came, Close};
     ghost use Rattle.rdm_log.specs.log.History.{awaited, is_paused, is_closed, can_pause, can_resume, is_idle};
+    ghost use Rattle.rdm_log.specs.log.History.{next_client};
     ghost use Rattle.rdm_log.specs.log.MaySend.{MaySend, NoSend};
     ghost use Rattle.rdm_log.specs.log.Config.{IsConfig};
     ghost use Rattle.rdm_log.specs.log.LogState.{opening_after};
     ghost use Rattle.rdm_log.specs.promises.Blocks.{JoinAdds, SubmitAdds, PauseAdds, ResumeAdds, CloseAdds};
     ghost use Rattle.rdm_log.specs.promises.Blocks.{DiscoverAdds, TakeAdds, DeliverAdds, CollectAdds, WorkAdds};
-    ghost use Rattle.rdm_log.specs.promises.Blocks.{number_or_fault};
+    ghost use Rattle.rdm_log.specs.promises.Blocks.{number_or_fault, IsOldest};
     ghost use Rattle.rdm_queue.specs.promises.EachLog.{ForEachLog, AddsToEach, IsSetUp};
+    ghost use Rattle.rdm_queue.specs.promises.Oldest.{outcome_shown, kind_shown};
     ghost use Rattle.rdm_queue.specs.body.Agrees.{StandsAfter, ForEachBlock, AddsAmid, Ends, FinishesEach};
     ghost use Rattle.rdm_queue.specs.body.State.{unended, uncollected};
     ghost use Rattle.rdm_log.specs.log.Runs.{known_devices, devices_run};
@@ -203,9 +205,11 @@ impl Controller {
         self.queue.next_outcome(client)
     }
 
-    /// The kind of a client's oldest uncollected outcome. None if there is none, or no such client.
-    pub fn oldest(&self, client: ClientId) -> Option<OutcomeKind>
-        ensures { ForEachLog self.now (λ o h. result ≡ oldest_kind o h client.0) }
+    /// A look at a client's oldest uncollected outcome. None if there is none, or no such client.
+    pub fn oldest(&self, client: ClientId) -> Option<Oldest<'_>>
+        ensures kind { ForEachLog self.now (λ o h. option_map kind_shown result ≡ oldest_kind o h client.0) }
+        ensures outcome { IfSome result (λ oldest. ForEachLog self.now
+            (λ o h. IsOldest o h client.0 (outcome_shown oldest))) }
     {
         self.queue.oldest_outcome(client)
     }
@@ -245,6 +249,13 @@ impl Controller {
         ensures { ForEachLog self.now (λ o h. result ≡ devices_run o h) }
     {
         self.queue.devices_run()
+    }
+
+    /// How many clients have joined, 0 to 16. They are numbered from 0.
+    pub fn client_count(&self) -> usize
+        ensures { ForEachLog self.now (λ o h. result ≡ next_client o h) }
+    {
+        self.queue.client_count()
     }
 
     /// Whether each request is finished, each discovery answered, and each outcome collected.

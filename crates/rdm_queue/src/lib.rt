@@ -25,6 +25,7 @@
 
 mod client;
 mod controller;
+mod oldest;
 mod pending;
 mod promised;
 mod queue;
@@ -33,6 +34,7 @@ mod session;
 mod set_ring;
 
 pub use controller::Controller;
+pub use oldest::Oldest;
 pub use promised::controllers_keep_promises;
 pub use rdm_log::{
     Answer, AskCompletion, AskFault, BoxedOutcome, Call, Cause, ClientId, Completion, Config,

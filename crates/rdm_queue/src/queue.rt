@@ -1,20 +1,20 @@
 //! The requests and discoveries that wait, the run that serves these, and the outcomes that wait for their clients.
 ghost use Rattle.std.specs.Prelude.{◌≡◌, ◌≤◌, length, IfSome, IfNone, Some, None, if◌then◌else◌};
 ghost use Rattle.rdm_log.specs.declared.fault.WorkFault.TheVariants.{Full};
-ghost use Rattle.rdm_queue.specs.body.Rings.{NoneWaits, IsFirstInLine};
+ghost use Rattle.rdm_queue.specs.body.Rings.{NoneWaits, IsFirstInLine, value_shown};
 ghost use Rattle.rdm_queue.specs.body.Fields.{places_of};
 
 mod ending;
-mod lengths;
 
 use crate::client::{Client, Waiting};
+use crate::oldest::Oldest;
 use crate::pending::{Asked, Awaited, Running};
 use arrayvec::ArrayVec;
 use rdm_agent::{Agent, Kind, Op, Search};
 use rdm_join::{Joiner, Sent};
 use rdm_log::{
     AskCompletion, ClientId, Completion, Config, DiscoveryEnd, JoinFault, MOST_CLIENTS, Opening,
-    Outcome, OutcomeKind, Owner, Setup, Work, WorkFault,
+    Outcome, Owner, Setup, Work, WorkFault,
 };
 use rdm_wire::{DeviceSet, Frame, Request, UidSet, encode_request};
 use std::alloc::Global;
@@ -351,9 +351,9 @@ impl Queue {
         first_in_line(&self.clients)
     }
 
-    /// The kind of a client's oldest outcome.
-    pub(crate) fn oldest_outcome(&self, client: ClientId) -> Option<OutcomeKind>
-        ensures { result ≡ first_kind client.0 self.now }
+    /// A look at a client's oldest outcome.
+    pub(crate) fn oldest_outcome(&self, client: ClientId) -> Option<Oldest<'_>>
+        ensures { option_map value_shown result ≡ slice_get (owed_to client.0 self.now) 0 }
     {
         self.clients.get(usize::from(client.0))?.oldest_outcome()
     }
@@ -364,15 +364,16 @@ impl Queue {
         ensures removed { OnSome result (self.new ≡ collects_oldest self.old client.0) }
         ensures none { IfNone result (self.new ≡ self.old) }
     {
-        match self.oldest_outcome(client)? {
-            OutcomeKind::Request => {
+        match self.oldest_outcome(client) {
+            None => None,
+            Some(Oldest::Request { .. }) => {
                 let (number, done) = self.next_completion(client)?;
                 Some(Outcome::Request {
                     number: Some(number),
                     done,
                 })
             }
-            OutcomeKind::Discovery => {
+            Some(Oldest::Discovery { .. }) => {
                 let mut set = DeviceSet::new();
                 let DiscoveryEnd { number, run, fault } = self.next_discovery(client, &mut set)?;
                 Some(Outcome::Discovery {
@@ -443,6 +444,13 @@ impl Queue {
             next_run: self.next_run,
             next_tn: self.next_tn,
         }
+    }
+
+    /// How many clients have joined.
+    pub(crate) fn client_count(&self) -> usize
+        ensures { result ≡ length self.now.places }
+    {
+        self.clients.len()
     }
 
     /// How many requests aren't finished.

@@ -1,6 +1,7 @@
 //! A list of events, answered one by one.
+use crate::oldest::Oldest;
 use crate::session::Session;
-use rdm_log::{Answer, BoxedOutcome, ClientId, Event, OutcomeKind};
+use rdm_log::{Answer, BoxedOutcome, ClientId, Event};
 use rdm_wire::{DeviceSet, NoMemory};
 use std::alloc::Global;
 
@@ -68,8 +69,8 @@ impl Session {
         self.log();
         match self.oldest(client) {
             None => Ok(None),
-            Some(OutcomeKind::Request) => Ok(self.collect_request(client)),
-            Some(OutcomeKind::Discovery) => self.collect_discovery(alloc, client),
+            Some(Oldest::Request { .. }) => Ok(self.collect_request(client)),
+            Some(Oldest::Discovery { .. }) => self.collect_discovery(alloc, client),
         }
     }
 

@@ -3,16 +3,15 @@ ghost use Rattle.std.specs.Prelude.{◌≡◌, if◌then◌else◌};
 ghost use Rattle.rdm_log.specs.log.LogState.{opened};
 ghost use Rattle.rdm_queue.specs.body.SessionInvariant.{SessionAmid, FinishesDue};
 
-mod lengths;
-
 use crate::controller::Controller;
+use crate::oldest::Oldest;
 use arrayvec::ArrayVec;
 use rdm_agent::Kind;
 use rdm_join::LineEvent;
 use rdm_log::{
     AskFault, Call, Cause, ClientId, Completion, Config, DiscoveryEnd, Entry, IntoSetup, JoinFault,
-    LEAST_FREE, Log, LogFull, MOST_ENTRIES, NotAsked, NotIdle, Opening, Outcome, OutcomeKind,
-    SubmitFault, Work, WorkFault,
+    LEAST_FREE, Log, LogFull, MOST_ENTRIES, NotAsked, NotIdle, Opening, Outcome, SubmitFault, Work,
+    WorkFault,
 };
 use rdm_wire::{DeviceSet, Frame, NoMemory, Request, copy_of_frame};
 use std::alloc::Global;
@@ -41,8 +40,8 @@ impl Model for Session {
 
 impl Session {
     ghost use Rattle.std.specs.Prelude.{◌≡◌, ◌≢◌, [], length, ◌+◌, ◌-◌, ◌≤◌, IfOk, IfErr, OnOk, OnErr, IfNone};
-    ghost use Rattle.std.specs.Prelude.{IfSome, Some, true, false, vec_capacity};
-    ghost use Rattle.rdm_log.specs.log.History.{awaited, is_paused, is_closed, is_idle, reserved};
+    ghost use Rattle.std.specs.Prelude.{IfSome, Some, true, false, vec_capacity, option_map};
+    ghost use Rattle.rdm_log.specs.log.History.{awaited, is_paused, is_closed, is_idle, reserved, next_client};
     ghost use Rattle.rdm_log.specs.log.Legal.{Legal};
     ghost use Rattle.rdm_log.specs.log.Config.{IsConfig};
     ghost use Rattle.rdm_log.specs.log.LogState.{free_entries, is_full_log, begun, opening_after, stored, drained};
@@ -51,9 +50,10 @@ impl Session {
     ghost use Rattle.rdm_log.specs.promises.Blocks.{JoinLogs, SubmitLogs, PauseLogs, ResumeLogs, TakeLogs};
     ghost use Rattle.rdm_log.specs.log.Runs.{known_devices, devices_run};
     ghost use Rattle.rdm_log.specs.promises.Blocks.{DiscoverLogs, CloseAdds, DeliverAdds, CollectAdds, GrowsBy};
-    ghost use Rattle.rdm_log.specs.promises.Blocks.{WorkLogs, number_or_fault};
+    ghost use Rattle.rdm_log.specs.promises.Blocks.{WorkLogs, number_or_fault, IsOldest};
     ghost use Rattle.rdm_log.specs.promises.Outcomes.{oldest_kind, request_outcome, discovery_outcome};
     ghost use Rattle.rdm_log.specs.declared.outcome.OutcomeKind.TheVariants as kinds;
+    ghost use Rattle.rdm_queue.specs.promises.Oldest.{outcome_shown, kind_shown};
     ghost use Rattle.rdm_queue.specs.body.Agrees.{StandsAfter};
 
     /// A session without clients, neither paused nor closed. Its discovery runs are numbered from 1, and all else from
@@ -253,9 +253,11 @@ impl Session {
         Some(outcome)
     }
 
-    /// The kind of a client's oldest uncollected outcome. None if there is none, or no such client.
-    pub fn oldest(&self, client: ClientId) -> Option<OutcomeKind>
-        ensures { result ≡ oldest_kind self.now.opening self.now.entries client.0 }
+    /// A look at a client's oldest uncollected outcome. None if there is none, or no such client.
+    pub fn oldest(&self, client: ClientId) -> Option<Oldest<'_>>
+        ensures kind { option_map kind_shown result ≡ oldest_kind self.now.opening self.now.entries client.0 }
+        ensures outcome { IfSome result (λ oldest.
+            IsOldest self.now.opening self.now.entries client.0 (outcome_shown oldest)) }
     {
         self.controller.oldest(client)
     }
@@ -403,6 +405,13 @@ impl Session {
         ensures { result ≡ devices_run self.now.opening self.now.entries }
     {
         self.controller.devices_run()
+    }
+
+    /// How many clients have joined, 0 to 16. They are numbered from 0.
+    pub fn client_count(&self) -> usize
+        ensures { result ≡ next_client self.now.opening self.now.entries }
+    {
+        self.controller.client_count()
     }
 
     /// Whether each request is finished, each discovery answered, and each outcome collected.

@@ -9,8 +9,8 @@ ghost use Rattle.rdm_lanes.specs.body.Doing.{IsMoved, MayMoveOne, MovesFor, Move
 use crate::ring_outcome::RingOutcome;
 use crate::worker::lane::Lane;
 use rdm_client::BoxedAsk;
-use rdm_log::{ClientId, OutcomeKind};
-use rdm_queue::Session;
+use rdm_log::ClientId;
+use rdm_queue::{Oldest, Session};
 use rdm_wire::DeviceSet;
 use std::alloc::Global;
 
@@ -42,8 +42,8 @@ fn move_outcome(alloc: Global, session: &mut Session, client: ClientId, lane: &m
 {
     match session.oldest(client) {
         None => false,
-        Some(OutcomeKind::Request) => move_completion(session, client, lane),
-        Some(OutcomeKind::Discovery) => move_discovery(alloc, session, client, lane),
+        Some(Oldest::Request { .. }) => move_completion(session, client, lane),
+        Some(Oldest::Discovery { .. }) => move_discovery(alloc, session, client, lane),
     }
 }
 

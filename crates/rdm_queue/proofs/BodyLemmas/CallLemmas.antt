@@ -15,7 +15,12 @@ use Rattle.rdm_queue.proofs.Common.{NoSend, IsGiven, to_send, false≢true, is_s
 use Rattle.rdm_log.specs.declared.outcome.OutcomeKind.{OutcomeKind}
 use Rattle.rdm_log.specs.declared.outcome.DiscoveryEnd.{DiscoveryEnd}
 use Rattle.rdm_log.specs.declared.work.Work.TheVariants.{Submit, Discover}
-use Rattle.rdm_log.specs.promises.Blocks.{JoinAdds, SwitchAdds, CollectAdds}
+use Rattle.rdm_log.specs.promises.Blocks.{JoinAdds, SwitchAdds, CollectAdds, IsOldest}
+use Rattle.rdm_queue.specs.declared.oldest.Oldest.{Oldest}
+use Rattle.rdm_queue.specs.declared.oldest.Oldest.TheVariants as shown
+use Rattle.rdm_queue.specs.promises.Oldest.{outcome_shown, kind_shown}
+use Rattle.rdm_queue.specs.body.Rings.{value_shown}
+use Rattle.rdm_queue.specs.body.State.{kind_of_value}
 use Rattle.rdm_queue.proofs.BodyLemmas.EndLemmas.{ends_amid, ends_in_bound_amid, settled_after}
 use Rattle.rdm_queue.specs.body.Agrees.{ForEachBlock, Ends, FinishesAll}
 use Rattle.rdm_queue.specs.promises.EachLog.{ForEachLog, StandsWith, AddsToEach}
@@ -155,6 +160,26 @@ pub not_kind : {X : Type 0} (r : Option X) (s : QueueState) (c : ℕ) (kind : Ou
     → IfNone r (first_kind c s ≢ Some kind) → IfNone r (ForEachLog s (λ o h. oldest_kind o h c ≢ Some kind))
 not_kind (Some x) s c kind other = tt
 not_kind None s c kind other = λ o h after is. other (kind_after o h s c after ∙ is)
+
+-- what a look at the oldest outcome shows
+kind_of_shown : (x : Oldest) → kind_of_value (value_shown x) ≡ kind_shown x
+kind_of_shown (shown.Request number done) = refl
+kind_of_shown (shown.Discovery end set) = refl
+
+kind_of_look : (r : Option Oldest) → option_map kind_shown r ≡ option_map kind_of_value (option_map value_shown r)
+kind_of_look None = refl
+kind_of_look (Some x) = ap (λ kind. Some kind) (sym (kind_of_shown x))
+
+pub shown_kind : (r : Option Oldest) (s : QueueState) (c : ℕ) → option_map value_shown r ≡ slice_get (owed_to c s) 0
+    → ForEachLog s (λ o h. option_map kind_shown r ≡ oldest_kind o h c)
+shown_kind r s c told =
+    λ o h after. kind_of_look r ∙ (ap (λ v. option_map kind_of_value v) told ∙ kind_after o h s c after)
+
+pub shown_outcome : (r : Option Oldest) (s : QueueState) (c : ClientId)
+    → option_map value_shown r ≡ slice_get (owed_to c.0 s) 0
+    → IfSome r (λ x. ForEachLog s (λ o h. IsOldest o h c.0 (outcome_shown x)))
+shown_outcome None s c told = tt
+shown_outcome (Some x) s c told = λ o h after. oldest_after o h s c (outcome_shown x) told after
 
 -- one fewer is left to end
 less_first : {X : Type 0} (xs : List X) (x : X) → slice_get xs 0 ≡ Some x → length (drop 1 xs) < length xs

@@ -321,6 +321,11 @@ kind_is s clients c k owed at =
     ∙ (ap (λ ds. option_map kind_of_value (slice_get ds 0)) (values_at clients c k at)
     ∙ kind_first k.outcomes.items k.sets.items)
 
+pub first_at : (s : QueueState) (clients : List Client) (c : ℕ) (k : Client) → s.owed ≡ owed_rings clients
+    → slice_get clients c ≡ Some k → slice_get (owed_to c s) 0 ≡ slice_get (owed_values k) 0
+first_at s clients c k owed at =
+    ap (λ lists. slice_get (get_or lists c []) 0) owed ∙ ap (λ ds. slice_get ds 0) (values_at clients c k at)
+
 pub on_some : {X : Type 0} {P Q : Type 0} (r : Option X) → (P → Q) → OnSome r P → OnSome r Q
 on_some (Some x) so p = so p
 on_some None so p = tt

@@ -1,6 +1,6 @@
 -- A client's outcomes as it sees them, as its rings change.
 use Rattle.rdm_queue.proofs.Common.{◌≡◌, ℕ, suc, ◌≤◌, Bool, true, false, cond, List, [], ◌∷◌, ◌++◌, length, Option}
-use Rattle.rdm_queue.proofs.Common.{Some, refl, sym, ap, ◌∙◌, filter, length-append, arith, option_map, slice_get}
+use Rattle.rdm_queue.proofs.Common.{None, Some, refl, sym, ap, ◌∙◌, filter, length-append, arith, option_map, slice_get}
 use Rattle.rdm_queue.proofs.Common.{deque_capacity, filter-append, Device, AgentFault, Client, Owed, Entry, Completion}
 use Rattle.rdm_queue.proofs.Common.{completion_value, is_discovery, kind_of_value, HasSets, values, owed_values}
 use Rattle.rdm_queue.proofs.Common.{IsNewClient, ClientFinishes, ClientAnswers, ClientCollects}
@@ -136,3 +136,29 @@ kind_first [] sets = refl
 kind_first (owed.Request number done ∷ ds) sets = refl
 kind_first (owed.Discovery number run fault ∷ ds) [] = refl
 kind_first (owed.Discovery number run fault ∷ ds) (s ∷ sets) = refl
+
+-- the oldest, a request's or a discovery's with the first set
+pub request_first : (ds : List Owed) (sets : List (List Device)) (n : ℕ) (done : Completion)
+    → slice_get ds 0 ≡ Some (owed.Request n done)
+    → slice_get (values ds sets) 0 ≡ Some (RequestValue (Some n) (completion_value done))
+unfolding values
+request_first [] sets n done first = cc
+request_first (d ∷ ds) sets n done first = let is : d ≡ owed.Request n done = cc in rw is refl
+
+pub discovery_first : (ds : List Owed) (sets : List (List Device)) (n r : ℕ) (f : Option AgentFault)
+    (found : List Device) → slice_get ds 0 ≡ Some (owed.Discovery n r f) → slice_get sets 0 ≡ Some found
+    → slice_get (values ds sets) 0 ≡ Some (DiscoveryValue (Some n) (record { run = r; fault = f; devices = found }))
+unfolding values
+discovery_first [] sets n r f found first set = cc
+discovery_first (d ∷ ds) [] n r f found first set = cc
+discovery_first (d ∷ ds) (s ∷ sets) n r f found first set =
+    let is : d ≡ owed.Discovery n r f = cc in let same : s ≡ found = cc in rw (is, same) refl
+
+pub has_first : (ds : List Owed) (sets : List (List Device)) (n r : ℕ) (f : Option AgentFault)
+    → length sets ≡ length (filter owes_discovery ds) → slice_get ds 0 ≡ Some (owed.Discovery n r f)
+    → slice_get sets 0 ≡ None → ⊥
+has_first [] sets n r f has first none = cc
+has_first (d ∷ ds) [] n r f has first none =
+    let is : d ≡ owed.Discovery n r f = cc in
+    let more : 0 ≡ suc (length (filter owes_discovery ds)) = rw is at has in omega (arith, more)
+has_first (d ∷ ds) (s ∷ sets) n r f has first none = cc

@@ -9,12 +9,14 @@ use Rattle.rdm_queue.specs.declared.client.Client.{Client}
 use Rattle.rdm_queue.specs.declared.client.Waiting.{Waiting}
 use Rattle.rdm_queue.specs.declared.client.Owed.{Owed}
 use Rattle.rdm_queue.specs.declared.client.Owed.TheVariants as owed
+use Rattle.rdm_queue.specs.declared.oldest.Oldest.{Oldest}
+use Rattle.rdm_queue.specs.promises.Oldest.{outcome_shown}
 use Rattle.rdm_log.specs.declared.entry.Entry.{Entry}
 use Rattle.rdm_log.specs.declared.entry.Entry.TheVariants.{Finish}
 use Rattle.rdm_log.specs.declared.outcome.Completion.{Completion}
 use Rattle.rdm_log.specs.declared.outcome.OutcomeKind.{OutcomeKind}
 use Rattle.rdm_log.specs.declared.outcome.OutcomeKind.TheVariants as kinds
-use Rattle.rdm_log.specs.promises.Outcomes.{OutcomeValue, completion_value}
+use Rattle.rdm_log.specs.promises.Outcomes.{OutcomeValue, completion_value, outcome_value}
 use Rattle.rdm_log.specs.promises.Outcomes.OutcomeValue.{RequestValue, DiscoveryValue}
 
 -- a discovery's outcome
@@ -90,6 +92,10 @@ kind_of_owed (owed.Discovery number run fault) = kinds.Discovery
 
 abbrev pub first_kind_owed : Client → Option OutcomeKind
 first_kind_owed k = option_map kind_of_owed (slice_get k.outcomes.items 0)
+
+-- what a look at an outcome shows
+abbrev pub value_shown : Oldest → OutcomeValue
+value_shown x = outcome_value (outcome_shown x)
 
 -- this was its oldest outcome, and was removed
 pub record ClientCollects (old : Client) (outcome : OutcomeValue) (new : Client) : Type 0 where

@@ -4,8 +4,8 @@ use super::lines::first_device;
 use rdm_agent::{DEFAULT_BUDGET, Kind};
 use rdm_join::{LineEvent, LineReply, Status};
 use rdm_line::{Line, SimLine};
-use rdm_log::{Answer, BoxedOutcome, ClientId, DiscoveryEnd, Event, JoinFault, OutcomeKind};
-use rdm_queue::Session;
+use rdm_log::{Answer, BoxedOutcome, ClientId, DiscoveryEnd, Event, JoinFault};
+use rdm_queue::{Oldest, Session};
 use rdm_wire::NoMemory;
 use std::alloc::Global;
 use std::process::Abort;
@@ -206,7 +206,10 @@ fn collects(rt: &impl Abort, alloc: Global, session: &mut Session) -> Answer {
         rt,
         session.log().entries().len() == entries && session.free() == free,
     );
-    check(rt, session.oldest(CLIENT) == Some(OutcomeKind::Discovery));
+    check(
+        rt,
+        matches!(session.oldest(CLIENT), Some(Oldest::Discovery { .. })),
+    );
     session.answer(alloc, &Event::Collect(CLIENT))
 }
 

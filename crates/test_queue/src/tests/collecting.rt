@@ -7,8 +7,8 @@ use super::lines::{controller_serves, first_device, run_of_one, serves, session_
 use super::packets::{ACK, CLIENT, accepts, answers, asks_for, config, get, reply};
 use rdm_agent::{DEFAULT_BUDGET, Kind};
 use rdm_join::Status;
-use rdm_log::{ClientId, Completion, DiscoveryEnd, OutcomeKind};
-use rdm_queue::{Controller, Session};
+use rdm_log::{ClientId, Completion, DiscoveryEnd};
+use rdm_queue::{Controller, Oldest, Session};
 use rdm_wire::{Device, DeviceSet, Uid};
 use std::alloc::Global;
 use std::process::Abort;
@@ -44,10 +44,32 @@ fn is_of_first(rt: &impl Abort, done: Option<(u64, Completion)>, status: Status,
     check_eq(rt, done.bytes.as_slice(), bytes);
 }
 
+// The oldest outcome is that of discovery 0, with its set.
+fn shows_set(rt: &impl Abort, oldest: Option<Oldest<'_>>) {
+    match oldest {
+        Some(Oldest::Discovery { end, set }) => {
+            check_eq(rt, end, END);
+            has_one(rt, set);
+        }
+        _ => check(rt, false),
+    }
+}
+
+// The oldest outcome is that of request 0, with these bytes.
+fn shows_first(rt: &impl Abort, oldest: Option<Oldest<'_>>, bytes: &[u8]) {
+    match oldest {
+        Some(Oldest::Request { number, done }) => {
+            check_eq(rt, number, 0);
+            check_eq(rt, done.bytes.as_slice(), bytes);
+        }
+        _ => check(rt, false),
+    }
+}
+
 // A session with the outcome of a discovery, and after it that of a request.
 fn ended(rt: &impl Abort, alloc: Global) -> Session {
     let mut session = session_for_runs(rt, alloc);
-    check_eq(rt, session.oldest(CLIENT), None);
+    check(rt, session.oldest(CLIENT).is_none());
     asks_for(rt, &mut session, Kind::Full, Ok(0));
     accepts(rt, &mut session, 0);
     serves(rt, alloc, &mut session, 0, &run_of_one());
@@ -57,12 +79,12 @@ fn ended(rt: &impl Abort, alloc: Global) -> Session {
 
 // The discovery's outcome comes first, and its set isn't written again.
 fn gives_set(rt: &impl Abort, session: &mut Session) {
-    check_eq(rt, session.oldest(CLIENT), Some(OutcomeKind::Discovery));
+    shows_set(rt, session.oldest(CLIENT));
     check(rt, session.next_completion(CLIENT).is_none());
     let mut set = DeviceSet::new();
     check_eq(rt, session.next_discovery(CLIENT, &mut set), Some(END));
     has_one(rt, &set);
-    check_eq(rt, session.oldest(CLIENT), Some(OutcomeKind::Request));
+    shows_first(rt, session.oldest(CLIENT), &[0x5a, 0x5a, 0x5a]);
     check_eq(rt, session.next_discovery(CLIENT, &mut set), None);
     has_one(rt, &set);
 }
@@ -74,7 +96,7 @@ fn a_session_gives_each_kind_in_turn(rt: HostRuntime) {
     gives_set(&rt, &mut session);
     let done = session.next_completion(CLIENT);
     is_of_first(&rt, done, Status::Completed, &[0x5a, 0x5a, 0x5a]);
-    check_eq(&rt, session.oldest(CLIENT), None);
+    check(&rt, session.oldest(CLIENT).is_none());
     check_eq(&rt, session.log().entries().len(), before.wrapping_add(2));
     check(&rt, session.is_idle());
 }
@@ -95,10 +117,11 @@ fn closed(rt: &impl Abort, alloc: Global) -> Controller {
 fn gives_to_one(rt: &impl Abort, controller: &mut Controller) {
     let mut set = DeviceSet::new();
     check(rt, set.insert(other_device()).is_ok());
-    check_eq(rt, controller.oldest(ClientId(1)), None);
+    check(rt, controller.oldest(ClientId(1)).is_none());
     check_eq(rt, controller.next_discovery(ClientId(1), &mut set), None);
     check(rt, set.contains(Uid::new(0x5678, 9)));
     check(rt, controller.next_completion(CLIENT).is_none());
+    shows_set(rt, controller.oldest(CLIENT));
     check_eq(rt, controller.next_discovery(CLIENT, &mut set), Some(END));
     has_one(rt, &set);
 }
@@ -107,7 +130,7 @@ fn gives_to_one(rt: &impl Abort, controller: &mut Controller) {
 fn a_controller_gives_each_kind_in_turn(rt: HostRuntime) {
     let mut controller = closed(&rt, rt.alloc());
     gives_to_one(&rt, &mut controller);
-    check_eq(&rt, controller.oldest(CLIENT), Some(OutcomeKind::Request));
+    shows_first(&rt, controller.oldest(CLIENT), &[]);
     let done = controller.next_completion(CLIENT);
     is_of_first(&rt, done, Status::FailedToSend, &[]);
     check(&rt, controller.is_idle());

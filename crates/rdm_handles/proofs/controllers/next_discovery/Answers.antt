@@ -4,7 +4,7 @@ use Rattle.rdm_log.specs.log.LogState.{LogState}
 use Rattle.rdm_log.specs.promises.Blocks.{IsOldest}
 use Rattle.rdm_log.specs.promises.Outcomes.{discovery_outcome}
 use Rattle.rdm_handles.specs.Forms.{form_of_end, form_of_device}
-use Rattle.rdm_handles.proofs.AnswerLemmas.{needed_is}
+use Rattle.rdm_handles.proofs.AnswerLemmas.{same_length}
 use Rattle.rdm_handles.proofs.controllers.next_discovery.Goals as goal
 
 pub returns-clause-collected : goal.returns-clause-collected
@@ -23,8 +23,9 @@ returns-clause-collected c done = (
       } in
       let outcome : Outcome = discovery_outcome c.in-Some.ended c.next_discovery.new.set in
       let is : IsOldest o h c.args.client outcome = (c.in-Some.ensures.adds.each k refl after).adds.0 in
-      let needs : c.unwrap_or-needed.result ≡ length c.next_discovery.new.set = c.unwrap_or-needed.ensures
-      ∙ needed_is o h c.args.client outcome c.oldest_length.result (c.oldest_length.ensures o h after) is in
+      let needs : c.len-needed.result ≡ length c.next_discovery.new.set = c.len-needed.ensures.value
+      ∙ same_length o h c.args.client (discovery_outcome c.in-Discovery.end c.in-Discovery.set.now) outcome
+      (c.in-Discovery.ensures.outcome o h after) is in
       let same : length c.as_slice.result.now
       ≡ length c.next_discovery.new.set = ap (λ devices. length devices) c.as_slice.ensures.value in
       let fits : length c.as_slice.result.now ≤ length

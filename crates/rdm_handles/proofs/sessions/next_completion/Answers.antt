@@ -4,7 +4,7 @@ use Rattle.rdm_log.specs.declared.entry.Entry.{Entry}
 use Rattle.rdm_log.specs.declared.outcome.Outcome.{Outcome}
 use Rattle.rdm_log.specs.promises.Blocks.{IsOldest}
 use Rattle.rdm_log.specs.promises.Outcomes.{request_outcome}
-use Rattle.rdm_handles.proofs.AnswerLemmas.{needed_is, completion_len}
+use Rattle.rdm_handles.proofs.AnswerLemmas.{same_length, completion_len}
 use Rattle.rdm_handles.proofs.sessions.next_completion.Goals as goal
 
 pub returns-clause-collected : goal.returns-clause-collected
@@ -13,8 +13,9 @@ returns-clause-collected c done =
     let h : List Entry = c.args.session.now.entries in
     let outcome : Outcome = request_outcome (c.in-Some.number, c.in-Some.done) in
     let is : IsOldest o h c.args.client outcome = c.in-Some.ensures.adds.adds.0 in
-    let needs : c.unwrap_or-needed.result ≡ length c.in-Some.done.bytes.items = c.unwrap_or-needed.ensures
-    ∙ needed_is o h c.args.client outcome c.oldest_length.result c.oldest_length.ensures is in
+    let needs : c.len-needed.result ≡ length c.in-Some.done.bytes.items = c.len-needed.ensures
+    ∙ same_length o h c.args.client (request_outcome (c.in-Request.number, c.in-Request.done.now)) outcome
+    c.in-Request.ensures.outcome is in
     let same : length c.deref.result.now
     ≡ length c.in-Some.done.bytes.items = ap (λ bytes. length bytes) c.deref.ensures.value in
     let fits : length c.deref.result.now ≤ length

@@ -1,7 +1,11 @@
 use Rattle.std.proofs.Common.{◌∙◌}
-use Rattle.rdm_queue.proofs.BodyLemmas.AfterLemmas.{kind_after}
+use Rattle.rdm_queue.proofs.BodyLemmas.CallLemmas.{shown_kind, shown_outcome}
 use Rattle.rdm_queue.proofs.controller.Controller.oldest.Goals as goal
 
-pub returns : goal.returns
-returns c = rw (← (c.deref.ensures ∙ c.self.view_is))
-    (λ o h after. c.oldest_outcome.ensures ∙ kind_after o h c.deref.result.now c.args.client.0 after)
+pub returns-clause-kind : goal.returns-clause-kind
+returns-clause-kind c = rw (← (c.deref.ensures ∙ c.self.view_is))
+    (shown_kind c.oldest_outcome.result c.deref.result.now c.args.client.0 c.oldest_outcome.ensures)
+
+pub returns-clause-outcome : goal.returns-clause-outcome
+returns-clause-outcome c = rw (← (c.deref.ensures ∙ c.self.view_is))
+    (shown_outcome c.oldest_outcome.result c.deref.result.now c.args.client c.oldest_outcome.ensures)

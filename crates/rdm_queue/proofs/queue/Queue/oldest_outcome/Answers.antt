@@ -1,6 +1,6 @@
-use Rattle.rdm_queue.proofs.Common.{◌≡◌, List, Some, slice_get, sym, ◌∙◌, refl, Client, state_of}
+use Rattle.rdm_queue.proofs.Common.{◌≡◌, List, Some, slice_get, sym, ◌∙◌, refl, Client, state_of, HasSets, all_at}
 use Rattle.rdm_queue.proofs.BodyLemmas.FieldLemmas.{found_at}
-use Rattle.rdm_queue.proofs.BodyLemmas.RingSteps.{kind_is}
+use Rattle.rdm_queue.proofs.BodyLemmas.RingSteps.{first_at}
 use Rattle.rdm_queue.proofs.queue.Queue.oldest_outcome.Goals as goal
 
 pub returns : goal.returns
@@ -11,4 +11,4 @@ returns c =
     found_at clients c.deref.result.now c.from.result k c.deref.ensures.0 c.in_ok-get.ensures.lookup.3.0
     c.in_ok-get.ensures.lookup.1 in
     rw (← c.self.view_is, ← c.from.ensures)
-    (c.oldest_outcome.ensures ∙ sym (kind_is (state_of c.self.inside) clients c.from.result k refl at))
+    (c.oldest_outcome.ensures ∙ sym (first_at (state_of c.self.inside) clients c.from.result k refl at))

@@ -8,6 +8,6 @@ returns-in-None-clause-adds c =
     let k = c.args.self.now in
     record {
       block = [];
-      adds = (nothing_uncollected k.opening c.args.client.0 k.entries (sym c.in-None.ensures), refl);
+      adds = (nothing_uncollected k.opening c.args.client.0 k.entries (sym c.in-None.ensures.kind), refl);
       grows = grown_none k;
     }

@@ -1,0 +1,16 @@
+-- A client's oldest outcome, by reference.
+use Rattle.rdm_log.specs.declared.outcome.Outcome.{Outcome}
+use Rattle.rdm_log.specs.declared.outcome.OutcomeKind.{OutcomeKind}
+use Rattle.rdm_log.specs.declared.outcome.OutcomeKind.TheVariants as kinds
+use Rattle.rdm_log.specs.promises.Outcomes.{request_outcome, discovery_outcome}
+use Rattle.rdm_queue.specs.declared.oldest.Oldest.{Oldest}
+use Rattle.rdm_queue.specs.declared.oldest.Oldest.TheVariants as shown
+
+-- the outcome that it shows, as a collect gives it
+abbrev pub outcome_shown : Oldest → Outcome
+outcome_shown (shown.Request number done) = request_outcome (number, done.now)
+outcome_shown (shown.Discovery end set) = discovery_outcome end set.now
+
+abbrev pub kind_shown : Oldest → OutcomeKind
+kind_shown (shown.Request number done) = kinds.Request
+kind_shown (shown.Discovery end set) = kinds.Discovery
