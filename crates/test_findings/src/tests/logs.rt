@@ -40,12 +40,12 @@ const FOUND: &str = "discovery: full, steady, 10 exchanges, 1 device; its certif
     1234:00000001 followed the rules\n";
 
 const UNHEARD: &str =
-    "1234:00000009 wasn't heard: exchange 9 is the fifth silence in a row in a range that holds it; \
+    "1234:00000009 was never heard: exchange 9 is the fifth silence in a row in a range that holds it; \
     check its power and its cable\n";
 
 // Without the opening.
 const UNKNOWN: &str =
-    "discovery: 10 exchanges, 1 device; its certificate is complete but for its known devices, \
+    "discovery: 10 exchanges, 1 device; its certificate is complete but for what depends on its kind, \
     which the log doesn't have\n1234:00000001 followed the rules\n";
 
 // A session with a run whose line fails after a request.
@@ -60,7 +60,7 @@ const SESSION: [&str; 8] = [
     "{\"entry\":\"collect\",\"client\":0}\n",
 ];
 
-const FAILED: &str = "run 1: 2 exchanges, fault 4, 0 devices; its certificate is incomplete\n\
+const FAILED: &str = "run 1: full, 2 exchanges, fault 4, 0 devices; its certificate is incomplete\n\
     exchange 2 should be one of the three unmutes that begin a run\n\
     exchange 1 failed: check the adapter and the cable\n\
     0000:00000000 is the first UID that wasn't ruled out: it needs five silences in a row of a range that holds it\n";
@@ -104,7 +104,7 @@ fn a_discovery_is_explained(rt: HostRuntime) {
     prints(&rt, alloc, &log, &liar, &[FOUND, UNHEARD], Ok(true));
     prints(&rt, alloc, &run, &[], &[UNKNOWN], Ok(false));
     check(&rt, log.extend_from_slice(&run).is_ok());
-    prints(&rt, alloc, &log, &[], &[FOUND, FOUND], Ok(false));
+    prints(&rt, alloc, &log, &[], &[FOUND, UNKNOWN], Ok(false));
     prints(&rt, alloc, b"", &[], &[], Ok(false));
 }
 
