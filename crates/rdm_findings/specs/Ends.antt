@@ -6,9 +6,9 @@ use Rattle.rdm_wire.specs.Devices.{uids_of}
 use Rattle.rdm_wire.specs.declared.device.Device.{Device}
 use Rattle.rdm_explain.specs.declared.certificate.RunFinding.{RunFinding}
 use Rattle.rdm_explain.specs.declared.exchange.Asked.{Asked}
-use Rattle.rdm_explain.specs.declared.exchange.Asked.TheVariants.{Unmute, Branch, Mute, Other}
+use Rattle.rdm_explain.specs.declared.exchange.Asked.TheVariants.{Branch}
 use Rattle.rdm_explain.specs.declared.exchange.Heard.{Heard}
-use Rattle.rdm_explain.specs.declared.exchange.Heard.TheVariants.{Failed, Silent, One, Acked, Noise}
+use Rattle.rdm_explain.specs.declared.exchange.Heard.TheVariants.{Failed, Silent, One}
 use Rattle.rdm_explain.specs.declared.exchange.Exchange.{Exchange}
 use Rattle.rdm_findings.specs.declared.head.RunHead.{RunHead}
 use Rattle.rdm_findings.specs.Starts.{has_start}

@@ -1,4 +1,7 @@
 //! What a session's log shows of the discoveries that its next run serves.
+ghost use Rattle.std.specs.Prelude.{◌≡◌};
+ghost use Rattle.rdm_findings.specs.Asked.{earlier};
+
 use crate::head::Start;
 use rdm_agent::Kind;
 
@@ -27,7 +30,7 @@ pub(crate) const NO_ASKS: Asks = Asks {
 impl Asks {
     ghost use Rattle.std.specs.Prelude.{◌≡◌};
     ghost use Rattle.rdm_findings.specs.Asked.{asks_from, is_answered, has_all_waiting, full_waits, next_kind, start_of};
-    ghost use Rattle.rdm_findings.specs.Asked.{kind_of_run, after_ask, after_answer, after_run, earlier};
+    ghost use Rattle.rdm_findings.specs.Asked.{kind_of_run, after_ask, after_answer, after_run};
 
     /// A log continues a session in which so many discoveries were asked for, and whose next run has this number.
     pub(crate) fn from(ask: u64, run: u64) -> Asks

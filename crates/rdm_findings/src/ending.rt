@@ -79,14 +79,14 @@ fn has_wrong_alone(found: &DeviceSet, exchange: Option<Exchange>) -> bool
     ensures { result ≡ has_wrong_alone (uids_of found.now) exchange }
 {
     match exchange {
-        Some(exchange) => is_wrong_alone(found, exchange.asked, exchange.heard),
+        Some(exchange) => is_wrong_alone(found, exchange.asked, &exchange.heard),
         None => false,
     }
 }
 
 // Whether a branch of one UID was answered, but showed no device that wasn't found.
-fn is_wrong_alone(found: &DeviceSet, asked: Asked, heard: Heard) -> bool
-    ensures { result ≡ is_wrong_alone (uids_of found.now) asked heard }
+fn is_wrong_alone(found: &DeviceSet, asked: Asked, heard: &Heard) -> bool
+    ensures { result ≡ is_wrong_alone (uids_of found.now) asked heard.now }
 {
     match asked {
         Asked::Branch { lo, hi } => {
@@ -100,14 +100,14 @@ fn has_new_alone(found: &DeviceSet, exchange: Option<Exchange>) -> bool
     ensures { result ≡ has_new_alone (uids_of found.now) exchange }
 {
     match exchange {
-        Some(exchange) => is_new_alone(found, exchange.asked, exchange.heard),
+        Some(exchange) => is_new_alone(found, exchange.asked, &exchange.heard),
         None => false,
     }
 }
 
 // Whether a branch of one UID showed a device that wasn't found.
-fn is_new_alone(found: &DeviceSet, asked: Asked, heard: Heard) -> bool
-    ensures { result ≡ is_new_alone (uids_of found.now) asked heard }
+fn is_new_alone(found: &DeviceSet, asked: Asked, heard: &Heard) -> bool
+    ensures { result ≡ is_new_alone (uids_of found.now) asked heard.now }
 {
     match asked {
         Asked::Branch { lo, hi } => lo == hi && shows_new(found, lo, heard),
@@ -115,25 +115,25 @@ fn is_new_alone(found: &DeviceSet, asked: Asked, heard: Heard) -> bool
     }
 }
 
-fn shows_new(found: &DeviceSet, uid: Uid, heard: Heard) -> bool
-    ensures { result ≡ shows_new (uids_of found.now) uid heard }
+fn shows_new(found: &DeviceSet, uid: Uid, heard: &Heard) -> bool
+    ensures { result ≡ shows_new (uids_of found.now) uid heard.now }
 {
     is_own(uid, heard) && (!uid.is_broadcast() && !found.contains(uid))
 }
 
 // Whether an answer is the text of this UID.
-fn is_own(uid: Uid, heard: Heard) -> bool
-    ensures { result ≡ is_own uid heard }
+fn is_own(uid: Uid, heard: &Heard) -> bool
+    ensures { result ≡ is_own uid heard.now }
 {
     match heard {
-        Heard::One(spelt) => spelt == uid,
+        Heard::One(spelt) => *spelt == uid,
         _ => false,
     }
 }
 
 // Whether bytes came.
-fn is_answered(heard: Heard) -> bool
-    ensures { result ≡ is_answered heard }
+fn is_answered(heard: &Heard) -> bool
+    ensures { result ≡ is_answered heard.now }
 {
     match heard {
         Heard::Failed | Heard::Silent => false,

@@ -1,8 +1,9 @@
 //! The UIDs that a run heard.
 ghost use Rattle.std.specs.Prelude.{◌≡◌, ℕ, ◌||◌, ◌∷◌, [], IfOk, OnOk};
 ghost use Rattle.rdm_wire.specs.Uid.{has};
-ghost use Rattle.rdm_explain.specs.Exchanges.{seen_of, seen_all};
-ghost use Rattle.rdm_findings.specs.HeardUids.{heard_by, heard_in, in_heard};
+ghost use Rattle.rdm_wire.specs.Honest.Asked.{Branch, Mute};
+ghost use Rattle.rdm_explain.specs.Exchanges.{seen_of, seen_all, heard_of};
+ghost use Rattle.rdm_findings.specs.HeardUids.{heard_uid, heard_by, heard_in, in_heard};
 
 use rdm_explain::{Asked, Exchange, Heard};
 use rdm_wire::{NoMemory, Uid};
@@ -30,9 +31,29 @@ pub(crate) fn heard_uids(alloc: Global, exchanges: &[Exchange]) -> Result<HeardU
 fn heard_by(exchange: &Exchange) -> Option<Uid>
     ensures { result ≡ heard_by (seen_of exchange.now) }
 {
-    match (exchange.asked, exchange.heard) {
-        (Asked::Branch { .. }, Heard::One(uid)) => Some(uid),
-        (Asked::Mute(uid), Heard::Acked(_)) => Some(uid),
+    match exchange.asked {
+        Asked::Branch { .. } => spelt(&exchange.heard),
+        Asked::Mute(uid) => acked(uid, &exchange.heard),
+        _ => None,
+    }
+}
+
+// The UID that a reply to a branch spelt.
+fn spelt(heard: &Heard) -> Option<Uid>
+    ensures { (lo hi : ℕ) → result ≡ heard_uid (Branch lo hi) (heard_of heard.now) }
+{
+    match heard {
+        Heard::One(uid) => Some(*uid),
+        _ => None,
+    }
+}
+
+// The UID of a mute, if it was acknowledged.
+fn acked(uid: Uid, heard: &Heard) -> Option<Uid>
+    ensures { result ≡ heard_uid (Mute uid) (heard_of heard.now) }
+{
+    match heard {
+        Heard::Acked(_) => Some(uid),
         _ => None,
     }
 }

@@ -61,7 +61,7 @@ const UNKNOWN: RunHead = RunHead {
 };
 
 impl Reading {
-    ghost use Rattle.std.specs.Prelude.{◌≡◌, OnOk, None, Some, false, if◌then◌else◌};
+    ghost use Rattle.std.specs.Prelude.{◌≡◌, OnOk, None, Some, true, false, if◌then◌else◌};
     ghost use Rattle.std.specs.Option.{option_map};
     ghost use Rattle.rdm_wire.specs.Devices.{uids_of};
     ghost use Rattle.rdm_explain.specs.Exchanges.{seen_all};

@@ -1,3 +1,4 @@
 mod findings;
 mod lines;
 mod logs;
+mod sessions;
