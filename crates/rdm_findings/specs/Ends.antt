@@ -25,10 +25,10 @@ is_own u (One v) = v == u
 is_own u _ = false
 
 -- whether bytes came
-abbrev pub is_answered : Heard → Bool
-is_answered Failed = false
-is_answered Silent = false
-is_answered _ = true
+abbrev pub has_bytes : Heard → Bool
+has_bytes Failed = false
+has_bytes Silent = false
+has_bytes _ = true
 
 -- whether a branch of one UID showed a device of this UID that these aren't
 abbrev pub shows_new : List ℕ → ℕ → Heard → Bool
@@ -41,7 +41,7 @@ is_new_alone found _ heard = false
 
 -- the same, but it showed no such device
 abbrev pub is_wrong_alone : List ℕ → Asked → Heard → Bool
-is_wrong_alone found (Branch lo hi) heard = (lo == hi) && (is_answered heard && not (shows_new found lo heard))
+is_wrong_alone found (Branch lo hi) heard = (lo == hi) && (has_bytes heard && not (shows_new found lo heard))
 is_wrong_alone found _ heard = false
 
 -- whether an exchange of a list is such a branch
@@ -57,22 +57,25 @@ has_wrong_alone found (Some e) = is_wrong_alone found e.asked e.heard
 abbrev pub from_end : ℕ → List Exchange → Option Exchange
 from_end n xs = if nat_lt (length xs) n then None else slice_get xs (length xs - n)
 
--- Whether the run ended as Corrupt, if its agent is this project's and these are the devices that it found: the last
--- exchange is a branch of one UID that was answered, but showed no new device. Or such a branch showed one, and the five
--- mutes after it weren't acknowledged
+-- Whether the run ended as Corrupt, if its agent is this project's, no exchange failed, and these are the devices that
+-- it found. The last exchange is a branch of one UID that was answered, but showed no new device. Or such a branch
+-- showed one, and the five mutes after it weren't acknowledged
 abbrev pub ends_corrupt : List ℕ → List Exchange → Bool
 ends_corrupt found xs = has_wrong_alone found (from_end 1 xs) || has_new_alone found (from_end 6 xs)
 
+-- Whether the run found all devices that followed the rules, or ended as Corrupt, which no honest line allows. In any
+-- other run, bytes that no listed device was due to send may be those of a device that it hadn't found yet
+abbrev pub is_settled : List Device → List Exchange → RunFinding → Bool
+is_settled reported xs f = is_complete f || (not (is_some f.failure) && ends_corrupt (uids_of reported) xs)
+
 -- whether the run is over: the log says how it ended, or its exchanges show that nothing came after them
 abbrev pub is_over : RunHead → List Device → List Exchange → RunFinding → Bool
-is_over head reported xs f =
-    (is_some head.fault || is_some f.failure) || (is_complete f || ends_corrupt (uids_of reported) xs)
+is_over head reported xs f = (is_some head.fault || is_some f.failure) || is_settled reported xs f
 
 -- whether the log has all of the run
 abbrev pub is_whole : RunHead → List Device → List Exchange → RunFinding → Bool
 is_whole head reported xs f = has_start head.start && is_over head reported xs f
 
--- whether bytes that no listed device was due to send show that a rule was broken. Before a run has found all devices,
--- they may be those of one that it hadn't found yet, unless it ended as Corrupt, which no honest line allows
-abbrev pub is_settled : RunHead → List Device → List Exchange → RunFinding → Bool
-is_settled head reported xs f = has_start head.start && (is_complete f || ends_corrupt (uids_of reported) xs)
+-- whether stray bytes in this log of the run show that a rule was broken
+abbrev pub decides_stray : RunHead → List Device → List Exchange → RunFinding → Bool
+decides_stray head reported xs f = has_start head.start && is_settled reported xs f

@@ -13,7 +13,7 @@ use Rattle.rdm_explain.specs.Rules.{AreFirstBreaches, uids_of_findings}
 use Rattle.rdm_explain.specs.Strays.{FirstStray}
 use Rattle.rdm_findings.specs.declared.explaining.Findings.{Findings}
 use Rattle.rdm_findings.specs.declared.head.RunHead.{RunHead}
-use Rattle.rdm_findings.specs.Ends.{is_whole, is_settled}
+use Rattle.rdm_findings.specs.Ends.{is_whole, decides_stray}
 use Rattle.rdm_findings.specs.FindingText.{head_line, run_gaps, device_line, stray_line, is_broken}
 use Rattle.rdm_findings.specs.HeardUids.{heard_in, in_heard}
 
@@ -49,16 +49,16 @@ pub record Finds (first : Option (List ℕ)) (present : List ℕ) (xs : List Exc
 abbrev pub shows_all : RunHead → List Exchange → Findings → Bool
 shows_all head xs f = is_whole head f.reported xs f.certificate
 
--- whether stray bytes show that a rule was broken
-abbrev pub decides_stray : RunHead → List Exchange → Findings → Bool
-decides_stray head xs f = is_settled head f.reported xs f.certificate
+-- whether its stray bytes show that a rule was broken
+abbrev pub strays_count : RunHead → List Exchange → Findings → Bool
+strays_count head xs f = decides_stray head f.reported xs f.certificate
 
 -- their text, a finding a line
 abbrev pub findings_text : RunHead → List Exchange → Findings → List ℕ
 findings_text head xs f =
     head_line head f.reported xs f.certificate f.names ++ run_gaps head.start f.certificate f.names
     ++ flat_map (device_line head.start (shows_all head xs f) f.heard) f.devices.items
-    ++ stray_line head.start (decides_stray head xs f) xs f.stray
+    ++ stray_line head.start (strays_count head xs f) xs f.stray
 
 -- The text has the findings about these exchanges of a run, and says whether a rule was broken. `known` has the UIDs
 -- that were known before it, if the log has them.
@@ -67,4 +67,4 @@ pub record IsExplained (head : RunHead) (known : Option (List ℕ)) (present : L
   pub findings : Findings
   pub finds : Finds (first_of head.kind known) present xs findings
   pub prints : text ≡ findings_text head xs findings
-  pub breaks : broken ≡ is_broken findings.devices.items (decides_stray head xs findings) findings.stray
+  pub breaks : broken ≡ is_broken findings.devices.items (strays_count head xs findings) findings.stray

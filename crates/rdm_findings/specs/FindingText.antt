@@ -95,9 +95,9 @@ certificate_text head over f names = elim head.start [
       if number == 0 then begun_text head over f names
       else codes "; its certificate can't be decided, since the log begins within the run"
   | Later ↦
-      codes "; its certificate can't be decided, since the log begins within the run; its exchanges are numbered from there"
+      codes "; its certificate can't be decided, since the log begins within the run; exchanges count from there"
   | Unknown ↦
-      codes "; its certificate can't be decided, since the log may begin within the run; its exchanges are numbered from there"
+      codes "; its certificate can't be decided, since the log may begin within the run; exchanges count from there"
 ]
 
 -- the run's name, its kind, and how it searched
@@ -189,8 +189,8 @@ breach_after SilentMutes =
     codes " is the fifth mute of it in a row without an answer; try it alone on the line"
 breach_after GarbledMute = codes " has no acknowledgement; try it alone on the line"
 
--- whether a device followed the rules, or which it broke first, and where. `whole` says that the log has all of the run,
--- and `heard` that the device was heard in it
+-- whether a device followed the rules, or which it broke first, and where. `whole` says that the log has all of the
+-- run, and `heard` that the device was heard in it
 abbrev pub verdict_text : Start → Bool → Bool → Option Breach → List ℕ
 verdict_text start whole heard None =
     if whole then codes " followed the rules" else codes " followed the rules in the exchanges that the log has"

@@ -9,8 +9,8 @@ has_start (At number) = number == 0
 has_start Later = false
 has_start Unknown = false
 
--- the number of the exchange at this index. If the log may begin within the run, its first exchange counts as 0. A log's
--- numbers are below 2 ^ 64
+-- the number of the exchange at this index. If it isn't known, the log's first one counts as 0. A log's numbers are
+-- below 2 ^ 64
 abbrev pub number_at : Start → ℕ → ℕ
 number_at (At first) at = (first + at) % 2 ^ 64
 number_at Later at = at

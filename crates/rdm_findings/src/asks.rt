@@ -29,8 +29,8 @@ pub(crate) const NO_ASKS: Asks = Asks {
 
 impl Asks {
     ghost use Rattle.std.specs.Prelude.{◌≡◌};
-    ghost use Rattle.rdm_findings.specs.Asked.{asks_from, is_answered, has_all_waiting, full_waits, next_kind, start_of};
-    ghost use Rattle.rdm_findings.specs.Asked.{kind_of_run, after_ask, after_answer, after_run};
+    ghost use Rattle.rdm_findings.specs.Asked.{asks_from, is_answered, has_all_waiting, full_waits, next_kind};
+    ghost use Rattle.rdm_findings.specs.Asked.{start_of, kind_of_run, after_ask, after_answer, after_run};
 
     /// A log continues a session in which so many discoveries were asked for, and whose next run has this number.
     pub(crate) fn from(ask: u64, run: u64) -> Asks

@@ -2,8 +2,8 @@
 ghost use Rattle.std.specs.Prelude.{◌≡◌, ℕ};
 ghost use Rattle.rdm_wire.specs.Devices.{uids_of};
 ghost use Rattle.rdm_findings.specs.Ends.{is_complete, shows_new, is_new_alone, is_wrong_alone, has_new_alone};
-ghost use Rattle.rdm_findings.specs.Ends.{has_wrong_alone, from_end, ends_corrupt, is_over, is_whole, is_settled};
-ghost use Rattle.rdm_findings.specs.Ends.{is_answered, is_own};
+ghost use Rattle.rdm_findings.specs.Ends.{has_wrong_alone, from_end, ends_corrupt, is_settled, is_over, is_whole};
+ghost use Rattle.rdm_findings.specs.Ends.{decides_stray, has_bytes, is_own};
 
 use crate::head::RunHead;
 use rdm_explain::{Asked, Exchange, Heard, RunFinding};
@@ -30,8 +30,7 @@ pub(crate) fn is_over(
 ) -> bool
     ensures { result ≡ is_over head.now reported.now exchanges.now found.now }
 {
-    (head.fault.is_some() || found.failure.is_some())
-        || (is_complete(found) || ends_corrupt(reported, exchanges))
+    (head.fault.is_some() || found.failure.is_some()) || is_settled(reported, exchanges, found)
 }
 
 /// Whether the log has all of the run.
@@ -46,16 +45,24 @@ pub(crate) fn is_whole(
     head.start.is_first() && is_over(head, reported, exchanges, found)
 }
 
-/// Whether bytes that no listed device was due to send show that a rule was broken.
-pub(crate) fn is_settled(
+/// Whether stray bytes show that a rule was broken: the log has the run's beginning, and the run found all devices or
+/// ended as Corrupt.
+pub(crate) fn decides_stray(
     head: &RunHead,
     reported: &DeviceSet,
     exchanges: &[Exchange],
     found: &RunFinding,
 ) -> bool
-    ensures { result ≡ is_settled head.now reported.now exchanges.now found.now }
+    ensures { result ≡ decides_stray head.now reported.now exchanges.now found.now }
 {
-    head.start.is_first() && (is_complete(found) || ends_corrupt(reported, exchanges))
+    head.start.is_first() && is_settled(reported, exchanges, found)
+}
+
+// Whether the run found all devices that followed the rules, or ended as Corrupt.
+fn is_settled(reported: &DeviceSet, exchanges: &[Exchange], found: &RunFinding) -> bool
+    ensures { result ≡ is_settled reported.now exchanges.now found.now }
+{
+    is_complete(found) || (!found.failure.is_some() && ends_corrupt(reported, exchanges))
 }
 
 // Whether the run ended as Corrupt, if these are the devices that it found.
@@ -90,7 +97,7 @@ fn is_wrong_alone(found: &DeviceSet, asked: Asked, heard: &Heard) -> bool
 {
     match asked {
         Asked::Branch { lo, hi } => {
-            lo == hi && (is_answered(heard) && !shows_new(found, lo, heard))
+            lo == hi && (has_bytes(heard) && !shows_new(found, lo, heard))
         }
         _ => false,
     }
@@ -132,8 +139,8 @@ fn is_own(uid: Uid, heard: &Heard) -> bool
 }
 
 // Whether bytes came.
-fn is_answered(heard: &Heard) -> bool
-    ensures { result ≡ is_answered heard.now }
+fn has_bytes(heard: &Heard) -> bool
+    ensures { result ≡ has_bytes heard.now }
 {
     match heard {
         Heard::Failed | Heard::Silent => false,

@@ -3,10 +3,10 @@ ghost use Rattle.std.specs.Prelude.{◌≡◌, IfOk, option_copied};
 ghost use Rattle.rdm_wire.specs.Devices.{uids_of};
 ghost use Rattle.rdm_findings.specs.FindingText.{any_broke, is_broken};
 ghost use Rattle.rdm_findings.specs.Explained.{listed, first_of, ExplainsNames, Finds, findings_text, IsExplained};
-ghost use Rattle.rdm_findings.specs.Explained.{shows_all, decides_stray};
+ghost use Rattle.rdm_findings.specs.Explained.{shows_all, strays_count};
 
 use crate::device_text::{write_devices, write_stray};
-use crate::ending::{is_settled, is_whole};
+use crate::ending::{decides_stray, is_whole};
 use crate::gap_text::write_run_gaps;
 use crate::head::RunHead;
 use crate::head_text::write_head;
@@ -55,7 +55,7 @@ pub fn explain(
         e.is_broken) }
 {
     let found = find(alloc, head.kind, known, present, exchanges)?;
-    let settled = decides_stray(head, exchanges, &found);
+    let settled = strays_count(head, exchanges, &found);
     match text(alloc, head, exchanges, &found) {
         Ok(text) => Ok(Explained {
             text,
@@ -140,7 +140,7 @@ fn text(
     write_run_gaps(&mut text, head.start, &found.certificate, &found.names)?;
     let whole = shows_all(head, exchanges, found);
     write_devices(&mut text, head.start, whole, &found.heard, &found.devices)?;
-    let settled = decides_stray(head, exchanges, found);
+    let settled = strays_count(head, exchanges, found);
     write_stray(&mut text, head.start, settled, exchanges, found.stray)?;
     Ok(text)
 }
@@ -152,11 +152,11 @@ fn shows_all(head: &RunHead, exchanges: &[Exchange], found: &Findings) -> bool
     is_whole(head, &found.reported, exchanges, &found.certificate)
 }
 
-// Whether stray bytes show that a rule was broken.
-fn decides_stray(head: &RunHead, exchanges: &[Exchange], found: &Findings) -> bool
-    ensures { result ≡ decides_stray head.now exchanges.now found.now }
+// Whether its stray bytes show that a rule was broken.
+fn strays_count(head: &RunHead, exchanges: &[Exchange], found: &Findings) -> bool
+    ensures { result ≡ strays_count head.now exchanges.now found.now }
 {
-    is_settled(head, &found.reported, exchanges, &found.certificate)
+    decides_stray(head, &found.reported, exchanges, &found.certificate)
 }
 
 // Whether any finding is that a rule was broken.

@@ -26,7 +26,7 @@ impl Start {
         }
     }
 
-    /// The number of the exchange at this index. If the log may begin within the run, its first exchange counts as 0.
+    /// The number of the exchange at this index. If it isn't known, the log's first one counts as 0.
     pub(crate) fn number(self, at: usize) -> u64
         ensures { result ≡ number_at self at }
     {

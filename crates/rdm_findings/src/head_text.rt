@@ -153,10 +153,10 @@ fn certificate_text(
 }
 
 const LATER: &str =
-    "; its certificate can't be decided, since the log begins within the run; its exchanges are numbered from there";
+    "; its certificate can't be decided, since the log begins within the run; exchanges count from there";
 
 const UNKNOWN: &str =
-    "; its certificate can't be decided, since the log may begin within the run; its exchanges are numbered from there";
+    "; its certificate can't be decided, since the log may begin within the run; exchanges count from there";
 
 // The certificate, if the log has the run's beginning.
 fn begun_text(

@@ -79,13 +79,13 @@ const FROM_TWO: &str =
 
 const LATER: &str =
     "run 1: 8 exchanges, 0 devices; its certificate can't be decided, since the log begins within the run; \
-    its exchanges are numbered from there\n\
+    exchanges count from there\n\
     1234:00000009 wasn't heard: exchange 7 is the fifth silence in a row in a range that holds it; \
     check its power and its cable\n";
 
 const UNKNOWN: &str =
     "run 1: 8 exchanges, 0 devices; its certificate can't be decided, since the log may begin within the run; \
-    its exchanges are numbered from there\n\
+    exchanges count from there\n\
     1234:00000009 wasn't heard: exchange 7 is the fifth silence in a row in a range that holds it; \
     check its power and its cable\n";
 
@@ -123,8 +123,8 @@ const UNMUTED: &str = "run 1: 9 exchanges, 0 devices; its certificate is incompl
     exchange 3: bytes came from 1234:00000008 to 1234:00000008, where no listed device was due; \
     look for a device that isn't listed\n";
 
-// A run ends at the branch of one UID that shows no new device, or shows one that can't be muted. If it ends at one that
-// shows a new device, the log was cut.
+// A run ends at the branch of one UID that shows no new device, or shows one that can't be muted. If it ends at one
+// that shows a new device, the log was cut.
 #[test]
 fn a_corrupt_end_is_told_from_a_cut(rt: HostRuntime) {
     let alloc = rt.alloc();

@@ -152,7 +152,7 @@ fn what_an_earlier_log_has_is_unknown(rt: HostRuntime) {
     );
     let within = [
         "run 2: steady, 1 exchange, fault 3, 0 devices; its certificate can't be decided, since the log begins within \
-         the run; its exchanges are numbered from there\n",
+         the run; exchanges count from there\n",
         LAST,
         GAPS,
         KNOWN,
@@ -167,7 +167,7 @@ fn what_an_earlier_log_has_is_unknown(rt: HostRuntime) {
     );
     let unopened = [
         "run 2: 1 exchange, fault 3, 0 devices; its certificate can't be decided, since the log may begin within the \
-         run; its exchanges are numbered from there\n",
+         run; exchanges count from there\n",
         "run 3: incremental, 1 exchange, fault 3, 0 devices; its certificate is incomplete\n",
         GAPS,
     ];

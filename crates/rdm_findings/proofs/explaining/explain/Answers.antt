@@ -9,6 +9,6 @@ returns-in-Ok c = record {
   prints = c.in-Ok.ensures;
   breaks =
       c.is_broken.ensures
-      ∙ ap (λ d. is_broken d c.decides_stray-settled.result c.in_ok-found.found.stray) c.deref.ensures.value
-      ∙ ap (λ s. is_broken c.in_ok-found.found.devices.items s c.in_ok-found.found.stray) c.decides_stray-settled.ensures;
+      ∙ ap (λ d. is_broken d c.strays_count-settled.result c.in_ok-found.found.stray) c.deref.ensures.value
+      ∙ ap (λ s. is_broken c.in_ok-found.found.devices.items s c.in_ok-found.found.stray) c.strays_count-settled.ensures;
 }
