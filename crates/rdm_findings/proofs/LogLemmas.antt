@@ -5,7 +5,11 @@ use Rattle.std.specs.Prelude.{◌||◌, fold, if◌then◌else◌}
 use Rattle.std.specs.Io.KnownBytes.{Appends, Consumes}
 use Rattle.std.proofs.KnownBytes.{Appends-trans, Consumes-trans}
 use Rattle.std.proofs.lemmas.Grind.{flat_map-append}
+use Rattle.rdm_explain.specs.declared.exchange.Exchange.{Exchange}
+use Rattle.rdm_explain.specs.Exchanges.{seen_all}
+use Rattle.rdm_findings.specs.declared.head.RunHead.{RunHead}
 use Rattle.rdm_findings.specs.declared.line.LogLine.{LogLine}
+use Rattle.rdm_findings.specs.Explained.{IsExplained}
 use Rattle.rdm_findings.specs.Lines.{line_text, lines_text}
 use Rattle.rdm_findings.specs.Runs.{RunRead, ReadState, nothing_read, begins, ended, after_line, read_on, read_all}
 use Rattle.rdm_findings.specs.Runs.{runs_of}
@@ -43,6 +47,20 @@ pub explained_one : (present : List ℕ) (run : RunRead) (text : List ℕ) (brok
     → IsRunText present run text broken → AreExplained present (run ∷ []) text broken
 explained_one present run text broken is =
     (text, [], broken, false, is, (refl, refl), sym (append-nil text), or_false broken)
+
+-- the run in progress
+pub run_explained : (present : List ℕ) (s : ReadState) (xs : List Exchange) (head : RunHead) (known : Option (List ℕ))
+    (text : List ℕ) (broken : Bool) → s.has_run ≡ true → seen_all xs ≡ s.run.exchanges → head ≡ s.run.head
+    → known ≡ s.run.known → IsExplained head known present xs text broken
+    → AreExplained present (ended s) text broken
+run_explained present s xs head known text broken has same is_head is_known explained =
+    subst (λ b. AreExplained present (if b then s.run ∷ [] else []) text broken) (sym has)
+    (explained_one present s.run text broken (record {
+      exchanges = xs;
+      same = same;
+      explained = subst (λ k. IsExplained s.run.head k present xs text broken) is_known
+          (subst (λ h. IsExplained h known present xs text broken) is_head explained);
+    }))
 
 -- the text of one more line
 lines_more : (lines : List LogLine) (line : LogLine)

@@ -13,7 +13,9 @@ use Rattle.rdm_explain.specs.Rules.{AreFirstBreaches, uids_of_findings}
 use Rattle.rdm_explain.specs.Strays.{FirstStray}
 use Rattle.rdm_findings.specs.declared.explaining.Findings.{Findings}
 use Rattle.rdm_findings.specs.declared.head.RunHead.{RunHead}
-use Rattle.rdm_findings.specs.FindingText.{head_line, gaps_text, known_gaps, device_line, stray_line, is_broken}
+use Rattle.rdm_findings.specs.Ends.{is_whole, decides_stray}
+use Rattle.rdm_findings.specs.FindingText.{head_line, run_gaps, device_line, stray_line, is_broken}
+use Rattle.rdm_findings.specs.HeardUids.{heard_in, in_heard}
 
 -- the reported devices, and then the others of the list
 abbrev pub listed : List ℕ → List ℕ → List ℕ
@@ -40,12 +42,23 @@ pub record Finds (first : Option (List ℕ)) (present : List ℕ) (xs : List Exc
   pub all : uids_of_findings f.devices.items ≡ listed (uids_of f.reported) present
   pub first_breaches : AreFirstBreaches xs f.devices.items
   pub first_stray : FirstStray (listed (uids_of f.reported) present) xs f.stray
+  -- the UIDs that were heard
+  pub heard : (u : ℕ) → in_heard f.heard u ≡ has (heard_in (seen_all xs)) u
+
+-- whether the log has all of the run
+abbrev pub shows_all : RunHead → List Exchange → Findings → Bool
+shows_all head xs f = is_whole head f.reported xs f.certificate
+
+-- whether its stray bytes show that a rule was broken
+abbrev pub strays_count : RunHead → List Exchange → Findings → Bool
+strays_count head xs f = decides_stray head f.reported xs f.certificate
 
 -- their text, a finding a line
 abbrev pub findings_text : RunHead → List Exchange → Findings → List ℕ
 findings_text head xs f =
-    head_line head xs f.reported f.certificate f.names ++ gaps_text f.certificate ++ known_gaps f.names
-    ++ flat_map device_line f.devices.items ++ stray_line xs f.stray
+    head_line head f.reported xs f.certificate f.names ++ run_gaps head.start f.certificate f.names
+    ++ flat_map (device_line head.start (shows_all head xs f) f.heard) f.devices.items
+    ++ stray_line head.start (strays_count head xs f) xs f.stray
 
 -- The text has the findings about these exchanges of a run, and says whether a rule was broken. `known` has the UIDs
 -- that were known before it, if the log has them.
@@ -54,4 +67,4 @@ pub record IsExplained (head : RunHead) (known : Option (List ℕ)) (present : L
   pub findings : Findings
   pub finds : Finds (first_of head.kind known) present xs findings
   pub prints : text ≡ findings_text head xs findings
-  pub breaks : broken ≡ is_broken findings.devices.items findings.stray
+  pub breaks : broken ≡ is_broken findings.devices.items (strays_count head xs findings) findings.stray

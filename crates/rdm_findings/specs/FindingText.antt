@@ -19,6 +19,12 @@ use Rattle.rdm_explain.specs.declared.rule.Rule.TheVariants.{SilentBranches, Sil
 use Rattle.rdm_explain.specs.declared.rule.Breach.{Breach}
 use Rattle.rdm_explain.specs.declared.rule.DeviceFinding.{DeviceFinding}
 use Rattle.rdm_findings.specs.declared.head.RunHead.{RunHead}
+use Rattle.rdm_findings.specs.declared.head.Start.{Start}
+use Rattle.rdm_findings.specs.declared.head.Start.TheVariants.{At, Later, Unknown}
+use Rattle.rdm_findings.specs.declared.heard.HeardUids.{HeardUids}
+use Rattle.rdm_findings.specs.Ends.{is_complete, is_over}
+use Rattle.rdm_findings.specs.HeardUids.{in_heard}
+use Rattle.rdm_findings.specs.Starts.{has_start, number_at}
 
 -- an exchange, by its number
 abbrev pub exchange_name : ℕ → List ℕ
@@ -59,23 +65,40 @@ end_text None = []
 end_text (Some None) = codes ", no fault"
 end_text (Some (Some fault)) = codes ", " ++ fault_text fault
 
--- whether no part of a certificate fails
-abbrev pub is_complete : RunFinding → Bool
-is_complete f =
-    not (is_some f.missing_unmute) && not (is_some f.failure) && not (is_some f.misreported)
-    && not (is_some f.untried) && not (is_some f.uncovered) && not (is_some f.other_data)
-
 abbrev pub is_known_complete : KnownFinding → Bool
 is_known_complete f = not (is_some f.not_muted_first) && not (is_some f.unread)
 
--- the certificate, by the findings about its parts
-abbrev pub certificate_text : RunFinding → Option KnownFinding → List ℕ
-certificate_text f (Some names) =
-    if is_complete f && is_known_complete names then codes "; its certificate is complete"
+-- a certificate of which no part fails but those that can't be decided
+abbrev pub sound_text : Option Kind → Option KnownFinding → List ℕ
+sound_text kind (Some names) =
+    if is_known_complete names then codes "; its certificate is complete"
     else codes "; its certificate is incomplete"
-certificate_text f None =
-    if is_complete f then codes "; its certificate is complete but for its known devices, which the log doesn't have"
-    else codes "; its certificate is incomplete"
+sound_text None None =
+    codes "; its certificate is complete but for what depends on its kind, which the log doesn't have"
+sound_text (Some kind) None =
+    codes "; its certificate is complete but for its known devices, which the log doesn't have"
+
+-- a certificate of which a part fails. If the run isn't over, exchanges that the log doesn't have may decide it
+abbrev pub gap_text : Bool → List ℕ
+gap_text over =
+    if over then codes "; its certificate is incomplete"
+    else codes "; its certificate is incomplete, or the log ends within the run"
+
+-- the certificate, by the findings about its parts, if the log has the run's beginning
+abbrev pub begun_text : RunHead → Bool → RunFinding → Option KnownFinding → List ℕ
+begun_text head over f names = if is_complete f then sound_text head.kind names else gap_text over
+
+-- the certificate; or why it can't be decided
+abbrev pub certificate_text : RunHead → Bool → RunFinding → Option KnownFinding → List ℕ
+certificate_text head over f names = elim head.start [
+  | At number ↦
+      if number == 0 then begun_text head over f names
+      else codes "; its certificate can't be decided, since the log begins within the run"
+  | Later ↦
+      codes "; its certificate can't be decided, since the log begins within the run; exchanges count from there"
+  | Unknown ↦
+      codes "; its certificate can't be decided, since the log may begin within the run; exchanges count from there"
+]
 
 -- the run's name, its kind, and how it searched
 abbrev pub what_text : RunHead → List ℕ
@@ -91,9 +114,10 @@ head_text head exchanges devices =
     what_text head ++ count_text exchanges (codes " exchange") ++ outcome_text head.fault devices
 
 -- the first line of a run
-abbrev pub head_line : RunHead → List Exchange → List Device → RunFinding → Option KnownFinding → List ℕ
-head_line head xs reported f names =
-    line_of (head_text head (length xs) (length reported) ++ certificate_text f names)
+abbrev pub head_line : RunHead → List Device → List Exchange → RunFinding → Option KnownFinding → List ℕ
+head_line head reported xs f names =
+    line_of (head_text head (length xs) (length reported)
+    ++ certificate_text head (is_over head reported xs f) f names)
 
 -- a part of the certificate that fails at an exchange
 abbrev pub exchange_gap : Option ℕ → List ℕ → List ℕ
@@ -137,11 +161,25 @@ abbrev pub known_gaps : Option KnownFinding → List ℕ
 known_gaps None = []
 known_gaps (Some f) = names_gaps f
 
--- a breach, before its exchange
-abbrev pub breach_before : Rule → List ℕ
-breach_before SilentBranches = codes " wasn't heard: exchange "
-breach_before SilentMutes = codes " didn't mute: exchange "
-breach_before GarbledMute = codes " was muted, and other bytes came: exchange "
+-- an exchange that failed
+abbrev pub failed_text : List ℕ
+failed_text = codes " failed: check the adapter and the cable"
+
+abbrev pub failure_gap : Start → Option ℕ → List ℕ
+failure_gap start None = []
+failure_gap start (Some at) = exchange_line (number_at start at) failed_text
+
+-- the parts of the certificate that fail. If the log may begin within the run, only a failure is decided
+abbrev pub run_gaps : Start → RunFinding → Option KnownFinding → List ℕ
+run_gaps start f names =
+    if has_start start then gaps_text f ++ known_gaps names else failure_gap start f.failure
+
+-- a breach, before its exchange. The log has all of a run in which a device was never heard
+abbrev pub breach_before : Bool → Rule → List ℕ
+breach_before never SilentBranches =
+    if never then codes " was never heard: exchange " else codes " wasn't heard: exchange "
+breach_before never SilentMutes = codes " didn't mute: exchange "
+breach_before never GarbledMute = codes " was muted, and other bytes came: exchange "
 
 -- and after it
 abbrev pub breach_after : Rule → List ℕ
@@ -151,14 +189,18 @@ breach_after SilentMutes =
     codes " is the fifth mute of it in a row without an answer; try it alone on the line"
 breach_after GarbledMute = codes " has no acknowledgement; try it alone on the line"
 
--- whether a device followed the rules, or which it broke first, and where
-abbrev pub verdict_text : Option Breach → List ℕ
-verdict_text None = codes " followed the rules"
-verdict_text (Some b) = breach_before b.rule ++ decimal b.at ++ breach_after b.rule
+-- whether a device followed the rules, or which it broke first, and where. `whole` says that the log has all of the
+-- run, and `heard` that the device was heard in it
+abbrev pub verdict_text : Start → Bool → Bool → Option Breach → List ℕ
+verdict_text start whole heard None =
+    if whole then codes " followed the rules" else codes " followed the rules in the exchanges that the log has"
+verdict_text start whole heard (Some b) =
+    breach_before (whole && not heard) b.rule ++ decimal (number_at start b.at) ++ breach_after b.rule
 
 -- the line of a device
-abbrev pub device_line : DeviceFinding → List ℕ
-device_line f = line_of (uid_text f.uid ++ verdict_text f.breach)
+abbrev pub device_line : Start → Bool → HeardUids → DeviceFinding → List ℕ
+device_line start whole heard f =
+    line_of (uid_text f.uid ++ verdict_text start whole (in_heard heard f.uid) f.breach)
 
 -- a range, from which bytes came
 abbrev pub range_text : ℕ → ℕ → List ℕ
@@ -170,23 +212,26 @@ mute_text u = codes ": bytes came after a mute of " ++ uid_text u ++ codes ", wh
 
 -- after what bytes came, though nobody was due
 abbrev pub stray_text : Asked → List ℕ
-stray_text (Branch lo hi) =
-    range_text lo hi ++ codes ", where no listed device was due; look for a device that isn't listed"
+stray_text (Branch lo hi) = range_text lo hi ++ codes ", where no listed device was due"
 stray_text (Mute u) = mute_text u
 stray_text Unmute = codes ": bytes came after an unmute"
 stray_text Other = codes ": bytes came"
 
-abbrev pub stray_found : ℕ → Option Exchange → List ℕ
-stray_found at None = []
-stray_found at (Some e) = line_of (exchange_name at ++ stray_text e.asked)
+-- what to do about it; or why no rule needs to be broken
+abbrev pub advice_text : Bool → List ℕ
+advice_text settled =
+    if settled then codes "; look for a device that isn't listed"
+    else codes "; they may be those of a device that the log doesn't show"
 
-abbrev pub stray_at : List Exchange → ℕ → List ℕ
-stray_at xs at = stray_found at (slice_get xs at)
+abbrev pub stray_found : ℕ → Bool → Option Exchange → List ℕ
+stray_found number settled None = []
+stray_found number settled (Some e) =
+    line_of (exchange_name number ++ (stray_text e.asked ++ advice_text settled))
 
 -- the line of the first stray exchange, if there is one
-abbrev pub stray_line : List Exchange → Option ℕ → List ℕ
-stray_line xs None = []
-stray_line xs (Some at) = stray_at xs at
+abbrev pub stray_line : Start → Bool → List Exchange → Option ℕ → List ℕ
+stray_line start settled xs None = []
+stray_line start settled xs (Some at) = stray_found (number_at start at) settled (slice_get xs at)
 
 -- whether a device broke a rule
 abbrev pub any_broke : List DeviceFinding → Bool
@@ -194,5 +239,5 @@ any_broke [] = false
 any_broke (f ∷ fs) = is_some f.breach || any_broke fs
 
 -- whether any finding is that a rule was broken
-abbrev pub is_broken : List DeviceFinding → Option ℕ → Bool
-is_broken found stray = any_broke found || is_some stray
+abbrev pub is_broken : List DeviceFinding → Bool → Option ℕ → Bool
+is_broken found settled stray = any_broke found || (is_some stray && settled)

@@ -1,4 +1,8 @@
 pub mod Lines
+pub mod Starts
+pub mod Asked
+pub mod Ends
+pub mod HeardUids
 pub mod FindingText
 pub mod Explained
 pub mod Runs

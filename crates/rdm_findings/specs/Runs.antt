@@ -1,7 +1,8 @@
 -- The runs that a log's lines have.
-use Rattle.std.specs.Prelude.{ℕ, Bool, true, false, ◌&&◌, ◌||◌, not, ◌==◌, List, [], ◌∷◌, ◌++◌, Option, Some, None}
-use Rattle.std.specs.Prelude.{fold, if◌then◌else◌}
+use Rattle.std.specs.Prelude.{ℕ, ◌+◌, Bool, true, false, ◌&&◌, ◌||◌, not, ◌==◌, List, [], ◌∷◌, ◌++◌, Option, Some, None}
+use Rattle.std.specs.Prelude.{fold, length, if◌then◌else◌}
 use Rattle.arrayvec.specs.ArrayVec.{ArrayVec}
+use Rattle.rdm_wire.specs.Devices.{uids_of}
 use Rattle.rdm_wire.specs.Honest.{Seen}
 use Rattle.rdm_join.specs.Exchange.{seen_event}
 use Rattle.rdm_join.specs.declared.event.LineEvent.{LineEvent}
@@ -12,38 +13,58 @@ use Rattle.rdm_log.specs.declared.entry.Entry.{Entry}
 use Rattle.rdm_log.specs.declared.entry.Entry.TheVariants as entries
 use Rattle.rdm_log.specs.declared.entry.Owner.{Owner}
 use Rattle.rdm_log.specs.declared.entry.Owner.TheVariants as owners
+use Rattle.rdm_explain.specs.Reported.{reported_in}
+use Rattle.rdm_findings.specs.declared.asks.Asks.{Asks}
 use Rattle.rdm_findings.specs.declared.head.RunHead.{RunHead}
+use Rattle.rdm_findings.specs.declared.head.Start.{Start}
+use Rattle.rdm_findings.specs.declared.head.Start.TheVariants.{At, Later, Unknown}
 use Rattle.rdm_findings.specs.declared.line.LogLine.{LogLine}
 use Rattle.rdm_findings.specs.declared.line.LogLine.TheVariants.{Discovery, Session, Entered, Exchanged}
+use Rattle.rdm_findings.specs.Asked.{no_asks, asks_from, start_of, kind_of_run, after_ask, after_answer, after_run}
+use Rattle.rdm_findings.specs.Starts.{has_start}
 
--- a run as it was read: what is known of it, the UIDs that were known before it, if the log has them, and its exchanges
+-- what the log has of a run: what is known of it, the UIDs that were known before it, if the log has them, and its
+-- exchanges
 pub record RunRead : Type 0 where
   pub head : RunHead
   pub known : Option (List ℕ)
   pub exchanges : List Seen
 
 -- What was read so far. `run` is what is known of the run in progress, or would be known of the next one. `has_run`
--- says whether one has begun. `sent` is its frame whose answer is awaited.
+-- says whether one has begun. `sent` is its frame whose answer is awaited. In a session's log, `asks` has what it shows
+-- of discoveries.
 pub record ReadState : Type 0 where
   pub run : RunRead
   pub has_run : Bool
+  pub is_session : Bool
+  pub asks : Asks
   pub sent : Option (ArrayVec ℕ)
 
 -- a run of which this is known, before its first exchange
-abbrev pub run_of : Option ℕ → Option Kind → Option Search → Option (List ℕ) → RunRead
-run_of number kind search known = record {
-  head = record { number = number; kind = kind; search = search; fault = None };
+abbrev pub run_of : Option ℕ → Option Kind → Option Search → Start → Option (List ℕ) → RunRead
+run_of number kind search start known = record {
+  head = record { number = number; kind = kind; search = search; start = start; fault = None };
   known = known;
   exchanges = [];
 }
 
--- no run has begun, and this is known of the next one
-abbrev pub awaiting : Option Kind → Option Search → Option (List ℕ) → ReadState
-awaiting kind search known = record { run = run_of None kind search known; has_run = false; sent = None }
+-- a log begins: of a session or of a discovery. This is known of its next run
+abbrev pub awaiting : Bool → Option Kind → Option Search → Option (List ℕ) → Asks → ReadState
+awaiting is_session kind search known asks = record {
+  run = run_of None kind search Unknown known;
+  has_run = false;
+  is_session = is_session;
+  asks = asks;
+  sent = None;
+}
+
+-- a log begins without an opening
+abbrev pub unopened : Bool → ReadState
+unopened is_session = awaiting is_session None None None no_asks
 
 -- before the first line
 abbrev pub nothing_read : ReadState
-nothing_read = awaiting None None None
+nothing_read = unopened false
 
 -- whether this is the number
 abbrev pub is_number : ℕ → Option ℕ → Bool
@@ -59,24 +80,65 @@ abbrev pub begins_run : Entry → ReadState → Bool
 begins_run (entries.Send (owners.Run r) frame) s = not (is_in_progress r s)
 begins_run _ s = false
 
--- the same for a line. A discovery's exchanges are numbered from 0
+-- whether this is the number of a discovery's next exchange, after so many of which the first has this number
+abbrev pub is_next : ℕ → ℕ → Start → Bool
+is_next number many (At first) = first + many == number
+is_next number many Later = false
+is_next number many Unknown = false
+
+-- whether the exchange of a discovery with this number continues the one in progress
+abbrev pub continues : ℕ → ReadState → Bool
+continues number s =
+    (s.has_run && not s.is_session) && is_next number (length s.run.exchanges) s.run.head.start
+
+-- whether the run in progress, if there is one, ended before this line
 abbrev pub begins : LogLine → ReadState → Bool
 begins (Discovery o) s = true
 begins (Session o) s = true
-begins (Entered entry) s = begins_run entry s
-begins (Exchanged number frame event) s = number == 0
+begins (Entered entry) s = not s.is_session || begins_run entry s
+begins (Exchanged number frame event) s = not (continues number s)
 
 -- the run that ended
 abbrev pub ended : ReadState → List RunRead
 ended s = if s.has_run then s.run ∷ [] else []
 
--- another run begins, of which this is known
-abbrev pub begun : Option ℕ → ReadState → ReadState
-begun number s = record {
-  run = run_of number s.run.head.kind s.run.head.search s.run.known;
+-- the UIDs that a run without a fault reports, if the log has all of the run
+abbrev pub uids_reported : RunRead → Option (List ℕ)
+uids_reported run = if has_start run.head.start then Some (uids_of (reported_in run.exchanges)) else None
+
+-- the UIDs that are known after a run that ended like this: those that it reports, or with a fault those before it
+abbrev pub known_by : RunRead → Option (Option AgentFault) → Option (List ℕ)
+known_by run None = None
+known_by run (Some None) = uids_reported run
+known_by run (Some (Some fault)) = run.known
+
+-- the UIDs that are known when the next run of a session begins, if the log has them
+abbrev pub known_after : ReadState → Option (List ℕ)
+known_after s = if s.has_run then known_by s.run s.run.head.fault else s.run.known
+
+abbrev pub with_known : Option (List ℕ) → ReadState → ReadState
+with_known known s = record s { run = record s.run { known = known } }
+
+-- a run of a session begins, or the log begins within it
+abbrev pub begun : ℕ → ReadState → ReadState
+begun r s = record {
+  run = run_of (Some r) (kind_of_run r s.asks) s.run.head.search (start_of r s.asks) (known_after s);
   has_run = true;
+  is_session = s.is_session;
+  asks = after_run r s.asks;
   sent = None;
 }
+
+-- a discovery of which this is known begins with this exchange
+abbrev pub started : ℕ → ReadState → ReadState
+started number s = record s {
+  run = record s.run { head = record s.run.head { start = At number } };
+  has_run = true;
+}
+
+-- an opening is that of one discovery
+abbrev pub discovered : ℕ → ReadState → ReadState
+discovered number s = started number (if s.is_session || s.has_run then nothing_read else s)
 
 -- with another exchange
 abbrev pub with_exchange : ArrayVec ℕ → LineEvent → ReadState → ReadState
@@ -98,22 +160,31 @@ with_end fault s = record s { run = record s.run { head = record s.run.head { fa
 abbrev pub after_send : Owner → ArrayVec ℕ → ReadState → ReadState
 after_send (owners.Request n) frame s = record s { sent = None }
 after_send (owners.Run r) frame s =
-    record (if is_in_progress r s then s else begun (Some r) s) { sent = Some frame }
+    record (if is_in_progress r s then s else begun r s) { sent = Some frame }
+
+-- with what the log shows of discoveries
+abbrev pub with_asks : Asks → ReadState → ReadState
+with_asks asks s = record s { asks = asks }
 
 -- after an entry
 abbrev pub after_entry : Entry → ReadState → ReadState
 after_entry (entries.Send owner frame) s = after_send owner frame s
 after_entry (entries.Came event) s = after_event s.sent event s
-after_entry (entries.Answer number r fault) s = if is_in_progress r s then with_end fault s else s
+after_entry (entries.Ask client number kind) s = with_asks (after_ask number kind s.asks) s
+after_entry (entries.Answer number r fault) s =
+    with_asks (after_answer number s.asks) (if is_in_progress r s then with_end fault s else s)
 after_entry _ s = s
 
 -- after a line
 abbrev pub after_line : LogLine → ReadState → ReadState
-after_line (Discovery o) s = awaiting (Some o.value.kind) (Some o.value.search) (Some o.value.known)
-after_line (Session o) s = awaiting None (Some o.value.search) None
-after_line (Entered entry) s = after_entry entry s
+after_line (Discovery o) s =
+    awaiting false (Some o.value.kind) (Some o.value.search) (Some o.value.known) no_asks
+after_line (Session o) s =
+    awaiting true None (Some o.value.search) (Some (uids_of o.value.opening.devices))
+    (asks_from o.value.opening.next_ask o.value.opening.next_run)
+after_line (Entered entry) s = after_entry entry (if s.is_session then s else unopened true)
 after_line (Exchanged number frame event) s =
-    with_exchange frame event (if (number == 0) || not s.has_run then begun None s else s)
+    with_exchange frame event (if continues number s then s else discovered number s)
 
 -- the runs that ended, and what was read since, after another line
 abbrev pub read_on : List RunRead × ReadState → LogLine → List RunRead × ReadState

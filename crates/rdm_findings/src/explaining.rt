@@ -3,11 +3,14 @@ ghost use Rattle.std.specs.Prelude.{◌≡◌, IfOk, option_copied};
 ghost use Rattle.rdm_wire.specs.Devices.{uids_of};
 ghost use Rattle.rdm_findings.specs.FindingText.{any_broke, is_broken};
 ghost use Rattle.rdm_findings.specs.Explained.{listed, first_of, ExplainsNames, Finds, findings_text, IsExplained};
+ghost use Rattle.rdm_findings.specs.Explained.{shows_all, strays_count};
 
 use crate::device_text::{write_devices, write_stray};
-use crate::gap_text::{write_gaps, write_known_gaps};
+use crate::ending::{decides_stray, is_whole};
+use crate::gap_text::write_run_gaps;
 use crate::head::RunHead;
 use crate::head_text::write_head;
+use crate::heard::{HeardUids, heard_uids};
 use rdm_agent::Kind;
 use rdm_explain::{
     DeviceFinding, Exchange, KnownFinding, RunFinding, acknowledged_devices, explain_known,
@@ -21,7 +24,8 @@ use std::alloc::{AllocError, Global};
 pub struct Explained {
     /// The lines.
     pub text: Vec<u8>,
-    /// Whether a rule was broken, or bytes came though no listed device was due.
+    /// Whether a rule was broken. That bytes came though no listed device was due counts only if the run found all
+    /// devices, or ended as Corrupt: else they may be those of one that it hadn't found yet.
     pub is_broken: bool,
 }
 
@@ -33,6 +37,7 @@ struct Findings {
     names: Option<KnownFinding>,
     devices: Vec<DeviceFinding>,
     stray: Option<usize>,
+    heard: HeardUids,
 }
 
 /// What the exchanges of a run show, a finding a line: whether they certify the devices whose mutes were acknowledged,
@@ -50,10 +55,11 @@ pub fn explain(
         e.is_broken) }
 {
     let found = find(alloc, head.kind, known, present, exchanges)?;
+    let settled = strays_count(head, exchanges, &found);
     match text(alloc, head, exchanges, &found) {
         Ok(text) => Ok(Explained {
             text,
-            is_broken: is_broken(&found.devices, found.stray),
+            is_broken: is_broken(&found.devices, settled, found.stray),
         }),
         Err(_) => Err(NoMemory),
     }
@@ -77,6 +83,7 @@ fn find(
         names: names(alloc, kind, known, exchanges)?,
         devices: first_breaches(alloc, &uids, exchanges)?,
         stray: first_stray(alloc, &uids, exchanges)?,
+        heard: heard_uids(alloc, exchanges)?,
         reported,
     })
 }
@@ -125,23 +132,38 @@ fn text(
     write_head(
         &mut text,
         head,
+        &found.reported,
         exchanges,
-        found.reported.as_slice(),
         &found.certificate,
         &found.names,
     )?;
-    write_gaps(&mut text, &found.certificate)?;
-    write_known_gaps(&mut text, &found.names)?;
-    write_devices(&mut text, &found.devices)?;
-    write_stray(&mut text, exchanges, found.stray)?;
+    write_run_gaps(&mut text, head.start, &found.certificate, &found.names)?;
+    let whole = shows_all(head, exchanges, found);
+    write_devices(&mut text, head.start, whole, &found.heard, &found.devices)?;
+    let settled = strays_count(head, exchanges, found);
+    write_stray(&mut text, head.start, settled, exchanges, found.stray)?;
     Ok(text)
 }
 
-// Whether a device broke a rule, or bytes came though nobody was due.
-fn is_broken(devices: &[DeviceFinding], stray: Option<usize>) -> bool
-    ensures { result ≡ is_broken devices.now stray }
+// Whether the log has all of the run.
+fn shows_all(head: &RunHead, exchanges: &[Exchange], found: &Findings) -> bool
+    ensures { result ≡ shows_all head.now exchanges.now found.now }
 {
-    any_broke(devices) || stray.is_some()
+    is_whole(head, &found.reported, exchanges, &found.certificate)
+}
+
+// Whether its stray bytes show that a rule was broken.
+fn strays_count(head: &RunHead, exchanges: &[Exchange], found: &Findings) -> bool
+    ensures { result ≡ strays_count head.now exchanges.now found.now }
+{
+    decides_stray(head, &found.reported, exchanges, &found.certificate)
+}
+
+// Whether any finding is that a rule was broken.
+fn is_broken(devices: &[DeviceFinding], settled: bool, stray: Option<usize>) -> bool
+    ensures { result ≡ is_broken devices.now settled stray }
+{
+    any_broke(devices) || (stray.is_some() && settled)
 }
 
 fn any_broke(devices: &[DeviceFinding]) -> bool

@@ -1,15 +1,43 @@
 //! The parts of a certificate that fail.
 ghost use Rattle.std.specs.Prelude.{◌≡◌, ◌++◌, [], OnOk, codes};
 ghost use Rattle.rdm_findings.specs.FindingText.{device_gap, start_gaps, end_gaps, gaps_text};
-ghost use Rattle.rdm_findings.specs.FindingText.{names_gaps, known_gaps};
+ghost use Rattle.rdm_findings.specs.FindingText.{names_gaps, known_gaps, failure_gap, run_gaps};
 
-use crate::writing::{write_exchange_gap, write_uid_gap};
+use crate::head::Start;
+use crate::writing::{write_exchange_gap, write_exchange_line, write_uid_gap};
 use rdm_explain::{KnownFinding, RunFinding};
 use rdm_wire::Device;
 use std::alloc::AllocError;
 
-/// Writes the parts of a certificate that fail.
-pub(crate) fn write_gaps(text: &mut Vec<u8>, found: &RunFinding) -> Result<(), AllocError>
+/// Writes the parts of a certificate that fail. If the log may begin within the run, only a failure is decided.
+pub(crate) fn write_run_gaps(
+    text: &mut Vec<u8>,
+    start: Start,
+    found: &RunFinding,
+    names: &Option<KnownFinding>,
+) -> Result<(), AllocError>
+    ensures { OnOk result (text.new.items ≡ text.old.items ++ run_gaps start found.now names.now) }
+{
+    if start.is_first() {
+        write_gaps(text, found)?;
+        write_known_gaps(text, names)
+    } else {
+        write_failure(text, start, found.failure)
+    }
+}
+
+const FAILED: &str = " failed: check the adapter and the cable";
+
+fn write_failure(text: &mut Vec<u8>, start: Start, at: Option<usize>) -> Result<(), AllocError>
+    ensures { OnOk result (text.new.items ≡ text.old.items ++ failure_gap start at) }
+{
+    match at {
+        Some(at) => write_exchange_line(text, start.number(at), FAILED),
+        None => Ok(()),
+    }
+}
+
+fn write_gaps(text: &mut Vec<u8>, found: &RunFinding) -> Result<(), AllocError>
     ensures { OnOk result (text.new.items ≡ text.old.items ++ gaps_text found.now) }
 {
     write_start_gaps(text, found)?;
@@ -24,11 +52,7 @@ fn write_start_gaps(text: &mut Vec<u8>, found: &RunFinding) -> Result<(), AllocE
         found.missing_unmute,
         " should be one of the three unmutes that begin a run",
     )?;
-    write_exchange_gap(
-        text,
-        found.failure,
-        " failed: check the adapter and the cable",
-    )?;
+    write_exchange_gap(text, found.failure, FAILED)?;
     write_uid_gap(
         text,
         found.misreported,
@@ -68,11 +92,8 @@ fn write_device_gap(
     }
 }
 
-/// Writes the parts that fail of those that depend on the known UIDs, if these parts are known.
-pub(crate) fn write_known_gaps(
-    text: &mut Vec<u8>,
-    found: &Option<KnownFinding>,
-) -> Result<(), AllocError>
+// Writes the parts that fail of those that depend on the known UIDs, if these parts are known.
+fn write_known_gaps(text: &mut Vec<u8>, found: &Option<KnownFinding>) -> Result<(), AllocError>
     ensures { OnOk result (text.new.items ≡ text.old.items ++ known_gaps found.now) }
 {
     match found {

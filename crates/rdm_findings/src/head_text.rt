@@ -2,30 +2,32 @@
 ghost use Rattle.std.specs.Prelude.{◌≡◌, ◌++◌, ◌∷◌, [], OnOk};
 ghost use Rattle.rdm_reports.specs.Report.{fault_text};
 ghost use Rattle.rdm_findings.specs.FindingText.{name_text, kind_text, search_text, what_text, end_text, outcome_text};
-ghost use Rattle.rdm_findings.specs.FindingText.{is_complete, is_known_complete, certificate_text, head_text};
-ghost use Rattle.rdm_findings.specs.FindingText.{head_line};
+ghost use Rattle.rdm_findings.specs.FindingText.{is_known_complete, sound_text, gap_text, begun_text, certificate_text};
+ghost use Rattle.rdm_findings.specs.FindingText.{head_text, head_line};
 
-use crate::head::RunHead;
+use crate::ending::{is_complete, is_over};
+use crate::head::{RunHead, Start};
 use crate::writing::{write, write_count, write_number, write_uid};
 use rdm_agent::{AgentFault, Kind, Search};
 use rdm_explain::{Exchange, KnownFinding, RunFinding};
-use rdm_wire::Device;
+use rdm_wire::DeviceSet;
 use std::alloc::AllocError;
 
 /// Writes the first line of a run.
 pub(crate) fn write_head(
     text: &mut Vec<u8>,
     head: &RunHead,
+    reported: &DeviceSet,
     exchanges: &[Exchange],
-    reported: &[Device],
     certificate: &RunFinding,
     names: &Option<KnownFinding>,
 ) -> Result<(), AllocError>
     ensures { OnOk result (text.new.items ≡ text.old.items
-        ++ head_line head.now exchanges.now reported.now certificate.now names.now) }
+        ++ head_line head.now reported.now exchanges.now certificate.now names.now) }
 {
+    let over = is_over(head, reported, exchanges, certificate);
     write_run(text, head, exchanges.len(), reported.len())?;
-    write(text, certificate_text(certificate, names))?;
+    write(text, certificate_text(head, over, certificate, names))?;
     text.extend_from_slice(b"\n")
 }
 
@@ -128,31 +130,82 @@ fn write_fault(text: &mut Vec<u8>, fault: AgentFault) -> Result<(), AllocError>
     }
 }
 
-fn certificate_text(certificate: &RunFinding, names: &Option<KnownFinding>) -> &'static str
-    ensures { result.now ≡ certificate_text certificate.now names.now }
+// The certificate; or why it can't be decided.
+fn certificate_text(
+    head: &RunHead,
+    over: bool,
+    certificate: &RunFinding,
+    names: &Option<KnownFinding>,
+) -> &'static str
+    ensures { result.now ≡ certificate_text head.now over certificate.now names.now }
 {
-    match names {
-        Some(names) if is_complete(certificate) && is_known_complete(names) => COMPLETE,
-        None if is_complete(certificate) => COMPLETE_BUT_FOR_NAMES,
-        _ => "; its certificate is incomplete",
+    match head.start {
+        Start::At(number) => {
+            if number == 0 {
+                begun_text(head, over, certificate, names)
+            } else {
+                "; its certificate can't be decided, since the log begins within the run"
+            }
+        }
+        Start::Later => LATER,
+        Start::Unknown => UNKNOWN,
     }
 }
 
-const COMPLETE: &str = "; its certificate is complete";
+const LATER: &str =
+    "; its certificate can't be decided, since the log begins within the run; exchanges count from there";
 
-const COMPLETE_BUT_FOR_NAMES: &str =
-    "; its certificate is complete but for its known devices, which the log doesn't have";
+const UNKNOWN: &str =
+    "; its certificate can't be decided, since the log may begin within the run; exchanges count from there";
 
-// Whether no part fails.
-fn is_complete(found: &RunFinding) -> bool
-    ensures { result ≡ is_complete found.now }
+// The certificate, if the log has the run's beginning.
+fn begun_text(
+    head: &RunHead,
+    over: bool,
+    certificate: &RunFinding,
+    names: &Option<KnownFinding>,
+) -> &'static str
+    ensures { result.now ≡ begun_text head.now over certificate.now names.now }
 {
-    found.missing_unmute.is_none()
-        && found.failure.is_none()
-        && found.misreported.is_none()
-        && found.untried.is_none()
-        && found.uncovered.is_none()
-        && found.other_data.is_none()
+    if is_complete(certificate) {
+        sound_text(head.kind, names)
+    } else {
+        gap_text(over)
+    }
+}
+
+// A certificate of which no part fails but those that can't be decided.
+fn sound_text(kind: Option<Kind>, names: &Option<KnownFinding>) -> &'static str
+    ensures { result.now ≡ sound_text kind names.now }
+{
+    match names {
+        Some(names) => {
+            if is_known_complete(names) {
+                "; its certificate is complete"
+            } else {
+                "; its certificate is incomplete"
+            }
+        }
+        None => match kind {
+            Some(_) => {
+                "; its certificate is complete but for its known devices, which the log doesn't have"
+            }
+            None => {
+                "; its certificate is complete but for what depends on its kind, which the log doesn't have"
+            }
+        },
+    }
+}
+
+// A certificate of which a part fails.
+fn gap_text(over: bool) -> &'static str
+    ensures { result.now ≡ gap_text over }
+{
+    if over {
+        "; its certificate is incomplete"
+    } else {
+        "; its certificate is incomplete, or the log ends within the run"
+    }
 }
 
 fn is_known_complete(found: &KnownFinding) -> bool

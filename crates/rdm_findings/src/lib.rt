@@ -2,13 +2,16 @@
 //! and whether a run's certificate is complete. All of it is the profile of this project.
 #![tactic(auto)]
 
+mod asks;
 mod device_text;
+mod ending;
 mod entry;
 mod explaining;
 mod fields;
 mod gap_text;
 mod head;
 mod head_text;
+mod heard;
 mod input;
 mod line;
 mod log;
@@ -17,6 +20,6 @@ mod reading;
 mod writing;
 
 pub use explaining::{Explained, explain};
-pub use head::RunHead;
+pub use head::{RunHead, Start};
 pub use line::{DiscoveryOpening, LogLine, SessionOpening, read_line};
 pub use log::{LogFault, explain_log};

@@ -35,8 +35,7 @@ impl From<NoMemory> for LogFault {
 }
 
 /// Explains each run of the reader's log, in order, when it has ended, with a list of devices that were present.
-/// Returns whether a rule was broken, or bytes came though no listed device was due, in any run. With an error, runs
-/// may have been explained before.
+/// Returns whether a rule was broken in any run. With an error, runs may have been explained before.
 pub fn explain_log<R: Read, W: Write>(
     alloc: Global,
     reader: &mut R,
@@ -63,7 +62,7 @@ pub fn explain_log<R: Read, W: Write>(
         };
         let breaks = explain_ended(alloc, &reading, &line, present, writer)?;
         broken = broken || breaks;
-        reading.take(line)?;
+        reading.take(alloc, line)?;
     }
     // No log is that long.
     Err(LogFault::Line(u64::MAX))

@@ -1,8 +1,17 @@
 //! The runs that a log's lines have, one line after another.
-use crate::head::RunHead;
-use crate::line::{DiscoveryOpening, LogLine};
+ghost use Rattle.std.specs.Prelude.{◌≡◌, ℕ, List, Some, None, IfOk, length, if◌then◌else◌};
+ghost use Rattle.std.specs.Option.{option_map};
+ghost use Rattle.rdm_wire.specs.Devices.{uids_of};
+ghost use Rattle.rdm_explain.specs.Exchanges.{seen_all};
+ghost use Rattle.rdm_explain.specs.Reported.{reported_in};
+ghost use Rattle.rdm_findings.specs.Starts.{has_start};
+ghost use Rattle.rdm_findings.specs.Runs.{is_next};
+
+use crate::asks::{Asks, NO_ASKS};
+use crate::head::{RunHead, Start};
+use crate::line::{DiscoveryOpening, LogLine, SessionOpening};
 use rdm_agent::{AgentFault, Kind, Search};
-use rdm_explain::{Exchange, push_exchange};
+use rdm_explain::{Exchange, acknowledged_devices, push_exchange};
 use rdm_join::LineEvent;
 use rdm_log::{Entry, Owner};
 use rdm_wire::{Frame, NoMemory, Uid};
@@ -14,9 +23,11 @@ use std::marker::Model;
 #[derive(Drop)]
 pub(crate) struct Reading {
     head: RunHead,
-    opening: Option<Box<DiscoveryOpening>>,
+    known: Option<Vec<Uid>>,
     exchanges: Vec<Exchange>,
     has_run: bool,
+    is_session: bool,
+    asks: Asks,
     sent: Option<Frame>,
 }
 
@@ -30,10 +41,12 @@ impl Model for Reading {
     ghost view = { λ r. record {
       run = record {
         head = r.head;
-        known = option_map (λ o. o.value.known) r.opening;
+        known = option_map (λ k. k.items) r.known;
         exchanges = seen_all r.exchanges.items;
       };
       has_run = r.has_run;
+      is_session = r.is_session;
+      asks = r.asks;
       sent = r.sent;
     } };
 }
@@ -43,16 +56,19 @@ const UNKNOWN: RunHead = RunHead {
     number: None,
     kind: None,
     search: None,
+    start: Start::Unknown,
     fault: None,
 };
 
 impl Reading {
-    ghost use Rattle.std.specs.Prelude.{◌≡◌, OnOk, None};
+    ghost use Rattle.std.specs.Prelude.{◌≡◌, OnOk, None, Some, true, false, if◌then◌else◌};
     ghost use Rattle.std.specs.Option.{option_map};
+    ghost use Rattle.rdm_wire.specs.Devices.{uids_of};
     ghost use Rattle.rdm_explain.specs.Exchanges.{seen_all};
+    ghost use Rattle.rdm_findings.specs.Asked.{no_asks, asks_from};
     ghost use Rattle.rdm_findings.specs.Runs.{nothing_read, begins, begins_run, after_line, after_entry, after_send};
-    ghost use Rattle.rdm_findings.specs.Runs.{awaiting, begun, with_exchange, after_event, with_end, is_in_progress};
-    ghost use Rattle.std.specs.Prelude.{if◌then◌else◌};
+    ghost use Rattle.rdm_findings.specs.Runs.{awaiting, unopened, begun, discovered, continues, is_in_progress};
+    ghost use Rattle.rdm_findings.specs.Runs.{with_exchange, after_event, with_end, with_known, known_after};
 
     /// Before the first line.
     pub(crate) fn new(alloc: Global) -> Reading
@@ -60,9 +76,11 @@ impl Reading {
     {
         Reading {
             head: UNKNOWN,
-            opening: None,
+            known: None,
             exchanges: Vec::new(alloc),
             has_run: false,
+            is_session: false,
+            asks: NO_ASKS,
             sent: None,
         }
     }
@@ -85,8 +103,8 @@ impl Reading {
     pub(crate) fn known(&self) -> Option<&[Uid]>
         ensures { option_map (λ k. k.now) result ≡ self.now.run.known }
     {
-        match &self.opening {
-            Some(opening) => Some(opening.known.as_slice()),
+        match &self.known {
+            Some(known) => Some(known.as_slice()),
             None => None,
         }
     }
@@ -104,8 +122,8 @@ impl Reading {
     {
         match line {
             LogLine::Discovery(_) | LogLine::Session(_) => true,
-            LogLine::Entered(entry) => self.is_ended_by_entry(entry),
-            LogLine::Exchanged { number, .. } => *number == 0,
+            LogLine::Entered(entry) => !self.is_session || self.is_ended_by_entry(entry),
+            LogLine::Exchanged { number, .. } => !self.continues(*number),
         }
     }
 
@@ -131,59 +149,143 @@ impl Reading {
         }
     }
 
-    /// Takes the next line.
-    pub(crate) fn take(&mut self, line: LogLine) -> Result<(), NoMemory>
+    // Whether the exchange of a discovery with this number continues the one in progress.
+    fn continues(&self, number: u64) -> bool
+        ensures { result ≡ continues number self.now }
+    {
+        (self.has_run && !self.is_session)
+            && is_next(number, self.exchanges.as_slice(), self.head.start)
+    }
+
+    /// Takes the next line. The only error: out of memory.
+    pub(crate) fn take(&mut self, alloc: Global, line: LogLine) -> Result<(), NoMemory>
         ensures { OnOk result (self.new ≡ after_line line self.old) }
     {
         match line {
-            LogLine::Discovery(opening) => {
-                self.await_run(Some(opening.kind), Some(opening.search));
-                self.opening = Some(opening);
-                Ok(())
+            LogLine::Discovery(opening) => self.open_discovery(alloc, opening),
+            LogLine::Session(opening) => self.open_session(alloc, opening),
+            LogLine::Entered(entry) => {
+                self.continue_session();
+                self.take_entry(alloc, entry)
             }
-            LogLine::Session(opening) => {
-                self.await_run(None, Some(opening.search));
-                Ok(())
-            }
-            LogLine::Entered(entry) => self.take_entry(entry),
             LogLine::Exchanged {
                 number,
                 frame,
                 event,
             } => {
-                if number == 0 || !self.has_run {
-                    self.begin(None);
-                }
+                self.continue_discovery(number);
                 self.add(&frame, &event)
             }
         }
     }
 
-    // No run has begun, and this is known of the next one.
-    fn await_run(&mut self, kind: Option<Kind>, search: Option<Search>)
-        ensures { self.new ≡ awaiting kind search None }
+    fn open_discovery(
+        &mut self,
+        alloc: Global,
+        opening: Box<DiscoveryOpening>,
+    ) -> Result<(), NoMemory>
+        ensures { OnOk result (self.new ≡ awaiting false (Some opening.value.kind) (Some opening.value.search)
+            (Some opening.value.known) no_asks) }
+    {
+        let known = copied(alloc, opening.known.as_slice())?;
+        self.begin_log(false, Some(opening.kind), Some(opening.search), NO_ASKS);
+        self.known = Some(known);
+        Ok(())
+    }
+
+    fn open_session(&mut self, alloc: Global, opening: Box<SessionOpening>) -> Result<(), NoMemory>
+        ensures { OnOk result (self.new ≡ awaiting true None (Some opening.value.search)
+            (Some (uids_of opening.value.opening.devices))
+            (asks_from opening.value.opening.next_ask opening.value.opening.next_run)) }
+    {
+        let known = copied(alloc, opening.opening.devices.uids().as_slice())?;
+        let asks = Asks::from(opening.opening.next_ask, opening.opening.next_run);
+        self.begin_log(true, None, Some(opening.search), asks);
+        self.known = Some(known);
+        Ok(())
+    }
+
+    // A log begins. This is known of its next run.
+    fn begin_log(
+        &mut self,
+        is_session: bool,
+        kind: Option<Kind>,
+        search: Option<Search>,
+        asks: Asks,
+    )
+        ensures { self.new ≡ awaiting is_session kind search None asks }
     {
         self.head = RunHead {
             number: None,
             kind,
             search,
+            start: Start::Unknown,
             fault: None,
         };
-        self.opening = None;
+        self.known = None;
         self.exchanges.clear();
         self.has_run = false;
+        self.is_session = is_session;
+        self.asks = asks;
         self.sent = None;
     }
 
-    // Another run begins.
-    fn begin(&mut self, number: Option<u64>)
-        ensures { self.new ≡ begun number self.old }
+    // An entry comes: without a session in progress, the log of one begins without an opening.
+    fn continue_session(&mut self)
+        ensures { self.new ≡ (if self.old.is_session then self.old else unopened true) }
     {
-        self.head.number = number;
-        self.head.fault = None;
+        if !self.is_session {
+            self.begin_log(true, None, None, NO_ASKS);
+        }
+    }
+
+    // The exchange of a discovery with this number comes.
+    fn continue_discovery(&mut self, number: u64)
+        ensures { self.new ≡ (if continues number self.old then self.old else discovered number self.old) }
+    {
+        if self.continues(number) {
+            return;
+        }
+        if self.is_session || self.has_run {
+            self.begin_log(false, None, None, NO_ASKS);
+        }
+        self.head.start = Start::At(number);
+        self.has_run = true;
+    }
+
+    // A run of a session begins, or the log begins within it.
+    fn begin_run(&mut self, alloc: Global, run: u64) -> Result<(), NoMemory>
+        ensures { OnOk result (self.new ≡ begun run self.old) }
+    {
+        self.learn(alloc)?;
+        self.head = RunHead {
+            number: Some(run),
+            kind: self.asks.kind_of_run(run),
+            search: self.head.search,
+            start: self.asks.start_of(run),
+            fault: None,
+        };
+        self.asks.run(run);
         self.exchanges.clear();
         self.has_run = true;
         self.sent = None;
+        Ok(())
+    }
+
+    // Learns which UIDs are known when the next run of a session begins.
+    fn learn(&mut self, alloc: Global) -> Result<(), NoMemory>
+        ensures { OnOk result (self.new ≡ with_known (known_after self.old) self.old) }
+    {
+        if self.has_run {
+            match self.head.fault {
+                None => self.known = None,
+                Some(None) => {
+                    self.known = reported(alloc, self.head.start, self.exchanges.as_slice())?;
+                }
+                Some(Some(_)) => {}
+            }
+        }
+        Ok(())
     }
 
     // Adds an exchange.
@@ -194,35 +296,38 @@ impl Reading {
         push_exchange(&mut self.exchanges, frame, event)
     }
 
-    fn take_entry(&mut self, entry: Entry) -> Result<(), NoMemory>
+    fn take_entry(&mut self, alloc: Global, entry: Entry) -> Result<(), NoMemory>
         ensures { OnOk result (self.new ≡ after_entry entry self.old) }
     {
         match entry {
-            Entry::Send { owner, frame } => {
-                self.take_send(owner, frame);
+            Entry::Send { owner, frame } => self.take_send(alloc, owner, frame),
+            Entry::Came { event } => self.take_event(&event),
+            Entry::Ask { number, kind, .. } => {
+                self.asks.ask(number, kind);
                 Ok(())
             }
-            Entry::Came { event } => self.take_event(&event),
-            Entry::Answer { run, fault, .. } => {
+            Entry::Answer { number, run, fault } => {
                 self.take_end(run, fault);
+                self.asks.answer(number);
                 Ok(())
             }
             _ => Ok(()),
         }
     }
 
-    fn take_send(&mut self, owner: Owner, frame: Frame)
-        ensures { self.new ≡ after_send owner frame self.old }
+    fn take_send(&mut self, alloc: Global, owner: Owner, frame: Frame) -> Result<(), NoMemory>
+        ensures { OnOk result (self.new ≡ after_send owner frame self.old) }
     {
         match owner {
             Owner::Request(_) => self.sent = None,
             Owner::Run(run) => {
                 if !self.is_in_progress(run) {
-                    self.begin(Some(run));
+                    self.begin_run(alloc, run)?;
                 }
                 self.sent = Some(frame);
             }
         }
+        Ok(())
     }
 
     fn take_event(&mut self, event: &LineEvent) -> Result<(), NoMemory>
@@ -241,4 +346,43 @@ impl Reading {
             self.head.fault = Some(fault);
         }
     }
+}
+
+// A list with the same UIDs.
+fn copied(alloc: Global, uids: &[Uid]) -> Result<Vec<Uid>, NoMemory>
+    ensures { IfOk result (λ list. list.items ≡ uids.now) }
+{
+    match Vec::from_slice(alloc, uids) {
+        Ok(list) => Ok(list),
+        Err(_) => Err(NoMemory),
+    }
+}
+
+// Whether this is the number of a discovery's next exchange.
+fn is_next(number: u64, exchanges: &[Exchange], start: Start) -> bool
+    ensures { result ≡ is_next number (length (seen_all exchanges.now)) start }
+{
+    match start {
+        Start::At(first) => match first.checked_add(exchanges.len() as u64) {
+            Some(next) => next == number,
+            None => false,
+        },
+        Start::Later | Start::Unknown => false,
+    }
+}
+
+// The UIDs that a run without a fault reports, if the log has all of the run.
+fn reported(
+    alloc: Global,
+    start: Start,
+    exchanges: &[Exchange],
+) -> Result<Option<Vec<Uid>>, NoMemory>
+    ensures { IfOk result (λ known. option_map (λ k. k.items) known
+        ≡ (if has_start start then Some (uids_of (reported_in (seen_all exchanges.now))) else None)) }
+{
+    if !start.is_first() {
+        return Ok(None);
+    }
+    let devices = acknowledged_devices(exchanges);
+    Ok(Some(copied(alloc, devices.uids().as_slice())?))
 }

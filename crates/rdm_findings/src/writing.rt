@@ -50,21 +50,21 @@ fn write_end(text: &mut Vec<u8>, last: &str) -> Result<(), AllocError>
 /// Writes a line about an exchange.
 pub(crate) fn write_exchange_line(
     text: &mut Vec<u8>,
-    at: usize,
+    number: u64,
     last: &str,
 ) -> Result<(), AllocError>
-    ensures { OnOk result (text.new.items ≡ text.old.items ++ exchange_line at last.now) }
+    ensures { OnOk result (text.new.items ≡ text.old.items ++ exchange_line number last.now) }
 {
-    write_exchange(text, at)?;
+    write_exchange(text, number)?;
     write_end(text, last)
 }
 
 /// Writes the name of an exchange.
-pub(crate) fn write_exchange(text: &mut Vec<u8>, at: usize) -> Result<(), AllocError>
-    ensures { OnOk result (text.new.items ≡ text.old.items ++ exchange_name at) }
+pub(crate) fn write_exchange(text: &mut Vec<u8>, number: u64) -> Result<(), AllocError>
+    ensures { OnOk result (text.new.items ≡ text.old.items ++ exchange_name number) }
 {
     write(text, "exchange ")?;
-    write_number(text, at as u64)
+    write_number(text, number)
 }
 
 /// Writes a line about a UID.
@@ -75,7 +75,7 @@ pub(crate) fn write_uid_line(text: &mut Vec<u8>, uid: Uid, last: &str) -> Result
     write_end(text, last)
 }
 
-/// Writes a line about an exchange, if there is one.
+/// Writes a line about the exchange of a run with this index, if there is one.
 pub(crate) fn write_exchange_gap(
     text: &mut Vec<u8>,
     at: Option<usize>,
@@ -84,7 +84,7 @@ pub(crate) fn write_exchange_gap(
     ensures { OnOk result (text.new.items ≡ text.old.items ++ exchange_gap at last.now) }
 {
     match at {
-        Some(at) => write_exchange_line(text, at, last),
+        Some(at) => write_exchange_line(text, at as u64, last),
         None => Ok(()),
     }
 }

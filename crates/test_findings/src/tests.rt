@@ -1,3 +1,5 @@
 mod findings;
 mod lines;
 mod logs;
+mod longest;
+mod sessions;

@@ -13,7 +13,7 @@ pub fn check(rt: &impl Abort, fact: bool)
 }
 
 // Lines of a session's log, without their newlines.
-const ENTRIES: [&str; 40] = [
+const ENTRIES: [&str; 53] = [
     "{\"entry\":\"join\",\"client\":0,\"places\":0}",
     "{\"entry\":\"join\",\"client\":255,\"places\":255}",
     "{\"entry\":\"refuse\",\"places\":255,\"cause\":255}",
@@ -42,8 +42,21 @@ const ENTRIES: [&str; 40] = [
     "{\"entry\":\"finish\",\"number\":0,\"status\":0,\"length\":0}",
     "{\"entry\":\"finish\",\"number\":18446744073709551615,\"status\":18,\"length\":18446744073709551615}",
     "{\"entry\":\"finish\",\"number\":1,\"status\":1,\"length\":0}",
+    "{\"entry\":\"finish\",\"number\":1,\"status\":2,\"length\":0}",
+    "{\"entry\":\"finish\",\"number\":1,\"status\":3,\"length\":0}",
     "{\"entry\":\"finish\",\"number\":1,\"status\":4,\"length\":0}",
+    "{\"entry\":\"finish\",\"number\":1,\"status\":5,\"length\":0}",
+    "{\"entry\":\"finish\",\"number\":1,\"status\":6,\"length\":0}",
+    "{\"entry\":\"finish\",\"number\":1,\"status\":7,\"length\":0}",
+    "{\"entry\":\"finish\",\"number\":1,\"status\":8,\"length\":0}",
     "{\"entry\":\"finish\",\"number\":1,\"status\":9,\"length\":0}",
+    "{\"entry\":\"finish\",\"number\":1,\"status\":10,\"length\":0}",
+    "{\"entry\":\"finish\",\"number\":1,\"status\":11,\"length\":0}",
+    "{\"entry\":\"finish\",\"number\":1,\"status\":12,\"length\":0}",
+    "{\"entry\":\"finish\",\"number\":1,\"status\":13,\"length\":0}",
+    "{\"entry\":\"finish\",\"number\":1,\"status\":14,\"length\":0}",
+    "{\"entry\":\"finish\",\"number\":1,\"status\":15,\"length\":0}",
+    "{\"entry\":\"finish\",\"number\":1,\"status\":16,\"length\":0}",
     "{\"entry\":\"finish\",\"number\":1,\"status\":17,\"length\":0}",
     "{\"entry\":\"answer\",\"number\":0,\"run\":0}",
     "{\"entry\":\"answer\",\"number\":18446744073709551615,\"run\":18446744073709551615}",
@@ -130,7 +143,13 @@ fn read(rt: &impl Abort, alloc: Global, text: &str) -> Option<LogLine> {
     let mut line = Vec::new(alloc);
     check(rt, line.extend_from_slice(text.as_bytes()).is_ok());
     check(rt, line.push(b'\n').is_ok());
-    let Ok(found) = read_line(alloc, &line) else {
+    read_bytes(rt, alloc, &line)
+}
+
+/// A line, read.
+pub fn read_bytes(rt: &impl Abort, alloc: Global, line: &[u8]) -> Option<LogLine> {
+    let Ok(found) = read_line(alloc, line) else {
+        check(rt, false);
         return None;
     };
     found

@@ -40,12 +40,12 @@ const FOUND: &str = "discovery: full, steady, 10 exchanges, 1 device; its certif
     1234:00000001 followed the rules\n";
 
 const UNHEARD: &str =
-    "1234:00000009 wasn't heard: exchange 9 is the fifth silence in a row in a range that holds it; \
+    "1234:00000009 was never heard: exchange 9 is the fifth silence in a row in a range that holds it; \
     check its power and its cable\n";
 
 // Without the opening.
 const UNKNOWN: &str =
-    "discovery: 10 exchanges, 1 device; its certificate is complete but for its known devices, \
+    "discovery: 10 exchanges, 1 device; its certificate is complete but for what depends on its kind, \
     which the log doesn't have\n1234:00000001 followed the rules\n";
 
 // A session with a run whose line fails after a request.
@@ -60,7 +60,7 @@ const SESSION: [&str; 8] = [
     "{\"entry\":\"collect\",\"client\":0}\n",
 ];
 
-const FAILED: &str = "run 1: 2 exchanges, fault 4, 0 devices; its certificate is incomplete\n\
+const FAILED: &str = "run 1: full, 2 exchanges, fault 4, 0 devices; its certificate is incomplete\n\
     exchange 2 should be one of the three unmutes that begin a run\n\
     exchange 1 failed: check the adapter and the cable\n\
     0000:00000000 is the first UID that wasn't ruled out: it needs five silences in a row of a range that holds it\n";
@@ -74,17 +74,21 @@ fn joined(rt: &impl Abort, alloc: Global, texts: &[&str]) -> Vec<u8> {
     whole
 }
 
-// Whether this is printed for a log.
-fn prints(
+/// Checks that this is printed for the log with these lines.
+pub fn prints(
     rt: &impl Abort,
     alloc: Global,
-    log: &[u8],
+    lines: &[&[&str]],
     present: &[Uid],
     wanted: &[&str],
     due: Result<bool, LogFault>,
 ) {
+    let mut log = Vec::new(alloc);
+    for some in lines {
+        check(rt, log.extend_from_slice(&joined(rt, alloc, some)).is_ok());
+    }
     let mut written = Vec::new(alloc);
-    let mut reader = log;
+    let mut reader = log.as_slice();
     let ended = explain_log(alloc, &mut reader, present, &mut written);
     check(rt, ended == due);
     check(
@@ -96,24 +100,78 @@ fn prints(
 #[test]
 fn a_discovery_is_explained(rt: HostRuntime) {
     let alloc = rt.alloc();
-    let run = joined(&rt, alloc, &DISCOVERY);
-    let mut log = joined(&rt, alloc, &[OPENING]);
-    check(&rt, log.extend_from_slice(&run).is_ok());
+    let log: [&[&str]; 2] = [&[OPENING], &DISCOVERY];
     let liar = [Uid::new(0x1234, 9), Uid::new(0x1234, 1)];
     prints(&rt, alloc, &log, &[], &[FOUND], Ok(false));
     prints(&rt, alloc, &log, &liar, &[FOUND, UNHEARD], Ok(true));
-    prints(&rt, alloc, &run, &[], &[UNKNOWN], Ok(false));
-    check(&rt, log.extend_from_slice(&run).is_ok());
-    prints(&rt, alloc, &log, &[], &[FOUND, FOUND], Ok(false));
-    prints(&rt, alloc, b"", &[], &[], Ok(false));
+    prints(&rt, alloc, &[&DISCOVERY], &[], &[UNKNOWN], Ok(false));
+    prints(&rt, alloc, &[], &[], &[], Ok(false));
+}
+
+// An opening is that of one run. An entry begins the log of a session.
+#[test]
+fn logs_one_after_another_are_explained(rt: HostRuntime) {
+    let alloc = rt.alloc();
+    let twice: [&[&str]; 3] = [&[OPENING], &DISCOVERY, &DISCOVERY];
+    prints(&rt, alloc, &twice, &[], &[FOUND, UNKNOWN], Ok(false));
+    let both: [&[&str]; 4] = [&[OPENING], &DISCOVERY, &SESSION, &DISCOVERY];
+    prints(&rt, alloc, &both, &[], &[FOUND, FAILED, UNKNOWN], Ok(false));
+}
+
+// The log begins with exchange 5, and ends after exchange 4 or 3.
+const CUT_BEFORE: &str =
+    "discovery: 5 exchanges, 0 devices; its certificate can't be decided, since the log begins within the run\n";
+
+const CUT_AFTER: &str =
+    "discovery: full, steady, 5 exchanges, 1 device; its certificate is incomplete, or the log ends within the run\n\
+    0000:00000000 is the first UID that wasn't ruled out: it needs five silences in a row of a range that holds it\n\
+    1234:00000001 followed the rules in the exchanges that the log has\n";
+
+const UNMUTED: &str =
+    "discovery: full, steady, 4 exchanges, 0 devices; its certificate is incomplete, or the log ends within the run\n\
+    0000:00000000 is the first UID that wasn't ruled out: it needs five silences in a row of a range that holds it\n\
+    exchange 3: bytes came from 0000:00000000 to ffff:ffffffff, where no listed device was due; \
+    they may be those of a device that the log doesn't show\n";
+
+// A device that no unmute in the log reaches may be muted.
+const LATE: &str = "1234:00000009 followed the rules in the exchanges that the log has\n";
+
+// Exchange 3 alone.
+const ALONE: &str =
+    "discovery: 1 exchange, 0 devices; its certificate can't be decided, since the log begins within the run\n\
+    exchange 3: bytes came from 0000:00000000 to ffff:ffffffff, where no listed device was due; \
+    they may be those of a device that the log doesn't show\n";
+
+#[test]
+fn parts_of_a_discovery_are_explained(rt: HostRuntime) {
+    let alloc = rt.alloc();
+    let late = [Uid::new(0x1234, 9)];
+    let before = &DISCOVERY[5..];
+    prints(
+        &rt,
+        alloc,
+        &[&[OPENING], &DISCOVERY[..5]],
+        &[],
+        &[CUT_AFTER],
+        Ok(false),
+    );
+    prints(
+        &rt,
+        alloc,
+        &[&[OPENING], &DISCOVERY[..4]],
+        &[],
+        &[UNMUTED],
+        Ok(false),
+    );
+    prints(&rt, alloc, &[before], &late, &[CUT_BEFORE, LATE], Ok(false));
+    prints(&rt, alloc, &[&DISCOVERY[3..4]], &[], &[ALONE], Ok(false));
+    let gap: [&[&str]; 3] = [&[OPENING], &DISCOVERY[..4], before];
+    prints(&rt, alloc, &gap, &[], &[UNMUTED, CUT_BEFORE], Ok(false));
 }
 
 #[test]
 fn a_session_is_explained(rt: HostRuntime) {
     let alloc = rt.alloc();
-    let log = joined(&rt, alloc, &SESSION);
-    prints(&rt, alloc, &log, &[], &[FAILED], Ok(false));
-    let cut = &log[..log.len().saturating_sub(1)];
-    prints(&rt, alloc, cut, &[], &[], Err(LogFault::Line(8)));
-    prints(&rt, alloc, b"{}\n", &[], &[], Err(LogFault::Line(1)));
+    prints(&rt, alloc, &[&SESSION], &[], &[FAILED], Ok(false));
+    prints(&rt, alloc, &[&["{}\n"]], &[], &[], Err(LogFault::Line(1)));
 }

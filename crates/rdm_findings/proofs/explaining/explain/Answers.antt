@@ -7,5 +7,8 @@ returns-in-Ok c = record {
   findings = c.in_ok-found.found;
   finds = c.in_ok-found.ensures;
   prints = c.in-Ok.ensures;
-  breaks = c.is_broken.ensures ∙ ap (λ d. is_broken d c.in_ok-found.found.stray) c.deref.ensures.value;
+  breaks =
+      c.is_broken.ensures
+      ∙ ap (λ d. is_broken d c.strays_count-settled.result c.in_ok-found.found.stray) c.deref.ensures.value
+      ∙ ap (λ s. is_broken c.in_ok-found.found.devices.items s c.in_ok-found.found.stray) c.strays_count-settled.ensures;
 }

@@ -1,0 +1,25 @@
+-- The UIDs that a run heard.
+use Rattle.std.specs.Prelude.{ℕ, Bool, List, Option, Some, None, filter_map}
+use Rattle.std.specs.Ordering.{nat_cmp}
+use Rattle.std.specs.BTreeSet.{contains}
+use Rattle.rdm_wire.specs.Honest.{Asked, Heard, Seen}
+use Rattle.rdm_wire.specs.Honest.Asked.{Branch, Mute}
+use Rattle.rdm_wire.specs.Honest.Heard.{One, Acked}
+use Rattle.rdm_findings.specs.declared.heard.HeardUids.{HeardUids}
+
+-- the UID that was heard: that of a reply to a branch, or of an acknowledged mute
+abbrev pub heard_uid : Asked → Heard → Option ℕ
+heard_uid (Branch lo hi) (One u) = Some u
+heard_uid (Mute u) (Acked ack) = Some u
+heard_uid _ _ = None
+
+abbrev pub heard_by : Seen → Option ℕ
+heard_by e = heard_uid e.asked e.heard
+
+-- the UIDs that were heard, in order
+abbrev pub heard_in : List Seen → List ℕ
+heard_in x = filter_map heard_by x
+
+-- whether a UID is among those that were heard
+abbrev pub in_heard : HeardUids → ℕ → Bool
+in_heard heard u = contains nat_cmp heard.tree u
