@@ -19,7 +19,7 @@ CHROMIUM = shutil.which("chromium")
 START = 'exec "$0" "$@" 3<&"$FROM" 4>&"$TO"'
 OPTIONS = ("--headless", "--no-sandbox", "--disable-gpu", "--disable-dev-shm-usage", "--disable-background-networking",
            "--no-first-run", "--remote-debugging-pipe", "--window-size=1400,900", "--force-device-scale-factor=1")
-READY = "document.documentElement.dataset.ready === 'yes'"
+READY = "document.documentElement?.dataset.ready === 'yes'"
 
 
 def needs_chromium(test: Any) -> Any:
@@ -99,7 +99,7 @@ class Page:
         """Opens a page, and returns after how many seconds it is drawn."""
         began = time.monotonic()
         self.call("Page.navigate", url=file.as_uri())
-        self.wait(READY)
+        self.wait(f"location.href === {json.dumps(file.as_uri())} && {READY}")
         return time.monotonic() - began
 
     def click(self, x: float, y: float) -> None:

@@ -76,8 +76,8 @@ function lineOf(finding) {
 }
 
 function showPlace(finding) {
-    if (size.width < 6) {
-        setWidth(8);
+    if (size.width < 12) {
+        setWidth(12);
     }
     if (finding.uid !== null) {
         view.scrollTop = topOf(parseInt(finding.uid.replace(":", ""), 16)) - view.clientHeight / 2;
@@ -117,7 +117,12 @@ function listLegend() {
     }
     CAME.forEach((kind, came) => {
         if (counts[came]) {
-            legend(`${kind.text} ${counts[came]}`, (ink) => drawBar(ink, came, 0, 0, 22, 14));
+            legend(`${kind.text} ${counts[came]}`, (ink) => {
+                drawBar(ink, came, 0, 0, 22, 14);
+                if (came === ONE) {
+                    drawSpelled(ink, 0, 7, 22);
+                }
+            });
         }
     });
     if (log.asked[UNMUTES]) {
@@ -186,18 +191,13 @@ function listen() {
     view.addEventListener("keydown", pressed);
     view.addEventListener("wheel", zoomed, {passive: false});
     view.addEventListener("scroll", redraw);
-    window.addEventListener("resize", () => setWidth(size.width));
-}
-
-function counted(count, thing) {
-    return `${count} ${thing}${count === 1 ? "" : "s"}`;
+    new ResizeObserver(() => setWidth(size.width)).observe(view);
 }
 
 async function open() {
     get("title").textContent = `explain: ${log.name}`;
     const verdict = make("b", log.isBroken ? "A rule was broken." : "Everything followed the rules.");
-    get("verdict").replaceChildren(verdict, ` ${counted(log.count, "exchange")}, ${counted(log.runs.length, "run")}, `
-        + `${counted(rows.length, "row")} of devices.`);
+    get("verdict").replaceChildren(verdict, ` ${counted(log.count, "exchange")}, ${counted(log.runs.length, "run")}.`);
     get("filter").hidden = log.findings.length <= LONG_LIST;
     get("only").checked = log.findings.length > LONG_LIST;
     listFindings(false);

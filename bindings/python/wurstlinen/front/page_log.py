@@ -154,11 +154,11 @@ class Reader:
                 self._begin_run(f"run {number}")
             clients = sorted(client for client in range(MOST_CLIENTS) if self._run_clients >> client & 1)
             name = f"run {number}, exchange {len(self._current().exchanges)}"
-            self._sent = Sent(entry["frame"], name + of_clients(clients), self._run_clients)
+            self._sent = Sent(entry["frame"], name + for_clients(clients), self._run_clients)
             return
         number = number_in(entry, "request")
         client = self._requests.get(number)
-        name = f"request {number}" + of_clients([] if client is None else [client])
+        name = f"request {number}" + for_clients([] if client is None else [client])
         self._sent = Sent(entry["frame"], name, 0 if client is None else 1 << client)
 
     def _begin_run(self, name: str) -> None:
@@ -223,10 +223,10 @@ def bits(clients: Any) -> int:
     return found
 
 
-def of_clients(clients: List[int]) -> str:
-    """Whose it is."""
+def for_clients(clients: List[int]) -> str:
+    """Whom an exchange is for."""
     names = ", ".join(map(str, clients))
-    return f" of client{'s' if len(clients) > 1 else ''} {names}" if clients else ""
+    return f", for client{'s' if len(clients) > 1 else ''} {names}" if clients else ""
 
 
 def lines_of(file: BinaryIO) -> Iterator[bytes]:

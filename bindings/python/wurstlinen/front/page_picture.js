@@ -2,7 +2,7 @@
 // The picture of a log. What is shown of an exchange is unpacked when someone looks. No finding is made here.
 const ASKED = ["branch", "mute", "unmute", "GET", "SET", "another frame"];
 const CAME = [
-    {text: "silence", colour: "#cfd6de"},
+    {text: "silence", colour: "#b4bec9"},
     {text: "one UID", colour: "#0072b2"},
     {text: "collision", colour: "#e69f00", stripes: [[-1, 9], [9, -1]]},
     {text: "acknowledged", colour: "#009e73"},
@@ -10,7 +10,7 @@ const CAME = [
     {text: "damaged", colour: "#cc79a7", stripes: [[0, 4], [8, 4]]},
     {text: "the line failed", colour: "#d55e00", stripes: [[0, 0], [8, 8], [8, 0], [0, 8]]},
 ];
-const UNMUTE = "#eceff3";
+const UNMUTE = "#e6eaef";
 const INK = "#1b1f24";
 const OUTLINE = "#6b7682";
 const LETTERS = ["", "M", "", "G", "S", "?"];
@@ -52,6 +52,10 @@ function make(tag, text, name) {
         made.className = name;
     }
     return made;
+}
+
+function counted(count, thing) {
+    return `${count} ${thing}${count === 1 ? "" : "s"}`;
 }
 
 async function unpacked(id) {
@@ -208,10 +212,14 @@ function drawExchange(at, x, width) {
     }
     drawBar(pen, came, x, top, wide, Math.max(bottomOf(columns.high[at]) - top, 2));
     if (came === ONE && width >= 4) {
-        const middle = (topOf(columns.spelled[at]) + bottomOf(columns.spelled[at])) / 2;
-        pen.fillStyle = "#fff";
-        pen.fillRect(x + 1, middle - 1.5, wide - 2, 3);
+        drawSpelled(pen, x, (topOf(columns.spelled[at]) + bottomOf(columns.spelled[at])) / 2, wide);
     }
+}
+
+// Where the UID is that a reply spells.
+function drawSpelled(ink, x, middle, width) {
+    ink.fillStyle = "#fff";
+    ink.fillRect(x + 1, middle - 1.5, width - 2, 3);
 }
 
 // The whole.
@@ -351,7 +359,7 @@ function drawRuns() {
         if (x >= end && x < view.clientWidth && !isGone) {
             pen.strokeStyle = OUTLINE;
             line(x + 0.5, 1, x + 0.5, STRIP * 2);
-            const text = `${run.name}: ${run.count} exchanges`;
+            const text = `${run.name}: ${counted(run.count, "exchange")}`;
             write(text, x + 4, STRIP / 2, "bold 11px sans-serif");
             end = x + 10 + pen.measureText(text).width;
         }
@@ -397,22 +405,32 @@ function drawLabels(wide, tall) {
     if (marks.length) {
         write("findings", 6, header - STRIP / 2, "bold 11px sans-serif");
     }
-    const found = new Set(marks.map((mark) => mark.uid));
-    let end = header + 2;
     pen.save();
     pen.beginPath();
     pen.rect(0, header, wide, tall - header);
     pen.clip();
-    rows.forEach((uid, at) => {
-        const y = topOfRow(at) + size.row / 2 - view.scrollTop;
-        if (y - 6 >= end || found.has(log.rows[at])) {
-            write(log.rows[at], 6, y, `${found.has(log.rows[at]) ? "bold " : ""}11.5px monospace`);
-            end = y + 6;
-        }
-    });
+    drawUids(tall);
     pen.restore();
     pen.strokeStyle = OUTLINE;
     line(GUTTER - 3.5, 0, GUTTER - 3.5, tall);
+}
+
+// The UIDs of the rows, and those at both ends. A label that has no room is left out, unless it is of a finding.
+function drawUids(tall) {
+    const found = new Set(marks.map((mark) => mark.uid));
+    const names = rows.map((uid, at) => [log.rows[at], topOfRow(at) + size.row / 2]);
+    const lowest = ["0000:00000000", header + 8];
+    const highest = ["ffff:ffffffff", height() - 8];
+    const isFound = ([name]) => found.has(name);
+    const taken = [];
+    for (const name of [...names.filter(isFound), ...names.filter((each) => !isFound(each)), lowest, highest]) {
+        const y = name[1] - view.scrollTop;
+        const slot = Math.round(y / 4);
+        if (y > header - 8 && y < tall + 8 && [-2, -1, 0, 1, 2].every((near) => !taken[slot + near])) {
+            write(name[0], 6, y, `${isFound(name) ? "bold " : ""}11.5px monospace`);
+            taken[slot] = true;
+        }
+    }
 }
 
 function redraw() {
@@ -443,7 +461,7 @@ function setExtent() {
 }
 
 function fitRows() {
-    const room = view.clientHeight - header - 4;
+    const room = view.clientHeight - header - 2;
     const count = rows.length;
     size.row = Math.min(20, Math.max(3, Math.floor(room / (2 * count + 1))));
     size.gap = Math.min(Math.max(room, 40), Math.max(3, (room - count * size.row) / (count + 1)));
