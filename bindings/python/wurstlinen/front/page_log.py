@@ -187,9 +187,9 @@ class Reader:
         run.exchanges.append(len(self.log) - 1)
 
     def _add(self, sent: Sent, entry: Dict[str, Any]) -> None:
-        text: Optional[str] = None if "failed" in entry else entry["reply"]
+        reply = None if "failed" in entry else bytes.fromhex(entry["reply"])
         command = command_in(bytes.fromhex(sent.frame))
-        answer = answer_to(command, None if text is None else bytes.fromhex(text))
+        answer = answer_to(command, reply)
         columns = self.log.columns
         columns.asked.append(command.asked)
         columns.came.append(answer.came)
@@ -200,7 +200,7 @@ class Reader:
         columns.waiting.append(bits(client for client, count in enumerate(self._outstanding) if count))
         if answer.came is not Came.ONE and answer.uid != NO_UID:
             self.log.senders[int.from_bytes(answer.uid, "big")] += 1
-        self.log.details.add(sent.name, sent.frame, text, command.text, answer.text)
+        self.log.details.add(sent.name, sent.frame, None if reply is None else entry["reply"], command.text, answer.text)
 
 
 def ignore(entry: Dict[str, Any]) -> None:
