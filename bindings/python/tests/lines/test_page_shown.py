@@ -17,7 +17,7 @@ MANY = 100_000
 # On a quiet machine it takes one. A page that decodes all of it at once takes much longer.
 SECONDS_TO_OPEN = 10.0
 FINDINGS = ("discovery: full, steady, no fault, 1 device; its certificate is complete", f"{LEFT} followed the rules",
-            f"{SILENT} was never heard: exchange 12 is the fifth silence in a row in a range that holds it",
+            f"{SILENT} was never heard: exchange 8 is the fifth silence in a row in a range that holds it",
             "exchange 3: bytes came from 0000:00000000 to ffff:fffffffe, where no listed device was due")
 # The place of an exchange in the window, by what the page itself computes.
 PLACE = """(() => {{
@@ -109,15 +109,15 @@ class Shown(TestCase):
         x = self.page.value("xOf(5) + size.width / 2")
         self.assertEqual(self.colours(x - 6, 33, 12, 12).get(INK, 0), 0)
         self.page.value("document.querySelectorAll('#findings button')[0].click()")
-        self.assertEqual(self.detail(12)["found"], [f"\u25bc {FINDINGS[2]}"])
-        y = self.page.value(f"topOfRow({1}) + size.row / 2 - view.scrollTop")
-        ring = self.colours(self.page.value("xOf(12) + size.width / 2") - 9, y - 9, 18, 18)
+        self.assertEqual(self.detail(8)["found"], [f"\u25bc {FINDINGS[2]}"])
+        y = self.page.value("topOfRow(1) + size.row / 2 - view.scrollTop")
+        ring = self.colours(self.page.value("xOf(8) + size.width / 2") - 9, y - 9, 18, 18)
         self.assertGreater(ring.get(INK, 0), 40)
 
     def test_keys_and_sizes(self) -> None:
         self.page.open(written(self.place, discovered(scene(devices=[{"uid": LEFT}])), *FINDINGS))
         self.page.value("view.focus()")
-        for key, wanted in (("ArrowRight", 0), ("ArrowRight", 1), ("End", 8), ("ArrowLeft", 7), ("Home", 0)):
+        for key, wanted in (("ArrowRight", 0), ("ArrowRight", 1), ("End", 9), ("ArrowLeft", 8), ("Home", 0)):
             for kind in ("keyDown", "keyUp"):
                 self.page.call("Input.dispatchKeyEvent", type=kind, key=key)
             self.detail(wanted)

@@ -6,14 +6,11 @@ from __future__ import annotations
 
 import enum
 import functools
-from dataclasses import dataclass
-from typing import Optional
+from typing import NamedTuple, Optional
 
 from ..lines.numbers import CommandClass, Pid, ResponseType
-from ..lines.packets import (
-    CHECKSUM_BYTES, LEAST_PACKET_BYTES, Packet, checksum, decode_branch_reply, decode_packet,
-)
-from .frames import branch_text, command_of, reply_text
+from ..lines.packets import CHECKSUM_BYTES, LEAST_PACKET_BYTES, decode_branch_reply, decode_packet
+from . import frames
 
 UID_BYTES = 6
 BRANCH_DATA_BYTES = 12
@@ -45,19 +42,18 @@ class Came(enum.IntEnum):
     FAILED = 6
 
 
-@dataclass(frozen=True, eq=False)
-class Command:
-    """A frame: what it asks, from the first to the last UID, and its text."""
+class Command(NamedTuple):
+    """A frame: what it asks, from the first to the last UID, its text, and what decides how an answer is read."""
 
     asked: Asked
     low: bytes
     high: bytes
     text: str
-    packet: Optional[Packet]
+    is_branch: bool = False
+    pid: Optional[int] = None
 
 
-@dataclass(frozen=True, eq=False)
-class Answer:
+class Answer(NamedTuple):
     """What came, its text, and the UID that it spells or that sent it."""
 
     came: Came
@@ -65,8 +61,8 @@ class Answer:
     uid: bytes = NO_UID
 
 
-FAILED = Answer(Came.FAILED, "the line failed")
-SILENCE = Answer(Came.SILENCE, "silence")
+FAILED = Answer(Came.FAILED, frames.LINE_FAILED)
+SILENCE = Answer(Came.SILENCE, frames.SILENCE)
 ACKNOWLEDGED = (ResponseType.ACK, ResponseType.ACK_OVERFLOW)
 CLASSES = {CommandClass.GET: Asked.GET, CommandClass.SET: Asked.SET}
 DISCOVERY_PIDS = {Pid.DISC_MUTE: Asked.MUTE, Pid.DISC_UN_MUTE: Asked.UNMUTE}
@@ -83,45 +79,48 @@ def answer_to(command: Command, reply: Optional[bytes]) -> Answer:
         return FAILED
     if not reply:
         return SILENCE
-    is_branch = command.packet is not None and command.packet.is_branch
-    return _branch_answer(reply) if is_branch else _answer(command, unnumbered(reply))
+    return _branch_answer(reply) if command.is_branch else _answer(command.pid, unnumbered(reply))
 
 
 def unnumbered(data: bytes) -> bytes:
     """A packet with the transaction number 0, and all other bytes as they are."""
-    is_whole = len(data) >= LEAST_PACKET_BYTES and len(data) == data[2] + CHECKSUM_BYTES
-    if not is_whole or sum(data[:-CHECKSUM_BYTES]) & 0xFFFF != data[-2] << 8 | data[-1]:
+    if len(data) < LEAST_PACKET_BYTES or len(data) != data[2] + CHECKSUM_BYTES:
         return data
-    packet = data[:TRANSACTION_AT] + b"\x00" + data[TRANSACTION_AT + 1:-CHECKSUM_BYTES]
-    return packet + checksum(packet)
+    total = sum(data) - data[-2] - data[-1]
+    if total & 0xFFFF != data[-2] << 8 | data[-1]:
+        return data
+    total = total - data[TRANSACTION_AT] & 0xFFFF
+    return b"%b\x00%b%c%c" % (data[:TRANSACTION_AT], data[TRANSACTION_AT + 1:-CHECKSUM_BYTES], total >> 8, total & 0xFF)
 
 
 @functools.lru_cache(maxsize=MOST_KNOWN)
 def _command(frame: bytes) -> Command:
     packet = decode_packet(frame)
     if packet is None:
-        return Command(Asked.OTHER, NO_UID, NO_UID, command_of(frame), None)
+        return Command(Asked.OTHER, NO_UID, NO_UID, frames.command_of(frame))
+    text = frames.command_text(packet)
     if packet.is_branch and len(packet.data) == BRANCH_DATA_BYTES:
-        low, high = packet.data[:UID_BYTES], packet.data[UID_BYTES:]
-        return Command(Asked.BRANCH, low, high, command_of(frame), packet)
+        return Command(Asked.BRANCH, packet.data[:UID_BYTES], packet.data[UID_BYTES:], text, True)
     asked = CLASSES.get(packet.command_class, Asked.OTHER)
     if packet.command_class == CommandClass.DISCOVERY:
         asked = DISCOVERY_PIDS.get(packet.pid, Asked.OTHER)
     target = packet.destination.to_bytes(UID_BYTES, "big")
-    return Command(asked, target, target, command_of(frame), packet)
+    return Command(asked, target, target, text, packet.is_branch, packet.pid)
 
 
 @functools.lru_cache(maxsize=MOST_KNOWN)
 def _branch_answer(reply: bytes) -> Answer:
     found = decode_branch_reply(reply)
+    text = frames.spelled_text(reply, found)
     if found is None:
-        return Answer(Came.COLLISION, branch_text(reply))
-    return Answer(Came.ONE, branch_text(reply), found.to_bytes(UID_BYTES, "big"))
+        return Answer(Came.COLLISION, text)
+    return Answer(Came.ONE, text, found.to_bytes(UID_BYTES, "big"))
 
 
 @functools.lru_cache(maxsize=MOST_KNOWN)
-def _answer(command: Command, reply: bytes) -> Answer:
-    text, response = reply_text(reply, command.packet), decode_packet(reply)
+def _answer(pid: Optional[int], reply: bytes) -> Answer:
+    response = decode_packet(reply)
+    text = frames.bytes_text(reply, response, pid)
     if response is None:
         return Answer(Came.DAMAGED, text)
     came = Came.ACKNOWLEDGED if response.port_or_type in ACKNOWLEDGED else Came.OTHER_RESPONSE

@@ -10,7 +10,7 @@ import sys
 from array import array
 from collections import Counter
 from dataclasses import dataclass, field
-from typing import Any, BinaryIO, Callable, Dict, Iterator, List, Optional, Set
+from typing import Any, BinaryIO, Callable, Dict, Iterator, List, Optional, Set, Tuple
 
 from .page_details import Details
 from .page_frames import NO_UID, Came, answer_to, command_in
@@ -75,13 +75,8 @@ class Log:
         return len(self.columns.asked)
 
 
-@dataclass
-class Sent:
-    """A frame that waits for its answer: its text as the log has it, what it is for, and its clients' bits."""
-
-    frame: str
-    name: str
-    clients: int
+# A frame that waits for its answer: what it is for, its text as the log has it, and its clients' bits.
+Sent = Tuple[str, str, int]
 
 
 class Reader:
@@ -96,7 +91,9 @@ class Reader:
         self._run_clients = 0
         self._requests: Dict[int, int] = {}
         self._asks: Dict[int, int] = {}
+        # How many of them each client has, and a bit for each that has some.
         self._outstanding = [0] * MOST_CLIENTS
+        self._waiting = 0
         self._steps: Dict[str, Callable[[Dict[str, Any]], None]] = {
             "opening": self._opening, "join": self._join, "accept": self._accept, "ask": self._ask, "send": self._send,
             "came": self._came, "finish": self._finish, "answer": self._answer, "refuse": ignore, "collect": ignore,
@@ -111,7 +108,7 @@ class Reader:
 
     def _opening(self, entry: Dict[str, Any]) -> None:
         self._run = self._sent = self._number = None
-        self._requests, self._asks, self._outstanding = {}, {}, [0] * MOST_CLIENTS
+        self._requests, self._asks, self._outstanding, self._waiting = {}, {}, [0] * MOST_CLIENTS, 0
         self.log.clients.update(range(min(len(entry.get("places", ())), MOST_CLIENTS)))
 
     def _join(self, entry: Dict[str, Any]) -> None:
@@ -133,6 +130,7 @@ class Reader:
     def _begin(self, calls: Dict[int, int], entry: Dict[str, Any]) -> None:
         client = calls[number_in(entry, "number")] = self._client(entry)
         self._outstanding[client] += 1
+        self._waiting |= 1 << client
 
     def _finish(self, entry: Dict[str, Any]) -> None:
         self._end(self._requests, entry)
@@ -145,6 +143,8 @@ class Reader:
         client = calls.pop(number_in(entry, "number"), None)
         if client is not None:
             self._outstanding[client] -= 1
+            if not self._outstanding[client]:
+                self._waiting &= ~(1 << client)
 
     def _send(self, entry: Dict[str, Any]) -> None:
         if "run" in entry:
@@ -154,12 +154,12 @@ class Reader:
                 self._begin_run(f"run {number}")
             clients = sorted(client for client in range(MOST_CLIENTS) if self._run_clients >> client & 1)
             name = f"run {number}, exchange {len(self._current().exchanges)}"
-            self._sent = Sent(entry["frame"], name + for_clients(clients), self._run_clients)
+            self._sent = name + for_clients(clients), entry["frame"], self._run_clients
             return
         number = number_in(entry, "request")
         client = self._requests.get(number)
         name = f"request {number}" + for_clients([] if client is None else [client])
-        self._sent = Sent(entry["frame"], name, 0 if client is None else 1 << client)
+        self._sent = name, entry["frame"], 0 if client is None else 1 << client
 
     def _begin_run(self, name: str) -> None:
         self._run = Run(name)
@@ -173,8 +173,8 @@ class Reader:
     def _came(self, entry: Dict[str, Any]) -> None:
         if self._sent is not None:
             sent, self._sent = self._sent, None
-            self._add(sent, entry)
-            if sent.name.startswith("run"):
+            self._add(*sent, entry)
+            if sent[0].startswith("run"):
                 self._current().exchanges.append(len(self.log) - 1)
 
     def _exchange(self, entry: Dict[str, Any]) -> None:
@@ -183,12 +183,13 @@ class Reader:
             self._number = None
             self._begin_run(NO_RUN)
         run = self._current()
-        self._add(Sent(entry["frame"], f"exchange {len(run.exchanges)}", 0), entry)
+        self._add(f"exchange {len(run.exchanges)}", entry["frame"], 0, entry)
         run.exchanges.append(len(self.log) - 1)
 
-    def _add(self, sent: Sent, entry: Dict[str, Any]) -> None:
+    def _add(self, name: str, frame: str, clients: int, entry: Dict[str, Any]) -> None:
+        """The next exchange, whose answer an entry has."""
         reply = None if "failed" in entry else bytes.fromhex(entry["reply"])
-        command = command_in(bytes.fromhex(sent.frame))
+        command = command_in(bytes.fromhex(frame))
         answer = answer_to(command, reply)
         columns = self.log.columns
         columns.asked.append(command.asked)
@@ -196,11 +197,11 @@ class Reader:
         columns.low += command.low
         columns.high += command.high
         columns.spelled += answer.uid if answer.came is Came.ONE else NO_UID
-        columns.served.append(sent.clients)
-        columns.waiting.append(bits(client for client, count in enumerate(self._outstanding) if count))
+        columns.served.append(clients)
+        columns.waiting.append(self._waiting)
         if answer.came is not Came.ONE and answer.uid != NO_UID:
             self.log.senders[int.from_bytes(answer.uid, "big")] += 1
-        self.log.details.add(sent.name, sent.frame, None if reply is None else entry["reply"], command.text, answer.text)
+        self.log.details.add(name, frame, None if reply is None else entry["reply"], command.text, answer.text)
 
 
 def ignore(entry: Dict[str, Any]) -> None:
