@@ -56,8 +56,9 @@ end_put_package() {
     rm -rf -- "$2"
 }
 
-# Copies a folder of Python files, without others: a library among them isn't the proved one.
+# Copies a folder of Python files with the scripts and texts of pages, without others: a library among them isn't the
+# proved one.
 copy_package() {
     cp -R -- "$1" "$2" && find "$2" -name __pycache__ -prune -exec rm -r {} + \
-        && find "$2" ! -type d ! -name '*.py' ! -name py.typed -delete
+        && find "$2" ! -type d ! -name '*.py' ! -name '*.js' ! -name '*.css' ! -name '*.html' ! -name py.typed -delete
 }

@@ -15,6 +15,8 @@ RESPONSES = (CommandClass.GET_RESPONSE, CommandClass.SET_RESPONSE)
 UID_BYTES = 6
 NACK_BYTES = 2
 TENTHS = 10
+SILENCE = "silence"
+LINE_FAILED = "the line failed"
 
 
 def exchange_text(number: int, frame: bytes, reply: Optional[bytes]) -> str:
@@ -26,7 +28,7 @@ def answer_text(frame: bytes, reply: Optional[bytes]) -> str:
     """What a frame's reply says. None is a line that failed."""
     command = decode_packet(frame)
     if reply is None:
-        return "the line failed"
+        return LINE_FAILED
     return branch_text(reply) if command is not None and command.is_branch else reply_text(reply, command)
 
 
@@ -85,17 +87,22 @@ def data_text(command: Packet) -> str:
 
 def branch_text(reply: bytes) -> str:
     """What came after a branch."""
-    if not reply:
-        return "silence"
-    found = decode_branch_reply(reply)
+    return spelled_text(reply, decode_branch_reply(reply)) if reply else SILENCE
+
+
+def spelled_text(reply: bytes, found: Optional[int]) -> str:
+    """The bytes that came after a branch, which spell this UID, or none."""
     return f"collision, {len(reply)} bytes" if found is None else uid_text(found)
 
 
 def reply_text(reply: bytes, command: Optional[Packet]) -> str:
     """A response to a command."""
-    if not reply:
-        return "silence"
-    response = decode_packet(reply)
+    pid = None if command is None else command.pid
+    return bytes_text(reply, decode_packet(reply), pid) if reply else SILENCE
+
+
+def bytes_text(reply: bytes, response: Optional[Packet], pid: Optional[int]) -> str:
+    """The bytes that came after a command for this parameter, which are this response, or none."""
     if response is None:
         return f"damaged, 0x{reply.hex()}"
     number = int.from_bytes(response.data, "big")
@@ -108,8 +115,7 @@ def reply_text(reply: bytes, command: Optional[Packet]) -> str:
         return f"ACK_OVERFLOW, {len(response.data)} bytes"
     if response.port_or_type != ResponseType.ACK:
         return f"response type 0x{response.port_or_type:02x}, 0x{response.data.hex()}"
-    is_other = command is not None and command.pid != response.pid
-    return f"ACK{acknowledged_text(response, is_other)}"
+    return f"ACK{acknowledged_text(response, pid not in (None, response.pid))}"
 
 
 def acknowledged_text(response: Packet, is_other: bool) -> str:

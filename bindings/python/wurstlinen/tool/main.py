@@ -11,18 +11,19 @@ from typing import Iterator, List, Optional, Sequence, Tuple
 from .. import commands
 from ..front import main as front
 from ..front.main import run as run_chosen
-from ..front.output import DONE, FAILED, INTERRUPTED, Failure, Output
+from ..front.output import BAD_ARGUMENTS, DONE, FAILED, INTERRUPTED, Failure, Output
 from ..front.work import LINE_VARIABLE
 from ..parameters.words import hint
-from . import arguments, places, serving
+from . import arguments, explaining, places, serving
 from .adapters import default_line
+from .explaining import NO_PROGRAM
 
 VERSION_WORDS = ("version", "--version", "-V")
 HELP_WORDS = ("-h", "--help")
 # The options with a value.
-VALUED = ("--line", "--replies", "--source", "--known", "--budget", "--port", "--log")
+VALUED = ("--line", "--replies", "--source", "--known", "--budget", "--port", "--log", "--present", "--rig", "--page")
 FRAMES = "--frames"
-NO_PROGRAM = 127
+PAGE = "--page"
 # What the program answers to wrong words.
 WRONG_WORDS = "fault: command line"
 # Python ignores these, and a program that it becomes would, too.
@@ -95,6 +96,8 @@ def run_proved(words: List[str]) -> int:
     program = places.program()
     if program is None:
         return no_program(f"'{words[0]}'")
+    if words[0] == "explain" and place_of(words, PAGE) is not None:
+        return run_explain(program, words)
     line = option(words, "--line")
     if words[0] == "discover" and place_of(words, "--line") is None and not has_file(words):
         line = line_of_discovery()
@@ -103,6 +106,18 @@ def run_proved(words: List[str]) -> int:
     assert line is not None
     shows_frames = place_of(words, FRAMES) is not None
     return serving.serve(program, without(without(words, "--line"), FRAMES), line, shows_frames)
+
+
+def run_explain(program: Path, words: List[str]) -> int:
+    """Explains a log, and writes a page about it. Raises Failure."""
+    page = option(words, PAGE)
+    if not page:
+        print(WRONG_WORDS, flush=True)
+        raise Failure(BAD_ARGUMENTS, f"argument {PAGE}: expected one argument; try 'wurstlinen explain --help'",
+                      reason="arguments")
+    words = without(words, PAGE)
+    files = [words[at] for at, name in parts(words) if not name]
+    return explaining.explain(program, words, page, [*files, *filter(None, [option(words, "--rig")])])
 
 
 def line_of_discovery() -> str:

@@ -8,7 +8,7 @@ import sys
 from contextlib import ExitStack
 from pathlib import Path
 from threading import Thread
-from typing import IO, Dict, List, Optional, Sequence
+from typing import IO, Any, Dict, List, Optional, Sequence
 
 from ..commands import SOURCE
 from ..front.output import BAD_ARGUMENTS, FAILED, Failure, Output
@@ -102,7 +102,7 @@ def source_words(words: Sequence[str], line: OpenLine) -> List[str]:
     return ["--source", uid_text(SOURCE if line.source is None else line.source)]
 
 
-def end(child: "subprocess.Popen[str]") -> None:
+def end(child: "subprocess.Popen[Any]") -> None:
     """Ends the program if it still runs, after a second by force."""
     if child.poll() is None:
         child.terminate()

@@ -1,0 +1,116 @@
+"""Logs for tests of pages: of discoveries of rigs, of a session with a few clients, and long ones."""
+from __future__ import annotations
+
+import random
+from dataclasses import dataclass
+from typing import Any, Dict, Iterator, List, Optional, Sequence
+
+import common  # noqa: F401  (it makes the package known)
+from search import Controller, Corrupt
+from wurstlinen.lines import Rig
+from wurstlinen.lines.numbers import ResponseType
+from wurstlinen.lines.packets import ALL_DEVICES, Packet, decode_packet, encode_branch_reply
+from wurstlinen.lines.scene import Scene
+
+SOURCE = 0x7A7000000100
+DISCOVERY_OPENING = ('{"entry":"opening","source":"7a70:00000100","budget":384008,"search":"steady",'
+                     '"discover":"full","known":[]}\n')
+SESSION_OPENING = ('{"entry":"opening","source":"7a70:00000100","budget":384008,"search":"steady","greatest":9,'
+                   '"places":[3],"paused":false,"closed":false,"devices":[],"devices_run":0,"next_request":0,'
+                   '"next_ask":0,"next_run":1,"next_tn":0,"number":0}\n')
+OPERATIONS = {1: "branch", 2: "mute", 3: "unmute"}
+# One that is no packet, since these tests don't care.
+FRAME = "cc"
+
+
+def exchange_line(number: int, operation: str, frame: bytes, reply: Optional[bytes]) -> str:
+    """A line of a discovery's log. No reply is a line that failed."""
+    end = '"failed":true' if reply is None else f'"reply":"{reply.hex()}"'
+    return f'{{"number":{number},"operation":"{operation}","frame":"{frame.hex()}",{end}}}\n'
+
+
+class LoggedLine:
+    """A line that writes a discovery's log."""
+
+    def __init__(self, line: Rig) -> None:
+        self.lines = [DISCOVERY_OPENING]
+        self._line = line
+
+    def exchange(self, frame: bytes) -> bytes:
+        reply = self._line.exchange(frame)
+        packet = decode_packet(frame)
+        assert packet is not None
+        self.lines.append(exchange_line(len(self.lines) - 1, OPERATIONS[packet.pid], frame, reply))
+        return reply
+
+
+def discovered(made: Scene) -> str:
+    """The log of a discovery of a rig."""
+    line = LoggedLine(Rig(made))
+    try:
+        Controller(line).discover()
+    except Corrupt:
+        pass
+    return "".join(line.lines)
+
+
+def session_of(entries: Sequence[str]) -> str:
+    """The log of a session with these entries after its opening."""
+    return SESSION_OPENING + "".join(f"{entry}\n" for entry in entries)
+
+
+def sent(owner: str, number: int, end: str = '"reply":""') -> List[str]:
+    """The two entries of an exchange."""
+    return [f'{{"entry":"send","{owner}":{number},"frame":"{FRAME}"}}', f'{{"entry":"came",{end}}}']
+
+
+def called(entry: str, client: int, number: int) -> str:
+    """A request or a discovery that a client asked for."""
+    call = '"discover":"full"' if entry == "ask" else '"get":"1234:00000001","pid":"0060","sub":0,"param":""'
+    return f'{{"entry":"{entry}","client":{client},"number":{number},{call}}}'
+
+
+@dataclass(frozen=True)
+class Session:
+    """A session, and what is drawn of it."""
+
+    entries: List[str]
+    names: List[str]
+    served: List[int]
+    waiting: List[int]
+    runs: List[Dict[str, Any]]
+
+
+# A run for the clients 0 and 2, between requests of client 1, which then asks for a run, too.
+FEW_CLIENTS = Session(
+    entries=[
+        '{"entry":"join","client":1,"places":3}', '{"entry":"join","client":2,"places":3}',
+        '{"entry":"refuse","places":9,"cause":3}', called("accept", 1, 0), called("ask", 0, 0), called("ask", 2, 1),
+        *sent("request", 0), '{"entry":"finish","number":0,"status":3,"length":0}', '{"entry":"collect","client":1}',
+        *sent("run", 1), called("accept", 1, 1), called("ask", 1, 2), '{"entry":"pause"}', '{"entry":"resume"}',
+        *sent("request", 1), '{"entry":"finish","number":1,"status":3,"length":0}', *sent("run", 1),
+        '{"entry":"answer","number":0,"run":1}', '{"entry":"answer","number":1,"run":1}',
+        *sent("run", 2, '"failed":true'), '{"entry":"answer","number":2,"run":2,"fault":4}', *sent("request", 9),
+        '{"entry":"close"}'],
+    names=["request 0, for client 1", "run 1, exchange 0, for clients 0, 2", "request 1, for client 1",
+           "run 1, exchange 1, for clients 0, 2", "run 2, exchange 0, for client 1", "request 9"],
+    served=[0b010, 0b101, 0b010, 0b101, 0b010, 0], waiting=[0b111, 0b101, 0b111, 0b111, 0b010, 0],
+    runs=[{"name": "run 1", "first": 1, "count": 2}, {"name": "run 2", "first": 4, "count": 1}])
+
+
+def long_log(count: int, seed: int = 1) -> Iterator[str]:
+    """The lines of a log with this many exchanges, four fifths of them branches of random ranges."""
+    chance = random.Random(seed)
+    yield DISCOVERY_OPENING
+    for number in range(count):
+        if chance.random() < 0.8:
+            bits = chance.randint(0, 47)
+            low = chance.getrandbits(48) >> bits << bits
+            data = low.to_bytes(6, "big") + (low | (1 << bits) - 1).to_bytes(6, "big")
+            command = Packet(ALL_DEVICES, SOURCE, number % 256, 1, 0, 0, 0x10, 1, data)
+            reply = chance.choice((b"", b"", b"", encode_branch_reply(low), chance.randbytes(24)))
+            yield exchange_line(number, "branch", command.encode(), reply)
+        else:
+            command = Packet(0x123400000000 + chance.randint(1, 1000), SOURCE, number % 256, 1, 0, 0, 0x10, 2)
+            reply = command.answer(command.destination, ResponseType.ACK, b"\0\0").encode()
+            yield exchange_line(number, "mute", command.encode(), reply)

@@ -1,0 +1,169 @@
+"""The page of explain in a browser: it opens at once, shows what is clicked, marks findings, and asks for nothing."""
+from __future__ import annotations
+
+import io
+import time
+import unittest
+from pathlib import Path
+from typing import Any, Dict
+
+from browser import Page, browser, needs_chromium
+from common import TestCase, folder, scene
+from page_logs import FEW_CLIENTS, discovered, long_log, session_of
+from wurstlinen.front import page
+
+LEFT, SILENT = "1234:00000001", "1234:00000009"
+MANY = 100_000
+# On a quiet machine it takes one. A page that decodes all of it at once takes much longer.
+SECONDS_TO_OPEN = 10.0
+FINDINGS = ("discovery: full, steady, no fault, 1 device; its certificate is complete", f"{LEFT} followed the rules",
+            f"{SILENT} was never heard: exchange 8 is the fifth silence in a row in a range that holds it",
+            "exchange 3: bytes came from 0000:00000000 to ffff:fffffffe, where no listed device was due")
+# The place of an exchange in the window, by what the page itself computes.
+PLACE = """(() => {{
+    const box = view.getBoundingClientRect();
+    return [box.left + view.clientLeft + xOf({at}) + size.width / 2, box.top + box.height / 2];
+}})()"""
+# Which colours are in the picture, between two of its columns.
+COLOURS = """(() => {{
+    const scale = window.devicePixelRatio;
+    const data = pen.getImageData({x} * scale, {y} * scale, {width} * scale, {height} * scale).data;
+    const found = {{}};
+    for (let at = 0; at < data.length; at += 4) {{
+        const colour = `${{data[at]}},${{data[at + 1]}},${{data[at + 2]}}`;
+        found[colour] = (found[colour] ?? 0) + 1;
+    }}
+    return found;
+}})()"""
+INK = "27,31,36"
+BLUE = "0,114,178"
+SERVED = "51,82,122"
+WAITING = "201,217,234"
+
+
+def written(place: Path, log: str, *lines: str) -> Path:
+    """A file with the page of a log."""
+    file = place / "page.html"
+    file.write_text(page.page_of("a <b>log</b>", io.BytesIO(log.encode()), lines, True), encoding="utf-8")
+    return file
+
+
+@needs_chromium
+class Shown(TestCase):
+    """Pages in a browser."""
+
+    def setUp(self) -> None:
+        contexts = folder(), browser()
+        self.place, self.page = (context.__enter__() for context in contexts)
+        for context in contexts:
+            self.addCleanup(context.__exit__, None, None, None)
+
+    place: Path
+    page: Page
+
+    def tearDown(self) -> None:
+        self.assertEqual(self.page.errors, [])
+        self.assertEqual(self.page.requests, [(self.place / "page.html").as_uri()])
+
+    def clicked(self, at: int) -> Dict[str, Any]:
+        """What is shown after a click on an exchange."""
+        self.page.click(*self.page.value(PLACE.format(at=at)))
+        return self.detail(at)
+
+    def detail(self, at: int) -> Dict[str, Any]:
+        """What is shown of an exchange, as soon as it is."""
+        self.page.wait(f"get('detail').dataset.exchange === '{at}'")
+        return {name: self.page.value(f"[...get('detail').querySelectorAll('{what}')].map((each) => each.textContent)")
+                for name, what in (("title", "h2"), ("command", ".command"), ("answer", ".answer"), ("found", ".found"),
+                                   ("fields", ".bytes span"))}
+
+    def colours(self, x: float, y: float, width: float, height: float) -> Dict[str, int]:
+        """How many pixels of the picture have which colour."""
+        self.page.value("new Promise((done) => requestAnimationFrame(() => requestAnimationFrame(done)))")
+        found: Dict[str, int] = self.page.value(COLOURS.format(x=x, y=y, width=width, height=height))
+        return found
+
+    def test_a_discovery(self) -> None:
+        self.page.open(written(self.place, discovered(scene(devices=[{"uid": LEFT}])), *FINDINGS))
+        texts = self.page.value("[...document.querySelectorAll('#findings li')].map((each) => each.textContent)")
+        self.assertEqual(texts, [FINDINGS[0], FINDINGS[1], f"\u25bc{FINDINGS[2]}", f"\u25bc{FINDINGS[3]}"])
+        self.assertEqual(self.page.value("get('title').textContent"), "explain: a <b>log</b>")
+        self.assertIn("A rule was broken.", self.page.value("get('verdict').textContent"))
+        found = self.clicked(3)
+        self.assertEqual(found["title"], ["exchange 3"])
+        self.assertEqual(found["command"], ["BRANCH 0000:00000000-ffff:fffffffe"])
+        self.assertEqual(found["answer"], [LEFT])
+        self.assertEqual(found["found"], [f"\u25bc {FINDINGS[3]}"])
+        self.assertIn("PID0001", found["fields"])
+        self.assertIn("preamblefefefefefefefe", found["fields"])
+        found = self.clicked(4)
+        self.assertEqual((found["command"], found["answer"]), ([f"MUTE {LEFT}"], ["ACK 0x0000"]))
+        self.assertEqual(found["found"], [])
+
+    def test_findings_are_marked(self) -> None:
+        self.page.open(written(self.place, discovered(scene(devices=[{"uid": LEFT}])), *FINDINGS))
+        x = self.page.value("xOf(3) + size.width / 2")
+        # The triangle above, and the bar below.
+        self.assertGreater(self.colours(x - 6, 33, 12, 12).get(INK, 0), 30)
+        self.assertGreater(self.colours(x - 6, 60, 12, 100).get(BLUE, 0), 300)
+        x = self.page.value("xOf(5) + size.width / 2")
+        self.assertEqual(self.colours(x - 6, 33, 12, 12).get(INK, 0), 0)
+        self.page.value("document.querySelectorAll('#findings button')[0].click()")
+        self.assertEqual(self.detail(8)["found"], [f"\u25bc {FINDINGS[2]}"])
+        y = self.page.value("topOfRow(1) + size.row / 2 - view.scrollTop")
+        ring = self.colours(self.page.value("xOf(8) + size.width / 2") - 9, y - 9, 18, 18)
+        self.assertGreater(ring.get(INK, 0), 40)
+
+    def test_keys_and_sizes(self) -> None:
+        self.page.open(written(self.place, discovered(scene(devices=[{"uid": LEFT}])), *FINDINGS))
+        self.page.value("view.focus()")
+        for key, wanted in (("ArrowRight", 0), ("ArrowRight", 1), ("End", 9), ("ArrowLeft", 8), ("Home", 0)):
+            for kind in ("keyDown", "keyUp"):
+                self.page.call("Input.dispatchKeyEvent", type=kind, key=key)
+            self.detail(wanted)
+        before = self.page.value("[size.width, size.row]")
+        for name in ("out", "in", "all", "lower", "higher"):
+            self.page.value(f"get('{name}').click()")
+        after = self.page.value("[size.width, size.row]")
+        self.assertEqual([round(each, 6) for each in after], [round(each, 6) for each in before])
+
+    def test_clients(self) -> None:
+        self.page.open(written(self.place, session_of(FEW_CLIENTS.entries), "run 1: x", "exchange 1 failed"))
+        self.assertEqual(self.clicked(3)["title"], ["run 1, exchange 1, for clients 0, 2 (exchange 3 of the log)"])
+        for client, waits in enumerate(([0, 1, 2, 3], [0, 2, 3, 4], [0, 1, 2, 3])):
+            for at in range(6):
+                found = self.colours(self.page.value(f"xOf({at}) + 2"), 32 + 12 * client + 3, 8, 4)
+                mask = FEW_CLIENTS.served[at] >> client & 1
+                wanted = SERVED if mask else WAITING if at in waits else "255,255,255"
+                self.assertEqual(list(found), [wanted], (client, at))
+
+    def test_many_exchanges_open_at_once(self) -> None:
+        lines = [*FINDINGS, *(f"1234:{number:08x} followed the rules" for number in range(1, 1001))]
+        file = written(self.place, "".join(long_log(MANY)), *lines)
+        self.assertLess(self.page.open(file), SECONDS_TO_OPEN)
+        self.assertEqual(self.page.value("log.count"), MANY)
+        # Only lines with a place are listed of so many.
+        self.assertEqual(self.page.value("get('findings').children.length"), 3)
+        began = time.monotonic()
+        self.page.value(f"select({MANY - 1})")
+        self.assertEqual(self.detail(MANY - 1)["title"], [f"exchange {MANY - 1}"])
+        self.page.value("setWidth(20)")
+        self.page.value("get('only').click()")
+        self.assertEqual(self.page.value("get('findings').children.length"), 1001)
+        self.assertLess(time.monotonic() - began, SECONDS_TO_OPEN)
+
+    def test_nothing_was_sent(self) -> None:
+        self.page.open(written(self.place, "", "who knows?"))
+        self.assertEqual(self.page.value("get('findings').textContent"), "who knows?")
+
+    def test_texts_are_no_script(self) -> None:
+        bad = "</script><script>window.bad = 1</script><img src=x onerror='window.bad = 1'>"
+        self.page.open(written(self.place, discovered(scene(devices=[])), f"discovery: {bad}", f"exchange 1 {bad}"))
+        self.page.value("document.querySelector('#findings button').click()")
+        self.assertEqual(self.detail(1)["found"], [f"\u25bc exchange 1 {bad}"])
+        self.assertEqual(self.page.value("[window.bad ?? 0, document.images.length, document.scripts.length]"),
+                         [0, 0, 4])
+
+
+if __name__ == "__main__":
+    unittest.main()

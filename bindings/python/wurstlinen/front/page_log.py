@@ -1,0 +1,254 @@
+"""The exchanges of a log as columns, from which a picture is drawn.
+
+The proved program has read the log before, and has refused what isn't one. So what is refused here is a log that has
+changed since, or that only the program understands.
+"""
+from __future__ import annotations
+
+import json
+import sys
+from array import array
+from collections import Counter
+from dataclasses import dataclass, field
+from typing import Any, BinaryIO, Callable, Dict, Iterator, List, Optional, Set, Tuple
+
+from .page_details import Details
+from .page_frames import NO_UID, Came, answer_to, command_in
+
+# A little more than the longest line of a log.
+MOST_LINE_BYTES = 1 << 18
+MOST_CLIENTS = 16
+MOST_EXCHANGES = 10_000_000
+NO_RUN = "discovery"
+
+
+class NoLog(Exception):
+    """A line that isn't a log's."""
+
+    def __init__(self, line: int) -> None:
+        super().__init__(f"line {line} isn't an entry of a log")
+
+
+@dataclass
+class Run:
+    """A run, and the places of its exchanges in the log."""
+
+    name: str
+    exchanges: "array[int]" = field(default_factory=lambda: array("I"))
+
+
+@dataclass
+class Columns:
+    """What is drawn of each exchange."""
+
+    asked: bytearray = field(default_factory=bytearray)
+    came: bytearray = field(default_factory=bytearray)
+    # The first and the last UID that was asked, and the one that a branch's answer spells, with six bytes each.
+    low: bytearray = field(default_factory=bytearray)
+    high: bytearray = field(default_factory=bytearray)
+    spelled: bytearray = field(default_factory=bytearray)
+    # A bit for each client: those that it is for, and those that wait for an outcome.
+    served: "array[int]" = field(default_factory=lambda: array("H"))
+    waiting: "array[int]" = field(default_factory=lambda: array("H"))
+
+    def data(self) -> bytes:
+        """All columns, one after another, with numbers in the order of small machines."""
+        served, waiting = array("H", self.served), array("H", self.waiting)
+        if sys.byteorder == "big":
+            served.byteswap()
+            waiting.byteswap()
+        return b"".join([self.low, self.high, self.spelled, served.tobytes(), waiting.tobytes(), self.asked, self.came])
+
+
+@dataclass
+class Log:
+    """What was read of a log."""
+
+    columns: Columns = field(default_factory=Columns)
+    runs: List[Run] = field(default_factory=list)
+    details: Details = field(default_factory=Details)
+    # How many answers each device sent.
+    senders: "Counter[int]" = field(default_factory=Counter)
+    clients: Set[int] = field(default_factory=set)
+
+    def __len__(self) -> int:
+        return len(self.columns.asked)
+
+
+# A frame that waits for its answer: what it is for, its text as the log has it, and its clients' bits.
+Sent = Tuple[str, str, int]
+
+
+class Reader:
+    """Reads a log, entry by entry, and divides it into runs as the proved program does."""
+
+    def __init__(self) -> None:
+        self.log = Log()
+        self._run: Optional[Run] = None
+        self._number: Optional[int] = None
+        self._sent: Optional[Sent] = None
+        # The clients' bits of the run in progress, and the clients of requests and discoveries without an outcome.
+        self._run_clients = 0
+        self._requests: Dict[int, int] = {}
+        self._asks: Dict[int, int] = {}
+        # How many of them each client has, and a bit for each that has some.
+        self._outstanding = [0] * MOST_CLIENTS
+        self._waiting = 0
+        self._steps: Dict[str, Callable[[Dict[str, Any]], None]] = {
+            "opening": self._opening, "join": self._join, "accept": self._accept, "ask": self._ask, "send": self._send,
+            "came": self._came, "finish": self._finish, "answer": self._answer, "refuse": ignore, "collect": ignore,
+            "pause": ignore, "resume": ignore, "close": ignore}
+
+    def take(self, entry: Dict[str, Any]) -> None:
+        """The next entry. Raises ValueError, TypeError or KeyError if it isn't one."""
+        if "operation" in entry:
+            self._exchange(entry)
+        else:
+            self._steps[entry["entry"]](entry)
+
+    def _opening(self, entry: Dict[str, Any]) -> None:
+        self._run = self._sent = self._number = None
+        self._requests, self._asks, self._outstanding, self._waiting = {}, {}, [0] * MOST_CLIENTS, 0
+        self.log.clients.update(range(min(len(entry.get("places", ())), MOST_CLIENTS)))
+
+    def _join(self, entry: Dict[str, Any]) -> None:
+        self._client(entry)
+
+    def _client(self, entry: Dict[str, Any]) -> int:
+        client = number_in(entry, "client")
+        if client >= MOST_CLIENTS:
+            raise ValueError
+        self.log.clients.add(client)
+        return client
+
+    def _accept(self, entry: Dict[str, Any]) -> None:
+        self._begin(self._requests, entry)
+
+    def _ask(self, entry: Dict[str, Any]) -> None:
+        self._begin(self._asks, entry)
+
+    def _begin(self, calls: Dict[int, int], entry: Dict[str, Any]) -> None:
+        client = calls[number_in(entry, "number")] = self._client(entry)
+        self._outstanding[client] += 1
+        self._waiting |= 1 << client
+
+    def _finish(self, entry: Dict[str, Any]) -> None:
+        self._end(self._requests, entry)
+
+    def _answer(self, entry: Dict[str, Any]) -> None:
+        self._end(self._asks, entry)
+
+    def _end(self, calls: Dict[int, int], entry: Dict[str, Any]) -> None:
+        # A log may begin after the call.
+        client = calls.pop(number_in(entry, "number"), None)
+        if client is not None:
+            self._outstanding[client] -= 1
+            if not self._outstanding[client]:
+                self._waiting &= ~(1 << client)
+
+    def _send(self, entry: Dict[str, Any]) -> None:
+        if "run" in entry:
+            number = number_in(entry, "run")
+            if self._run is None or self._number != number:
+                self._number = number
+                self._begin_run(f"run {number}")
+            clients = sorted(client for client in range(MOST_CLIENTS) if self._run_clients >> client & 1)
+            name = f"run {number}, exchange {len(self._current().exchanges)}"
+            self._sent = name + for_clients(clients), entry["frame"], self._run_clients
+            return
+        number = number_in(entry, "request")
+        client = self._requests.get(number)
+        name = f"request {number}" + for_clients([] if client is None else [client])
+        self._sent = name, entry["frame"], 0 if client is None else 1 << client
+
+    def _begin_run(self, name: str) -> None:
+        self._run = Run(name)
+        self._run_clients = bits(self._asks.values())
+        self.log.runs.append(self._run)
+
+    def _current(self) -> Run:
+        assert self._run is not None
+        return self._run
+
+    def _came(self, entry: Dict[str, Any]) -> None:
+        if self._sent is not None:
+            sent, self._sent = self._sent, None
+            self._add(*sent, entry)
+            if sent[0].startswith("run"):
+                self._current().exchanges.append(len(self.log) - 1)
+
+    def _exchange(self, entry: Dict[str, Any]) -> None:
+        """An exchange of a discovery's log."""
+        if number_in(entry, "number") == 0 or self._run is None:
+            self._number = None
+            self._begin_run(NO_RUN)
+        run = self._current()
+        self._add(f"exchange {len(run.exchanges)}", entry["frame"], 0, entry)
+        run.exchanges.append(len(self.log) - 1)
+
+    def _add(self, name: str, frame: str, clients: int, entry: Dict[str, Any]) -> None:
+        """The next exchange, whose answer an entry has."""
+        reply = None if "failed" in entry else bytes.fromhex(entry["reply"])
+        command = command_in(bytes.fromhex(frame))
+        answer = answer_to(command, reply)
+        columns = self.log.columns
+        columns.asked.append(command.asked)
+        columns.came.append(answer.came)
+        columns.low += command.low
+        columns.high += command.high
+        columns.spelled += answer.uid if answer.came is Came.ONE else NO_UID
+        columns.served.append(clients)
+        columns.waiting.append(self._waiting)
+        if answer.came is not Came.ONE and answer.uid != NO_UID:
+            self.log.senders[int.from_bytes(answer.uid, "big")] += 1
+        self.log.details.add(name, frame, None if reply is None else entry["reply"], command.text, answer.text)
+
+
+def ignore(entry: Dict[str, Any]) -> None:
+    """An entry of which nothing is drawn."""
+
+
+def number_in(entry: Dict[str, Any], key: str) -> int:
+    """A number of an entry. Raises ValueError or KeyError."""
+    number = entry[key]
+    if type(number) is not int or number < 0:
+        raise ValueError(key)
+    return number
+
+
+def bits(clients: Any) -> int:
+    """A bit for each of these clients."""
+    found = 0
+    for client in clients:
+        found |= 1 << client
+    return found
+
+
+def for_clients(clients: List[int]) -> str:
+    """Whom an exchange is for."""
+    names = ", ".join(map(str, clients))
+    return f", for client{'s' if len(clients) > 1 else ''} {names}" if clients else ""
+
+
+def lines_of(file: BinaryIO) -> Iterator[bytes]:
+    """The lines of a log. Raises NoLog for one that is too long."""
+    number = 0
+    while True:
+        line = file.readline(MOST_LINE_BYTES)
+        if not line:
+            return
+        number += 1
+        if len(line) == MOST_LINE_BYTES:
+            raise NoLog(number)
+        yield line
+
+
+def read_log(file: BinaryIO) -> Log:
+    """Reads a log. Raises NoLog and OSError."""
+    reader = Reader()
+    for number, line in enumerate(lines_of(file), 1):
+        try:
+            reader.take(json.loads(line.decode()))
+        except (ValueError, TypeError, KeyError, AttributeError, RecursionError):
+            raise NoLog(number) from None
+    return reader.log
