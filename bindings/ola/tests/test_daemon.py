@@ -16,18 +16,15 @@ from pathlib import Path
 from typing import Dict, List, NoReturn, Sequence, Tuple
 
 from checks import Checks, random_scene, uid_text, uids_of
-from daemon import Daemon, becomes
+from daemon import NO_REPLY, TRIES, Daemon, becomes
 from wurstlinen.lines.scene import parse_scene
 
 # The two kinds that OLA distinguishes: below 4.15, label 12 follows the replies to branches.
 FIRMWARES = ((2, 4), (4, 15))
 COUNTS = (3, 5, 40)
 LOSSES = (0.0, 0.2)
-TRIES = 5
-SOON_SECONDS = 10.0
+SOON_SECONDS = 60.0
 TERMINATED = 143
-# What OLA's tools print if there was no reply.
-NO_REPLY = "Error: Response Timeout"
 
 
 def check_line(checks: Checks, files: Tuple[Path, Path], count: int, firmware: Tuple[int, int], loss: float) -> None:
@@ -51,7 +48,7 @@ def check_line(checks: Checks, files: Tuple[Path, Path], count: int, firmware: T
                 checks.check(daemon.set(uid, "device_label", value) == "", f"{name}: the SET isn't acknowledged")
                 check_value(checks, loss, f"{name}: new label of {uid}", value, daemon, uid, "device_label")
         checks.check(": the proved discovery" in daemon.messages, f"{name}: the bridge isn't told")
-    checks.check(daemon.ended_well, f"{name}: {daemon.end}")
+    checks.check(daemon.ended_well, f"{name}: {daemon.state}")
 
 
 def check_value(checks: Checks, loss: float, name: str, wanted: str, daemon: Daemon, uid: str, pid: str) -> None:

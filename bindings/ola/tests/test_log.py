@@ -13,6 +13,7 @@ import json
 import os
 import shutil
 import signal
+import statistics
 import subprocess
 import sys
 import tempfile
@@ -26,10 +27,12 @@ from wurstlinen.lines.scene import Scene
 
 GETS = 100
 STUCK_MS = 10000
-# How much longer the GETs may take: what a busy machine adds.
+# How much longer the GETs may take: what a busy machine adds to their median, and to all of them.
 MOST_FACTOR = 1.3
-MOST_SECONDS_TO_END = 3.0
-SOON_SECONDS = 10.0
+MOST_SECONDS_MORE = 5.0
+# A daemon waits for its log for one second. This is less than one write takes.
+MOST_SECONDS_TO_END = 8.0
+SOON_SECONDS = 60.0
 MEGABYTE = 1000000
 TERMINATED = 143
 HAS_LIBRARY, HAS_NONE, BAD_ARGUMENTS, NOT_RUN = 0, 1, 2, 125
@@ -57,7 +60,7 @@ def check_stuck_disk(checks: Checks, files: Files) -> None:
     """A write to the log takes ten seconds, and a hundred GETs take no longer than without a log."""
     scene = random_scene(3, seed=21)
     uid = uids_of(scene)[0]
-    seconds = [0.0, 0.0]
+    seconds: Tuple[List[float], List[float]] = ([], [])
     stuck = {"WURSTLINEN_LOG": "FOLDER/log", "TEST_STUCK_FILE": "FOLDER/log", "TEST_STUCK_MS": str(STUCK_MS)}
     with start(files, scene, **stuck) as with_log, start(files, scene) as without:
         for daemon in (with_log, without):
@@ -66,13 +69,15 @@ def check_stuck_disk(checks: Checks, files: Files) -> None:
             for number, daemon in enumerate((with_log, without)):
                 began = time.monotonic()
                 daemon.get(uid, "device_label")
-                seconds[number] += time.monotonic() - began
-        checks.check(seconds[0] < MOST_FACTOR * seconds[1], f"{GETS} GETs with a log and without: {seconds}")
+                seconds[number].append(time.monotonic() - began)
+        medians, sums = list(map(statistics.median, seconds)), list(map(sum, seconds))
+        checks.check(medians[0] < MOST_FACTOR * medians[1], f"{GETS} GETs with a log and without: {seconds}")
+        checks.check(sums[0] < MOST_FACTOR * sums[1] + MOST_SECONDS_MORE, f"all {GETS} GETs: {seconds}")
         checks.check((with_log.folder / "log").stat().st_size < MEGABYTE // 10, "the disk wasn't stuck")
         began = time.monotonic()
         with_log.signal(signal.SIGTERM)
         with_log.wait()
-        checks.check(with_log.ended_well, with_log.end)
+        checks.check(with_log.ended_well, with_log.state)
         checks.check(time.monotonic() - began < MOST_SECONDS_TO_END, "a stuck disk holds up the end")
 
 
@@ -87,7 +92,7 @@ def check_kinds_of_files(checks: Checks, files: Files) -> None:
             text = f"WURSTLINEN_LOG={name.replace('FOLDER', str(daemon.folder))}: "
             checks.check(becomes(lambda: text in daemon.messages, SOON_SECONDS), f"{name}: it isn't reported")
             checks.check(daemon.messages.count(text) == 1, f"{name}: it is reported more than once")
-        checks.check(daemon.ended_well, f"{name}: {daemon.end}")
+        checks.check(daemon.ended_well, f"{name}: {daemon.state}")
 
 
 def check_rotation(checks: Checks, files: Files) -> None:
@@ -97,16 +102,26 @@ def check_rotation(checks: Checks, files: Files) -> None:
         paths = (daemon.folder / "log.1", daemon.folder / "log")
         tries = 0
         while not paths[0].exists() and tries < 40:
+            began = time.monotonic()
             daemon.discover(True)
             tries += 1
         checks.check(paths[0].exists(), "the log isn't renamed")
-        time.sleep(1)
+        checks.check(becomes(lambda: ends_with_result(paths[1], began), SOON_SECONDS), "the last result isn't written")
         checks.check(all(path.stat().st_size <= MEGABYTE for path in paths), "the log is too large")
         records = [record for path in paths for record in records_of(path)]
     times = [record["monotonic"] for record in records]
     checks.check(times == sorted(times) and not any("lost" in record for record in records), "the records' order")
     exchanges = [kind for record in records for kind in ("sent", "heard") if kind in record]
     checks.check(all(first != second for first, second in zip(exchanges, exchanges[1:])), "a record is missing")
+
+
+def ends_with_result(path: Path, began: float) -> bool:
+    """Whether a log has been written as far as the result of what was begun then."""
+    try:
+        last = records_of(path)[-1]
+    except (OSError, IndexError, ValueError):
+        return False
+    return "result" in last and last["monotonic"] > began * 1e6
 
 
 def check_end(checks: Checks, files: Files) -> None:
@@ -116,7 +131,7 @@ def check_end(checks: Checks, files: Files) -> None:
         daemon.discover(True)
         daemon.signal(signal.SIGTERM)
         daemon.wait()
-        checks.check(daemon.ended_well, daemon.end)
+        checks.check(daemon.ended_well, daemon.state)
         records = records_of(daemon.folder / "log")
         checks.check(records[-1].get("call") == "close", f"the last record is {records[-1]}")
         checks.check((daemon.folder / "log").stat().st_mode & 0o777 == 0o640, "the log's mode")
