@@ -68,6 +68,14 @@ def add_run(made: Any, name: str) -> None:
     command.add_argument("--log", metavar="LOG", help="a file for the log, which is replaced")
 
 
+def add_explain(made: Any, name: str) -> None:
+    """The arguments of explain."""
+    command = add_proved(made, name, "say which devices broke the rules, by a log", "explain session.log")
+    command.add_argument("file", metavar="LOG", help="a log that discover or run wrote")
+    command.add_argument("--present", metavar="UID", action="append", help="a device that was on the line")
+    command.add_argument("--rig", metavar="FILE", help="a scene file with devices that were on the line")
+
+
 def add_line(command: Parser) -> None:
     """Where the frames go."""
     command.add_argument("--line", metavar="LINE", help=f"{FORMS}; or a stream that another program serves")
@@ -124,6 +132,7 @@ PROVED: Dict[str, Callable[[Any, str], None]] = {
     "encode": add_encode,
     "discover": add_discover,
     "run": add_run,
+    "explain": add_explain,
 }
 OF_LINES: Dict[str, Callable[[Any, str], None]] = {
     "bridge": add_bridge,

@@ -27,7 +27,8 @@ def parts() -> List[Tuple[str, str]]:
     except ImportError as fault:
         library = f"fixtures by names need it: {fault}"
     return [("version", places.version_line()),
-            ("program", "decode, encode, discover and run need it, and it isn't here" if program is None else "there"),
+            ("program",
+             "decode, encode, discover, run and explain need it, and it isn't here" if program is None else "there"),
             ("C library", library)]
 
 

@@ -78,7 +78,8 @@ def program_page() -> str:
     """The manual page of the proved program."""
     lines = ['.TH RDM_PORT 1 "" "Wurstlinen" "User Commands"', ".SH NAME",
              "rdm_port \\- the proved program of wurstlinen", ".SH SYNOPSIS", ".B rdm_port", "COMMAND ARGUMENT ..",
-             ".SH DESCRIPTION", "It has the commands decode, encode, discover and run, with lines that are streams.",
+             ".SH DESCRIPTION",
+             "It has the commands decode, encode, discover, run and explain, with lines that are streams.",
              "If it has no result, its status is 1 or 2. wurstlinen calls it.", ".SH SEE ALSO",
              "wurstlinen(1)"]
     return "\n".join(lines) + "\n"
