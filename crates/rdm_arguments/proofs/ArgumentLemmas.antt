@@ -49,18 +49,24 @@ uid_given uid (x ∷ xs) is h = simp (no_hyphen (x == 45) h) (refl, ap Some (sym
 log_given : (job : ExplainJob) (text : Text) → job.log.now ≡ text → job.present.items ≡ [] → job.rig ≡ None
     → is_plain text ≡ true → IsGiven (subcommand_of commands (codes "explain" ∷ text ∷ [])) (Explain job)
 unfolding clap_on_literals
-log_given job [] is none no_rig h = (refl, record {
-  log = ap Some (sym is);
-  present = rw none refl;
-  few = rw none (omega arith);
-  rig = rw no_rig refl;
-})
-log_given job (x ∷ xs) is none no_rig h = simp (no_hyphen (x == 45) h) (refl, record {
-  log = ap Some (sym is);
-  present = rw none refl;
-  few = rw none (omega arith);
-  rig = rw no_rig refl;
-})
+log_given job [] is none no_rig h = (
+  refl,
+  record {
+    log = ap Some (sym is);
+    present = rw none refl;
+    few = rw none (omega arith);
+    rig = rw no_rig refl;
+  },
+)
+log_given job (x ∷ xs) is none no_rig h = simp (no_hyphen (x == 45) h) (
+  refl,
+  record {
+    log = ap Some (sym is);
+    present = rw none refl;
+    few = rw none (omega arith);
+    rig = rw no_rig refl;
+  },
+)
 
 pub asks_decode : (digits : Bor Text) → is_plain digits.now ≡ true
     → Asks (codes "decode" ∷ digits.now ∷ []) (Decode digits)

@@ -3,8 +3,8 @@ ghost use Rattle.std.specs.Prelude.{◌≡◌, ◌≤◌, ◌<◌, ◌↔◌, �
 ghost use Rattle.std.specs.Prelude.{Option, codes, length};
 ghost use Rattle.clap.specs.Words.{found_of, rows_of, subcommand_rows_of, first_of};
 ghost use Rattle.rdm_arguments.specs.Arguments.{AreStreams, IsBudget, IsDiscovery, IsDiscoveryLine, IsGiven};
-ghost use Rattle.rdm_arguments.specs.Arguments.{IsExplain, IsLineDiscovery, IsRun, HasStreams, IsSimulated, is_set, port_in};
-ghost use Rattle.rdm_arguments.specs.Arguments.{port_named, path_text, texts_given, texts_of};
+ghost use Rattle.rdm_arguments.specs.Arguments.{IsExplain, IsLineDiscovery, IsRun, HasStreams, IsSimulated};
+ghost use Rattle.rdm_arguments.specs.Arguments.{is_set, port_in, port_named, path_text, texts_given, texts_of};
 
 use crate::job::{
     DiscoverJob, DiscoveryLine, ExplainJob, Job, LineDiscovery, RunJob, Streams, WordsFault,

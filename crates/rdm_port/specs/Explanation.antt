@@ -64,7 +64,8 @@ abbrev pub explain_status : Bool → ℕ
 explain_status broken = if broken then 3 else 0
 
 -- the text has the findings about exactly the lines of a log with these bytes, if they are known
-pub record IsExplanation (present passing : List ℕ) (known : Option (List ℕ)) (text : List ℕ) (status : ℕ) : Type 0 where
+pub record IsExplanation (present passing : List ℕ) (known : Option (List ℕ)) (text : List ℕ) (status : ℕ)
+    : Type 0 where
   pub lines : List LogLine
   pub all : IfSome known (λ bytes. bytes ≡ lines_text lines)
   pub findings : List ℕ

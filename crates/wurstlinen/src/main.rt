@@ -1,6 +1,6 @@
 //! Reads and writes the replies of RDM devices to a branch of the discovery tree. Discovers devices, and runs sessions
-//! of clients, on a simulated line or on streams of text. Explains their logs. `rdm_port` decides what is printed. Here are the arguments of
-//! the process, its files and its streams.
+//! of clients, on a simulated line or on streams of text. Explains their logs. `rdm_port` decides what is printed. Here
+//! are the arguments of the process, its files and its streams.
 #![tactic(auto)]
 
 ghost use Rattle.std.specs.Prelude.{◌≡◌, IfOk, map, string_bytes};

@@ -1,5 +1,5 @@
-use Rattle.rdm_arguments.proofs.ArgumentLemmas.{asks_decode, asks_encode, asks_explain, asks_after_hyphens, nothing_asked}
-use Rattle.rdm_arguments.proofs.ArgumentLemmas.{no_argument, help_refused, help_of_command_refused}
+use Rattle.rdm_arguments.proofs.ArgumentLemmas.{asks_decode, asks_encode, asks_explain, asks_after_hyphens}
+use Rattle.rdm_arguments.proofs.ArgumentLemmas.{nothing_asked, no_argument, help_refused, help_of_command_refused}
 use Rattle.rdm_arguments.proofs.laws.what_words_ask.Goals as goal
 
 pub returns : goal.returns
