@@ -17,6 +17,9 @@ LogForm = Callable[[bytes], bool]
 
 FILE_NAME = "file.json"
 LOG_NAME = "log"
+# The files that explain reads.
+EXPLAINED_NAME = "run.log"
+RIG_NAME = "rig.json"
 PROGRAM_NAME = "wurstlinen"
 OTHER_PROGRAM_NAME = "rdm_port"
 

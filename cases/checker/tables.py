@@ -7,8 +7,8 @@ from dataclasses import dataclass
 from pathlib import Path
 from typing import Dict, Iterator, List, Optional, Tuple
 
-from .case import FILE_NAME, OTHER_PROGRAM_NAME, PROGRAM_NAME, Arguments, Case, Expected, FarEnd, File, Log
-from .case import Output, Streams, Subject
+from .case import EXPLAINED_NAME, FILE_NAME, OTHER_PROGRAM_NAME, PROGRAM_NAME, RIG_NAME, Arguments, Case, Expected
+from .case import FarEnd, File, Log, Output, Streams, Subject
 
 FIELD = re.compile(r"([a-z-]+)(?: (.*))?")
 INDENT = "    "
@@ -25,7 +25,7 @@ ROOT = Path(__file__).resolve().parent.parent.parent
 NOTHING = "nothing"
 FIELDS = frozenset(
     "case args file bytes path length unreadable ports program stdout out err err-has status"
-    " line replies fixtures answers sent log no-log folder times".split()
+    " line replies fixtures answers sent log no-log folder times explained rig".split()
 )
 
 Fields = Dict[str, str]
@@ -202,7 +202,12 @@ def replaced(escape: bytes) -> bytes:
 
 
 def files_of(fields: Fields) -> Iterator[File]:
-    """The file of a case, if it has one."""
+    """The files of a case: those that explain reads, and its own, if it has one."""
+    explained = lines_of(fields, "explained")
+    if explained is not None:
+        yield File(explained, EXPLAINED_NAME)
+    if "rig" in fields:
+        yield File(fields["rig"].encode(), RIG_NAME)
     contents = contents_of(fields)
     if contents is None:
         return
@@ -218,7 +223,7 @@ def folder_of(fields: Fields) -> Optional[Path]:
     """The folder in which the program runs, if it isn't a new one."""
     if "folder" not in fields:
         return None
-    if not (ROOT / fields["folder"]).is_dir() or "file" in fields or "bytes" in fields:
+    if not (ROOT / fields["folder"]).is_dir() or any(name in fields for name in ("file", "bytes", "explained", "rig")):
         raise ValueError("folder: expected a folder of the repository, and no file")
     return ROOT / fields["folder"]
 

@@ -3,7 +3,8 @@ from __future__ import annotations
 
 from typing import Iterator
 
-from ..checker.case import Case
+from ..checker.case import EXPLAINED_NAME, RIG_NAME, Case, File, arguments_of, prints
+from .arguments import NO_COMMAND
 from .commands import NO_JSON, NO_SCENE, discover_case, scene_case, session_case
 from .objects import FULL_SCENE, SCENE, SESSION, Change, Edit, scene_text
 
@@ -156,6 +157,7 @@ def cases() -> Iterator[Case]:
         yield session_case(change(row), due)
     yield from longest()
     yield from very_long()
+    yield from most_present()
 
 
 def change(row: str, edit: Edit = Edit.HAS) -> Change:
@@ -184,6 +186,29 @@ def longest() -> Iterator[Case]:
         due = NO_SCENE if more else SESSION
         for call in ("get", "set"):
             yield session_case(Change(call, "param", Edit.HAS, f'"{"07" * (231 + more)}"'), due)
+
+
+def most_present() -> Iterator[Case]:
+    """The greatest number of devices of explain, by arguments, by the scene, and by both; there may not be one more."""
+    uids = [f"5000:{number:08x}" for number in range(1025)]
+    rows = (
+        (uids[:1024], [], ""),
+        (uids[:1025], [], NO_COMMAND),
+        ([], uids[:1024], ""),
+        (uids[:1024], uids[:1024], ""),
+        (uids[1024:], uids[:1024], NO_SCENE),
+        (uids[1:], uids[:1], NO_SCENE),
+    )
+    for given, staying, due in rows:
+        devices = ",".join(f'{{"uid":"{uid}"}}' for uid in staying)
+        rig = f'{{"source":"7a70:00000100","devices":[{devices}]}}'
+        words = [word for uid in given for word in ("--present", uid)]
+        yield Case(
+            name=f"{len(given)} devices by arguments, and {len(staying)} by a scene: {due.strip()}",
+            commands=(arguments_of("explain", EXPLAINED_NAME, "--rig", RIG_NAME, *words),),
+            expected=prints(due),
+            files=(File(b"", EXPLAINED_NAME), File(rig.encode(), RIG_NAME)),
+        )
 
 
 def very_long() -> Iterator[Case]:

@@ -20,7 +20,7 @@ from wurstlinen.tool import adapters, arguments  # noqa: E402
 # Cases of the program whose standard error has this need no program.
 EARLY = re.compile(rb"wurstlinen: (the command is missing;|unknown command|the file .* no such file\n|.* isn't UTF-8)")
 TRY_HELP = "; try 'wurstlinen --help'\n"
-PROVED = (b"decode", b"encode", b"discover", b"run")
+PROVED = (b"decode", b"encode", b"discover", b"run", b"explain")
 BUILDING = 'echo "building" >&2; exit 1'
 
 

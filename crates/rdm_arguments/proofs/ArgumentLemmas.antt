@@ -1,7 +1,7 @@
 -- What arguments ask for, computed.
 use Rattle.std.proofs.Common.{◌≡◌, ◌==◌, Bool, true, false, not, refl, inl, inr, List, [], ◌∷◌, Some, codes, sym, ap}
-use Rattle.std.proofs.Common.{subst}
-use Rattle.std.specs.Prelude.{◌⊎◌, ◌≢◌}
+use Rattle.std.proofs.Common.{subst, arith}
+use Rattle.std.specs.Prelude.{◌⊎◌, ◌≢◌, None}
 use Rattle.std.specs.Borrow.{Bor}
 use Rattle.clap.specs.Words.{App, HasKind, HasMatchesOf, IsAmong, Text, fault_of, is_simple, is_simple_and_free}
 use Rattle.clap.specs.Words.{kind_of, subcommand_of, subcommand_rows_of}
@@ -10,7 +10,8 @@ use Rattle.clap.specs.declared.error.kind.ErrorKind.TheVariants.{OutOfMemory}
 use Rattle.clap.specs.declared.parser.matches.ArgMatches.{ArgMatches}
 use Rattle.clap.proofs.OnLiterals.{clap_on_literals}
 use Rattle.rdm_arguments.specs.Arguments.{Asks, AsksNothing, IsGiven, commands, is_plain}
-use Rattle.rdm_arguments.specs.declared.job.Job.TheVariants.{Decode, Encode}
+use Rattle.rdm_arguments.specs.declared.job.ExplainJob.{ExplainJob}
+use Rattle.rdm_arguments.specs.declared.job.Job.TheVariants.{Decode, Encode, Explain}
 use Rattle.rdm_arguments.specs.declared.job.WordsFault.{WordsFault}
 use Rattle.rdm_arguments.specs.declared.job.WordsFault.TheVariants.{Words}
 
@@ -20,13 +21,16 @@ no_hyphen false h = refl
 no_hyphen true h = cc
 
 -- a command's name and a plain argument are taken
-no_fault : (command text : Text) → (command ≡ codes "decode") ⊎ (command ≡ codes "encode") → is_plain text ≡ true
+no_fault : (command text : Text)
+    → (command ≡ codes "decode") ⊎ ((command ≡ codes "encode") ⊎ (command ≡ codes "explain")) → is_plain text ≡ true
     → fault_of commands (command ∷ text ∷ []) ≡ []
 unfolding clap_on_literals
 no_fault command [] (inl is) h = rw is refl
-no_fault command [] (inr is) h = rw is refl
+no_fault command [] (inr (inl is)) h = rw is refl
+no_fault command [] (inr (inr is)) h = rw is refl
 no_fault command (x ∷ xs) (inl is) h = rw is (simp (no_hyphen (x == 45) h) refl)
-no_fault command (x ∷ xs) (inr is) h = rw is (simp (no_hyphen (x == 45) h) refl)
+no_fault command (x ∷ xs) (inr (inl is)) h = rw is (simp (no_hyphen (x == 45) h) refl)
+no_fault command (x ∷ xs) (inr (inr is)) h = rw is (simp (no_hyphen (x == 45) h) refl)
 
 -- it is the command's argument
 digits_given : (digits : Bor Text) (text : Text) → digits.now ≡ text → is_plain text ≡ true
@@ -41,12 +45,40 @@ unfolding clap_on_literals
 uid_given uid [] is h = (refl, ap Some (sym is))
 uid_given uid (x ∷ xs) is h = simp (no_hyphen (x == 45) h) (refl, ap Some (sym is))
 
+-- without options it is all that is given
+log_given : (job : ExplainJob) (text : Text) → job.log.now ≡ text → job.present.items ≡ [] → job.rig ≡ None
+    → is_plain text ≡ true → IsGiven (subcommand_of commands (codes "explain" ∷ text ∷ [])) (Explain job)
+unfolding clap_on_literals
+log_given job [] is none no_rig h = (
+  refl,
+  record {
+    log = ap Some (sym is);
+    present = rw none refl;
+    few = rw none (omega arith);
+    rig = rw no_rig refl;
+  },
+)
+log_given job (x ∷ xs) is none no_rig h = simp (no_hyphen (x == 45) h) (
+  refl,
+  record {
+    log = ap Some (sym is);
+    present = rw none refl;
+    few = rw none (omega arith);
+    rig = rw no_rig refl;
+  },
+)
+
 pub asks_decode : (digits : Bor Text) → is_plain digits.now ≡ true
     → Asks (codes "decode" ∷ digits.now ∷ []) (Decode digits)
 asks_decode digits h = (no_fault (codes "decode") digits.now (inl refl) h, digits_given digits digits.now refl h)
 
 pub asks_encode : (uid : Bor Text) → is_plain uid.now ≡ true → Asks (codes "encode" ∷ uid.now ∷ []) (Encode uid)
-asks_encode uid h = (no_fault (codes "encode") uid.now (inr refl) h, uid_given uid uid.now refl h)
+asks_encode uid h = (no_fault (codes "encode") uid.now (inr (inl refl)) h, uid_given uid uid.now refl h)
+
+pub asks_explain : (job : ExplainJob) → is_plain job.log.now ≡ true → job.present.items ≡ [] → job.rig ≡ None
+    → Asks (codes "explain" ∷ job.log.now ∷ []) (Explain job)
+asks_explain job h none no_rig =
+    (no_fault (codes "explain") job.log.now (inr (inr refl)) h, log_given job job.log.now refl none no_rig h)
 
 pub asks_after_hyphens : (digits : Bor Text) → Asks (codes "decode" ∷ codes "--" ∷ digits.now ∷ []) (Decode digits)
 unfolding clap_on_literals

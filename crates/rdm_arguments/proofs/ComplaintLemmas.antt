@@ -9,7 +9,7 @@ use Rattle.rdm_arguments.specs.declared.complaint.Complaint.TheVariants.{Help, V
 use Rattle.rdm_arguments.specs.declared.complaint.Complaint.TheVariants.{UnknownOption, Repeated, HasValue}
 use Rattle.rdm_arguments.specs.declared.complaint.Complaint.TheVariants.{UnknownPort, NoArgument, Unexpected, NoText}
 use Rattle.rdm_arguments.specs.declared.complaint.Complaint.TheVariants.{Misfit}
-use Rattle.rdm_arguments.specs.declared.complaint.Complaint.TheVariants.{NoValue, NoOption, NeedsLine, TooManyKnown}
+use Rattle.rdm_arguments.specs.declared.complaint.Complaint.TheVariants.{NoValue, NoOption, NeedsLine, TooOften}
 use Rattle.rdm_arguments.specs.declared.complaint.Complaint.TheVariants.{UnknownBudget}
 
 -- a list of one word has no other
@@ -34,7 +34,7 @@ among name word words NoText has true_after = true_after
 among name word words (NoValue option) has true_after = tt
 among name word words (NoOption command option) has true_after = true_after
 among name word words (NeedsLine option) has true_after = tt
-among name word words TooManyKnown has true_after = tt
+among name word words (TooOften option) has true_after = tt
 among name word words (UnknownBudget text) has true_after = true_after
 
 -- what is true of the arguments after a command's name is true of all of them

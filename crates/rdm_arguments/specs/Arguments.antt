@@ -11,8 +11,9 @@ use Rattle.clap.specs.declared.builder.action.ArgAction.TheVariants.{SetTrue, Ap
 use Rattle.rdm_arguments.specs.declared.job.DiscoverJob.{DiscoverJob}
 use Rattle.rdm_arguments.specs.declared.job.DiscoveryLine.{DiscoveryLine}
 use Rattle.rdm_arguments.specs.declared.job.DiscoveryLine.TheVariants as line
+use Rattle.rdm_arguments.specs.declared.job.ExplainJob.{ExplainJob}
 use Rattle.rdm_arguments.specs.declared.job.Job.{Job}
-use Rattle.rdm_arguments.specs.declared.job.Job.TheVariants.{Decode, Encode, Discover, Run}
+use Rattle.rdm_arguments.specs.declared.job.Job.TheVariants.{Decode, Encode, Discover, Run, Explain}
 use Rattle.rdm_arguments.specs.declared.job.LineDiscovery.{LineDiscovery}
 use Rattle.rdm_arguments.specs.declared.job.RunJob.{RunJob}
 use Rattle.rdm_arguments.specs.declared.job.Streams.{Streams}
@@ -57,16 +58,23 @@ run_rules =
     rule_for Needed (codes "file") ∷ rule_for Once (codes "line") ∷ rule_for Once (codes "replies")
     ∷ rule_for Once (codes "port") ∷ rule_for Once (codes "log") ∷ []
 
+-- the arguments of an explanation: a log, and devices that were present
+abbrev pub explain_rules : List Rule
+explain_rules =
+    rule_for Needed (codes "log") ∷ rule_for Repeated (codes "present") ∷ rule_for Once (codes "rig") ∷ []
+
 -- the program's commands
 abbrev pub commands : App
 commands =
     with_subcommand
     (with_subcommand
     (with_subcommand
+    (with_subcommand
     (with_subcommand program (command_with (codes "decode") (rule_for Needed (codes "hex") ∷ [])))
     (command_with (codes "encode") (rule_for Needed (codes "uid") ∷ [])))
     (command_with (codes "discover") discover_rules))
-    (command_with (codes "run") run_rules)
+    (command_with (codes "run") run_rules))
+    (command_with (codes "explain") explain_rules)
 
 -- the text behind a reference that may be absent
 abbrev pub path_text : Option (Bor Text) → Option Text
@@ -148,6 +156,13 @@ pub record IsRun (given : List Row) (job : RunJob) : Type 0 where
   pub port : port_in given ≡ Some job.port
   pub log : path_text job.log ≡ first_of (codes "log") given
 
+-- the arguments give this explanation
+pub record IsExplain (given : List Row) (job : ExplainJob) : Type 0 where
+  pub log : first_of (codes "log") given ≡ Some job.log.now
+  pub present : texts_given (codes "present") given ≡ texts_of job.present.items
+  pub few : length job.present.items ≤ 1024
+  pub rig : path_text job.rig ≡ first_of (codes "rig") given
+
 -- the command with its arguments is this job
 abbrev pub IsGiven : Option (Text × List Row) → Job → Type 0
 IsGiven None job = ⊥
@@ -157,6 +172,7 @@ IsGiven (Some command) (Encode uid) =
     (command.0 ≡ codes "encode") × (first_of (codes "uid") command.1 ≡ Some uid.now)
 IsGiven (Some command) (Discover job) = (command.0 ≡ codes "discover") × IsDiscovery command.1 job
 IsGiven (Some command) (Run job) = (command.0 ≡ codes "run") × IsRun command.1 job
+IsGiven (Some command) (Explain job) = (command.0 ≡ codes "explain") × IsExplain command.1 job
 
 -- the arguments give this job
 abbrev pub Asks : List Text → Job → Type 0
@@ -177,6 +193,12 @@ file_of (Decode digits) = None
 file_of (Encode uid) = None
 file_of (Discover job) = scene_path job.line
 file_of (Run job) = Some job.file.now
+file_of (Explain job) = Some job.log.now
+
+-- the path of the scene file that a job reads beside a log
+abbrev pub rig_of : Job → Option (Bor Text)
+rig_of (Explain job) = job.rig
+rig_of _ = None
 
 -- the path of the log that a job keeps
 abbrev pub log_of : Job → Option (Bor Text)
@@ -184,6 +206,7 @@ log_of (Decode digits) = None
 log_of (Encode uid) = None
 log_of (Discover job) = job.log
 log_of (Run job) = job.log
+log_of (Explain job) = None
 
 -- the argument doesn't begin with a hyphen (45), as options do
 abbrev pub is_plain : Text → Bool

@@ -7,7 +7,7 @@ use Rattle.rdm_arguments.specs.declared.complaint.Complaint.{Complaint}
 use Rattle.rdm_arguments.specs.declared.complaint.Complaint.TheVariants.{Help, Version, NoCommand, UnknownCommand}
 use Rattle.rdm_arguments.specs.declared.complaint.Complaint.TheVariants.{UnknownOption, Repeated, HasValue}
 use Rattle.rdm_arguments.specs.declared.complaint.Complaint.TheVariants.{UnknownPort, NoArgument, Unexpected, Misfit}
-use Rattle.rdm_arguments.specs.declared.complaint.Complaint.TheVariants.{NoValue, NoOption, NeedsLine, TooManyKnown}
+use Rattle.rdm_arguments.specs.declared.complaint.Complaint.TheVariants.{NoValue, NoOption, NeedsLine, TooOften}
 use Rattle.rdm_arguments.specs.declared.complaint.Complaint.TheVariants.{UnknownBudget}
 
 -- the text isn't the name of a command
@@ -16,6 +16,7 @@ pub record IsNoCommand (text : Text) : Type 0 where
   pub encode : text ≢ codes "encode"
   pub discover : text ≢ codes "discover"
   pub run : text ≢ codes "run"
+  pub explain : text ≢ codes "explain"
 
 -- one of the arguments is this text
 abbrev pub HasWord : List (Bor Text) → Text → Type 0
@@ -39,7 +40,7 @@ IsTrueAfter name words Misfit = ⊤
 IsTrueAfter name words (NoValue option) = ⊤
 IsTrueAfter name words (NoOption command option) = command.now ≡ name
 IsTrueAfter name words (NeedsLine option) = ⊤
-IsTrueAfter name words TooManyKnown = ⊤
+IsTrueAfter name words (TooOften option) = ⊤
 IsTrueAfter name words (UnknownBudget text) = (budget : ℕ) → IsBudget (Some text.now) budget → ⊥
 IsTrueAfter name words _ = ⊥
 

@@ -4,7 +4,7 @@ ghost use Rattle.clap.specs.Words.{app_of, rule_of, with_rule, with_subcommand};
 ghost use Rattle.clap.specs.declared.builder.command.Command.TheViews.{out-Command as fields_of};
 ghost use Rattle.rdm_arguments.specs.Arguments.{commands, command_with, program, rule_for};
 
-use crate::table::{ArgumentRule, CommandRule, DECODE, DISCOVER, ENCODE, Form, RUN};
+use crate::table::{ArgumentRule, CommandRule, DECODE, DISCOVER, ENCODE, EXPLAIN, Form, RUN};
 use clap::{Arg, ArgAction, Command};
 use std::alloc::{AllocError, Global};
 
@@ -16,8 +16,10 @@ pub(crate) fn commands<'a>(alloc: Global) -> Result<Command<'a>, AllocError>
     let encode = command_of(alloc, &ENCODE)?;
     let discover = command_of(alloc, &DISCOVER)?;
     let run = command_of(alloc, &RUN)?;
+    let explain = command_of(alloc, &EXPLAIN)?;
     let replies = with_command(with_command(program(alloc), decode)?, encode)?;
-    with_command(with_command(replies, discover)?, run)
+    let runs = with_command(with_command(replies, discover)?, run)?;
+    with_command(runs, explain)
 }
 
 // The program without its commands.

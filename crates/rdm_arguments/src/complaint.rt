@@ -7,7 +7,7 @@ ghost use Rattle.rdm_arguments.specs.Complaints.{IsTrueAfter, IsTrueOf, IsNoComm
 
 use crate::reading::{budget_named, port_named};
 use crate::table::{
-    ArgumentRule, BUDGET, CommandRule, DECODE, DISCOVER, ENCODE, LINE, PORT, RUN, SOURCE,
+    ArgumentRule, BUDGET, CommandRule, DECODE, DISCOVER, ENCODE, EXPLAIN, LINE, PORT, RUN, SOURCE,
 };
 use crate::usage::{Usage, VERSION};
 use rdm_wire::MOST_DEVICES;
@@ -57,8 +57,8 @@ pub enum Complaint<'a> {
     },
     /// This option needs the option `line`.
     NeedsLine(&'static str),
-    /// The option `known` is given more than 1,024 times.
-    TooManyKnown,
+    /// This option is given more than 1,024 times.
+    TooOften(&'static str),
     /// The option `budget` has this value.
     UnknownBudget(&'a str),
     /// One of them isn't text.
@@ -113,6 +113,7 @@ fn command_named(name: &str) -> Option<&'static CommandRule>
         "encode" => Some(&ENCODE),
         "discover" => Some(&DISCOVER),
         "run" => Some(&RUN),
+        "explain" => Some(&EXPLAIN),
         _ => None,
     }
 }
@@ -269,7 +270,7 @@ fn too_often<'a>(option: &ArgumentRule, before: usize) -> Option<Complaint<'a>>
 {
     if option.is_repeatable() {
         if before >= MOST_DEVICES {
-            return Some(Complaint::TooManyKnown);
+            return Some(Complaint::TooOften(option.name));
         }
         return None;
     }
@@ -345,10 +346,10 @@ fn write_complaint<W: fmt::Write>(
             write!(f, "the option --{option} of {command} is missing")
         }
         Complaint::NeedsLine(option) => write!(f, "the option --{option} needs --line"),
-        Complaint::TooManyKnown => {
+        Complaint::TooOften(option) => {
             write!(
                 f,
-                "the option --known is given more than {MOST_DEVICES} times"
+                "the option --{option} is given more than {MOST_DEVICES} times"
             )
         }
         Complaint::UnknownBudget(text) => {

@@ -1,7 +1,7 @@
 //! The jobs that arguments give.
 ghost use Rattle.std.specs.Prelude.{◌≡◌, ◌≢◌, IfOk, Err, option_map};
 ghost use Rattle.clap.specs.Words.{kind_of};
-ghost use Rattle.rdm_arguments.specs.Arguments.{Asks, AsksNothing, file_of, log_of, scene_path, texts_of};
+ghost use Rattle.rdm_arguments.specs.Arguments.{Asks, AsksNothing, file_of, log_of, rig_of, scene_path, texts_of};
 
 use crate::commands::commands;
 use crate::port_kind::PortKind;
@@ -21,6 +21,8 @@ pub enum Job<'a> {
     Discover(DiscoverJob<'a>),
     /// Run the session of a file.
     Run(RunJob<'a>),
+    /// Say which rules a log shows to be broken, and by whom.
+    Explain(ExplainJob<'a>),
 }
 
 /// A discovery, from the arguments.
@@ -80,8 +82,20 @@ pub struct RunJob<'a> {
     pub log: Option<&'a str>,
 }
 
+/// An explanation of a log, from the arguments. The UIDs aren't parsed yet.
+#[derive(Debug, Drop, PartialEq, Eq)]
+pub struct ExplainJob<'a> {
+    /// The path of the log.
+    pub log: &'a str,
+    /// The UIDs of devices that were present, at most 1,024.
+    pub present: Vec<&'a str>,
+    /// The path of a scene file with devices that were present, if there is one.
+    pub rig: Option<&'a str>,
+}
+
 impl<'a> Job<'a> {
-    /// The path of the file that it reads, if it reads one.
+    /// The path of the file that it reads, if it reads one. An explanation reads its log, and a second file
+    /// ([`Job::rig`]).
     pub fn file(&self) -> Option<&'a str>
         ensures { option_map (λ f. f.now) result ≡ file_of self.now }
     {
@@ -89,6 +103,17 @@ impl<'a> Job<'a> {
             Job::Decode(_) | Job::Encode(_) => None,
             Job::Discover(job) => job.file(),
             Job::Run(job) => Some(job.file),
+            Job::Explain(job) => Some(job.log),
+        }
+    }
+
+    /// The path of the scene file that it reads beside a log, if it reads one.
+    pub fn rig(&self) -> Option<&'a str>
+        ensures { result ≡ rig_of self.now }
+    {
+        match self {
+            Job::Decode(_) | Job::Encode(_) | Job::Discover(_) | Job::Run(_) => None,
+            Job::Explain(job) => job.rig,
         }
     }
 
@@ -97,7 +122,7 @@ impl<'a> Job<'a> {
         ensures { result ≡ log_of self.now }
     {
         match self {
-            Job::Decode(_) | Job::Encode(_) => None,
+            Job::Decode(_) | Job::Encode(_) | Job::Explain(_) => None,
             Job::Discover(job) => job.log,
             Job::Run(job) => job.log,
         }
@@ -106,7 +131,7 @@ impl<'a> Job<'a> {
     /// Whether its line is the caller's own.
     pub fn is_on_line(&self) -> bool {
         match self {
-            Job::Decode(_) | Job::Encode(_) => false,
+            Job::Decode(_) | Job::Encode(_) | Job::Explain(_) => false,
             Job::Discover(job) => matches!(job.line, DiscoveryLine::Streams(_)),
             Job::Run(job) => job.streams.is_some(),
         }

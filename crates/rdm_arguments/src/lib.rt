@@ -17,7 +17,8 @@ mod usage;
 
 pub use complaint::{Complaint, complaint_of};
 pub use job::{
-    DiscoverJob, DiscoveryLine, Job, LineDiscovery, RunJob, Streams, WordsFault, parse_words,
+    DiscoverJob, DiscoveryLine, ExplainJob, Job, LineDiscovery, RunJob, Streams, WordsFault,
+    parse_words,
 };
 pub use port_kind::PortKind;
 pub use usage::{Usage, VERSION};

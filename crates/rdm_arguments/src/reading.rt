@@ -3,10 +3,12 @@ ghost use Rattle.std.specs.Prelude.{◌≡◌, ◌≤◌, ◌<◌, ◌↔◌, �
 ghost use Rattle.std.specs.Prelude.{Option, codes, length};
 ghost use Rattle.clap.specs.Words.{found_of, rows_of, subcommand_rows_of, first_of};
 ghost use Rattle.rdm_arguments.specs.Arguments.{AreStreams, IsBudget, IsDiscovery, IsDiscoveryLine, IsGiven};
-ghost use Rattle.rdm_arguments.specs.Arguments.{IsLineDiscovery, IsRun, HasStreams, IsSimulated, is_set, port_in};
-ghost use Rattle.rdm_arguments.specs.Arguments.{port_named, path_text, texts_given, texts_of};
+ghost use Rattle.rdm_arguments.specs.Arguments.{IsExplain, IsLineDiscovery, IsRun, HasStreams, IsSimulated};
+ghost use Rattle.rdm_arguments.specs.Arguments.{is_set, port_in, port_named, path_text, texts_given, texts_of};
 
-use crate::job::{DiscoverJob, DiscoveryLine, Job, LineDiscovery, RunJob, Streams, WordsFault};
+use crate::job::{
+    DiscoverJob, DiscoveryLine, ExplainJob, Job, LineDiscovery, RunJob, Streams, WordsFault,
+};
 use crate::port_kind::PortKind;
 use clap::ArgMatches;
 use rdm_agent::DEFAULT_BUDGET;
@@ -38,6 +40,10 @@ pub(crate) fn given<'a>(alloc: Global, matches: &ArgMatches<'a>) -> Result<Job<'
         Some(("run", given)) => match run(given) {
             Some(job) => Ok(Job::Run(job)),
             None => Err(WordsFault::Words),
+        },
+        Some(("explain", given)) => match explanation(alloc, given) {
+            Ok(job) => Ok(Job::Explain(job)),
+            Err(fault) => Err(fault),
         },
         _ => Err(WordsFault::Words),
     }
@@ -108,7 +114,7 @@ fn line_discovery<'a>(
     let Some(budget) = budget_of(given) else {
         return Err(WordsFault::Words);
     };
-    match known_of(alloc, given) {
+    match repeated(alloc, given, "known") {
         Ok(known) => Ok(LineDiscovery {
             streams,
             source,
@@ -138,6 +144,25 @@ fn run<'a>(given: &ArgMatches<'a>) -> Option<RunJob<'a>>
             log: value(given, "log"),
         }),
         Err(_) => None,
+    }
+}
+
+// The explanation that these arguments give. Err: they give none, or there was no memory.
+fn explanation<'a>(alloc: Global, given: &ArgMatches<'a>) -> Result<ExplainJob<'a>, WordsFault>
+    ensures ok { IfOk result (IsExplain (rows_of (found_of given.now))) }
+    ensures words { result ≡ Err WordsFault.Words
+        → (job : ExplainJob) → IsExplain (rows_of (found_of given.now)) job → ⊥ }
+{
+    let Some(log) = value(given, "log") else {
+        return Err(WordsFault::Words);
+    };
+    match repeated(alloc, given, "present") {
+        Ok(present) => Ok(ExplainJob {
+            log,
+            present,
+            rig: value(given, "rig"),
+        }),
+        Err(fault) => Err(fault),
     }
 }
 
@@ -231,20 +256,24 @@ pub(crate) fn budget_named(text: &str) -> Option<u64>
     }
 }
 
-// The texts of the known UIDs that were given. Err: there are more than 1,024, or there was no memory.
-fn known_of<'a>(alloc: Global, given: &ArgMatches<'a>) -> Result<Vec<&'a str>, WordsFault>
-    ensures ok { IfOk result (λ known.
-        texts_given (codes "known") (rows_of (found_of given.now)) ≡ texts_of known.items) }
-    ensures few { IfOk result (λ known. length known.items ≤ MOST_DEVICES) }
+// The values of an option that may be given several times. Err: there are more than 1,024, or there was no memory.
+fn repeated<'a>(
+    alloc: Global,
+    given: &ArgMatches<'a>,
+    name: &str,
+) -> Result<Vec<&'a str>, WordsFault>
+    ensures ok { IfOk result (λ values.
+        texts_given name.now (rows_of (found_of given.now)) ≡ texts_of values.items) }
+    ensures few { IfOk result (λ values. length values.items ≤ MOST_DEVICES) }
     ensures words { result ≡ Err WordsFault.Words
-        → MOST_DEVICES < length (texts_given (codes "known") (rows_of (found_of given.now))) }
+        → MOST_DEVICES < length (texts_given name.now (rows_of (found_of given.now))) }
 {
-    let mut known = Vec::new(alloc);
-    match given.get_strs("known") {
-        None => Ok(known),
+    let mut values = Vec::new(alloc);
+    match given.get_strs(name) {
+        None => Ok(values),
         Some(texts) if MOST_DEVICES < texts.len() => Err(WordsFault::Words),
-        Some(texts) => match known.extend_from_slice(texts) {
-            Ok(()) => Ok(known),
+        Some(texts) => match values.extend_from_slice(texts) {
+            Ok(()) => Ok(values),
             Err(_) => Err(WordsFault::NoMemory),
         },
     }

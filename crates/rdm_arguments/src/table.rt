@@ -44,7 +44,7 @@ pub(crate) enum Form {
 }
 
 /// All commands, in the order of the usage.
-pub(crate) const COMMANDS: [&CommandRule; 4] = [&DECODE, &ENCODE, &DISCOVER, &RUN];
+pub(crate) const COMMANDS: [&CommandRule; 5] = [&DECODE, &ENCODE, &DISCOVER, &RUN, &EXPLAIN];
 
 /// Says what bytes mean.
 pub(crate) const DECODE: CommandRule = CommandRule {
@@ -189,6 +189,36 @@ const LOG: ArgumentRule = ArgumentRule {
     form: Form::Once,
     needs_line: false,
     help: "writes the exchanges of discover, or the log of run, to this file, which is replaced",
+};
+
+/// Explains a log.
+pub(crate) const EXPLAIN: CommandRule = CommandRule {
+    name: "explain",
+    arguments: &[EXPLAINED, PRESENT, RIG],
+    forms: &["LOG [--present UID].. [--rig FILE]"],
+    help: "which devices broke the rules in a log that discover or run wrote",
+    explained: &[PRESENT, RIG],
+};
+
+const EXPLAINED: ArgumentRule = ArgumentRule {
+    name: "log",
+    form: Form::Needed,
+    needs_line: false,
+    help: "LOG",
+};
+
+const PRESENT: ArgumentRule = ArgumentRule {
+    name: "present",
+    form: Form::Repeated,
+    needs_line: false,
+    help: "a device that was on the line, beside those that were found; may be given often",
+};
+
+const RIG: ArgumentRule = ArgumentRule {
+    name: "rig",
+    form: Form::Once,
+    needs_line: false,
+    help: "a scene file with devices that were on the line",
 };
 
 impl ArgumentRule {

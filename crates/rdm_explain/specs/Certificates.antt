@@ -54,6 +54,7 @@ pub record IsFirstMissing (x : List Seen) (at : ℕ) : Type 0 where
   pub here : BeginsByUnmutes (at + 1) x → ⊥
   pub never : BeginsByUnmutes UNMUTES x → ⊥
 
+-- the first of the three unmutes that begin a run that is missing, if any is
 abbrev pub FirstMissing : List Exchange → Option ℕ → Type 0
 FirstMissing xs None = BeginsByUnmutes UNMUTES (seen_all xs)
 FirstMissing xs (Some at) = IsFirstMissing (seen_all xs) at

@@ -4,7 +4,7 @@ use Rattle.std.proofs.Common.{Option, Some, None, Result, Ok, Err, false, refl, 
 use Rattle.std.specs.Prelude.{IsErrAnd, MatchOption}
 use Rattle.std.proofs.lemmas.List.{take-append-drop, take_all, take_more}
 use Rattle.hex.proofs.HexLemmas.{decode_sized-twice, decode_of-ok}
-use Rattle.serde_json.specs.Data.{Data, Items, no_items}
+use Rattle.serde_json.specs.Data.{Data, no_items}
 use Rattle.serde_json.specs.Find.{get, as_array, as_str}
 use Rattle.serde_json.specs.View.{view, items_view}
 use Rattle.serde_json.specs.declared.value.Value.{Value}

@@ -1,5 +1,6 @@
 pub mod Forms
 pub mod SceneFiles
+pub mod RigFiles
 pub mod Input
 pub mod SessionFiles
 pub mod Commands

@@ -8,6 +8,7 @@ mod form;
 mod key;
 mod parameter;
 mod path;
+mod rig;
 mod values;
 
 pub use fault::{Found, Mismatch, SceneFault};
@@ -17,4 +18,5 @@ pub(crate) use form::{Form, ListOf, optional, required};
 pub use key::UnknownKey;
 pub(crate) use key::{Keyed, unknown_in_list, unknown_of, unknown_under};
 pub use path::{Path, Step};
+pub use rig::{RigFile, read_rig};
 pub(crate) use values::{AnyUid, Bytes, FourDigits, OwnUid, Whole};

@@ -48,6 +48,7 @@ abbrev pub start_by : ℕ → Option ℕ → Start
 start_by r None = Unknown
 start_by r (Some first) = if nat_lt r first then Later else At 0
 
+-- the same, by what the log shows
 abbrev pub start_of : ℕ → Asks → Start
 start_of r a = start_by r a.first_run
 

@@ -49,6 +49,7 @@ abbrev pub has_new_alone : List ℕ → Option Exchange → Bool
 has_new_alone found None = false
 has_new_alone found (Some e) = is_new_alone found e.asked e.heard
 
+-- whether it is a branch that showed none
 abbrev pub has_wrong_alone : List ℕ → Option Exchange → Bool
 has_wrong_alone found None = false
 has_wrong_alone found (Some e) = is_wrong_alone found e.asked e.heard

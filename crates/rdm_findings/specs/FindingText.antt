@@ -65,6 +65,7 @@ end_text None = []
 end_text (Some None) = codes ", no fault"
 end_text (Some (Some fault)) = codes ", " ++ fault_text fault
 
+-- whether no part about known UIDs fails
 abbrev pub is_known_complete : KnownFinding → Bool
 is_known_complete f = not (is_some f.not_muted_first) && not (is_some f.unread)
 
@@ -129,16 +130,23 @@ abbrev pub uid_gap : Option ℕ → List ℕ → List ℕ
 uid_gap None text = []
 uid_gap (Some u) text = uid_line u text
 
+-- a part of the certificate that fails for a device
 abbrev pub device_gap : Option Device → List ℕ → List ℕ
 device_gap None text = []
 device_gap (Some d) text = uid_line d.uid text
 
+-- an exchange that failed
+abbrev pub failed_text : List ℕ
+failed_text = codes " failed: check the adapter and the cable"
+
+-- the parts about the unmutes, failed exchanges and the reported devices
 abbrev pub start_gaps : RunFinding → List ℕ
 start_gaps f =
     exchange_gap f.missing_unmute (codes " should be one of the three unmutes that begin a run")
-    ++ exchange_gap f.failure (codes " failed: check the adapter and the cable")
+    ++ exchange_gap f.failure failed_text
     ++ uid_gap f.misreported (codes " is reported without an acknowledgement, or acknowledged and not reported")
 
+-- the parts about mutes, UIDs that weren't ruled out, and what is reported of a device
 abbrev pub end_gaps : RunFinding → List ℕ
 end_gaps f =
     exchange_gap f.untried
@@ -151,6 +159,7 @@ end_gaps f =
 abbrev pub gaps_text : RunFinding → List ℕ
 gaps_text f = start_gaps f ++ end_gaps f
 
+-- the parts about known UIDs that fail
 abbrev pub names_gaps : KnownFinding → List ℕ
 names_gaps f =
     uid_gap f.not_muted_first (codes " is known, but wasn't muted before the first branch")
@@ -161,10 +170,7 @@ abbrev pub known_gaps : Option KnownFinding → List ℕ
 known_gaps None = []
 known_gaps (Some f) = names_gaps f
 
--- an exchange that failed
-abbrev pub failed_text : List ℕ
-failed_text = codes " failed: check the adapter and the cable"
-
+-- the first exchange that failed, by its number in the run
 abbrev pub failure_gap : Start → Option ℕ → List ℕ
 failure_gap start None = []
 failure_gap start (Some at) = exchange_line (number_at start at) failed_text
@@ -223,6 +229,7 @@ advice_text settled =
     if settled then codes "; look for a device that isn't listed"
     else codes "; they may be those of a device that the log doesn't show"
 
+-- the line of a stray exchange with this number
 abbrev pub stray_found : ℕ → Bool → Option Exchange → List ℕ
 stray_found number settled None = []
 stray_found number settled (Some e) =

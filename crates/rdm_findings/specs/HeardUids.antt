@@ -13,6 +13,7 @@ heard_uid (Branch lo hi) (One u) = Some u
 heard_uid (Mute u) (Acked ack) = Some u
 heard_uid _ _ = None
 
+-- the UID that was heard in an exchange
 abbrev pub heard_by : Seen → Option ℕ
 heard_by e = heard_uid e.asked e.heard
 

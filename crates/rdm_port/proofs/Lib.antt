@@ -1,3 +1,4 @@
+mod ExplainLemmas
 mod LineLemmas
 mod LoggedLemmas
 mod RunLemmas

@@ -1,6 +1,6 @@
 //! What the program `wurstlinen` does. It reads and writes the replies of RDM devices to a branch of the discovery
 //! tree. It discovers devices, and runs sessions of clients, on a simulated line or on one that another program serves.
-//! All of it is the profile of this project.
+//! It explains their logs. All of it is the profile of this project.
 //!
 //! [`parse_words`] finds the [`Job`] that arguments give, and [`perform`] prints its answer. [`carry_out`] also keeps
 //! its log, and opens its line. A session file is read by [`read_session`] and served by [`serve`]. [`session_text`]
@@ -13,6 +13,7 @@
 mod answer;
 mod branch;
 mod discovering;
+mod explaining;
 mod fault;
 mod input;
 pub mod laws;
@@ -32,8 +33,8 @@ pub use opening::{NoLine, Opens, Unopened};
 pub use performing::{Silent, carry_out, perform};
 pub use position::Position;
 pub use rdm_arguments::{
-    Complaint, DiscoverJob, DiscoveryLine, Job, LineDiscovery, PortKind, RunJob, Streams, Usage,
-    VERSION, WordsFault, complaint_of, parse_words,
+    Complaint, DiscoverJob, DiscoveryLine, ExplainJob, Job, LineDiscovery, PortKind, RunJob,
+    Streams, Usage, VERSION, WordsFault, complaint_of, parse_words,
 };
 pub use rdm_files::{
     ClientCall, ClientFile, FileFault, FileKind, Found, MOST_BYTES, Mismatch, Path, Remark,

@@ -37,8 +37,8 @@ pub(crate) fn values_of<'a>(own: &LineDiscovery<'a>) -> Result<LineValues, Refus
     }
 }
 
-// The UIDs that an option's texts spell.
-fn devices_of<'a>(option: &'static str, texts: &[&'a str]) -> Result<UidSet, Refused<'a>>
+/// The UIDs that an option's texts spell. Err: one of them spells no device's UID; the first one is the reason.
+pub(crate) fn devices_of<'a>(option: &'static str, texts: &[&'a str]) -> Result<UidSet, Refused<'a>>
     requires { length texts.now ≤ MOST_DEVICES }
     ensures ok { IfOk result (λ known. (listed : List ℕ) × SpellDevices texts.now listed × (known ≡ set_of listed)) }
     ensures fault { IfErr result (λ e. (e.0 ≡ Fault.Uid) × ((listed : List ℕ) → SpellDevices texts.now listed → ⊥)) }

@@ -11,6 +11,7 @@ ghost use Rattle.rdm_port.specs.body.Texts.{answer_bytes};
 use crate::answer::{Answer, Answered, Refused};
 use crate::branch::{decode, encode};
 use crate::discovering::answer_discover;
+use crate::explaining::answer_explain;
 use crate::fault::Fault;
 use crate::logging::{NoLog, after_log};
 use crate::opening::{NoLine, Opens};
@@ -21,7 +22,8 @@ use rdm_files::Remark;
 use rdm_line::{Line, SimLine};
 use rdm_reports::{LogOutput, OpensLog, Progress, write_all};
 use std::alloc::Global;
-use std::io::{Read, Write};
+use std::io;
+use std::io::{ErrorKind, Read, Write};
 use std::sync::Wait;
 use std::thread::Threads;
 
@@ -31,16 +33,17 @@ pub(crate) const NOT_WRITTEN: u8 = 1;
 /// Prints the answer to a command, and returns its status:
 /// - 0 if it is done;
 /// - 1 if there is a fault, or the writer fails;
-/// - 2 if the arguments fit no command.
+/// - 2 if the arguments fit no command;
+/// - 3 if a log shows that a rule was broken.
 ///
 /// Of several faults the first in this order is printed: the arguments; `fault: hex` or `fault: uid`; `fault: file`;
 /// `fault: json`; `fault: discovery command`; `fault: scene`; then those of the run, with `fault: log` before
-/// `fault: turns`, and `fault: defect` last. `fault: memory` is printed when it occurs. If the writer fails, it has a
-/// prefix of the text.
+/// `fault: turns`, and `fault: defect` last. Those of a log that is explained come last. `fault: memory` is printed
+/// when it occurs. If the writer fails, it has a prefix of the text.
 ///
 /// The reader is for a command that reads a file. If the file can't be opened, pass a reader whose reads fail. No line
 /// is opened here, and no log is kept: a command with a line of the caller's own, or with a log, is `fault: file` once
-/// its file has been read.
+/// its file has been read. No second file is read, so a command with one is `fault: file` too.
 pub fn perform<R: Read, W: Write, T: Threads + Wait + Sync>(
     rt: &T,
     alloc: Global,
@@ -49,16 +52,17 @@ pub fn perform<R: Read, W: Write, T: Threads + Wait + Sync>(
     writer: &mut W,
 ) -> u8
     ensures { (text logged : List ℕ) × (status status_printed : ℕ)
-        × IsOutcome SimState SimStep (λ out replies line. ⊥) job.entry (R.remaining reader.old) text logged status
+        × IsOutcome SimState SimStep (λ out replies line. ⊥) job.entry (R.remaining reader.old) None text logged status
         × IsLogged (has_log job.entry) None None logged status status_printed
         × IsPrinted (W.contents writer.old) (W.contents writer.new) text status_printed result }
 {
     let mut log = LogOutput::new(NoLog);
-    let (status, _) = carry_out::<SimLine, _, _, _, _, _, _>(
+    let (status, _) = carry_out::<SimLine, _, _, _, _, _, _, _>(
         rt,
         alloc,
         job,
         reader,
+        &mut NoFile,
         &mut NoLine,
         &mut log,
         writer,
@@ -68,7 +72,8 @@ pub fn perform<R: Read, W: Write, T: Threads + Wait + Sync>(
 }
 
 /// As [`perform`], and opens the line and keeps the log that the arguments name. It also returns the reason if the
-/// command isn't done, for instance because a writer fails.
+/// command isn't done, for instance because a writer fails. The rig is the reader of the scene file that a job reads
+/// beside a log ([`Job::rig`]).
 ///
 /// The line and then the log are opened once the file is read, and before the first frame. If one of them can't be
 /// opened, that is `fault: file`. The line is dropped at the end. A discovery's exchanges are written as they are made,
@@ -85,6 +90,7 @@ pub fn carry_out<
     L: Line + Send + Drop,
     O: Opens<L>,
     R: Read,
+    S: Read,
     G: OpensLog,
     W: Write,
     P: Progress + Send,
@@ -94,6 +100,7 @@ pub fn carry_out<
     alloc: Global,
     job: Result<Job<'a>, WordsFault>,
     reader: &mut R,
+    rig: &mut S,
     opener: &mut O,
     log: &mut LogOutput<G>,
     writer: &mut W,
@@ -102,7 +109,8 @@ pub fn carry_out<
     requires closed { log.old.is_open ≡ false }
     requires sound { log.old.is_failed ≡ false }
     ensures { (text logged : List ℕ) × (status status_printed : ℕ)
-        × IsOutcome L L.step (O.opens opener.old) job.entry (R.remaining reader.old) text logged status
+        × IsOutcome L L.step (O.opens opener.old) job.entry (R.remaining reader.old) (S.remaining rig.old) text logged
+        status
         × IsLogged (has_log job.entry) log.old.contents log.new.contents logged status status_printed
         × IsPrinted (W.contents writer.old) (W.contents writer.new) text status_printed result.0 }
 {
@@ -110,7 +118,7 @@ pub fn carry_out<
         Ok(job) => job.log(),
         Err(_) => None,
     };
-    let answer = answer(rt, alloc, job, reader, opener, log, progress);
+    let answer = answer(rt, alloc, job, reader, rig, opener, log, progress);
     print(writer, log, path, answer)
 }
 
@@ -161,6 +169,16 @@ fn write_answer<'a, W: Write>(writer: &mut W, answered: Answered<'a>) -> (u8, Op
     }
 }
 
+// A second file, which can't be read.
+#[derive(Clone, Copy, Drop)]
+struct NoFile;
+
+impl Read for NoFile {
+    fn read(&mut self, _bytes: &mut [u8]) -> io::Result<usize> {
+        Err(io::Error::from(ErrorKind::Unsupported))
+    }
+}
+
 /// Reports nothing.
 #[derive(Clone, Copy, Drop)]
 pub struct Silent;
@@ -177,6 +195,7 @@ fn answer<
     L: Line + Send + Drop,
     O: Opens<L>,
     R: Read,
+    S: Read,
     G: OpensLog,
     P: Progress + Send,
     T: Threads + Wait + Sync,
@@ -185,6 +204,7 @@ fn answer<
     alloc: Global,
     job: Result<Job<'a>, WordsFault>,
     reader: &mut R,
+    rig: &mut S,
     opener: &mut O,
     log: &mut LogOutput<G>,
     progress: &mut P,
@@ -193,9 +213,10 @@ fn answer<
     requires sound { log.old.is_failed ≡ false }
     ensures ok { IfOk result (λ a. (logged : List ℕ)
         × ((j : Job) × (job.entry ≡ Ok j)
-        × Answers L L.step (O.opens opener.old) j (R.remaining reader.old) (answer_bytes a.text) logged a.status)
+        × Answers L L.step (O.opens opener.old) j (R.remaining reader.old) (S.remaining rig.old) (answer_bytes a.text)
+        logged a.status)
         × HasLogged (has_log job.entry) log.old log.new logged) }
-    ensures fault { IfErr result (λ e. IsFaultOf job.entry (R.remaining reader.old) e.0) }
+    ensures fault { IfErr result (λ e. IsFaultOf job.entry (R.remaining reader.old) (S.remaining rig.old) e.0) }
     ensures logged { IfErr result (λ e. (logged : List ℕ)
         × IsLoggedWith L L.step (O.opens opener.old) job.entry (R.remaining reader.old) e.0 logged
         × HasLogged (has_log job.entry) log.old log.new logged) }
@@ -207,6 +228,9 @@ fn answer<
             answer_discover(alloc, &discovery, reader, opener, log, progress)
         }
         Ok(Job::Run(session)) => answer_run(rt, alloc, session, reader, opener, log, progress),
+        Ok(Job::Explain(explanation)) => {
+            answer_explain(alloc, &explanation, reader, rig, progress)
+        }
         Err(WordsFault::Words) => Err((Fault::CommandLine, Some(Reason::Arguments))),
         Err(WordsFault::NoMemory) => Err((Fault::Memory, None)),
     }

@@ -4,7 +4,7 @@ use rdm_agent::AgentFault;
 use rdm_arguments::Complaint;
 use rdm_files::{FileFault, FileKind, MOST_BYTES, Mismatch, SceneFault, looks_like};
 use rdm_reports::{Discovered, Outcomes, device_lines};
-use rdm_wire::{DeviceSet, Uid};
+use rdm_wire::{DeviceSet, MOST_DEVICES, Uid};
 use serde_json::Value;
 use std::alloc::Global;
 use std::io::ErrorKind;
@@ -71,6 +71,10 @@ pub enum Reason<'a> {
     OneWay(&'a str),
     /// The log at this path couldn't be written.
     Unlogged(&'a str, ErrorKind),
+    /// The file at this path isn't a log, because of this line, counted from 1.
+    NoLogLine(&'a str, u64),
+    /// More than 1,024 devices were present, by the arguments and the scene file.
+    TooManyPresent,
 }
 
 impl<'a> Reason<'a> {
@@ -168,6 +172,13 @@ impl fmt::Display for Reason<'_> {
             Reason::Unlogged(path, kind) => {
                 write!(f, "the log {path:?} can't be written: {kind}")
             }
+            Reason::NoLogLine(path, line) => write_no_log_line(f, path, *line),
+            Reason::TooManyPresent => {
+                write!(
+                    f,
+                    "the scene file and --present have more than {MOST_DEVICES} devices"
+                )
+            }
         }
     }
 }
@@ -255,6 +266,19 @@ fn write_unopened<W: fmt::Write>(
         }
         ErrorKind::IsADirectory => write!(f, "{path:?} can't be opened: it is a folder"),
         kind => write!(f, "{path:?} can't be opened: {kind}"),
+    }
+}
+
+// The lines before it may be read alone.
+fn write_no_log_line<W: fmt::Write>(
+    f: &mut fmt::Formatter<W>,
+    path: &str,
+    line: u64,
+) -> fmt::Result {
+    write!(f, "line {line} of {path:?} isn't a line of a log")?;
+    match line.checked_sub(1) {
+        Some(before) if before > 0 => write!(f, "; 'head -n {before}' has those before it"),
+        _ => Ok(()),
     }
 }
 

@@ -1,14 +1,16 @@
 //! Reads and writes the replies of RDM devices to a branch of the discovery tree. Discovers devices, and runs sessions
-//! of clients, on a simulated line or on streams of text. `rdm_port` decides what is printed. Here are the arguments of
-//! the process, its files and its streams.
+//! of clients, on a simulated line or on streams of text. Explains their logs. `rdm_port` decides what is printed. Here
+//! are the arguments of the process, its files and its streams.
 #![tactic(auto)]
 
 ghost use Rattle.std.specs.Prelude.{◌≡◌, IfOk, map, string_bytes};
 ghost use Rattle.rdm_arguments.specs.Arguments.{texts_of};
 
+mod input;
 mod log_file;
 mod opening;
 
+use crate::input::Input;
 use crate::log_file::LogFile;
 use crate::opening::{FileOpener, TextLine};
 use rdm_arguments::{Complaint, Job, WordsFault, complaint_of, parse_words};
@@ -16,12 +18,11 @@ use rdm_port::{Progressing, Reason, carry_out, print_reason, print_usage};
 use rdm_reports::LogOutput;
 use std::alloc::{AllocError, Global};
 use std::fs::File;
-use std::io::Read;
 use std::process::ExitCode;
 use std::rt::{Files, Runtime};
 use std::sync::Wait;
 use std::thread::Threads;
-use std::{env, fs, io};
+use std::{env, io};
 
 fn main(rt: HostRuntime) -> ExitCode {
     let status = match args(&rt) {
@@ -50,35 +51,22 @@ fn print<T: Runtime + Threads + Wait + Sync + Files<File = File>>(
     job: Result<Job<'_>, WordsFault>,
     words: Option<&[&str]>,
 ) -> u8 {
-    let file = match &job {
-        Ok(job) => job.file(),
-        Err(_) => None,
+    let (file, rig) = match &job {
+        Ok(job) => (job.file(), job.rig()),
+        Err(_) => (None, None),
     };
-    let Some(path) = file else {
-        return print_from(rt, alloc, job, words, &mut io::empty());
-    };
-    match fs::open(rt, path) {
-        Ok(mut file) => print_from(rt, alloc, job, words, &mut file),
-        Err(error) => print_from(rt, alloc, job, words, &mut Unopened(error.kind())),
-    }
-}
-
-fn print_from<R: Read, T: Runtime + Threads + Wait + Sync + Files<File = File>>(
-    rt: &T,
-    alloc: Global,
-    job: Result<Job<'_>, WordsFault>,
-    words: Option<&[&str]>,
-    reader: &mut R,
-) -> u8 {
+    let mut reader = Input::open(rt, file);
+    let mut rig = Input::open(rt, rig);
     let mut progress = match &job {
         Ok(job) if job.is_on_line() => Progressing::on_line(rt),
         _ => Progressing::new(rt),
     };
-    let (status, reason) = carry_out::<TextLine, _, _, _, _, _, _>(
+    let (status, reason) = carry_out::<TextLine, _, _, _, _, _, _, _>(
         rt,
         alloc,
         job,
-        reader,
+        &mut reader,
+        &mut rig,
         &mut FileOpener::new(rt, alloc),
         &mut LogOutput::new(LogFile::new(rt)),
         &mut io::writer(rt),
@@ -98,20 +86,6 @@ fn complaint<'a>(words: Option<&[&'a str]>) -> Complaint<'a> {
     match words {
         Some(words) => complaint_of(words),
         None => Complaint::NoText,
-    }
-}
-
-// A file that can't be opened: each read of it fails with this error.
-#[derive(Clone, Copy, Drop)]
-struct Unopened(io::ErrorKind);
-
-impl Read for Unopened {
-    fn read(&mut self, _bytes: &mut [u8]) -> io::Result<usize> {
-        // A read that was interrupted would be tried again.
-        match self.0 {
-            io::ErrorKind::Interrupted => Err(io::Error::from(io::ErrorKind::Other)),
-            kind => Err(io::Error::from(kind)),
-        }
     }
 }
 

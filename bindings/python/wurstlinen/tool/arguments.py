@@ -70,11 +70,11 @@ def add_run(made: Any, name: str) -> None:
 
 def add_explain(made: Any, name: str) -> None:
     """The arguments of explain."""
-    command = add_proved(made, name, "say why a discovery found what it found, and which device is to blame",
+    command = add_proved(made, name, "say which devices broke the rules, by a log",
                          "explain session.log --page session.html")
-    command.add_argument("file", metavar="LOG", help="what --log has written")
-    command.add_argument("--present", metavar="UID", action="append", help="a device that is on the line")
-    command.add_argument("--rig", metavar="FILE", help="a scene file with the devices on the line")
+    command.add_argument("file", metavar="LOG", help="a log that discover or run wrote")
+    command.add_argument("--present", metavar="UID", action="append", help="a device that was on the line")
+    command.add_argument("--rig", metavar="FILE", help="a scene file with devices that were on the line")
     command.add_argument("--page", metavar="FILE", help="an HTML file for a picture, which is replaced")
 
 

@@ -116,6 +116,14 @@ fn leaves_first(from: u64, until: Option<u64>) -> bool
 
 const EXPECTED: &str = "a list of at most 1024 devices";
 
+/// The devices of a scene, in the order of the file.
+pub(crate) const DEVICES: ListOf<DeviceForm> = ListOf {
+    form: DeviceForm,
+    least: 0,
+    most: MOST_DEVICES,
+    expected: EXPECTED,
+};
+
 /// The devices of a scene.
 #[derive(Clone, Copy, Drop)]
 pub(crate) struct DevicesForm;

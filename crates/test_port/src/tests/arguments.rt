@@ -58,6 +58,14 @@ fn arguments_have_null_characters(rt: HostRuntime) {
     prints(&rt, alloc, &["decode\u{0}", "fe"], no_words);
 }
 
+// A command with two files is only given one of them here.
+#[test]
+fn a_second_file_is_not_read(rt: HostRuntime) {
+    let words = ["explain", "run.log", "--rig", "rig.json"];
+    prints(&rt, rt.alloc(), &words, ("fault: file\n", 1));
+    prints(&rt, rt.alloc(), &words[..2], ("", 0));
+}
+
 // Nothing is wrong with arguments that fit a command, so no more specific complaint applies.
 #[test]
 fn faults_of_arguments_say_what_is_wrong(rt: HostRuntime) {

@@ -69,11 +69,12 @@ pub fn carries<'a, R: Read, T: Threads + Wait + Sync>(
     });
     let mut written = Vec::new(alloc);
     let job = parse_words(alloc, words);
-    let (status, reason) = carry_out::<SimLine, _, _, _, _, _, _>(
+    let (status, reason) = carry_out::<SimLine, _, _, _, _, _, _, _>(
         rt,
         alloc,
         job,
         reader,
+        &mut io::empty(),
         &mut NoLine,
         &mut log,
         &mut written,

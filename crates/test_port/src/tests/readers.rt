@@ -1,8 +1,8 @@
 //! Readers that fail at each read.
 use super::logs::carries;
 use super::program::{
-    Due, INCREMENTAL, LOCKED, RINGS, SCENE, SCENE_FILE, SESSION, SESSION_FILE, check, check_at,
-    says, status_of,
+    Due, EXPLAIN, INCREMENTAL, LOCKED, LOG, LOG_FILE, RINGS, SCENE, SCENE_FILE, SESSION,
+    SESSION_FILE, check, check_at, says, status_of,
 };
 use rdm_port::Reason;
 use std::alloc::Global;
@@ -104,6 +104,11 @@ fn a_reader_of_a_session_fails(rt: HostRuntime) {
     fails_at_each_read(&rt, alloc, &RINGS, file, SESSION);
 }
 
+#[test]
+fn a_reader_of_a_log_fails(rt: HostRuntime) {
+    fails_at_each_read(&rt, rt.alloc(), &EXPLAIN, LOG_FILE.as_bytes(), LOG);
+}
+
 // The reason names the file as the arguments do.
 fn names_the_file<T: Threads + Wait + Abort + Sync>(rt: &T, alloc: Global, command: &str) {
     let mut reader = FailingReader::new(SCENE_FILE.as_bytes(), 20, 1);
@@ -132,4 +137,5 @@ fn reports_which_file_is_not_read(rt: HostRuntime) {
     let alloc = rt.alloc();
     names_the_file(&rt, alloc, "discover");
     names_the_file(&rt, alloc, "run");
+    names_the_file(&rt, alloc, "explain");
 }

@@ -1,6 +1,7 @@
 //! Writers that fail at each byte.
 use super::program::{
-    Due, INCREMENTAL, LOCKED, RINGS, SCENE, SCENE_FILE, SESSION, SESSION_FILE, check_at, status_of,
+    Due, EXPLAIN, INCREMENTAL, LOCKED, LOG, LOG_FILE, RINGS, SCENE, SCENE_FILE, SESSION,
+    SESSION_FILE, check_at, status_of,
 };
 use std::alloc::Global;
 use std::io;
@@ -84,7 +85,7 @@ fn fails_in_each_form<T: Threads + Wait + Abort + Sync>(rt: &T, alloc: Global, r
 }
 
 // What commands print in one line. The file is only for commands that read one.
-static LINES: [Row<'static>; 9] = [
+static LINES: [Row<'static>; 10] = [
     Row {
         words: &["decode", ""],
         file: "",
@@ -130,6 +131,11 @@ static LINES: [Row<'static>; 9] = [
         file: "{}",
         due: ("fault: scene\n", 1),
     },
+    Row {
+        words: &["explain", "f"],
+        file: "{}",
+        due: ("fault: line 1\n", 1),
+    },
 ];
 
 #[test]
@@ -145,6 +151,16 @@ fn a_writer_of_a_scene_fails(rt: HostRuntime) {
         words: &INCREMENTAL,
         file: SCENE_FILE,
         due: SCENE,
+    };
+    fails_in_each_form(&rt, rt.alloc(), row);
+}
+
+#[test]
+fn a_writer_of_findings_fails(rt: HostRuntime) {
+    let row = Row {
+        words: &EXPLAIN,
+        file: LOG_FILE,
+        due: LOG,
     };
     fails_in_each_form(&rt, rt.alloc(), row);
 }

@@ -8,13 +8,15 @@ use Rattle.rdm_port.proofs.performing.answer.Goals as goal
 pub returns-in-Ok-Discover-clause-ok : goal.returns-in-Ok-Discover-clause-ok
 returns-in-Ok-Discover-clause-ok g c =
     done_logged c.answer_discover.result c.args.job (Discover c.in-Ok-Discover.discovery)
-    (λ j. Answers _ g.L.Line.step (g.O.Opens.opens c.args.opener.now) j (g.R.Read.remaining c.args.reader.now))
+    (λ j. Answers _ g.L.Line.step (g.O.Opens.opens c.args.opener.now) j (g.R.Read.remaining c.args.reader.now)
+    (g.S.Read.remaining c.args.rig.now))
     c.args.log.now c.answer_discover.new.log (search rules) c.answer_discover.ensures.ok
 
 pub returns-in-Ok-Run-clause-ok : goal.returns-in-Ok-Run-clause-ok
 returns-in-Ok-Run-clause-ok g c =
     done_logged c.answer_run.result c.args.job (Run c.in-Ok-Run.session)
-    (λ j. Answers _ g.L.Line.step (g.O.Opens.opens c.args.opener.now) j (g.R.Read.remaining c.args.reader.now))
+    (λ j. Answers _ g.L.Line.step (g.O.Opens.opens c.args.opener.now) j (g.R.Read.remaining c.args.reader.now)
+    (g.S.Read.remaining c.args.rig.now))
     c.args.log.now c.answer_run.new.log (search rules) c.answer_run.ensures.ok
 
 pub returns-in-Ok-Discover-clause-logged : goal.returns-in-Ok-Discover-clause-logged
