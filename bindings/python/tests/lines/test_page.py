@@ -495,11 +495,13 @@ class Command(TestCase):
         for number, wanted in ((signal.SIGINT, 130), (signal.SIGTERM, 143), (signal.SIGHUP, 129)):
             self.stand_in(self.LINES, 0, "Path('pid').write_text(str(os.getpid())); time.sleep(50)")
             with self.started("log", "--page", "page.html") as child:
+                assert child.stdout is not None
+                self.assertEqual("".join(child.stdout.readline() for _ in self.LINES.splitlines()), self.LINES)
                 while not (self.place / "pid").exists() or not (self.place / "pid").read_text():
                     time.sleep(0.01)
                 program = int((self.place / "pid").read_text())
                 child.send_signal(number)
-                self.assertEqual((child.wait(), child.communicate()), (wanted, (self.LINES, "")))
+                self.assertEqual((child.wait(), child.communicate()), (wanted, ("", "")))
             self.assertFalse(Path(f"/proc/{program}").exists())
             (self.place / "pid").unlink()
             self.assert_nothing()
