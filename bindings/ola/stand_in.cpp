@@ -412,35 +412,39 @@ void StandIn::found(const UIDSet &devices) {
 
 void StandIn::abort() {
     is_aborted_ = true;
-    if (discoveries_.empty() && waiting_.callbacks.empty()) {
-        return;
+    if (!has_ended_) {
+        record(controller_, "call", "abort");
+        close(true);
     }
-    record(controller_, "call", "abort");
-    within([this] {
-        if (is_discovering()) {
-            forget();
-            fail(STOPPED);
-        }
-        // The core or the adapter answers the rest later, or never.
-        std::vector<RDMDiscoveryCallback *> callbacks = std::exchange(waiting_, {}).callbacks;
-        for (auto each = discoveries_.rbegin(); each != discoveries_.rend(); ++each) {
-            callbacks.insert(callbacks.begin(), each->callbacks.begin(), each->callbacks.end());
-            each->callbacks.clear();
-        }
-        run(callbacks, UIDSet());
-    });
 }
 
 void StandIn::end() {
     record(controller_, "call", "close");
+    close(false);
+}
+
+// All callbacks of discoveries, in the order of their calls. No later answer runs one of them.
+std::vector<RDMDiscoveryCallback *> StandIn::taken_callbacks() {
+    std::vector<RDMDiscoveryCallback *> all;
+    for (auto &each : discoveries_) {
+        const auto callbacks = std::exchange(each.callbacks, {});
+        all.insert(all.end(), callbacks.begin(), callbacks.end());
+    }
+    const auto waiting = std::exchange(waiting_, {}).callbacks;
+    all.insert(all.end(), waiting.begin(), waiting.end());
+    return all;
+}
+
+// Ends all that is outstanding, without a call of the layer below. What callbacks ask for then ends at once.
+void StandIn::close(bool answers_discoveries) {
     has_ended_ = true;
     forget();
     run_.held_step = nullptr;
-    waiting_ = {};
-    for (auto &each : discoveries_) {
-        each.callbacks.clear();
-    }
-    within([this] {
+    within([=] {
+        const auto callbacks = taken_callbacks();
+        if (answers_discoveries) {
+            run(callbacks, UIDSet());
+        }
         core_.close();
         if (core_.awaits()) {
             core_.fail();

@@ -22,8 +22,8 @@ public:
     // Takes ownership of the request. The callback may be null here and in `discover`.
     void send(ola::rdm::RDMRequest *taken, ola::rdm::RDMCallback *callback);
     void discover(wurst_kind kind, ola::rdm::RDMDiscoveryCallback *callback);
-    // OLA stops the adapter, and what callbacks belong to still exists: ends all discoveries, with the empty set as in
-    // OLA. Later ones get it at once. Requests go on.
+    // OLA stops the adapter, on its own thread, and what callbacks belong to still exists: ends all discoveries, with
+    // the empty set as in OLA, and all requests, since `end` may come on another thread. Later ones end at once.
     void abort();
     // The same if the layer below is about to answer what is under way.
     void expect_abort() { is_aborted_ = true; }
@@ -78,6 +78,8 @@ private:
     void answer_oldest(const ola::rdm::UIDSet &devices);
     void run(const std::vector<ola::rdm::RDMDiscoveryCallback *> &callbacks, const ola::rdm::UIDSet &devices);
     bool ask(const Discoveries &discoveries);
+    std::vector<ola::rdm::RDMDiscoveryCallback *> taken_callbacks();
+    void close(bool answers_discoveries);
     void refuse(ola::rdm::RDMCallback *callback, const char *why);
     void introduce(bool discovers);
 
