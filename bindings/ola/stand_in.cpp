@@ -205,12 +205,26 @@ static std::vector<UID> some_of(const std::vector<wurst::Device> &devices) {
     return some;
 }
 
+// The core's run serves all discoveries that it was asked for before, and is full if one of them is.
+void StandIn::begin_run() {
+    run_ = {};
+    run_.began = Clock::now();
+    if (!settings().runs.empty()) {
+        const bool is_full = std::any_of(discoveries_.begin(), discoveries_.end(), [](const Discoveries &each) {
+            return each.kind == WURST_FULL_DISCOVERY;
+        });
+        const auto kind = is_full ? WURST_FULL_DISCOVERY : WURST_INCREMENTAL;
+        const auto known = is_full ? std::vector<wurst::Device>() : core_.devices();
+        run_log_.begin({SOURCE, settings().budget, settings().search, kind, known});
+    }
+}
+
 // Sends a frame of a run. The first one may have to wait for a check of the line.
 void StandIn::continue_run(const wurst::Frame &frame, bool is_first) {
     if (is_first) {
-        run_ = {};
-        run_.began = Clock::now();
+        begin_run();
     }
+    run_log_.sent(frame);
     if (is_aborted_) {
         fail(STOPPED);
     } else if (!is_first || !is_in_doubt()) {
@@ -234,13 +248,19 @@ void StandIn::deliver(const Heard &heard) {
     } else if (is_run && is_last_silence(heard)) {
         proceed([this] { check_adapter(); });
     } else {
-        core_.deliver(heard.bytes);
-        collect();
+        give(heard.bytes);
     }
+}
+
+void StandIn::give(wurst::Bytes bytes) {
+    run_log_.came(bytes);
+    core_.deliver(bytes);
+    collect();
 }
 
 void StandIn::fail(const char *why) {
     failure_ = why;
+    run_log_.failed();
     core_.fail();
     collect();
 }
@@ -283,8 +303,7 @@ void StandIn::checked(const Heard &heard) {
         } else if (run_.held_frame) {
             proceed([this] { send_held(); });
         } else {
-            core_.deliver({});
-            collect();
+            give({});
         }
     });
 }
@@ -339,6 +358,7 @@ void StandIn::finish(const wurst::Completion &done) {
 // OLA's callback has no argument for a fault. So after a fault, OLA gets what the last run without fault found. If
 // there was none, it gets what this run has found.
 void StandIn::answer(const wurst::Discovery &done) {
+    run_log_.end();
     if (repeat(done)) {
         return;
     }
@@ -447,6 +467,7 @@ void StandIn::close(bool answers_discoveries) {
         }
         core_.close();
         if (core_.awaits()) {
+            run_log_.failed();
             core_.fail();
         }
         collect();

@@ -1,6 +1,7 @@
 // The replacement for one queueing controller of OLA: a proved controller, with OLA's callbacks and the layer below.
 #pragma once
 #include "below.hpp"
+#include "run_log.hpp"
 #include <atomic>
 #include <deque>
 #include <functional>
@@ -62,9 +63,11 @@ private:
     template <typename Work> void within(Work work);
     void pump();
     bool send_next();
+    void begin_run();
     bool is_handed_down_next() const;
     void continue_run(const wurst::Frame &frame, bool is_first);
     void deliver(const Heard &heard);
+    void give(wurst::Bytes bytes);
     void fail(const char *why);
     bool is_last_silence(const Heard &heard);
     bool is_emptied_in_doubt(const Heard &heard);
@@ -113,6 +116,7 @@ private:
     // OLA's thread, which asks for discoveries.
     std::thread::id asked_on_;
     Run run_;
+    RunLog run_log_;
     const char *failure_ = nullptr;
     std::uint64_t run_told_ = 0;
     Clock::time_point paused_{};
