@@ -107,10 +107,6 @@ Bridge Below::choose() const {
     return discoverable_ != nullptr ? Bridge::Own : Bridge::None;
 }
 
-bool Below::is_discovering() const {
-    return is_busy() && (kind_ == Kind::Check || (kind_ == Kind::Frame && sent_.kind != WURST_REQUEST));
-}
-
 // The layer below keeps the exchange's callbacks until it runs one of them. So only exchanges that it has answered are
 // used again, and late: it may repeat an answer.
 Below::Exchange *Below::begin(Kind kind) {

@@ -29,8 +29,6 @@ protected:
     bool is_busy() const { return awaited_ != nullptr; }
     // The adapter's UID if a reply has shown it, else the name of its class.
     const std::string &name() const { return name_; }
-    // Whether a discovery's frame, or a check of the line, is under way.
-    bool is_discovering() const;
     // What the last frame of the core was.
     const wurst_command &sent() const { return sent_; }
     static bool is_request(const wurst::Frame &frame);

@@ -50,18 +50,22 @@ std::string stamp() {
         + json(microseconds(CLOCK_MONOTONIC));
 }
 
-static LogWriter *new_writer();
+template <Content CONTENT> LogWriter *new_writer();
 
 // It is never destroyed, since other threads may still use it when the process ends.
-static LogWriter &writer() {
-    static LogWriter &made = *new_writer();
+template <Content CONTENT> LogWriter &writer() {
+    static LogWriter &made = *new_writer<CONTENT>();
     return made;
 }
 
-static LogWriter *new_writer() {
-    std::atexit([] { writer().flush(MOST_TO_FLUSH); });
-    pthread_atfork(nullptr, nullptr, [] { writer().forget(); });
-    return new LogWriter({settings().log, settings().log_bytes});
+template <Content CONTENT> LogWriter *new_writer() {
+    std::atexit([] { writer<CONTENT>().flush(MOST_TO_FLUSH); });
+    pthread_atfork(nullptr, nullptr, [] { writer<CONTENT>().forget(); });
+    LogWriter::Options options;
+    options.content = CONTENT;
+    options.name = CONTENT == Content::Records ? settings().log : settings().runs;
+    options.most_bytes = settings().log_bytes;
+    return new LogWriter(options);
 }
 
 void write_record(unsigned int controller, std::initializer_list<std::string> fields) {
@@ -71,6 +75,8 @@ void write_record(unsigned int controller, std::initializer_list<std::string> fi
         line += (is_key ? ',' : ':') + each;
         is_key = !is_key;
     }
-    writer().add(line + "}\n");
+    writer<Content::Records>().add(line + "}\n");
 }
+
+void write_run(const std::string &lines) { writer<Content::Runs>().add(lines); }
 } // namespace stand_in

@@ -1,4 +1,4 @@
-// Messages through OLA's logging, and the records of the log.
+// Messages through OLA's logging, the records of the log, and the log of runs.
 #pragma once
 #include "settings.hpp"
 #include <ola/rdm/UID.h>
@@ -32,4 +32,7 @@ template <typename... Fields> void record(unsigned int controller, const Fields 
         write_record(controller, {json(fields)...});
     }
 }
+
+// Adds lines to the log of runs, all of them or none. It doesn't wait for the file.
+void write_run(const std::string &lines);
 } // namespace stand_in

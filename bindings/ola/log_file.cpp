@@ -18,8 +18,9 @@ namespace stand_in {
 constexpr mode_t MODE = 0640;
 constexpr int HOW = O_WRONLY | O_APPEND | O_CREAT | O_NONBLOCK | O_CLOEXEC | O_NOCTTY;
 
-LogFile::LogFile(std::string name, std::uint64_t most_bytes, Clock::duration between_messages)
-    : name_(std::move(name)), most_bytes_(most_bytes), between_messages_(between_messages) {}
+LogFile::LogFile(std::string name, std::uint64_t most_bytes, Clock::duration between_messages, const char *variable)
+    : name_(std::move(name)), most_bytes_(most_bytes), between_messages_(between_messages),
+      setting_(variable + ('=' + name_)) {}
 
 LogFile::~LogFile() { close(); }
 
@@ -134,7 +135,7 @@ void LogFile::take_back(std::size_t bytes) {
 bool LogFile::fail(const std::string &why) {
     const auto now = Clock::now();
     if (!is_told_ && (!last_told_ || now - *last_told_ >= between_messages_)) {
-        tell("WURSTLINEN_LOG=" + name_, Level::Warn, why + "; records are lost until it can be written");
+        tell(setting_, Level::Warn, why + "; records are lost until it can be written");
         last_told_ = now;
         is_told_ = true;
     }
@@ -146,7 +147,7 @@ void LogFile::succeed() {
         return;
     }
     try {
-        tell("WURSTLINEN_LOG=" + name_, Level::Inform, "it is written again");
+        tell(setting_, Level::Inform, "it is written again");
         is_told_ = false;
     } catch (const std::bad_alloc &) {
         // The lines are written. The next ones try again to report it.

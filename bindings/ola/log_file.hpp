@@ -14,9 +14,10 @@ public:
     using Clock = std::chrono::steady_clock;
 
     // If lines would make the file longer than `most_bytes`, it is first renamed to NAME.1. 0: no limit. If the name is
-    // a symbolic link, that happens to the file that it names. A disk that is
-    // full now and then is reported once in this time.
-    LogFile(std::string name, std::uint64_t most_bytes, Clock::duration between_messages = std::chrono::minutes(1));
+    // a symbolic link, that happens to the file that it names. A disk that is full now and then is reported once in
+    // this time. `variable` names the file in messages.
+    LogFile(std::string name, std::uint64_t most_bytes, Clock::duration between_messages = std::chrono::minutes(1),
+            const char *variable = "WURSTLINEN_LOG");
     ~LogFile();
     LogFile(const LogFile &) = delete;
     LogFile &operator=(const LogFile &) = delete;
@@ -39,6 +40,7 @@ private:
     const std::string name_;
     const std::uint64_t most_bytes_;
     const Clock::duration between_messages_;
+    const std::string setting_;
     int file_ = -1;
     // The file may end within a line, so the next one begins with a newline.
     bool is_torn_ = false;

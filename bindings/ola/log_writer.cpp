@@ -10,8 +10,17 @@
 namespace stand_in {
 
 constexpr std::chrono::milliseconds BETWEEN_LOOKS{1};
+constexpr std::chrono::minutes BETWEEN_MESSAGES{1};
+// Ends a run in the queue, and isn't written. No line has it.
+constexpr char END_OF_RUN = '\0';
 
-LogWriter::State::State(const Options &options) : file(options.name, options.most_bytes) {
+static const char *variable_of(Content content) {
+    return content == Content::Records ? "WURSTLINEN_LOG" : "WURSTLINEN_RUNS";
+}
+
+LogWriter::State::State(const Options &options)
+    : setting(variable_of(options.content) + ('=' + options.name)), content(options.content),
+      file(options.name, options.most_bytes, BETWEEN_MESSAGES, variable_of(options.content)) {
     queue.reserve(options.queue_bytes);
     taken.lines.reserve(options.queue_bytes);
 }
@@ -30,15 +39,17 @@ LogWriter::~LogWriter() {
     delete state_;
 }
 
-// After a lost line all lines are lost until the thread has taken the queue, so they are missing in one place.
-void LogWriter::add(const std::string &line) {
+// After a lost record all are lost until the thread has taken the queue, so they are missing in one place.
+void LogWriter::add(const std::string &lines) {
     State &state = *state_;
+    const std::size_t end = state.content == Content::Runs ? 1 : 0;
     const std::lock_guard<std::mutex> locked(state.guard);
     state.added++;
-    if (!is_started(state) || state.lost > 0 || state.queue.size() + line.size() > options_.queue_bytes) {
+    if (!is_started(state) || state.lost > 0 || state.queue.size() + lines.size() + end > options_.queue_bytes) {
         state.lost++;
     } else {
-        state.queue += line;
+        state.queue += lines;
+        state.queue.append(end, END_OF_RUN);
     }
     state.wake.notify_one();
 }
@@ -64,8 +75,8 @@ static sigset_t other_signals() {
     return all;
 }
 
-// Starts the thread with the first line, since a daemon forks before.
-bool LogWriter::is_started(State &state) const {
+// Starts the thread when it is first needed, since a daemon forks before.
+bool LogWriter::is_started(State &state) {
     if (state.thread.joinable()) {
         return true;
     }
@@ -77,7 +88,7 @@ bool LogWriter::is_started(State &state) const {
     } catch (const std::exception &fault) {
         if (!state.has_told) {
             state.has_told = true;
-            tell("WURSTLINEN_LOG=" + options_.name, Level::Warn, "no thread to write it: " + std::string(fault.what()));
+            tell(state.setting, Level::Warn, "no thread to write it: " + std::string(fault.what()));
         }
     }
     pthread_sigmask(SIG_SETMASK, &before, nullptr);
@@ -86,24 +97,41 @@ bool LogWriter::is_started(State &state) const {
 
 static std::string lost_record(std::uint64_t lost) { return stamp() + ",\"lost\":" + json(lost) + "}\n"; }
 
-// Adds a line, or nothing, behind the count of those that were lost before it. `text` is used for that. False: the file
-// can't be written now, or there is no memory.
-static bool add_behind_lost(LogFile &file, std::uint64_t lost, std::string_view line, std::string &text) {
+static void tell_lost(const std::string &setting, std::uint64_t lost) {
     try {
-        text = lost > 0 ? lost_record(lost) : "";
-        text += line;
-        return file.add(text);
+        tell(setting, Level::Warn, "lost runs: " + std::to_string(lost));
     } catch (const std::bad_alloc &) {
-        return false;
+        // The run is written all the same.
     }
 }
 
-// Adds lines one by one. `lost` counts those that couldn't be written since the last one that could.
-static void write_lines(LogFile &file, std::string_view lines, std::uint64_t &lost, std::string &text) {
-    for (std::size_t at = 0; at < lines.size();) {
-        const std::size_t end = lines.find('\n', at) + 1;
-        lost = add_behind_lost(file, lost, lines.substr(at, end - at), text) ? 0 : lost + 1;
-        at = end;
+// Adds a record, a run or nothing, when so many were lost before it. A log of runs has nothing else. `text` is used for
+// that. False: the file can't be written now, or there is no memory, or the count of lost runs waits for the next one.
+bool LogWriter::write(State &state, std::uint64_t lost, std::string_view lines, std::string &text) {
+    const bool has_runs = state.content == Content::Runs;
+    try {
+        text = lost > 0 && !has_runs ? lost_record(lost) : "";
+        text += lines;
+        if (text.empty() || !state.file.add(text)) {
+            return false;
+        }
+    } catch (const std::bad_alloc &) {
+        return false;
+    }
+    if (lost > 0 && has_runs) {
+        tell_lost(state.setting, lost);
+    }
+    return true;
+}
+
+// Adds what was taken, one by one. `lost` counts what couldn't be written since the last one that could.
+void LogWriter::write_taken(State &state, std::uint64_t &lost, std::string &text) {
+    const std::string_view all = state.taken.lines;
+    const bool has_runs = state.content == Content::Runs;
+    for (std::size_t at = 0; at < all.size();) {
+        const std::size_t end = has_runs ? all.find(END_OF_RUN, at) : all.find('\n', at) + 1;
+        lost = write(state, lost, all.substr(at, end - at), text) ? 0 : lost + 1;
+        at = has_runs ? end + 1 : end;
     }
 }
 
@@ -114,16 +142,16 @@ void LogWriter::run(State &state) {
     std::string text;
     std::uint64_t lost = 0;
     while (take(state)) {
-        write_lines(state.file, state.taken.lines, lost, text);
+        write_taken(state, lost, text);
         lost += state.taken.lost;
-        if (lost > 0 && add_behind_lost(state.file, lost, "", text)) {
+        if (lost > 0 && write(state, lost, "", text)) {
             lost = 0;
         }
         state.done += state.taken.count;
     }
 }
 
-// Waits for lines. False: there are none, and there won't be more.
+// Waits for records or runs. False: there are none, and there won't be more.
 bool LogWriter::take(State &state) {
     Taken &taken = state.taken;
     std::unique_lock<std::mutex> locked(state.guard);

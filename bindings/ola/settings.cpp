@@ -63,8 +63,8 @@ static std::uint64_t number(const char *name, std::uint64_t most, std::uint64_t 
     return otherwise;
 }
 
-static std::string path_of_log() {
-    const std::string name = setting("WURSTLINEN_LOG");
+static std::string path(const char *variable) {
+    const std::string name = setting(variable);
     return name.empty() || name[0] == '/' ? name : folder_at_start + '/' + name;
 }
 
@@ -74,7 +74,8 @@ Settings read_settings() {
     found.search = is_second("WURSTLINEN_SEARCH", "quick", "steady") ? WURST_STEADY : WURST_QUICK;
     found.budget = number("WURSTLINEN_BUDGET", UINT64_MAX, found.budget, "a number of frames, from 1");
     found.seconds = number("WURSTLINEN_SECONDS", MOST_SECONDS, 0, "a number of seconds, 1 to 86400");
-    found.log = path_of_log();
+    found.log = path("WURSTLINEN_LOG");
+    found.runs = path("WURSTLINEN_RUNS");
     found.log_bytes = BYTES_IN_MB * number("WURSTLINEN_LOG_MB", MOST_LOG_MB, 0, "a number of megabytes, 1 to 1000000");
     return found;
 }

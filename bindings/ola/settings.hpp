@@ -11,7 +11,8 @@ struct Settings {
     std::uint64_t budget = WURST_DEFAULT_BUDGET; // WURSTLINEN_BUDGET: frames that a discovery may take, from 1
     std::uint64_t seconds = 0;                   // WURSTLINEN_SECONDS: that a discovery may take; 0: no limit
     std::string log;                             // WURSTLINEN_LOG: the path of a file to add to; empty: none
-    std::uint64_t log_bytes = 0;                 // WURSTLINEN_LOG_MB: that the file may have, in bytes; 0: no limit
+    std::string runs;                            // WURSTLINEN_RUNS: the same for the log of runs
+    std::uint64_t log_bytes = 0;                 // WURSTLINEN_LOG_MB: that each may have, in bytes; 0: no limit
 };
 
 // Reads the environment. A value that can't be used is reported, and the default is used.

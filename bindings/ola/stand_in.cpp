@@ -205,12 +205,26 @@ static std::vector<UID> some_of(const std::vector<wurst::Device> &devices) {
     return some;
 }
 
+// The core's run serves all discoveries that it was asked for before, and is full if one of them is.
+void StandIn::begin_run() {
+    run_ = {};
+    run_.began = Clock::now();
+    if (!settings().runs.empty()) {
+        const bool is_full = std::any_of(discoveries_.begin(), discoveries_.end(), [](const Discoveries &each) {
+            return each.kind == WURST_FULL_DISCOVERY;
+        });
+        const auto kind = is_full ? WURST_FULL_DISCOVERY : WURST_INCREMENTAL;
+        const auto known = is_full ? std::vector<wurst::Device>() : core_.devices();
+        run_log_.begin({SOURCE, settings().budget, settings().search, kind, known});
+    }
+}
+
 // Sends a frame of a run. The first one may have to wait for a check of the line.
 void StandIn::continue_run(const wurst::Frame &frame, bool is_first) {
     if (is_first) {
-        run_ = {};
-        run_.began = Clock::now();
+        begin_run();
     }
+    run_log_.sent(frame);
     if (is_aborted_) {
         fail(STOPPED);
     } else if (!is_first || !is_in_doubt()) {
@@ -234,13 +248,19 @@ void StandIn::deliver(const Heard &heard) {
     } else if (is_run && is_last_silence(heard)) {
         proceed([this] { check_adapter(); });
     } else {
-        core_.deliver(heard.bytes);
-        collect();
+        give(heard.bytes);
     }
+}
+
+void StandIn::give(wurst::Bytes bytes) {
+    run_log_.came(bytes);
+    core_.deliver(bytes);
+    collect();
 }
 
 void StandIn::fail(const char *why) {
     failure_ = why;
+    run_log_.failed();
     core_.fail();
     collect();
 }
@@ -283,8 +303,7 @@ void StandIn::checked(const Heard &heard) {
         } else if (run_.held_frame) {
             proceed([this] { send_held(); });
         } else {
-            core_.deliver({});
-            collect();
+            give({});
         }
     });
 }
@@ -339,6 +358,7 @@ void StandIn::finish(const wurst::Completion &done) {
 // OLA's callback has no argument for a fault. So after a fault, OLA gets what the last run without fault found. If
 // there was none, it gets what this run has found.
 void StandIn::answer(const wurst::Discovery &done) {
+    run_log_.end();
     if (repeat(done)) {
         return;
     }
@@ -412,37 +432,42 @@ void StandIn::found(const UIDSet &devices) {
 
 void StandIn::abort() {
     is_aborted_ = true;
-    if (discoveries_.empty() && waiting_.callbacks.empty()) {
-        return;
+    if (!has_ended_) {
+        record(controller_, "call", "abort");
+        close(true);
     }
-    record(controller_, "call", "abort");
-    within([this] {
-        if (is_discovering()) {
-            forget();
-            fail(STOPPED);
-        }
-        // The core or the adapter answers the rest later, or never.
-        std::vector<RDMDiscoveryCallback *> callbacks = std::exchange(waiting_, {}).callbacks;
-        for (auto each = discoveries_.rbegin(); each != discoveries_.rend(); ++each) {
-            callbacks.insert(callbacks.begin(), each->callbacks.begin(), each->callbacks.end());
-            each->callbacks.clear();
-        }
-        run(callbacks, UIDSet());
-    });
 }
 
 void StandIn::end() {
     record(controller_, "call", "close");
+    close(false);
+}
+
+// All callbacks of discoveries, in the order of their calls. No later answer runs one of them.
+std::vector<RDMDiscoveryCallback *> StandIn::taken_callbacks() {
+    std::vector<RDMDiscoveryCallback *> all;
+    for (auto &each : discoveries_) {
+        const auto callbacks = std::exchange(each.callbacks, {});
+        all.insert(all.end(), callbacks.begin(), callbacks.end());
+    }
+    const auto waiting = std::exchange(waiting_, {}).callbacks;
+    all.insert(all.end(), waiting.begin(), waiting.end());
+    return all;
+}
+
+// Ends all that is outstanding, without a call of the layer below. What callbacks ask for then ends at once.
+void StandIn::close(bool answers_discoveries) {
     has_ended_ = true;
     forget();
     run_.held_step = nullptr;
-    waiting_ = {};
-    for (auto &each : discoveries_) {
-        each.callbacks.clear();
-    }
-    within([this] {
+    within([=] {
+        const auto callbacks = taken_callbacks();
+        if (answers_discoveries) {
+            run(callbacks, UIDSet());
+        }
         core_.close();
         if (core_.awaits()) {
+            run_log_.failed();
             core_.fail();
         }
         collect();

@@ -1,6 +1,7 @@
 // The replacement for one queueing controller of OLA: a proved controller, with OLA's callbacks and the layer below.
 #pragma once
 #include "below.hpp"
+#include "run_log.hpp"
 #include <atomic>
 #include <deque>
 #include <functional>
@@ -22,8 +23,8 @@ public:
     // Takes ownership of the request. The callback may be null here and in `discover`.
     void send(ola::rdm::RDMRequest *taken, ola::rdm::RDMCallback *callback);
     void discover(wurst_kind kind, ola::rdm::RDMDiscoveryCallback *callback);
-    // OLA stops the adapter, and what callbacks belong to still exists: ends all discoveries, with the empty set as in
-    // OLA. Later ones get it at once. Requests go on.
+    // OLA stops the adapter, on its own thread, and what callbacks belong to still exists: ends all discoveries, with
+    // the empty set as in OLA, and all requests, since `end` may come on another thread. Later ones end at once.
     void abort();
     // The same if the layer below is about to answer what is under way.
     void expect_abort() { is_aborted_ = true; }
@@ -62,9 +63,11 @@ private:
     template <typename Work> void within(Work work);
     void pump();
     bool send_next();
+    void begin_run();
     bool is_handed_down_next() const;
     void continue_run(const wurst::Frame &frame, bool is_first);
     void deliver(const Heard &heard);
+    void give(wurst::Bytes bytes);
     void fail(const char *why);
     bool is_last_silence(const Heard &heard);
     bool is_emptied_in_doubt(const Heard &heard);
@@ -78,6 +81,8 @@ private:
     void answer_oldest(const ola::rdm::UIDSet &devices);
     void run(const std::vector<ola::rdm::RDMDiscoveryCallback *> &callbacks, const ola::rdm::UIDSet &devices);
     bool ask(const Discoveries &discoveries);
+    std::vector<ola::rdm::RDMDiscoveryCallback *> taken_callbacks();
+    void close(bool answers_discoveries);
     void refuse(ola::rdm::RDMCallback *callback, const char *why);
     void introduce(bool discovers);
 
@@ -111,6 +116,7 @@ private:
     // OLA's thread, which asks for discoveries.
     std::thread::id asked_on_;
     Run run_;
+    RunLog run_log_;
     const char *failure_ = nullptr;
     std::uint64_t run_told_ = 0;
     Clock::time_point paused_{};

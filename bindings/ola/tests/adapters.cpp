@@ -118,17 +118,16 @@ void expect(const std::string &got, const std::string &wanted, const char *scene
 
 // Enttec, whose agent OLA aborts. OLA's class then begins what waits: if nothing can be sent any more, it ends at once,
 // else when the widget is deleted, without a port. While a request is outstanding, it has nothing to abort, and loses
-// what waits.
+// what waits. Its requests end on the detector's thread, at the same time as OLA ends their clients' connections.
 void test_enttec() {
     const std::string at_once = "Port 0. Tool 0. Request failed. Last failed. Ports end. ";
     SCENE(EnttecPortImpl, Discovery, true, at_once, at_once);
-    SCENE(EnttecPortImpl, Discovery, false,
-          "Port 0. Tool 0. Ports end. Request failed elsewhere. Last failed elsewhere. ",
+    SCENE(EnttecPortImpl, Discovery, false, at_once,
           "Port 0. Ports end. Tool 0 elsewhere WITHOUT A PORT. Request failed elsewhere. Last failed elsewhere. ");
-    const std::string later = "Ports end. First request failed elsewhere. Request failed elsewhere. "
-                              "Last failed elsewhere. ";
     for (const bool is_unplugged : {true, false}) {
-        SCENE(EnttecPortImpl, Request, is_unplugged, "Port 0. Tool 0. " + later, later);
+        SCENE(EnttecPortImpl, Request, is_unplugged,
+              "Port 0. Tool 0. First request failed. Request failed. Last failed. Ports end. ",
+              "Ports end. First request failed elsewhere. Request failed elsewhere. Last failed elsewhere. ");
     }
 }
 
@@ -136,13 +135,11 @@ void test_enttec() {
 void test_robe() {
     const std::string at_once = "Port 0. Tool 0. Request failed. Last failed. Ports end. ";
     SCENE(RobeWidgetImpl, Discovery, true, at_once, at_once);
-    SCENE(RobeWidgetImpl, Discovery, false,
-          "Port 0. Tool 0. Ports end. Request failed elsewhere. Last failed elsewhere. ",
+    SCENE(RobeWidgetImpl, Discovery, false, at_once,
           "Port 0. Ports end. Tool 0 elsewhere WITHOUT A PORT. Request failed elsewhere. Last failed elsewhere. ");
     SCENE(RobeWidgetImpl, Request, true, "First request timeout. " + at_once, "First request timeout. " + at_once);
-    const std::string later = "First request timeout. Port 0. Tool 0. Ports end. Request failed elsewhere. "
-                              "Last failed elsewhere. ";
-    SCENE(RobeWidgetImpl, Request, false, later, later);
+    SCENE(RobeWidgetImpl, Request, false, "First request timeout. " + at_once,
+          "First request timeout. Port 0. Tool 0. Ports end. Request failed elsewhere. Last failed elsewhere. ");
 }
 
 // Ja Rule: all on one thread, in the port's destructor. OLA's class has been paused, and loses what waits.
@@ -159,30 +156,26 @@ void test_ja_rule() {
 
 // DMXter, whose Stop answers its own discovery with no devices. If nothing can be sent, it gives what it knows.
 void test_dmxter() {
-    SCENE(serial::DmxterWidgetImpl, Discovery, true, "Port 0. Tool 0. Request failed. Last failed. Ports end. ",
+    const std::string at_once = "Port 0. Tool 0. Request failed. Last failed. Ports end. ";
+    SCENE(serial::DmxterWidgetImpl, Discovery, true, at_once,
           "Port 0. Tool 3. Request failed. Last failed. Ports end. ");
-    SCENE(serial::DmxterWidgetImpl, Discovery, false,
-          "Port 0. Tool 0. Ports end. Request timeout elsewhere. Last failed elsewhere. ",
+    SCENE(serial::DmxterWidgetImpl, Discovery, false, at_once,
           "Port 0. Ports end. Tool 0 elsewhere WITHOUT A PORT. Request failed elsewhere. Last failed elsewhere. ");
-    SCENE(serial::DmxterWidgetImpl, Request, true,
-          "First request timeout. Port 0. Tool 0. Request failed. Last failed. Ports end. ",
+    SCENE(serial::DmxterWidgetImpl, Request, true, "First request timeout. " + at_once,
           "First request timeout. Port 3. Tool 3. Request failed. Last failed. Ports end. ");
-    const std::string later = "First request timeout. Port 0. Tool 0. Ports end. Request timeout elsewhere. "
-                              "Last failed elsewhere. ";
-    SCENE(serial::DmxterWidgetImpl, Request, false, later, later);
+    SCENE(serial::DmxterWidgetImpl, Request, false, "First request timeout. " + at_once,
+          "First request timeout. Port 0. Tool 0. Ports end. Request timeout elsewhere. Last failed elsewhere. ");
 }
 
 // DMX-TRI, whose Stop answers its own discovery with what it knows.
 void test_dmx_tri() {
     const std::string failed = "Request failed. Last failed. Ports end. ";
     SCENE(DmxTriWidgetImpl, Discovery, true, "Port 3. Tool 0. " + failed, "Port 3. Tool 3. " + failed);
-    SCENE(DmxTriWidgetImpl, Discovery, false,
-          "Port 3. Tool 0. Ports end. Request timeout elsewhere. Last failed elsewhere. ",
+    SCENE(DmxTriWidgetImpl, Discovery, false, "Port 3. Tool 0. " + failed,
           "Port 3. Ports end. Tool 3 elsewhere WITHOUT A PORT. Request failed elsewhere. Last failed elsewhere. ");
     SCENE(DmxTriWidgetImpl, Request, true, "First request timeout. Port 0. Tool 0. " + failed,
           "First request timeout. Port 3. Tool 3. " + failed);
-    SCENE(DmxTriWidgetImpl, Request, false,
-          "First request timeout. Port 0. Tool 0. Ports end. Request timeout elsewhere. Last failed elsewhere. ",
+    SCENE(DmxTriWidgetImpl, Request, false, "First request timeout. Port 0. Tool 0. " + failed,
           "First request timeout. Port 3. Tool 3. Ports end. Request timeout elsewhere. Last failed elsewhere. ");
 }
 

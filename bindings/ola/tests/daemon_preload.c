@@ -2,13 +2,16 @@
  *   TEST_SCAN_MS      the detector looks for adapters this often, not every 20 seconds
  *   TEST_STUCK_FILE   each write to a file with this name
  *   TEST_STUCK_MS     takes this long
- *   TEST_REVISION     OLA's version has this revision */
+ *   TEST_REVISION     OLA's version has this revision
+ *   TEST_SENDS        if set, it is reported when another thread than the main one answers a client */
 #define _GNU_SOURCE
 #include <dlfcn.h>
 #include <errno.h>
 #include <stdio.h>
 #include <stdlib.h>
 #include <string.h>
+#include <sys/socket.h>
+#include <sys/syscall.h>
 #include <time.h>
 #include <unistd.h>
 
@@ -61,4 +64,13 @@ ssize_t write(int file, const void *bytes, size_t count) {
     }
     errno = before;
     return next(file, bytes, count);
+}
+
+/* OLA answers its clients by this call. */
+ssize_t send(int socket, const void *bytes, size_t count, int flags) {
+    ssize_t (*const next)(int, const void *, size_t, int) = dlsym(RTLD_NEXT, "send");
+    if (getenv("TEST_SENDS") != NULL && syscall(SYS_gettid) != getpid()) {
+        fprintf(stderr, "a client is answered on another thread\n");
+    }
+    return next(socket, bytes, count, flags);
 }

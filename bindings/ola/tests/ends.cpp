@@ -1,5 +1,5 @@
-// Ends at each point. Destruction runs the callbacks of all requests once, and those of no discovery, as in OLA; the
-// layer below isn't called. An abort runs the callbacks of all discoveries.
+// Ends at each point. Destruction runs the callbacks of all requests once, and those of no discovery, as in OLA. An
+// abort runs the callbacks of all requests and discoveries. The layer below isn't called.
 #include "checks.hpp"
 
 namespace tests {
@@ -153,28 +153,39 @@ void test_calls_at_the_end() {
     CHECK(scene.is_ended(0) && scene.lower.sent.size() == sent);
 }
 
-// An abort after each number of answers: all discoveries end at once, with no devices, and requests go on.
+// An abort after each number of answers: all discoveries end at once, with no devices, and so do all requests. Later
+// calls end at once too, and nothing more is sent.
 void test_abort_after_answers() {
     bool is_at_end = false;
     for (unsigned int places = 0; !is_at_end; places++) {
         Scene<AgentLower> scene;
         is_at_end = !scene.answer(places);
         const auto answered = scene.found();
+        const auto ended = scene.calls() - answered;
+        const auto sent = scene.lower.sent.size();
+        const auto unmutes = scene.lower.wire.unmutes;
         scene.lower.agent.Abort();
         CHECK(Scene<AgentLower>::is_each_called(scene.discoveries, 1));
+        CHECK(Scene<AgentLower>::is_each_called(scene.requests, 1));
         for (std::size_t i = answered; i < scene.discoveries.size(); i++) {
             CHECK(scene.discoveries[i]->sets[0].Size() == 0);
         }
-        const auto branches = scene.lower.wire.branches;
+        for (std::size_t i = ended; i < scene.requests.size(); i++) {
+            CHECK(scene.requests[i]->last() == RDM_FAILED_TO_SEND);
+        }
         Client late;
         scene.queue->RunFullDiscovery(late.discovery());
         CHECK(late.sets.size() == 1 && late.sets[0].Size() == 0);
+        scene.queue->SendRDMRequest(get(), late.callback());
+        scene.queue->SendRDMRequest(NewMuteRequest(CLIENT, DEVICE, 1), late.callback());
+        CHECK(late.got.size() == 2 && late.got[0].status == RDM_FAILED_TO_SEND && late.last() == RDM_FAILED_TO_SEND);
+        const auto branches = scene.lower.wire.branches;
         scene.lower.answer_all();
-        CHECK(Scene<AgentLower>::is_each_called(scene.requests, 1) && scene.requests[2]->last() == RDM_COMPLETED_OK);
         CHECK(scene.lower.wire.branches <= branches + 1);
         scene.lower.agent.Abort();
         scene.queue.reset();
-        CHECK(scene.found() == scene.discoveries.size());
+        CHECK(scene.lower.sent.size() == sent && scene.lower.wire.unmutes <= unmutes + 1);
+        CHECK(scene.calls() == scene.discoveries.size() + scene.requests.size());
     }
 }
 

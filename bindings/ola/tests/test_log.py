@@ -11,6 +11,7 @@ from __future__ import annotations
 
 import json
 import os
+import re
 import shutil
 import signal
 import statistics
@@ -22,7 +23,8 @@ from pathlib import Path
 from typing import Any, Dict, List, NamedTuple, NoReturn, Optional, Sequence, Tuple
 
 from checks import Checks, random_scene, uids_of
-from daemon import ROOT, Daemon, becomes, other_user
+from daemon import ROOT, Adapter, Daemon, becomes, other_user
+from wurstlinen.lines.emulator import Widget
 from wurstlinen.lines.scene import Scene
 
 GETS = 100
@@ -35,6 +37,16 @@ MOST_SECONDS_TO_END = 8.0
 SOON_SECONDS = 60.0
 MEGABYTE = 1000000
 TERMINATED = 143
+SERIALS = (0x01020304, 0x05060708)
+# The lines that the program writes (docs/FORMATS.md, the log as text), from the controller that the library is.
+UID = "[0-9a-f]{4}:[0-9a-f]{8}"
+OPENING = re.compile(r'\{"entry":"opening","source":"7ff0:00000001","budget":384008,"search":"quick",'
+                     rf'"discover":"(full|incremental)","known":\[((?:"{UID}"(?:,(?="))?)*)\]\}}')
+EXCHANGE = re.compile(r'\{"number":(0|[1-9][0-9]*),"operation":"(branch|mute|unmute)",'
+                      r'"frame":"((?:[0-9a-f]{2}){26,257})",(?:"reply":"((?:[0-9a-f]{2}){0,257})"|"failed":true)\}')
+# The PIDs of a discovery's commands (E1.20, packet format).
+PIDS = {"branch": 1, "mute": 2, "unmute": 3}
+UNMUTES = 3
 HAS_LIBRARY, HAS_NONE, BAD_ARGUMENTS, NOT_RUN = 0, 1, 2, 125
 
 
@@ -149,6 +161,94 @@ def check_background(checks: Checks, files: Files) -> None:
         checks.check(bool(found) and found[-1] == uids_of(scene), f"the background's log: {found}")
 
 
+class Exchange(NamedTuple):
+    """An exchange of a run. If it failed, `reply` is None."""
+
+    number: int
+    operation: str
+    frame: bytes
+    reply: Optional[bytes]
+
+    @property
+    def is_command(self) -> bool:
+        """Whether the frame is such a command of this controller, whole and with its checksum."""
+        packet, checksum = self.frame[:-2], int.from_bytes(self.frame[-2:], "big")
+        return (packet[:3] == bytes([0xCC, 1, len(packet)]) and packet[9:15] == bytes.fromhex("7ff000000001")
+                and packet[20:23] == bytes([0x10, 0, PIDS[self.operation]]) and sum(packet) % 0x10000 == checksum)
+
+    @property
+    def muted(self) -> Optional[str]:
+        """The UID of a device whose mute was acknowledged."""
+        if self.operation != "mute" or not self.reply or self.reply[20:23] != bytes.fromhex("110002"):
+            return None
+        return f"{self.frame[3:5].hex()}:{self.frame[5:9].hex()}"
+
+
+class Run(NamedTuple):
+    """A run of the log of runs."""
+
+    kind: str
+    known: List[str]
+    exchanges: List[Exchange]
+
+    @property
+    def found(self) -> List[str]:
+        """The devices whose mutes were acknowledged, ascending."""
+        return sorted({exchange.muted for exchange in self.exchanges if exchange.muted is not None})
+
+
+def runs_of(lines: Sequence[str]) -> List[Run]:
+    """The runs of a log that has exactly the program's lines. Any other line raises a ValueError."""
+    runs: List[Run] = []
+    for line in lines:
+        opening, exchange = OPENING.fullmatch(line), EXCHANGE.fullmatch(line)
+        if opening is not None:
+            runs.append(Run(opening.group(1), re.findall(UID, opening.group(2)), []))
+        elif exchange is not None and runs:
+            number, operation, frame, reply = exchange.groups()
+            runs[-1].exchanges.append(Exchange(int(number), operation, bytes.fromhex(frame),
+                                               None if reply is None else bytes.fromhex(reply)))
+        else:
+            raise ValueError(line)
+    return runs
+
+
+def check_runs(checks: Checks, files: Files) -> None:
+    """The log of runs has the program's lines, and each run as a whole, though two adapters are at work at once."""
+    scenes = [random_scene(20, seed=28), random_scene(12, seed=29)]
+    adapters = [Adapter(scene, Widget(serial=serial), 0.002) for scene, serial in zip(scenes, SERIALS)]
+    with Daemon(adapters, files.redirect, files.library, settings={"WURSTLINEN_RUNS": "FOLDER/runs"}) as daemon:
+        for option in ("-f", "-i"):
+            tools = [daemon.start_tool("ola_rdm_discover", "-u", str(universe), option) for universe in (1, 2)]
+            for tool in tools:
+                tool.communicate()
+        daemon.signal(signal.SIGTERM)
+        daemon.wait()
+        text = (daemon.folder / "runs").read_text()
+        mode = (daemon.folder / "runs").stat().st_mode & 0o777
+    runs = runs_of(text.splitlines())
+    checks.check(text.endswith("}\n") and mode == 0o640, f"it ends with {text[-20:]!r}, and its mode is {mode:o}")
+    for run in runs:
+        numbers = [exchange.number for exchange in run.exchanges]
+        checks.check(numbers == list(range(len(numbers))), f"a run's numbers: {numbers}")
+        checks.check(all(exchange.is_command for exchange in run.exchanges), f"a run's frames: {run}")
+        operations = [exchange.operation for exchange in run.exchanges]
+        checks.check(operations[:UNMUTES] == ["unmute"] * UNMUTES and "branch" in operations, f"a run: {operations}")
+    check_found(checks, [run for run in runs if all(each.reply is not None for each in run.exchanges)], scenes)
+
+
+def check_found(checks: Checks, runs: Sequence[Run], scenes: Sequence[Scene]) -> None:
+    """Each run without a failure found all fixtures of one adapter, some of them in full runs, some in others."""
+    wanted = [uids_of(scene) for scene in scenes]
+    for run in runs:
+        checks.check(run.found in wanted, f"a run found {run.found}")
+        is_known = run.known == [] if run.kind == "full" else run.known in ([], run.found)
+        checks.check(is_known, f"{run.kind}, and knew {run.known}")
+    for fixtures in wanted:
+        kinds = [(run.kind, bool(run.known)) for run in runs if run.found == fixtures]
+        checks.check(("full", False) in kinds and ("incremental", True) in kinds, f"runs of an adapter: {kinds}")
+
+
 def check_version(checks: Checks, files: Files) -> None:
     """OLA's version is compared with that of the headers."""
     scene = random_scene(1, seed=25)
@@ -242,7 +342,7 @@ def main(arguments: Sequence[str]) -> int:
     files = Files(*(Path(argument).resolve() for argument in arguments))
     checks = Checks()
     for check in (check_stuck_disk, check_kinds_of_files, check_rotation, check_end, check_background,
-                  check_version, check_script, check_service):
+                  check_runs, check_version, check_script, check_service):
         check(checks, files)
     print(f"{checks.passed} passed, {checks.failed} failed")
     return 1 if checks.failed else 0

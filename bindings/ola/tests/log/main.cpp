@@ -108,6 +108,7 @@ int main() {
     tests::test_settings();
     tests::test_files();
     tests::test_writers();
+    tests::test_runs();
     std::printf("%u passed, %u failed\n", tests::passed, tests::failed);
     return tests::failed > 0;
 }

@@ -31,10 +31,11 @@ bool is_only_warning(const std::string &text) {
 }
 
 void test_absent() {
-    for (const char *name : {"DISCOVERY", "SEARCH", "BUDGET", "SECONDS", "LOG", "LOG_MB"}) {
+    for (const char *name : {"DISCOVERY", "SEARCH", "BUDGET", "SECONDS", "LOG", "RUNS", "LOG_MB"}) {
         const Settings found = read_with((std::string("WURSTLINEN_") + name).c_str(), "");
         CHECK(messages().empty() && found.is_proved_discovery && found.search == WURST_QUICK);
-        CHECK(found.budget == WURST_DEFAULT_BUDGET && found.seconds == 0 && found.log.empty() && found.log_bytes == 0);
+        CHECK(found.budget == WURST_DEFAULT_BUDGET && found.seconds == 0);
+        CHECK(found.log.empty() && found.runs.empty() && found.log_bytes == 0);
     }
 }
 
@@ -47,6 +48,7 @@ void test_good() {
     CHECK(read_with("WURSTLINEN_LOG_MB", "1").log_bytes == 1000000 && messages().empty());
     CHECK(read_with("WURSTLINEN_LOG_MB", "1000000").log_bytes == 1000000000000 && messages().empty());
     CHECK(read_with("WURSTLINEN_LOG", "/a/log").log == "/a/log" && messages().empty());
+    CHECK(read_with("WURSTLINEN_RUNS", "/a/runs").runs == "/a/runs" && messages().empty());
 }
 
 void test_bad() {
@@ -71,6 +73,7 @@ void test_relative_log() {
     char *const before = getcwd(nullptr, 0);
     CHECK(chdir("/") == 0);
     CHECK(read_with("WURSTLINEN_LOG", "log").log == std::string(before) + "/log");
+    CHECK(read_with("WURSTLINEN_RUNS", "runs").runs == std::string(before) + "/runs");
     CHECK(chdir(before) == 0);
     std::free(before);
 }

@@ -49,6 +49,7 @@ double seconds();
 void test_settings();
 void test_files();
 void test_writers();
+void test_runs();
 
 } // namespace tests
 
