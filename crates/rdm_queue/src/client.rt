@@ -170,11 +170,6 @@ impl Client {
     }
 
     /// A look at its oldest outcome.
-    #[tactic(auto, using(
-        crate::proofs::BodyLemmas::ValueLemmas::request_first,
-        crate::proofs::BodyLemmas::ValueLemmas::discovery_first,
-        crate::proofs::BodyLemmas::ValueLemmas::has_first
-    ))]
     pub(crate) fn oldest_outcome(&self) -> Option<Oldest<'_>>
         requires { HasSets self.now }
         ensures { option_map value_shown result ≡ slice_get (owed_values self.now) 0 }

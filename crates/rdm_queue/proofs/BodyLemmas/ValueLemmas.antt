@@ -137,7 +137,13 @@ kind_first (owed.Request number done ∷ ds) sets = refl
 kind_first (owed.Discovery number run fault ∷ ds) [] = refl
 kind_first (owed.Discovery number run fault ∷ ds) (s ∷ sets) = refl
 
--- the oldest, a request's or a discovery's with the first set
+-- the oldest: none, a request's or a discovery's with the first set
+pub none_first : (ds : List Owed) (sets : List (List Device)) → slice_get ds 0 ≡ None
+    → slice_get (values ds sets) 0 ≡ None
+unfolding values
+none_first [] sets none = refl
+none_first (d ∷ ds) sets none = cc
+
 pub request_first : (ds : List Owed) (sets : List (List Device)) (n : ℕ) (done : Completion)
     → slice_get ds 0 ≡ Some (owed.Request n done)
     → slice_get (values ds sets) 0 ≡ Some (RequestValue (Some n) (completion_value done))
