@@ -138,11 +138,10 @@ kind_first (owed.Discovery number run fault ∷ ds) [] = refl
 kind_first (owed.Discovery number run fault ∷ ds) (s ∷ sets) = refl
 
 -- the oldest: none, a request's or a discovery's with the first set
-pub none_first : (ds : List Owed) (sets : List (List Device)) → slice_get ds 0 ≡ None
-    → slice_get (values ds sets) 0 ≡ None
+pub none_first : (ds : List Owed) (sets : List (List Device)) → length ds ≤ 0 → slice_get (values ds sets) 0 ≡ None
 unfolding values
 none_first [] sets none = refl
-none_first (d ∷ ds) sets none = cc
+none_first (d ∷ ds) sets none = absurd (omega arith)
 
 pub request_first : (ds : List Owed) (sets : List (List Device)) (n : ℕ) (done : Completion)
     → slice_get ds 0 ≡ Some (owed.Request n done)

@@ -1,29 +1,33 @@
-use Rattle.rdm_queue.proofs.Common.{◌≡◌, Some, None, slice_get, sym, ap, ◌∙◌, option_map}
+use Rattle.rdm_queue.proofs.Common.{◌≡◌, Some, None, slice_get, sym, ap, ◌∙◌, option_map, refl}
 use Rattle.rdm_queue.specs.body.Rings.{value_shown}
 use Rattle.rdm_queue.proofs.BodyLemmas.ValueLemmas.{none_first, request_first, discovery_first, has_first}
+use Rattle.rdm_queue.proofs.BodyLemmas.FieldLemmas.{found_at}
 use Rattle.rdm_queue.proofs.client.Client.oldest_outcome.Goals as goal
 
 pub returns-in_err-number : goal.returns-in_err-number
 returns-in_err-number c =
     let k = c.args.self.now in
     rw c.from_residual.ensures
-    (sym (none_first k.outcomes.items k.sets.items (sym c.in_err-number.ensures.item)))
+    (sym (none_first k.outcomes.items k.sets.items c.in_err-number.ensures.item.3))
 
 pub unreachable-requires : goal.unreachable-requires
 unreachable-requires c =
     let k = c.args.self.now in
     has_first k.outcomes.items k.sets.items c.in-Discovery.number c.in-Discovery.run' c.in-Discovery.fault c.requires
-    (sym c.in_ok-number.ensures.item ∙ ap (λ d. Some d) c.in-Discovery.is)
+    (found_at k.outcomes.items k.outcomes.items 0 c.in_ok-number.field-0.now refl c.in_ok-number.ensures.item.3.0
+    c.in_ok-number.ensures.item.1 ∙ ap (λ d. Some d) c.in-Discovery.is)
     (sym (rw c.in_default.is at c.oldest.ensures))
 
 pub returns-in-Request : goal.returns-in-Request
 returns-in-Request c =
     let k = c.args.self.now in
     sym (request_first k.outcomes.items k.sets.items c.in-Request.number c.in-Request.done
-    (sym c.in_ok-number.ensures.item ∙ ap (λ d. Some d) c.in-Request.is))
+    (found_at k.outcomes.items k.outcomes.items 0 c.in_ok-number.field-0.now refl c.in_ok-number.ensures.item.3.0
+    c.in_ok-number.ensures.item.1 ∙ ap (λ d. Some d) c.in-Request.is))
 
 pub returns-in-Some : goal.returns-in-Some
 returns-in-Some c =
     let k = c.args.self.now in
     sym (discovery_first k.outcomes.items k.sets.items c.in-Discovery.number c.in-Discovery.run' c.in-Discovery.fault
-    c.in-Some.set.now (sym c.in_ok-number.ensures.item ∙ ap (λ d. Some d) c.in-Discovery.is) (sym c.in-Some.ensures))
+    c.in-Some.set.now (found_at k.outcomes.items k.outcomes.items 0 c.in_ok-number.field-0.now refl c.in_ok-number.ensures.item.3.0
+    c.in_ok-number.ensures.item.1 ∙ ap (λ d. Some d) c.in-Discovery.is) (sym c.in-Some.ensures))
