@@ -1,4 +1,3 @@
-mod ExplainLemmas
 mod LineLemmas
 mod LoggedLemmas
 mod RunLemmas

@@ -1,5 +1,6 @@
 //! Answers the command that explains a log.
 ghost use Rattle.std.specs.Prelude.{◌≡◌, ◌⊎◌, ◌++◌, ◌≤◌, ℕ, List, IfOk, IfErr, OnOk, IfSome, flat_map, length};
+ghost use Rattle.rdm_findings.specs.FindingText.{uid_line};
 ghost use Rattle.rdm_findings.specs.declared.line.LogLine.{LogLine};
 ghost use Rattle.rdm_findings.specs.Lines.{lines_text};
 ghost use Rattle.rdm_findings.specs.Logs.{AreExplained};
@@ -208,14 +209,29 @@ fn passing_text(alloc: Global, passing: &[Uid]) -> Result<Vec<u8>, AllocError>
     Ok(text)
 }
 
-const PASSING: &[u8] =
-    b" can't be judged: it comes or leaves, and may have been absent when it was asked\n";
+const PASSING: &str =
+    " can't be judged: it comes or leaves, and may have been absent when it was asked";
 
 fn write_passing(text: &mut Vec<u8>, uid: Uid) -> Result<(), AllocError>
     ensures { OnOk result (text.new.items ≡ text.old.items ++ passing_line uid) }
 {
+    write_uid_line(text, uid, PASSING)
+}
+
+// Writes a line about a UID.
+fn write_uid_line(text: &mut Vec<u8>, uid: Uid, last: &str) -> Result<(), AllocError>
+    ensures { OnOk result (text.new.items ≡ text.old.items ++ uid_line uid last.now) }
+{
     text.extend_from_slice(&uid.to_text())?;
-    text.extend_from_slice(PASSING)
+    write_line(text, last)
+}
+
+// Writes a text and the end of its line.
+fn write_line(text: &mut Vec<u8>, line: &str) -> Result<(), AllocError>
+    ensures { OnOk result (text.new.items ≡ text.old.items ++ line_of line.now) }
+{
+    text.extend_from_slice(line.as_bytes())?;
+    text.extend_from_slice(b"\n")
 }
 
 // Writes the findings about the reader's log after a text, and returns whether a rule was broken.
