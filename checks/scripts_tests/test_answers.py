@@ -20,7 +20,7 @@ from wurstlinen.tool import adapters, arguments  # noqa: E402
 # Cases of the program whose standard error has this need no program.
 EARLY = re.compile(rb"wurstlinen: (the command is missing;|unknown command|the file .* no such file\n|.* isn't UTF-8)")
 TRY_HELP = "; try 'wurstlinen --help'\n"
-PROVED = (b"decode", b"encode", b"discover", b"run")
+PROVED = (b"decode", b"encode", b"discover", b"run", b"explain")
 BUILDING = 'echo "building" >&2; exit 1'
 
 
@@ -146,6 +146,17 @@ class Answers(unittest.TestCase):
                 arguments.parser().parse_args([os.fsdecode(word) for word in words])
             except Failure as failure:
                 self.fail(f"{words}: {failure}")
+
+    def test_wrong_words_of_explain_build_nothing(self) -> None:
+        log = str(ROOT / "bindings/examples/five_fixtures.json")
+        for words, status, out, reason in (
+                ([log, "--page"], 2, "fault: command line\n", "argument --page: expected one argument"),
+                ([log, "--page", log], 2, "", "the page would replace "),
+                ([log, "--page", "/no/x"], 1, "", "/no/x: No such file"),
+                (["/nope.log", "--page", "x"], 1, "fault: file\n", '"/nope.log" can\'t be opened: no such file')):
+            done = self.clone.run("./wurstlinen", "explain", *words)
+            self.assertEqual((done.returncode, done.stdout, reason in done.stderr), (status, out, True), done.stderr)
+        self.assertEqual(self.clone.rt_calls(), [])
 
     def test_a_full_device(self) -> None:
         with open("/dev/full", "w") as full:
