@@ -147,6 +147,17 @@ class Answers(unittest.TestCase):
             except Failure as failure:
                 self.fail(f"{words}: {failure}")
 
+    def test_wrong_words_of_explain_build_nothing(self) -> None:
+        log = str(ROOT / "bindings/examples/five_fixtures.json")
+        for words, status, out, reason in (
+                ([log, "--page"], 2, "fault: command line\n", "argument --page: expected one argument"),
+                ([log, "--page", log], 2, "", "the page would replace "),
+                ([log, "--page", "/no/x"], 1, "", "/no/x: No such file"),
+                (["/nope.log", "--page", "x"], 1, "fault: file\n", '"/nope.log" can\'t be opened: no such file')):
+            done = self.clone.run("./wurstlinen", "explain", *words)
+            self.assertEqual((done.returncode, done.stdout, reason in done.stderr), (status, out, True), done.stderr)
+        self.assertEqual(self.clone.rt_calls(), [])
+
     def test_a_full_device(self) -> None:
         with open("/dev/full", "w") as full:
             done = self.clone.run("./wurstlinen", capture_output=False, stdout=full, stderr=-1)

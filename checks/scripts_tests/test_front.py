@@ -423,7 +423,8 @@ class Repository(unittest.TestCase):
         note, rows = self.clone.folder / "note", self.clone.folder / "rows"
         for words in (["fixtures", "--line", f"exec:touch {note}"], ["apply", str(rows), f"--line=rig:{FIXTURES}"],
                       ["save", str(rows), f"--line=rig:{FIXTURES}"], ["save", str(note), f"--line=rig:{FIXTURES}"],
-                      ["fixtures", "--line", f"text:{rows}"], ["fixtures", "--line", f"rig:{rows}"]):
+                      ["fixtures", "--line", f"text:{rows}"], ["fixtures", "--line", f"rig:{rows}"],
+                      ["explain", str(FIXTURES), "--page", str(note)]):
             if not rows.exists():
                 os.mkfifo(rows)
             done = self.clone.run("tools/check_words", *words)

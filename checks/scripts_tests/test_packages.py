@@ -22,6 +22,8 @@ LIBRARY = "int wurst_answer(void) { return 7; }\n"
 COMPILER = '#!/bin/sh\nwhile [ $# -gt 0 ]; do [ "$1" != -o ] || cp "{library}" "$2"; shift; done\n'
 DATE = "2026-01-02T03:04:05Z"
 PACKAGES = ("libwurstlinen0", "libwurstlinen-dev", "python3-wurstlinen", "wurstlinen", "wurstlinen-ola")
+# The files of the Python package: modules, and what its pages are made from.
+OF_PYTHON = (".py", ".js", ".css", ".html")
 VERSION = (ROOT / "VERSION").read_text().strip()
 DIST = "usr/lib/python3/dist-packages"
 
@@ -52,6 +54,11 @@ def build(clone: Clone, name: str) -> "subprocess.CompletedProcess[str]":
 def files_below(folder: Path) -> Set[str]:
     """All files and links below a folder, by their paths there."""
     return {str(each.relative_to(folder)) for each in folder.rglob("*") if each.is_symlink() or not each.is_dir()}
+
+
+def python_files(folder: Path) -> Set[str]:
+    """The Python package's files in a folder, which may have others too."""
+    return {name for name in files_below(folder) if name.endswith(OF_PYTHON)}
 
 
 @unittest.skipUnless(has_tools(), "dpkg-deb, git, strip, or the system's pip, setuptools and wheel are missing")
@@ -268,8 +275,8 @@ class Packages(unittest.TestCase):
         self.assertEqual(self.run_python(self.folder, "-c", found), f"{self.folder}/wurstlinen/libwurstlinen.so.0\n")
         self.assertIn("device_label", self.run_python(self.folder, "-m", "wurstlinen.tool", "pids", "label"))
         source = ROOT / "bindings/python/wurstlinen"
-        modules = {str(path.relative_to(source)) for path in source.rglob("*.py")}
-        self.assertEqual({name for name in files_below(self.folder / "wurstlinen") if name.endswith(".py")}, modules)
+        found = {name for name in files_below(self.folder / "wurstlinen") if name.endswith(OF_PYTHON)}
+        self.assertEqual(found, python_files(source))
         self.assertTrue((self.folder / "wurstlinen/py.typed").is_file())
 
     def test_the_wheel_has_the_program(self) -> None:
@@ -285,7 +292,7 @@ class Packages(unittest.TestCase):
 
     def test_others_have_the_whole_python_package(self) -> None:
         source = ROOT / "bindings/python/wurstlinen"
-        wanted = {str(path.relative_to(source)) for path in source.rglob("*.py")} | {"py.typed"}
+        wanted = python_files(source) | {"py.typed"}
         for folder in (self.unpacked("python3-wurstlinen") / DIST,
                        self.unpacked_archive() / "lib/python3/site-packages"):
             self.assertLessEqual(wanted, files_below(folder / "wurstlinen"))
