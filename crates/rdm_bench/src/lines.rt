@@ -469,13 +469,18 @@ pub fn devices(count: usize, spread: Spread, seed: u64) -> Option<UidSet> {
 fn close(random: &mut Random, seed: u64, count: u64) -> u64 {
     let maker = random.below(4).wrapping_add(seed) % 0x1_0000;
     let serial = random.below(count.wrapping_mul(4)).wrapping_add(seed << 16) % 0x1_0000_0000;
-    (maker << 32) | serial
+    number_of(maker, serial)
 }
 
 // The first UID of a maker: any maker below 8000, and any serial number below 80000000.
 fn first(random: &mut Random) -> u64 {
     let maker = random.next() >> 49;
-    (maker << 32) | (random.next() >> 33)
+    number_of(maker, random.next() >> 33)
+}
+
+// The number of the UID with this serial number, below 2^32, of this maker.
+fn number_of(maker: u64, serial: u64) -> u64 {
+    maker.wrapping_mul(1 << 32).wrapping_add(serial)
 }
 
 // One of the UIDs from this one on: four times as many as there are devices, and at least 40.
