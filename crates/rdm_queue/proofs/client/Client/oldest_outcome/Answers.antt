@@ -29,5 +29,6 @@ pub returns-in-Some : goal.returns-in-Some
 returns-in-Some c =
     let k = c.args.self.now in
     sym (discovery_first k.outcomes.items k.sets.items c.in-Discovery.number c.in-Discovery.run' c.in-Discovery.fault
-    c.in-Some.set.now (found_at k.outcomes.items k.outcomes.items 0 c.in_ok-number.field-0.now refl c.in_ok-number.ensures.item.3.0
-    c.in_ok-number.ensures.item.1 ∙ ap (λ d. Some d) c.in-Discovery.is) (sym c.in-Some.ensures))
+    c.in-Some.set.now (found_at k.outcomes.items k.outcomes.items 0 c.in_ok-number.field-0.now refl
+    c.in_ok-number.ensures.item.3.0 c.in_ok-number.ensures.item.1 ∙ ap (λ d. Some d) c.in-Discovery.is)
+    (sym c.in-Some.ensures))
