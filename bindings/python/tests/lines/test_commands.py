@@ -20,7 +20,7 @@ from common import PACKAGE, ROOT, TestCase, folder, needs_library
 from search import Controller, discover
 from wurstlinen import commands
 from wurstlinen.line import LineFailed
-from wurstlinen.lines import EnttecPro, Rig, open_line
+from wurstlinen.lines import EnttecPro, Rig, enttec, open_line
 from wurstlinen.lines.emulator import Emulator
 from wurstlinen.lines.packets import parse_uid
 
@@ -211,7 +211,8 @@ class Rigs(TestCase):
             with self.start("--line", f"exec:{bridge}") as second:
                 assert second.stdout is not None
                 path = second.stdout.readline().strip().partition(":")[2]
-                with EnttecPro(path, locks) as driver:
+                # An exchange passes three other processes, which get their turn late on a busy machine.
+                with mock.patch.object(enttec, "EXCHANGE_SECONDS", 30.0), EnttecPro(path, locks, 30.0) as driver:
                     self.assertEqual(len(discover(driver)), 5)
 
 
