@@ -32,7 +32,7 @@ def early_cases() -> List[Case]:
 
 def has_more_files(case: Case) -> bool:
     """Whether another file than FILE may be the one that isn't there."""
-    return any(option in words for words in case.commands for option in (b"--line", b"--log"))
+    return any(option in words for words in case.commands for option in (b"--line", b"--log", b"--rig"))
 
 
 def is_refused(case: Case) -> bool:
