@@ -1,9 +1,11 @@
-use Rattle.std.proofs.Common.{◌≡◌, ◌≤◌, length, take, map, refl, ap, sym, ◌∙◌, arith}
+use Rattle.std.proofs.Common.{◌≡◌, ◌≤◌, length, take, map, refl, ap, sym, ◌∙◌, arith, subst}
 use Rattle.rdm_log.specs.declared.outcome.Outcome.{Outcome}
 use Rattle.rdm_log.specs.log.LogState.{LogState}
 use Rattle.rdm_log.specs.promises.Blocks.{IsOldest}
 use Rattle.rdm_log.specs.promises.Outcomes.{discovery_outcome}
 use Rattle.rdm_handles.specs.Forms.{form_of_end, form_of_device}
+use Rattle.rdm_queue.specs.declared.oldest.Oldest.{Oldest}
+use Rattle.rdm_queue.specs.promises.Oldest.{outcome_shown}
 use Rattle.rdm_handles.proofs.AnswerLemmas.{same_length}
 use Rattle.rdm_handles.proofs.controllers.next_discovery.Goals as goal
 
@@ -23,9 +25,13 @@ returns-clause-collected c done = (
       } in
       let outcome : Outcome = discovery_outcome c.in-Some.ended c.next_discovery.new.set in
       let is : IsOldest o h c.args.client outcome = (c.in-Some.ensures.adds.each k refl after).adds.0 in
+      let shown : IsOldest o h c.args.client
+      (discovery_outcome c.in-Some-Discovery.field-0-0 c.in-Some-Discovery.set.now) =
+      subst (λ (x : Oldest). IsOldest o h c.args.client (outcome_shown x)) c.in-Some-Discovery.field-0-is
+      (c.in-Some-Discovery.ensures.outcome o h after) in
       let needs : c.len-needed.result ≡ length c.next_discovery.new.set = c.len-needed.ensures.value
-      ∙ same_length o h c.args.client (discovery_outcome c.in-Discovery.end c.in-Discovery.set.now) outcome
-      (c.in-Discovery.ensures.outcome o h after) is in
+      ∙ same_length o h c.args.client
+      (discovery_outcome c.in-Some-Discovery.field-0-0 c.in-Some-Discovery.set.now) outcome shown is in
       let same : length c.as_slice.result.now
       ≡ length c.next_discovery.new.set = ap (λ devices. length devices) c.as_slice.ensures.value in
       let fits : length c.as_slice.result.now ≤ length

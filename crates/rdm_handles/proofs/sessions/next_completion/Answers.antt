@@ -1,9 +1,11 @@
-use Rattle.std.proofs.Common.{◌≡◌, ◌≤◌, List, length, take, ap, sym, ◌∙◌, arith}
+use Rattle.std.proofs.Common.{◌≡◌, ◌≤◌, List, length, take, ap, sym, ◌∙◌, arith, subst}
 use Rattle.rdm_log.specs.declared.entry.Opening.{Opening}
 use Rattle.rdm_log.specs.declared.entry.Entry.{Entry}
 use Rattle.rdm_log.specs.declared.outcome.Outcome.{Outcome}
 use Rattle.rdm_log.specs.promises.Blocks.{IsOldest}
 use Rattle.rdm_log.specs.promises.Outcomes.{request_outcome}
+use Rattle.rdm_queue.specs.declared.oldest.Oldest.{Oldest}
+use Rattle.rdm_queue.specs.promises.Oldest.{outcome_shown}
 use Rattle.rdm_handles.proofs.AnswerLemmas.{same_length, completion_len}
 use Rattle.rdm_handles.proofs.sessions.next_completion.Goals as goal
 
@@ -13,9 +15,13 @@ returns-clause-collected c done =
     let h : List Entry = c.args.session.now.entries in
     let outcome : Outcome = request_outcome (c.in-Some.number, c.in-Some.done) in
     let is : IsOldest o h c.args.client outcome = c.in-Some.ensures.adds.adds.0 in
+    let shown : IsOldest o h c.args.client
+    (request_outcome (c.in-Some-Request.field-0-0, c.in-Some-Request.done.now)) =
+    subst (λ (x : Oldest). IsOldest o h c.args.client (outcome_shown x)) c.in-Some-Request.field-0-is
+    c.in-Some-Request.ensures.outcome in
     let needs : c.len-needed.result ≡ length c.in-Some.done.bytes.items = c.len-needed.ensures
-    ∙ same_length o h c.args.client (request_outcome (c.in-Request.number, c.in-Request.done.now)) outcome
-    c.in-Request.ensures.outcome is in
+    ∙ (c.in-Some-Request.done.now.bytes.ok.0 ∙ same_length o h c.args.client
+    (request_outcome (c.in-Some-Request.field-0-0, c.in-Some-Request.done.now)) outcome shown is) in
     let same : length c.deref.result.now
     ≡ length c.in-Some.done.bytes.items = ap (λ bytes. length bytes) c.deref.ensures.value in
     let fits : length c.deref.result.now ≤ length
