@@ -24,7 +24,7 @@ async function select(at) {
 }
 
 function showDetail(at, [name, frame, reply, command, answer]) {
-    const title = name.startsWith("exchange") ? name : `${name} (exchange ${at} of the log)`;
+    const title = name === `exchange ${at}` ? name : `${name} (exchange ${at} of the log)`;
     const found = log.findings.filter((finding) => finding.place === at);
     const list = make("dl");
     list.append(make("dt", "frame"), make("dd", command, "command"), make("dt"), fieldsOf(frame, true));

@@ -24,6 +24,8 @@ const MOST_WIDTH = 24;
 const MOST_DRAWN = 20000;
 const MOST_LANES_DRAWN = 4000;
 const MOST_EXTENT = 16000000;
+// Lines of findings that are closer would hide what is below.
+const MARK_DISTANCE = 6;
 const FIRST_LINES = 1000;
 const LONG_LIST = 60;
 const FIELDS = [["start", 1], ["sub start", 1], ["length", 1], ["destination", 6], ["source", 6], ["transaction", 1],
@@ -36,7 +38,7 @@ const view = get("view");
 const canvas = get("picture");
 const pen = canvas.getContext("2d");
 const rows = log.rows.map((text) => parseInt(text.slice(0, 4), 16) * 2 ** 32 + parseInt(text.slice(5), 16));
-const marks = log.findings.filter((finding) => finding.place !== null);
+const marks = log.findings.filter((finding) => finding.place !== null).sort((one, other) => one.place - other.place);
 const header = STRIP * 3 + LANE * log.clients.length;
 const pieces = new Map();
 // How wide an exchange is, how high a row and what is between two, and which exchange is shown.
@@ -282,9 +284,14 @@ function drawRows(wide) {
 }
 
 function drawMarks() {
-    pen.strokeStyle = INK;
+    let last = -Infinity;
     for (const mark of marks) {
         const x = xOf(mark.place) + size.width / 2;
+        if (x !== last && x < last + MARK_DISTANCE) {
+            continue;
+        }
+        last = x;
+        pen.strokeStyle = INK;
         pen.lineWidth = 1;
         pen.setLineDash([5, 3]);
         line(x, header, x, height());
