@@ -223,7 +223,11 @@ impl Served for Alone {
     #[inline(never)]
     fn collect_next(&mut self, client: usize) -> Option<Ending> {
         let client = id_of(client);
-        if self.session.oldest(client)?.kind() == OutcomeKind::Request {
+        let is_request = match self.session.oldest(client) {
+            None => return None,
+            Some(oldest) => oldest.kind() == OutcomeKind::Request,
+        };
+        if is_request {
             let (number, done) = self.session.next_completion(client)?;
             let tag = tag_of(number);
             return Some(Ending::Request(Told { tag, done }));

@@ -209,7 +209,10 @@ impl<L: Ledger, J: PageRing> Inside<L, J> {
     pub fn oldest(&self, client: ClientId) -> Option<OutcomeKind>
         ensures { result ≡ oldest_kind self.now.session.opening self.now.session.entries client.0 }
     {
-        Some(self.session.oldest(client)?.kind())
+        match self.session.oldest(client) {
+            Some(oldest) => Some(oldest.kind()),
+            None => None,
+        }
     }
 
     /// Collects a client's oldest outcome if that is a request's, as [`Session::next_completion`] does, and counts the
