@@ -14,10 +14,10 @@ MOST_LINES_OF_A_FUNCTION = 40
 MOST_COLUMNS = 120
 # Python 3.9 has no list of them.
 STANDARD_MODULES = {
-    "__future__", "abc", "argparse", "collections", "contextlib", "csv", "dataclasses", "decimal", "difflib", "enum",
-    "errno", "fcntl", "functools", "grp", "importlib", "io", "ipaddress", "json", "os", "pathlib", "pkgutil", "queue",
-    "random", "re", "secrets", "select", "shlex", "signal", "stat", "subprocess", "sys", "tempfile", "termios",
-    "threading", "time", "tty", "types", "typing", "weakref",
+    "__future__", "abc", "argparse", "array", "base64", "collections", "contextlib", "csv", "dataclasses", "decimal",
+    "difflib", "enum", "errno", "fcntl", "functools", "grp", "hashlib", "html", "importlib", "io", "ipaddress", "json",
+    "os", "pathlib", "pkgutil", "queue", "random", "re", "secrets", "select", "shlex", "signal", "stat", "subprocess",
+    "sys", "tempfile", "termios", "threading", "time", "tty", "types", "typing", "weakref", "zlib",
 }
 LINES = PACKAGE / "wurstlinen"
 Function = Union[ast.FunctionDef, ast.AsyncFunctionDef]
