@@ -44,11 +44,8 @@ fn is_of_first(rt: &impl Abort, done: Option<(u64, Completion)>, status: Status,
     check_eq(rt, done.bytes.as_slice(), bytes);
 }
 
-// The oldest outcome is that of discovery 0, with its set.
-fn shows_set(rt: &impl Abort, oldest: Option<Oldest<'_>>) {
-    let Some(Oldest::Discovery { end, set }) = oldest else {
-        return check(rt, false);
-    };
+// A look at the oldest outcome shows that of discovery 0, with its set.
+fn shows_set(rt: &impl Abort, end: DiscoveryEnd, set: &DeviceSet) {
     check_eq(rt, end, END);
     has_one(rt, set);
 }
@@ -66,7 +63,10 @@ fn ended(rt: &impl Abort, alloc: Global) -> Session {
 
 // The discovery's outcome comes first, and its set isn't written again.
 fn gives_set(rt: &impl Abort, session: &mut Session) {
-    shows_set(rt, session.oldest(CLIENT));
+    match session.oldest(CLIENT) {
+        Some(Oldest::Discovery { end, set }) => shows_set(rt, end, set),
+        _ => check(rt, false),
+    }
     check(rt, session.next_completion(CLIENT).is_none());
     let mut set = DeviceSet::new();
     check_eq(rt, session.next_discovery(CLIENT, &mut set), Some(END));
@@ -111,7 +111,10 @@ fn gives_to_one(rt: &impl Abort, controller: &mut Controller) {
     check_eq(rt, controller.next_discovery(ClientId(1), &mut set), None);
     check(rt, set.contains(Uid::new(0x5678, 9)));
     check(rt, controller.next_completion(CLIENT).is_none());
-    shows_set(rt, controller.oldest(CLIENT));
+    match controller.oldest(CLIENT) {
+        Some(Oldest::Discovery { end, set }) => shows_set(rt, end, set),
+        _ => check(rt, false),
+    }
     check_eq(rt, controller.next_discovery(CLIENT, &mut set), Some(END));
     has_one(rt, &set);
 }
