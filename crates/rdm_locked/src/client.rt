@@ -1,10 +1,13 @@
 //! A client of a session with a mutex.
 ghost use Rattle.std.specs.Prelude.{◌≡◌, ◌⊎◌, ◌≤◌, ◌+◌, ◌++◌, ◌∷◌, [], length, nat_le, true, false, OnOk, IfErr};
-ghost use Rattle.std.specs.Prelude.{IsErrAnd, IfSome, IfNone, OnSome, IsNone, if◌then◌else◌};
+ghost use Rattle.std.specs.Prelude.{IsErrAnd, IfSome, IfNone, OnSome, IsNone, Some, ◌≢◌, if◌then◌else◌};
 ghost use Rattle.rdm_log.specs.declared.fault.WorkFault.TheVariants as work_faults;
+ghost use Rattle.rdm_log.specs.declared.outcome.OutcomeKind.TheVariants as kinds;
 ghost use Rattle.rdm_locked.specs.Calls.{refused_calls};
 ghost use Rattle.rdm_locked.specs.Collects.{Collects, CollectsRequest, CollectsDiscovery};
+ghost use Rattle.rdm_locked.specs.body.Oldest.{IsOfWanted};
 
+use crate::oldest::OldestOutcome;
 use crate::pages::{NoPages, PageRing};
 use crate::port::Port;
 use crate::sets::SharedSets;
@@ -19,7 +22,8 @@ use std::sync::Wait;
 use std::sync::ledger::Ledger;
 
 /// A client of a session with a mutex, with the callbacks of what it has outstanding. It may be used in any thread. Its
-/// calls wait for the mutex; a callback runs after the mutex is released. None of its calls allocates.
+/// calls wait for the mutex, and take it once at most; a callback runs after the mutex is released. None of its calls
+/// allocates.
 ///
 /// It has memory for the devices of four discoveries. A discovery that it collects shares one of these sets until its
 /// completion, which [`AskTold`] usually has, is dropped. While all four are in use, the outcome of the client's next
@@ -155,8 +159,7 @@ impl<'a, L: Ledger, C: Tells, A: TellsAsk, J: PageRing> LockedClient<'a, L, C, A
     }
 
     /// Collects the client's oldest outcome: the oldest callback of its kind is called with its completion, after the
-    /// mutex is released. If the kind is known, [`collect_request`](LockedClient::collect_request) and
-    /// [`collect_discovery`](LockedClient::collect_discovery) take the mutex once less.
+    /// mutex is released.
     /// None: there is no outcome, it is a discovery's and all four sets are in use, or no callback is held for it;
     /// nothing changes. In the last case this call, `collect_request` and `collect_discovery` return None from then on,
     /// and the outcome stays in the session.
@@ -171,19 +174,7 @@ impl<'a, L: Ledger, C: Tells, A: TellsAsk, J: PageRing> LockedClient<'a, L, C, A
             → (length self.old.desk.requests ≡ 0) ⊎ (length self.old.desk.asks ≡ 0) }
         ensures client { self.new.number ≡ self.old.number }
     {
-        if self.stranded {
-            return None;
-        }
-        match self.oldest(rt)? {
-            OutcomeKind::Request => {
-                let told = self.collect_request(rt)?;
-                Some(Collected::Request(told))
-            }
-            OutcomeKind::Discovery => {
-                let told = self.collect_discovery(rt)?;
-                Some(Collected::Ask(told))
-            }
-        }
+        self.collect_wanted(rt, None)
     }
 
     /// Collects the client's oldest outcome if that is a request's, as [`collect`](LockedClient::collect) does.
@@ -198,25 +189,9 @@ impl<'a, L: Ledger, C: Tells, A: TellsAsk, J: PageRing> LockedClient<'a, L, C, A
         ensures strands { self.old.stranded ≡ false → self.new.stranded ≡ true → length self.old.desk.requests ≡ 0 }
         ensures client { self.new.number ≡ self.old.number }
     {
-        if self.stranded {
-            return None;
-        }
-        if self.desk.requests_held() == 0 {
-            self.stranded = self.oldest(rt) == Some(OutcomeKind::Request);
-            return None;
-        }
-        let LockedClient {
-            port,
-            number,
-            desk,
-            calls,
-            ..
-        } = self;
-        let collected = port.inside.lock(rt).collect_request(*number, calls);
-        let (_, done) = collected?;
-        match desk.settle_request(done) {
-            Ok(told) => Some(told),
-            Err(_) => unreachable!(),
+        match self.collect_wanted(rt, Some(OutcomeKind::Request))? {
+            Collected::Request(told) => Some(told),
+            Collected::Ask(_) => unreachable!(),
         }
     }
 
@@ -233,11 +208,27 @@ impl<'a, L: Ledger, C: Tells, A: TellsAsk, J: PageRing> LockedClient<'a, L, C, A
         ensures strands { self.old.stranded ≡ false → self.new.stranded ≡ true → length self.old.desk.asks ≡ 0 }
         ensures client { self.new.number ≡ self.old.number }
     {
-        if self.stranded {
-            return None;
+        match self.collect_wanted(rt, Some(OutcomeKind::Discovery))? {
+            Collected::Ask(told) => Some(told),
+            Collected::Request(_) => unreachable!(),
         }
-        if self.desk.asks_held() == 0 {
-            self.stranded = self.oldest(rt) == Some(OutcomeKind::Discovery);
+    }
+
+    // Collects the client's oldest outcome if it is of the wanted kind, or of either if none is given, as `collect`
+    // does.
+    fn collect_wanted<R: Wait>(&mut self, rt: &R, wanted: Option<OutcomeKind>) -> Option<Collected>
+        ensures collected { IfSome result (λ told.
+            Collects C.calls C.tag_of A.calls A.tag_of self.old.desk told self.new.desk) }
+        ensures wanted { IfSome result (λ told. IsOfWanted wanted told) }
+        ensures counted { OnSome result (self.new.calls.count ≡ self.old.calls.count + 1) }
+        ensures none { IfNone result ((self.new.desk ≡ self.old.desk) × (self.new.calls.count ≡ self.old.calls.count)) }
+        ensures for_good { self.old.stranded ≡ true → IsNone result × (self.new.stranded ≡ true) }
+        ensures strands { self.old.stranded ≡ false → self.new.stranded ≡ true
+            → ((wanted ≢ Some kinds.Discovery) × (length self.old.desk.requests ≡ 0))
+            ⊎ ((wanted ≢ Some kinds.Request) × (length self.old.desk.asks ≡ 0)) }
+        ensures client { self.new.number ≡ self.old.number }
+    {
+        if self.stranded {
             return None;
         }
         let LockedClient {
@@ -245,12 +236,28 @@ impl<'a, L: Ledger, C: Tells, A: TellsAsk, J: PageRing> LockedClient<'a, L, C, A
             number,
             desk,
             calls,
+            stranded,
             sets,
-            ..
         } = self;
-        let collected = port.inside.lock(rt).collect_shared(*number, sets, calls);
-        let done = collected?;
-        Some(desk.call_oldest_ask(done))
+        let requests = wanted != Some(OutcomeKind::Discovery) && desk.requests_held() > 0;
+        let asks = wanted != Some(OutcomeKind::Request) && desk.asks_held() > 0;
+        let oldest = port
+            .inside
+            .lock(rt)
+            .collect_oldest(*number, requests, asks, sets, calls);
+        match oldest {
+            OldestOutcome::Request(done) => match desk.settle_request(done) {
+                Ok(told) => Some(Collected::Request(told)),
+                Err(_) => unreachable!(),
+            },
+            OldestOutcome::Discovery(done) => Some(Collected::Ask(desk.call_oldest_ask(done))),
+            // If its kind was wanted, no callback is held for it.
+            OldestOutcome::Stays(kind) => {
+                *stranded = wanted.unwrap_or(kind) == kind;
+                None
+            }
+            OldestOutcome::Nothing => None,
+        }
     }
 
     /// The devices that the last run without fault found, and that run; none and 0 before the first.

@@ -24,6 +24,7 @@ ghost use Rattle.rtrb.specs.Ring.{sent};
 mod finish;
 mod recorded;
 
+use crate::oldest::OldestOutcome;
 use crate::pages::{NoPages, PageRing};
 use crate::sets::SharedSets;
 use crate::share::CallShare;
@@ -91,6 +92,7 @@ impl<L: Ledger> Inside<L> {
 
 impl<L: Ledger, J: PageRing> Inside<L, J> {
     ghost use Rattle.rdm_locked.specs.Inside.{SameClients, AddsOnly, IsCollected};
+    ghost use Rattle.rdm_locked.specs.body.Oldest.{ShowsKind, CollectsOldest, KeepsSets};
 
     // The same, with the end of a ring that no page went into.
     fn opened(
@@ -260,9 +262,42 @@ impl<L: Ledger, J: PageRing> Inside<L, J> {
         Some(end)
     }
 
+    // Looks at a client's oldest outcome, and collects it if it is of a wanted kind: a request's as `collect_request`
+    // does, and a discovery's as `collect_shared` does. `requests` and `asks` say which kinds are wanted.
+    pub(crate) fn collect_oldest(
+        &mut self,
+        client: ClientId,
+        requests: bool,
+        asks: bool,
+        sets: &mut SharedSets,
+        mine: &mut CallShare<L>,
+    ) -> OldestOutcome
+        ensures kind { ShowsKind requests asks result
+            (oldest_kind self.old.session.opening self.old.session.entries client.0) }
+        ensures collected { CollectsOldest client result self.old mine.old self.new mine.new }
+        ensures sets { KeepsSets result (length sets.old.sets.items) (length sets.new.sets.items) }
+        ensures clients { SameClients self.old self.new }
+    {
+        let Some(kind) = self.oldest(client) else {
+            return OldestOutcome::Nothing;
+        };
+        match kind {
+            OutcomeKind::Request if !requests => OldestOutcome::Stays(kind),
+            OutcomeKind::Discovery if !asks => OldestOutcome::Stays(kind),
+            OutcomeKind::Request => match self.collect_request(client, mine) {
+                Some((_, done)) => OldestOutcome::Request(done),
+                None => unreachable!(),
+            },
+            OutcomeKind::Discovery => match self.collect_shared(client, sets, mine) {
+                Some(done) => OldestOutcome::Discovery(done),
+                None => OldestOutcome::Nothing,
+            },
+        }
+    }
+
     // Collects a client's oldest outcome if that is a discovery's, as `collect_discovery` does. Its devices replace
     // those in a set that no completion shares, and the completion then shares it. None: as there, or each is shared.
-    pub(crate) fn collect_shared(
+    fn collect_shared(
         &mut self,
         client: ClientId,
         sets: &mut SharedSets,

@@ -13,6 +13,7 @@ mod client;
 mod exchange;
 mod fault;
 mod inside;
+mod oldest;
 mod pages;
 mod port;
 mod record;
