@@ -9,6 +9,7 @@ pub mod EndLemmas
 pub mod RuleLemmas
 pub mod WatchLemmas
 pub mod StrayLemmas
+pub mod GarbledLemmas
 pub mod ReadLemmas
 pub mod TriedLemmas
 pub mod UntriedLemmas

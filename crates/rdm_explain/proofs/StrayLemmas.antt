@@ -225,7 +225,7 @@ stray_within us xs at s =
     = ap length s.whole ∙ length-append s.front (s.exchange ∷ s.back) in
     omega (arith, long, s.index)
 
-failed_in : (xs : List Exchange) (j at : ℕ) (e : Exchange) → at < j → at < length xs
+pub failed_in : (xs : List Exchange) (j at : ℕ) (e : Exchange) → at < j → at < length xs
     → (seen_of (get_or xs at e)).heard ≡ Failed → NoFailure (seen_all (take j xs)) → ⊥
 failed_in [] j at e less within failed ok = absurd (omega arith)
 failed_in (x ∷ xs) zero at e less within failed ok = absurd (omega arith)

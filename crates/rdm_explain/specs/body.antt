@@ -10,3 +10,4 @@ pub mod Trying
 pub mod Naming
 pub mod Leasts
 pub mod Firsts
+pub mod Garbling

@@ -5,6 +5,7 @@ ghost use Rattle.rdm_wire.specs.Uid.{has, set_of};
 ghost use Rattle.rdm_wire.specs.Devices.{uids_of};
 ghost use Rattle.rdm_wire.specs.declared.device.Device.{Device};
 ghost use Rattle.rdm_wire.specs.Honest.{HonestTrace};
+ghost use Rattle.rdm_wire.specs.HonestOver.{HonestOver};
 ghost use Rattle.rdm_agent.specs.Run.{acked_in};
 ghost use Rattle.rdm_agent.specs.Certificate.{Certificate, IsCleared, known_of};
 ghost use Rattle.rdm_agent.specs.declared.kind.Kind.{Kind};
@@ -15,6 +16,7 @@ ghost use Rattle.rdm_explain.specs.Exchanges.{seen_all};
 ghost use Rattle.rdm_explain.specs.Rules.{AreFirstBreaches, FirstBreach, Followed};
 ghost use Rattle.rdm_explain.specs.Covers.{FirstUncovered};
 ghost use Rattle.rdm_explain.specs.Strays.{IsStray};
+ghost use Rattle.rdm_explain.specs.Garbled.{IsGarbled};
 ghost use Rattle.rdm_explain.specs.Certificates.{ExplainsRun, ExplainsKnown, IsComplete, IsKnownComplete};
 ghost use Rattle.rdm_explain.specs.declared.certificate.RunFinding.{RunFinding};
 ghost use Rattle.rdm_explain.specs.declared.certificate.KnownFinding.{KnownFinding};
@@ -54,6 +56,15 @@ pub fn breach_is_not_honest()
 pub fn stray_is_not_honest()
     ensures { (us present : List ℕ) (xs : List Exchange) (at : ℕ) → IsStray us xs at
         → ((u : ℕ) → has present u ≡ true → has us u ≡ true) → HonestTrace present (seen_all xs) → ⊥ }
+{}
+
+/// If a branch of one UID alone was answered by other bytes than its text, the line wasn't honest for any devices. They
+/// needn't be known, and may come and leave.
+pub fn garbled_is_not_honest()
+    ensures fixed { (present : List ℕ) (xs : List Exchange) (at : ℕ) → IsGarbled xs at
+        → HonestTrace present (seen_all xs) → ⊥ }
+    ensures changing { (sets : List (List ℕ)) (xs : List Exchange) (at : ℕ) → IsGarbled xs at
+        → HonestOver sets (seen_all xs) → ⊥ }
 {}
 
 /// If no UID is uncovered, the exchanges have that part of the certificate of the acknowledged UIDs. If one is, they

@@ -1,7 +1,7 @@
 //! A run for each lie, alone on the line.
 use super::rig::{
-    acked, add, breaks, check, covers, follows, has_no_stray, leaves, liar, lower, mute, mute_of,
-    opening, strays, upper, whole,
+    acked, add, alone, branch, breaks, check, covers, follows, garbles, has_no_garbled,
+    has_no_stray, leaves, liar, lower, mute, mute_of, opening, strays, upper, whole,
 };
 use rdm_explain::{Heard, Rule};
 use rdm_wire::Uid;
@@ -75,6 +75,32 @@ fn bytes_come_after_the_mute_of_an_unlisted_uid(rt: HostRuntime) {
     check(&rt, has_no_stray(rt.alloc(), &run));
     add(&rt, &mut run, &mute_of(other, Heard::Noise), 1);
     check(&rt, strays(rt.alloc(), &run, 5));
+}
+
+#[test]
+fn noise_comes_after_the_branch_of_one_uid(rt: HostRuntime) {
+    let mut run = opening(&rt, rt.alloc());
+    let other = Uid::new(0x1234, 8);
+    add(&rt, &mut run, &whole(Heard::Noise), 1);
+    add(&rt, &mut run, &branch(other, liar(), Heard::Noise), 1);
+    add(&rt, &mut run, &mute(Heard::Noise), 1);
+    add(&rt, &mut run, &alone(Heard::Silent), 1);
+    add(&rt, &mut run, &alone(Heard::One(liar())), 1);
+    check(&rt, has_no_garbled(&run));
+    add(&rt, &mut run, &alone(Heard::Noise), 2);
+    check(&rt, garbles(&run, 8));
+}
+
+#[test]
+fn the_text_of_another_uid_comes_after_the_branch_of_one(rt: HostRuntime) {
+    let mut run = opening(&rt, rt.alloc());
+    let other = Uid::new(0x1234, 8);
+    add(&rt, &mut run, &alone(Heard::One(other)), 1);
+    check(&rt, garbles(&run, 3));
+    let mut run = opening(&rt, rt.alloc());
+    add(&rt, &mut run, &alone(Heard::Failed), 1);
+    add(&rt, &mut run, &alone(Heard::One(other)), 1);
+    check(&rt, has_no_garbled(&run));
 }
 
 #[test]

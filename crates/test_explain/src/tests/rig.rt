@@ -2,7 +2,8 @@
 ghost use Rattle.std.specs.Prelude.{IsTrue};
 
 use rdm_explain::{
-    Asked, Breach, Exchange, Heard, Rule, first_breaches, first_stray, first_uncovered,
+    Asked, Breach, Exchange, Heard, Rule, first_breaches, first_garbled, first_stray,
+    first_uncovered,
 };
 use rdm_wire::{MuteAck, NoMemory, Uid};
 use std::alloc::Global;
@@ -58,7 +59,13 @@ pub fn upper(heard: Heard) -> Exchange {
     branch(Uid::new(0x8000, 0), Uid::ALL, heard)
 }
 
-fn branch(lo: Uid, hi: Uid, heard: Heard) -> Exchange {
+/// A branch of the liar's UID alone.
+pub fn alone(heard: Heard) -> Exchange {
+    branch(liar(), liar(), heard)
+}
+
+/// A branch of the UIDs from `lo` to `hi`.
+pub fn branch(lo: Uid, hi: Uid, heard: Heard) -> Exchange {
     Exchange {
         asked: Asked::Branch { lo, hi },
         heard,
@@ -118,6 +125,19 @@ pub fn strays(alloc: Global, exchanges: &[Exchange], at: usize) -> bool {
 /// Whether no exchange is stray.
 pub fn has_no_stray(alloc: Global, exchanges: &[Exchange]) -> bool {
     matches!(first_stray(alloc, &[liar()], exchanges), Ok(None))
+}
+
+/// Whether this is the first branch of one UID alone that was answered by other bytes than its text.
+pub fn garbles(exchanges: &[Exchange], at: usize) -> bool {
+    match first_garbled(exchanges) {
+        Some(found) => found == at,
+        None => false,
+    }
+}
+
+/// Whether there is no such branch.
+pub fn has_no_garbled(exchanges: &[Exchange]) -> bool {
+    first_garbled(exchanges).is_none()
 }
 
 /// Whether the first UID that these exchanges don't cover is this one.
