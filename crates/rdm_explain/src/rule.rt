@@ -2,7 +2,8 @@
 ghost use Rattle.std.specs.Prelude.{◌≡◌, IfOk, map};
 ghost use Rattle.rdm_explain.specs.Exchanges.{seen_of};
 ghost use Rattle.rdm_explain.specs.Rules.{AreFirstBreaches, uids_of_findings};
-ghost use Rattle.rdm_explain.specs.body.Watching.{rule_by, watched_by, heard_by, finding_of, watch_of};
+ghost use Rattle.rdm_explain.specs.body.Watching.{rule_by, watched_by, watched_with, touches};
+ghost use Rattle.rdm_explain.specs.body.Watching.{heard_by, finding_of, watch_of};
 ghost use Rattle.rdm_explain.specs.body.Watching.{muted_by_change, unmuted_by_change};
 
 use crate::ends::{Change, Ends};
@@ -64,11 +65,24 @@ impl Watched {
         }
     }
 
+    // Whether a change can change what is known of it.
+    fn is_touched_by(&self, change: &Change) -> bool
+        ensures { result ≡ touches change.now self.now.uid self.now.muted self.now.unmuted }
+    {
+        match change {
+            Change::Nothing => false,
+            Change::Unmute => self.muted && !self.unmuted,
+            Change::UnmuteAll => self.muted,
+            Change::Silence(range) => self.unmuted && range.lo <= self.uid && self.uid <= range.hi,
+            Change::Acked(uid) | Change::Lost(uid) | Change::Broken(uid) => self.uid == *uid,
+        }
+    }
+
     // After a change. If the device may be neither muted nor unmuted then, this is its breach.
     fn after(self, change: &Change, breach: Breach) -> Watched
-        ensures { result ≡ watched_by change.now breach self }
+        ensures { result ≡ watched_with change.now breach self self.breach }
     {
-        if change.is_nothing() || self.breach.is_some() {
+        if self.breach.is_some() {
             return self;
         }
         let muted = self.muted_by(change);
@@ -139,12 +153,14 @@ pub(crate) fn hear_all(watched: &mut [Watched], ends: &Ends, at: usize, exchange
     }
 }
 
-// All devices after a change.
+// All devices after a change. Most changes touch few of them, so that the others are only looked at.
 fn change_all(watched: &mut [Watched], change: &Change, breach: Breach)
     ensures next { watched.new ≡ map (watched_by change.now breach) watched.old }
 {
     for device in watched.iter_mut() {
-        *device = device.after(change, breach);
+        if device.is_touched_by(change) {
+            *device = device.after(change, breach);
+        }
     }
 }
 

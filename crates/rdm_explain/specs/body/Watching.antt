@@ -17,7 +17,7 @@ use Rattle.rdm_explain.specs.declared.rule.Watched.{Watched}
 use Rattle.rdm_explain.specs.declared.exchange.Exchange.{Exchange}
 use Rattle.rdm_explain.specs.Exchanges.{seen_all}
 use Rattle.rdm_explain.specs.Rules.{IsFirstBreach}
-use Rattle.rdm_explain.specs.body.Endings.{is_nothing, change_after}
+use Rattle.rdm_explain.specs.body.Endings.{change_after}
 use Rattle.rdm_explain.specs.body.Standings.{Standing, is_alive, standing}
 
 abbrev pub rule_heard : Asked → Heard → Rule
@@ -68,9 +68,19 @@ watched_with change b w (Some _) = w
 watched_with change b w None =
     with_flags b w (muted_by_change change w.uid w.muted w.unmuted) (unmuted_by_change change w.uid w.muted w.unmuted)
 
+-- whether a change can change what is known of u
+abbrev pub touches : Change → ℕ → Bool → Bool → Bool
+touches changes.Nothing u m n = false
+touches changes.Unmute u m n = m && not n
+touches changes.UnmuteAll u m n = m
+touches (changes.Silence s) u m n = n && is_in s u
+touches (changes.Acked v) u m n = u == v
+touches (changes.Lost v) u m n = u == v
+touches (changes.Broken v) u m n = u == v
+
 -- a device after a change, with which it may break a rule
 abbrev pub watched_by : Change → Breach → Watched → Watched
-watched_by change b w = if is_nothing change then w else watched_with change b w w.breach
+watched_by change b w = if touches change w.uid w.muted w.unmuted then watched_with change b w w.breach else w
 
 -- a device after an exchange, with which the exchanges end like this
 abbrev pub heard_by : Ends → ℕ → Seen → Watched → Watched
