@@ -1,5 +1,6 @@
 -- What is known of the devices of a list stays right with each exchange.
-use Rattle.std.proofs.Common.{◌≡◌, ℕ, ◌+◌, ◌<◌, Bool, true, false, ◌&&◌, ◌||◌, not, List, [], ◌∷◌, ◌++◌, refl, sym, ap, ◌∙◌, subst}
+use Rattle.std.proofs.Common.{◌≡◌, ℕ, ◌+◌, ◌<◌, Bool, true, false, ◌&&◌, ◌||◌, not, List, [], ◌∷◌, ◌++◌, refl, sym, ap}
+use Rattle.std.proofs.Common.{◌∙◌, subst}
 use Rattle.std.proofs.Common.{append-nil, append_assoc, true≢false, arith, length, take, drop, map}
 use Rattle.std.proofs.Common.{Option, Some, None, get_or}
 use Rattle.std.specs.Prelude.{MatchOption, ◌==◌, fold, if◌then◌else◌}
@@ -302,6 +303,11 @@ heard xs us at e l k old new within read all ends is =
           (all_watch_more (take at xs) e l old all.0)),
       same_uids k2 at (seen_of e) old ∙ all.1,
     ))
+
+-- a device that was tested, and is then changed or as before
+pub tested : (c : Change) (b : Breach) (w y : Watched) (t : Bool) → touches c w.uid w.muted w.unmuted ≡ t
+    → y ≡ (if t then watched_with c b w w.breach else w) → y ≡ watched_by c b w
+tested c b w y t is made = made ∙ ap (λ k. if k then watched_with c b w w.breach else w) (sym is)
 
 -- as a slice writes them back
 pub written : (xs : List Exchange) (l : Ends) (us : List ℕ) (n : ℕ) (old new : List Watched) → n ≡ length old

@@ -1,11 +1,14 @@
 //! Which devices broke a rule of an honest line, where first, and which rule.
-ghost use Rattle.std.specs.Prelude.{◌≡◌, IfOk, map};
+ghost use Rattle.std.specs.Prelude.{◌≡◌, ◌&&◌, IfOk, map};
 ghost use Rattle.rdm_explain.specs.Exchanges.{seen_of};
 ghost use Rattle.rdm_explain.specs.Rules.{AreFirstBreaches, uids_of_findings};
 ghost use Rattle.rdm_explain.specs.body.Watching.{rule_by, watched_by, watched_with, touches};
+ghost use Rattle.rdm_explain.specs.body.Watching.{TouchesOnly, is_in};
+ghost use Rattle.rdm_explain.specs.declared.ends.Change.TheVariants.{Silence};
 ghost use Rattle.rdm_explain.specs.body.Watching.{heard_by, finding_of, watch_of};
 ghost use Rattle.rdm_explain.specs.body.Watching.{muted_by_change, unmuted_by_change};
 
+use crate::cover::Stretch;
 use crate::ends::{Change, Ends};
 use crate::exchange::{Asked, Exchange, Heard};
 use rdm_wire::{NoMemory, Uid};
@@ -65,6 +68,13 @@ impl Watched {
         }
     }
 
+    // Whether it may be unmuted, and is in a range.
+    fn is_unmuted_in(&self, range: &Stretch) -> bool
+        ensures { result ≡ (self.now.unmuted && is_in range.now self.now.uid) }
+    {
+        self.unmuted && range.lo <= self.uid && self.uid <= range.hi
+    }
+
     // Whether a change can change what is known of it.
     fn is_touched_by(&self, change: &Change) -> bool
         ensures { result ≡ touches change.now self.now.uid self.now.muted self.now.unmuted }
@@ -73,7 +83,7 @@ impl Watched {
             Change::Nothing => false,
             Change::Unmute => self.muted && !self.unmuted,
             Change::UnmuteAll => self.muted,
-            Change::Silence(range) => self.unmuted && range.lo <= self.uid && self.uid <= range.hi,
+            Change::Silence(range) => self.is_unmuted_in(range),
             Change::Acked(uid) | Change::Lost(uid) | Change::Broken(uid) => self.uid == *uid,
         }
     }
@@ -153,13 +163,50 @@ pub(crate) fn hear_all(watched: &mut [Watched], ends: &Ends, at: usize, exchange
     }
 }
 
-// All devices after a change. Most changes touch few of them, so that the others are only looked at.
+// All devices after a change.
 fn change_all(watched: &mut [Watched], change: &Change, breach: Breach)
+    ensures next { watched.new ≡ map (watched_by change.now breach) watched.old }
+{
+    match change {
+        Change::Silence(range) => silence(watched, *range, breach),
+        Change::Acked(uid) | Change::Lost(uid) | Change::Broken(uid) => {
+            change_one(watched, *uid, change, breach);
+        }
+        _ => change_each(watched, change, breach),
+    }
+}
+
+// All devices after a change. Most changes touch few of them, so the others are only looked at. There are three such
+// loops since a test that depends on the change takes twice the time.
+fn change_each(watched: &mut [Watched], change: &Change, breach: Breach)
     ensures next { watched.new ≡ map (watched_by change.now breach) watched.old }
 {
     for device in watched.iter_mut() {
         if device.is_touched_by(change) {
             *device = device.after(change, breach);
+        }
+    }
+}
+
+// All devices after a change of those with this UID.
+fn change_one(watched: &mut [Watched], uid: Uid, change: &Change, breach: Breach)
+    requires { TouchesOnly change.now uid }
+    ensures next { watched.new ≡ map (watched_by change.now breach) watched.old }
+{
+    for device in watched.iter_mut() {
+        if device.uid == uid {
+            *device = device.after(change, breach);
+        }
+    }
+}
+
+// All devices after the UIDs of a range were silent once too often to be unmuted.
+fn silence(watched: &mut [Watched], range: Stretch, breach: Breach)
+    ensures next { watched.new ≡ map (watched_by (Silence range) breach) watched.old }
+{
+    for device in watched.iter_mut() {
+        if device.is_unmuted_in(&range) {
+            *device = device.after(&Change::Silence(range), breach);
         }
     }
 }

@@ -78,6 +78,10 @@ touches (changes.Acked v) u m n = u == v
 touches (changes.Lost v) u m n = u == v
 touches (changes.Broken v) u m n = u == v
 
+-- whether a change can change what is known of devices with this UID alone
+abbrev pub TouchesOnly : Change → ℕ → Type 0
+TouchesOnly c u = (v : ℕ) (m n : Bool) → touches c v m n ≡ (v == u)
+
 -- a device after a change, with which it may break a rule
 abbrev pub watched_by : Change → Breach → Watched → Watched
 watched_by change b w = if touches change w.uid w.muted w.unmuted then watched_with change b w w.breach else w

@@ -1,6 +1,6 @@
 use Rattle.std.proofs.Common.{◌≡◌, ◌++◌, map, take, drop}
 use Rattle.rdm_explain.specs.body.Watching.{watched_by}
-use Rattle.rdm_explain.proofs.rule.change_all.Given as goal
+use Rattle.rdm_explain.proofs.rule.change_one.Given as goal
 
 abbrev pub invariant-loop-device : goal.invariant-loop-device
 invariant-loop-device l =
