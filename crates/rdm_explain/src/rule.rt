@@ -88,20 +88,19 @@ impl Watched {
         }
     }
 
-    // After a change. If the device may be neither muted nor unmuted then, this is its breach.
-    fn after(self, change: &Change, breach: Breach) -> Watched
-        ensures { result ≡ watched_with change.now breach self self.breach }
+    // It hears a change. If it may be neither muted nor unmuted then, this is its breach.
+    fn hear(&mut self, change: &Change, breach: Breach)
+        ensures { self.new ≡ watched_with change.now breach self.old self.old.breach }
     {
         if self.breach.is_some() {
-            return self;
+            return;
         }
         let muted = self.muted_by(change);
         let unmuted = self.unmuted_by(change);
-        Watched {
-            uid: self.uid,
-            muted,
-            unmuted,
-            breach: if muted || unmuted { None } else { Some(breach) },
+        self.muted = muted;
+        self.unmuted = unmuted;
+        if !muted && !unmuted {
+            self.breach = Some(breach);
         }
     }
 
@@ -183,7 +182,7 @@ fn change_each(watched: &mut [Watched], change: &Change, breach: Breach)
 {
     for device in watched.iter_mut() {
         if device.is_touched_by(change) {
-            *device = device.after(change, breach);
+            device.hear(change, breach);
         }
     }
 }
@@ -195,7 +194,7 @@ fn change_one(watched: &mut [Watched], uid: Uid, change: &Change, breach: Breach
 {
     for device in watched.iter_mut() {
         if device.uid == uid {
-            *device = device.after(change, breach);
+            device.hear(change, breach);
         }
     }
 }
@@ -206,7 +205,7 @@ fn silence(watched: &mut [Watched], range: Stretch, breach: Breach)
 {
     for device in watched.iter_mut() {
         if device.is_unmuted_in(&range) {
-            *device = device.after(&Change::Silence(range), breach);
+            device.hear(&Change::Silence(range), breach);
         }
     }
 }

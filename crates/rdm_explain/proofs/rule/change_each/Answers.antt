@@ -12,9 +12,9 @@ loop-device-preserved c =
       | then-is_touched_by w ↦
           w.watched-is
           ∙ map_step (watched_by c.args.change.now c.args.breach) c.args.watched.now c.loop-device.watched
-          c.loop-device.device-index c.device-item.result w.after.result (omega arith) c.loop-device.invariant
-          (tested c.args.change.now c.args.breach old w.after.result true
-          (sym c.is_touched_by.ensures ∙ w.if-is_touched_by.true) w.after.ensures)
+          c.loop-device.device-index c.device-item.result w.hear.new.self (omega arith) c.loop-device.invariant
+          (tested c.args.change.now c.args.breach old w.hear.new.self true
+          (sym c.is_touched_by.ensures ∙ w.if-is_touched_by.true) w.hear.ensures)
       | else-is_touched_by w ↦
           w.watched-is
           ∙ map_step (watched_by c.args.change.now c.args.breach) c.args.watched.now c.loop-device.watched

@@ -12,9 +12,9 @@ loop-device-preserved c =
       | then-eq w ↦
           w.watched-is
           ∙ map_step (watched_by c.args.change.now c.args.breach) c.args.watched.now c.loop-device.watched
-          c.loop-device.device-index c.device-item.result w.after.result (omega arith) c.loop-device.invariant
-          (tested c.args.change.now c.args.breach old w.after.result true
-          (c.requires old.uid old.muted old.unmuted ∙ sym c.eq.ensures ∙ w.if-eq.true) w.after.ensures)
+          c.loop-device.device-index c.device-item.result w.hear.new.self (omega arith) c.loop-device.invariant
+          (tested c.args.change.now c.args.breach old w.hear.new.self true
+          (c.requires old.uid old.muted old.unmuted ∙ sym c.eq.ensures ∙ w.if-eq.true) w.hear.ensures)
       | else-eq w ↦
           w.watched-is
           ∙ map_step (watched_by c.args.change.now c.args.breach) c.args.watched.now c.loop-device.watched

@@ -13,9 +13,9 @@ loop-device-preserved c =
       | then-is_unmuted_in w ↦
           w.watched-is
           ∙ map_step (watched_by (Silence c.args.range) c.args.breach) c.args.watched.now c.loop-device.watched
-          c.loop-device.device-index c.device-item.result w.after.result (omega arith) c.loop-device.invariant
-          (tested (Silence c.args.range) c.args.breach old w.after.result true
-          (sym c.is_unmuted_in.ensures ∙ w.if-is_unmuted_in.true) w.after.ensures)
+          c.loop-device.device-index c.device-item.result w.hear.new.self (omega arith) c.loop-device.invariant
+          (tested (Silence c.args.range) c.args.breach old w.hear.new.self true
+          (sym c.is_unmuted_in.ensures ∙ w.if-is_unmuted_in.true) w.hear.ensures)
       | else-is_unmuted_in w ↦
           w.watched-is
           ∙ map_step (watched_by (Silence c.args.range) c.args.breach) c.args.watched.now c.loop-device.watched
