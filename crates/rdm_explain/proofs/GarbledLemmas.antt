@@ -1,20 +1,21 @@
--- The first branch of one UID alone that was answered by other bytes than its text, and that no honest line gives it.
+-- The first garbled exchange, and that no honest line has one.
 use Rattle.std.proofs.Common.{◌≡◌, ℕ, ◌+◌, ◌<◌, ◌≤◌, Bool, true, false, ◌&&◌, not, List, [], ◌∷◌, ◌++◌, refl, sym}
 use Rattle.std.proofs.Common.{ap, ◌∙◌, subst, inl, inr, true≢false, arith, length, take, drop, get_or, length-append}
-use Rattle.std.specs.Prelude.{◌⊎◌, ◌≢◌, ◌==◌, nat_le, filter, if◌then◌else◌}
+use Rattle.std.specs.Prelude.{◌⊎◌, ◌≢◌, ◌==◌, nat_le, filter, MatchBool, if◌then◌else◌}
 use Rattle.std.specs.List.{AllByRecursion}
 use Rattle.std.proofs.lemmas.List.{map-append, take_at, get_or_at, drop_more, take-append-drop, length-take-le}
 use Rattle.std.proofs.lemmas.Bool.{and_parts, and_from, cases_lt, eqb-true, eq-eqb, leb-true}
-use Rattle.rdm_wire.specs.Uid.{is_within, IsAscending, IsDeviceSet}
-use Rattle.rdm_wire.specs.Honest.{Asked, Heard, Seen, LineState, HonestStep, HonestTrace, Chain, MayReply, before_run}
+use Rattle.rdm_wire.specs.Uid.{has, is_within, IsAscending, IsDeviceSet}
+use Rattle.rdm_wire.specs.Honest.{Asked, Heard, Seen, LineState, HonestStep, HonestTrace, Chain, MayReply, MuteMoves}
+use Rattle.rdm_wire.specs.Honest.{KeepsMuted, Counts, before_run, is_acked}
 use Rattle.rdm_wire.specs.HonestOver.{HonestOver, ChainOver, first_set}
 use Rattle.rdm_agent.proofs.LeftLemmas.{at_most_one}
 use Rattle.rdm_wire.specs.Honest.Asked.{Unmute, Branch, Mute, Other}
 use Rattle.rdm_wire.specs.Honest.Heard.{Failed, Silent, One, Acked, Noise}
 use Rattle.rdm_explain.specs.declared.exchange.Exchange.{Exchange}
 use Rattle.rdm_explain.specs.Exchanges.{seen_of, seen_all}
-use Rattle.rdm_explain.specs.Garbled.{IsGarbledBranch, IsGarbled}
-use Rattle.rdm_explain.specs.body.Garbling.{is_other_text, is_garbled_by, is_garbled}
+use Rattle.rdm_explain.specs.Garbled.{IsNoAnswer, IsGarbledExchange, IsGarbled}
+use Rattle.rdm_explain.specs.body.Garbling.{is_other_text, is_no_acknowledgement, is_garbled_by, is_garbled}
 use Rattle.rdm_explain.proofs.StrayLemmas.{NoFailure, failed_in}
 
 -- bytes that aren't the text of u
@@ -52,29 +53,53 @@ of_other u (One v) fine loud other = by_test (v == u) refl
 of_other u (Acked ack) fine loud other = refl
 of_other u Noise fine loud other = refl
 
--- the test decides
-pub garbled_is : (e : Seen) → is_garbled e ≡ true → IsGarbledBranch e
-garbled_is e is = by_asked e.asked refl is
-  where
-    by_asked : (a : Asked) → e.asked ≡ a → is_garbled_by a e.heard ≡ true → IsGarbledBranch e
-    by_asked Unmute asked holds = absurd (true≢false (sym holds))
-    by_asked (Mute u) asked holds = absurd (true≢false (sym holds))
-    by_asked Other asked holds = absurd (true≢false (sym holds))
-    by_asked (Branch lo hi) asked holds =
-        let both = and_parts (lo == hi) (is_other_text lo e.heard) holds in
-        let other = other_text lo e.heard both.1 in record {
-          uid = lo;
-          asked = asked ∙ ap (λ u. Branch lo u) (sym (eqb-true lo hi both.0));
-          not_failed = other.not_failed;
-          not_silent = other.not_silent;
-          not_its_text = other.not_its_text;
-        }
+-- bytes that don't answer this
+record Garbles (a : Asked) (h : Heard) : Type 0 where
+  not_failed : h ≢ Failed
+  not_silent : h ≢ Silent
+  no_answer : IsNoAnswer a h
 
-pub is_garbled_of : (e : Seen) → IsGarbledBranch e → is_garbled e ≡ true
-is_garbled_of e g =
-    ap (λ a. is_garbled_by a e.heard) g.asked
-    ∙ and_from (g.uid == g.uid) (is_other_text g.uid e.heard) (eq-eqb g.uid g.uid refl)
-    (of_other g.uid e.heard g.not_failed g.not_silent g.not_its_text)
+unacked : (u : ℕ) (h : Heard) → is_no_acknowledgement h ≡ true → Garbles (Mute u) h
+unacked u Failed is = absurd (true≢false (sym is))
+unacked u Silent is = absurd (true≢false (sym is))
+unacked u (One v) is = record { not_failed = λ e. cc; not_silent = λ e. cc; no_answer = refl }
+unacked u (Acked ack) is = absurd (true≢false (sym is))
+unacked u Noise is = record { not_failed = λ e. cc; not_silent = λ e. cc; no_answer = refl }
+
+of_unacked : (h : Heard) → h ≢ Failed → h ≢ Silent → is_acked h ≡ false → is_no_acknowledgement h ≡ true
+of_unacked Failed fine loud wrong = absurd (fine refl)
+of_unacked Silent fine loud wrong = absurd (loud refl)
+of_unacked (One v) fine loud wrong = refl
+of_unacked (Acked ack) fine loud wrong = absurd (true≢false wrong)
+of_unacked Noise fine loud wrong = refl
+
+garbles : (a : Asked) (h : Heard) → is_garbled_by a h ≡ true → Garbles a h
+garbles Unmute h holds = absurd (true≢false (sym holds))
+garbles Other h holds = absurd (true≢false (sym holds))
+garbles (Mute u) h holds = unacked u h holds
+garbles (Branch lo hi) h holds =
+    let both = and_parts (lo == hi) (is_other_text lo h) holds in
+    let other = other_text lo h both.1 in record {
+      not_failed = other.not_failed;
+      not_silent = other.not_silent;
+      no_answer = (eqb-true lo hi both.0, other.not_its_text);
+    }
+
+of_garbles : (a : Asked) (h : Heard) → h ≢ Failed → h ≢ Silent → IsNoAnswer a h → is_garbled_by a h ≡ true
+of_garbles Unmute h fine loud wrong = absurd wrong
+of_garbles Other h fine loud wrong = absurd wrong
+of_garbles (Mute u) h fine loud wrong = of_unacked h fine loud wrong
+of_garbles (Branch lo hi) h fine loud wrong =
+    and_from (lo == hi) (is_other_text lo h) (eq-eqb lo hi wrong.0) (of_other lo h fine loud wrong.1)
+
+-- the test decides
+pub garbled_is : (e : Seen) → is_garbled e ≡ true → IsGarbledExchange e
+garbled_is e is =
+    let g = garbles e.asked e.heard is in
+    record { not_failed = g.not_failed; not_silent = g.not_silent; no_answer = g.no_answer }
+
+pub is_garbled_of : (e : Seen) → IsGarbledExchange e → is_garbled e ≡ true
+is_garbled_of e g = of_garbles e.asked e.heard g.not_failed g.not_silent g.no_answer
 
 -- at an index
 pub garbled_at : (xs : List Exchange) (at : ℕ) (e : Exchange) → at < length xs → e ≡ get_or xs at e
@@ -158,19 +183,32 @@ within_itself u v is =
     let low : u ≤ v = leb-true u v both.0 in
     let high : v ≤ u = leb-true v u both.1 in omega (arith, low, high)
 
-no_step : (present : List ℕ) (old new : LineState) (e : Seen) → IsDeviceSet present → IsGarbledBranch e
+after_mute : (present : List ℕ) (old new : LineState) (u : ℕ) (h : Heard) (b : Bool) → h ≢ Silent → is_acked h ≡ false
+    → MatchBool b (MuteMoves u old h new) ((h ≡ Silent) × KeepsMuted u old new × Counts new 0 0 0) → ⊥
+after_mute present old new u h true loud wrong (inl acked) = true≢false (sym acked.0 ∙ wrong)
+after_mute present old new u h true loud wrong (inr silent) = loud silent.0
+after_mute present old new u h false loud wrong absent = loud absent.0
+
+not_answered : (present : List ℕ) (old new : LineState) (a : Asked) (h : Heard) → IsDeviceSet present → h ≢ Silent
+    → IsNoAnswer a h → HonestStep present old a h new → ⊥
+not_answered present old new Unmute h set loud wrong step = wrong
+not_answered present old new Other h set loud wrong step = wrong
+not_answered present old new (Mute u) h set loud wrong step =
+    after_mute present old new u h (has present u) loud wrong step.1
+not_answered present old new (Branch lo hi) h set loud wrong step =
+    one_reply (λ v. is_within lo hi v && not (old.muted v)) present lo h set.ascending
+    (λ v passes. within_itself lo v (subst (λ x. is_within lo x v ≡ true) (sym wrong.0)
+    (and_parts (is_within lo hi v) (not (old.muted v)) passes).0))
+    loud wrong.1 step.0
+
+no_step : (present : List ℕ) (old new : LineState) (e : Seen) → IsDeviceSet present → IsGarbledExchange e
     → HonestStep present old e.asked e.heard new → ⊥
-no_step present old new e set g step = by_branch (subst (λ a. HonestStep present old a e.heard new) g.asked step)
-  where
-    by_branch : HonestStep present old (Branch g.uid g.uid) e.heard new → ⊥
-    by_branch s =
-        one_reply (λ v. is_within g.uid g.uid v && not (old.muted v)) present g.uid e.heard set.ascending
-        (λ v passes. within_itself g.uid v (and_parts (is_within g.uid g.uid v) (not (old.muted v)) passes).0)
-        g.not_silent g.not_its_text s.0
+no_step present old new e set g step =
+    not_answered present old new e.asked e.heard set g.not_silent g.no_answer step
 
 -- with the same devices at each exchange
 in_chain : (present : List ℕ) (s : LineState) (front : List Seen) (e : Seen) (rest : List Seen) → IsDeviceSet present
-    → NoFailure front → IsGarbledBranch e → Chain (HonestStep present) s (front ++ e ∷ rest) → ⊥
+    → NoFailure front → IsGarbledExchange e → Chain (HonestStep present) s (front ++ e ∷ rest) → ⊥
 in_chain present s [] e rest set ok g (inl failed) = g.not_failed failed
 in_chain present s [] e rest set ok g (inr step) = no_step present s step.0 e set g step.1
 in_chain present s (x ∷ front) e rest set ok g (inl failed) = ok.0 failed
@@ -178,7 +216,7 @@ in_chain present s (x ∷ front) e rest set ok g (inr step) = in_chain present s
 
 -- with devices that come and leave
 in_chain_over : (earlier last : List ℕ) (s : LineState) (sets : List (List ℕ)) (front : List Seen) (e : Seen)
-    (rest : List Seen) → AllByRecursion IsDeviceSet sets → NoFailure front → IsGarbledBranch e
+    (rest : List Seen) → AllByRecursion IsDeviceSet sets → NoFailure front → IsGarbledExchange e
     → ChainOver earlier last s sets (front ++ e ∷ rest) → ⊥
 in_chain_over earlier last s [] [] e rest all ok g chain = chain
 in_chain_over earlier last s [] (x ∷ front) e rest all ok g chain = chain

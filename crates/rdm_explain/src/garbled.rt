@@ -1,15 +1,18 @@
-//! Bytes that came after a branch of one UID alone, and aren't its text.
+//! Bytes that no honest line allows, whichever devices are on it.
 ghost use Rattle.std.specs.Prelude.{◌≡◌, ◌↔◌, true};
 ghost use Rattle.rdm_explain.specs.Exchanges.{seen_of, heard_of};
-ghost use Rattle.rdm_explain.specs.Garbled.{FirstGarbled, IsGarbledBranch};
-ghost use Rattle.rdm_explain.specs.body.Garbling.{is_garbled, is_other_text};
+ghost use Rattle.rdm_explain.specs.Garbled.{FirstGarbled, IsGarbledExchange};
+ghost use Rattle.rdm_explain.specs.body.Garbling.{is_garbled, is_other_text, is_no_acknowledgement};
 
 use crate::exchange::{Asked, Exchange, Heard};
 use rdm_wire::Uid;
 
-/// The index of the first branch of one UID alone that was answered by bytes other than the text of that UID. Only the
-/// device with that UID may reply to such a branch, so no collision explains the bytes: on an honest line they never
-/// come, whichever devices are on it. `None`: there is no such exchange before the line fails.
+/// The index of the first exchange that was answered by bytes which no honest line allows, whichever devices are on it:
+/// - a branch of one UID alone, and the bytes aren't the text of that UID: no other device may reply, so nothing
+///   collides;
+/// - a mute, and the bytes don't acknowledge it.
+///
+/// `None`: there is no such exchange before the line fails.
 pub fn first_garbled(exchanges: &[Exchange]) -> Option<usize>
     ensures { FirstGarbled exchanges.now result }
 {
@@ -24,12 +27,13 @@ pub fn first_garbled(exchanges: &[Exchange]) -> Option<usize>
     None
 }
 
-// Whether an exchange that didn't fail is a branch of one UID alone, answered by other bytes than its text.
+// Whether bytes came that don't answer what was asked.
 fn is_garbled(exchange: &Exchange) -> bool
     ensures { result ≡ is_garbled (seen_of exchange.now) }
 {
     match exchange.asked {
         Asked::Branch { lo, hi } => lo == hi && is_other_text(lo, &exchange.heard),
+        Asked::Mute(_) => is_no_acknowledgement(&exchange.heard),
         _ => false,
     }
 }
@@ -42,5 +46,15 @@ fn is_other_text(uid: Uid, heard: &Heard) -> bool
         Heard::Failed | Heard::Silent => false,
         Heard::One(read) => *read != uid,
         Heard::Acked(_) | Heard::Noise => true,
+    }
+}
+
+// Whether bytes came that don't acknowledge a mute.
+fn is_no_acknowledgement(heard: &Heard) -> bool
+    ensures { result ≡ is_no_acknowledgement (heard_of heard.now) }
+{
+    match heard {
+        Heard::One(_) | Heard::Noise => true,
+        _ => false,
     }
 }

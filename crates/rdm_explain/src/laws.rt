@@ -58,8 +58,7 @@ pub fn stray_is_not_honest()
         → ((u : ℕ) → has present u ≡ true → has us u ≡ true) → HonestTrace present (seen_all xs) → ⊥ }
 {}
 
-/// If a branch of one UID alone was answered by other bytes than its text, the line wasn't honest for any devices. They
-/// needn't be known, and may come and leave.
+/// If an exchange is garbled, the line wasn't honest for any devices. They needn't be known, and may come and leave.
 pub fn garbled_is_not_honest()
     ensures fixed { (present : List ℕ) (xs : List Exchange) (at : ℕ) → IsGarbled xs at
         → HonestTrace present (seen_all xs) → ⊥ }

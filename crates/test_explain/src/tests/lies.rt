@@ -83,12 +83,25 @@ fn noise_comes_after_the_branch_of_one_uid(rt: HostRuntime) {
     let other = Uid::new(0x1234, 8);
     add(&rt, &mut run, &whole(Heard::Noise), 1);
     add(&rt, &mut run, &branch(other, liar(), Heard::Noise), 1);
-    add(&rt, &mut run, &mute(Heard::Noise), 1);
+    add(&rt, &mut run, &mute(Heard::Silent), 1);
     add(&rt, &mut run, &alone(Heard::Silent), 1);
     add(&rt, &mut run, &alone(Heard::One(liar())), 1);
     check(&rt, has_no_garbled(&run));
     add(&rt, &mut run, &alone(Heard::Noise), 2);
     check(&rt, garbles(&run, 8));
+}
+
+#[test]
+fn other_bytes_come_after_a_mute(rt: HostRuntime) {
+    let mut run = opening(&rt, rt.alloc());
+    add(&rt, &mut run, &mute(Heard::Silent), 1);
+    add(&rt, &mut run, &mute(acked()), 1);
+    check(&rt, has_no_garbled(&run));
+    add(&rt, &mut run, &mute(Heard::One(liar())), 1);
+    check(&rt, garbles(&run, 5));
+    let mut run = opening(&rt, rt.alloc());
+    add(&rt, &mut run, &mute_of(Uid::new(0x1234, 8), Heard::Noise), 2);
+    check(&rt, garbles(&run, 3));
 }
 
 #[test]

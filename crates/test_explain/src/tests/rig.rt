@@ -127,7 +127,7 @@ pub fn has_no_stray(alloc: Global, exchanges: &[Exchange]) -> bool {
     matches!(first_stray(alloc, &[liar()], exchanges), Ok(None))
 }
 
-/// Whether this is the first branch of one UID alone that was answered by other bytes than its text.
+/// Whether this is the first exchange with bytes that no honest line allows.
 pub fn garbles(exchanges: &[Exchange], at: usize) -> bool {
     match first_garbled(exchanges) {
         Some(found) => found == at,
@@ -135,7 +135,7 @@ pub fn garbles(exchanges: &[Exchange], at: usize) -> bool {
     }
 }
 
-/// Whether there is no such branch.
+/// Whether there is no such exchange.
 pub fn has_no_garbled(exchanges: &[Exchange]) -> bool {
     first_garbled(exchanges).is_none()
 }
