@@ -229,6 +229,30 @@ class Logs(TestCase):
         self.assertEqual(head_in(page_text('{"entry":"came","reply":""}\n' + log))["count"], 1)
         self.assertEqual(head_in(page_text(""))["count"], 0)
 
+    def test_runs_of_two_sessions(self) -> None:
+        sent = ['{"entry":"send","run":1,"frame":"cc"}', '{"entry":"came","reply":""}']
+        ended = [*sent, '{"entry":"answer","number":0,"run":1,"fault":3}']
+        ask = '{"entry":"ask","client":2,"number":0,"discover":"full"}'
+        later = [line.replace('"run":1', '"run":2') for line in sent]
+        for entries, names, served in (
+                ([ask, *ended, ask, *ended], ["run 1", "run 1"], [4, 4]),
+                ([ask, *ended, *ended], ["run 1", "run 1"], [4, 0]),
+                ([ask, *later, *sent], ["run 2", "run 1"], [4, 0]),
+                ([ask, *sent, *sent], ["run 1"], [4, 4]),
+                ([ask, *sent, ask.replace('"number":0', '"number":1'), *later], ["run 1", "run 2"], [4, 4])):
+            text = page_text("".join(f"{entry}\n" for entry in entries))
+            head = head_in(text)
+            self.assertEqual([run["name"] for run in head["runs"]], names, entries)
+            self.assertEqual(columns_in(text, head)["served"], served, entries)
+
+    def test_runs_of_a_log_with_gaps(self) -> None:
+        lines = [exchange_line(number, "unmute", b"\xcc", b"") for number in (7, 8, 10, 0, 1)]
+        text = page_text("".join(lines), "discovery: x", "discovery: y", "exchange 10 failed", "exchange 9 failed")
+        head = head_in(text)
+        self.assertEqual([(run["first"], run["count"]) for run in head["runs"]], [(0, 2), (2, 1), (3, 2)])
+        self.assertEqual([each[0] for each in details_in(text)], [f"exchange {number}" for number in (7, 8, 10, 0, 1)])
+        self.assertEqual([finding["place"] for finding in head["findings"]], [None, None, 2, None])
+
     def test_rows_have_a_limit(self) -> None:
         entries = []
         for number in range(1, 40):

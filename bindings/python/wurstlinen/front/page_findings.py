@@ -31,9 +31,11 @@ class Finding:
 
     def place(self, runs: Sequence[Run]) -> Optional[int]:
         """The exchange in the log that it is about."""
-        if self.run is None or self.exchange is None or self.exchange >= len(runs[self.run].exchanges):
+        if self.run is None or self.exchange is None:
             return None
-        return runs[self.run].exchanges[self.exchange]
+        run = runs[self.run]
+        at = self.exchange - run.first
+        return run.exchanges[at] if 0 <= at < len(run.exchanges) else None
 
 
 def findings_in(lines: Iterable[str], runs: Sequence[Run]) -> List[Finding]:

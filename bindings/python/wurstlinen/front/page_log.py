@@ -34,6 +34,11 @@ class Run:
     """A run, and the places of its exchanges in the log."""
 
     name: str
+    # The run's number in its session, and whether the log has its end.
+    number: Optional[int] = None
+    is_over: bool = False
+    # The number of its first exchange.
+    first: int = 0
     exchanges: "array[int]" = field(default_factory=lambda: array("I"))
 
 
@@ -84,9 +89,19 @@ class Reader:
 
     def __init__(self) -> None:
         self.log = Log()
+        self._forget(False)
+        self._steps: Dict[str, Callable[[Dict[str, Any]], None]] = {
+            "opening": self._opening, "join": self._join, "accept": self._accept, "ask": self._ask, "send": self._send,
+            "came": self._came, "finish": self._finish, "answer": self._answer, "refuse": ignore, "collect": ignore,
+            "pause": ignore, "resume": ignore, "close": ignore}
+
+    def _forget(self, is_session: bool) -> None:
+        """The log of another session, or of a discovery, begins."""
+        self._is_session = is_session
         self._run: Optional[Run] = None
-        self._number: Optional[int] = None
         self._sent: Optional[Sent] = None
+        # The number of the last discovery that was answered.
+        self._answered: Optional[int] = None
         # The clients' bits of the run in progress, and the clients of requests and discoveries without an outcome.
         self._run_clients = 0
         self._requests: Dict[int, int] = {}
@@ -94,21 +109,23 @@ class Reader:
         # How many of them each client has, and a bit for each that has some.
         self._outstanding = [0] * MOST_CLIENTS
         self._waiting = 0
-        self._steps: Dict[str, Callable[[Dict[str, Any]], None]] = {
-            "opening": self._opening, "join": self._join, "accept": self._accept, "ask": self._ask, "send": self._send,
-            "came": self._came, "finish": self._finish, "answer": self._answer, "refuse": ignore, "collect": ignore,
-            "pause": ignore, "resume": ignore, "close": ignore}
 
     def take(self, entry: Dict[str, Any]) -> None:
         """The next entry. Raises ValueError, TypeError or KeyError if it isn't one."""
         if "operation" in entry:
             self._exchange(entry)
-        else:
-            self._steps[entry["entry"]](entry)
+            return
+        if not self._is_session or self._begins_log(entry):
+            self._forget(True)
+        self._steps[entry["entry"]](entry)
+
+    def _begins_log(self, entry: Dict[str, Any]) -> bool:
+        """Whether an entry asks for a discovery that was answered: it is another session's."""
+        return (entry["entry"] == "ask" and self._answered is not None
+                and number_in(entry, "number") <= self._answered)
 
     def _opening(self, entry: Dict[str, Any]) -> None:
-        self._run = self._sent = self._number = None
-        self._requests, self._asks, self._outstanding, self._waiting = {}, {}, [0] * MOST_CLIENTS, 0
+        self._forget("discover" not in entry)
         self.log.clients.update(range(min(len(entry.get("places", ())), MOST_CLIENTS)))
 
     def _join(self, entry: Dict[str, Any]) -> None:
@@ -137,6 +154,9 @@ class Reader:
 
     def _answer(self, entry: Dict[str, Any]) -> None:
         self._end(self._asks, entry)
+        self._answered = number_in(entry, "number")
+        if self._run is not None and self._run.number == number_in(entry, "run"):
+            self._run.is_over = True
 
     def _end(self, calls: Dict[int, int], entry: Dict[str, Any]) -> None:
         # A log may begin after the call.
@@ -149,9 +169,8 @@ class Reader:
     def _send(self, entry: Dict[str, Any]) -> None:
         if "run" in entry:
             number = number_in(entry, "run")
-            if self._run is None or self._number != number:
-                self._number = number
-                self._begin_run(f"run {number}")
+            if self._run is None or self._run.number != number or self._run.is_over:
+                self._begin_session_run(number)
             clients = sorted(client for client in range(MOST_CLIENTS) if self._run_clients >> client & 1)
             name = f"run {number}, exchange {len(self._current().exchanges)}"
             self._sent = name + for_clients(clients), entry["frame"], self._run_clients
@@ -161,10 +180,16 @@ class Reader:
         name = f"request {number}" + for_clients([] if client is None else [client])
         self._sent = name, entry["frame"], 0 if client is None else 1 << client
 
-    def _begin_run(self, name: str) -> None:
-        self._run = Run(name)
+    def _begin_session_run(self, number: int) -> None:
+        # Runs of a session have ascending numbers, so this one may be another session's.
+        if self._run is not None and self._run.number is not None and number <= self._run.number:
+            self._forget(True)
+        self._begin_run(Run(f"run {number}", number))
+
+    def _begin_run(self, run: Run) -> None:
+        self._run = run
         self._run_clients = bits(self._asks.values())
-        self.log.runs.append(self._run)
+        self.log.runs.append(run)
 
     def _current(self) -> Run:
         assert self._run is not None
@@ -179,11 +204,13 @@ class Reader:
 
     def _exchange(self, entry: Dict[str, Any]) -> None:
         """An exchange of a discovery's log."""
-        if number_in(entry, "number") == 0 or self._run is None:
-            self._number = None
-            self._begin_run(NO_RUN)
-        run = self._current()
-        self._add(f"exchange {len(run.exchanges)}", entry["frame"], 0, entry)
+        number = number_in(entry, "number")
+        run = self._run
+        if run is None or self._is_session or number != run.first + len(run.exchanges):
+            self._forget(False)
+            run = Run(NO_RUN, first=number)
+            self._begin_run(run)
+        self._add(f"exchange {number}", entry["frame"], 0, entry)
         run.exchanges.append(len(self.log) - 1)
 
     def _add(self, name: str, frame: str, clients: int, entry: Dict[str, Any]) -> None:
