@@ -53,16 +53,34 @@ impl<R: CpuClock + Print + Eprint> Bench<'_, R> {
         work: W,
         sample: &mut S,
     ) -> Option<()> {
-        let rt = self.rt;
         let mut times = [0; SAMPLES];
         let mut steps: u64 = 0;
         for time in times.iter_mut() {
-            let began = self.now()?;
-            steps = self.repeat(sample)?.max(1);
-            *time = self.now()?.saturating_sub(began).saturating_mul(1_000) / steps;
+            let (each, count) = self.sample(sample)?;
+            *time = each;
+            steps = count;
         }
         times.sort_unstable();
-        let (least, middle) = (times[0], times[SAMPLES / 2]);
+        self.print(subject, work, steps, times[SAMPLES / 2], times[0])
+    }
+
+    // The processor time of a sample's step in picoseconds, and how many steps it has.
+    fn sample<S: Sample>(&self, sample: &mut S) -> Option<(u64, u64)> {
+        let began = self.now()?;
+        let steps = self.repeat(sample)?.max(1);
+        let time = self.now()?.saturating_sub(began);
+        Some((time.saturating_mul(1_000) / steps, steps))
+    }
+
+    fn print<W: fmt::Display + Copy>(
+        &self,
+        subject: &str,
+        work: W,
+        steps: u64,
+        middle: u64,
+        least: u64,
+    ) -> Option<()> {
+        let rt = self.rt;
         println!(rt; "{subject}, {work}: {steps}").ok()?;
         eprintln!(rt; "{subject}, {work}: {middle} ps each, {least} at least").ok()
     }

@@ -1,8 +1,11 @@
-//! What is checked of a session that never ends: what its clients are told, its pages, and the memory of the process.
+//! What is checked of a session: what its clients are told, its pages, and the memory of the process.
 use crate::bench::holds;
+use crate::served::PLACES;
 use rdm_client::Told;
 use rdm_join::Status;
 use rdm_log::{Entry, Log, Page};
+use std::alloc::Global;
+use std::collections::VecDeque;
 use test_rig::{Heard, completion_told};
 
 // After how many requests the memory that the process holds has to be settled.
@@ -10,6 +13,24 @@ const SETTLED_AFTER: u64 = 1_000_000;
 
 // How many kilobytes more it may hold from then on.
 const MOST_GROWTH: u64 = 64;
+
+/// The tags of the calls that a client waits for, oldest first. Nothing else of a call is kept.
+#[derive(Drop)]
+pub struct Waiting {
+    pub requests: VecDeque<u64>,
+    pub discoveries: VecDeque<u64>,
+}
+
+impl Waiting {
+    /// It waits for nothing. None: out of memory.
+    pub fn new(alloc: Global) -> Option<Waiting> {
+        let places = usize::from(PLACES);
+        Some(Waiting {
+            requests: VecDeque::with_capacity(alloc, places).ok()?,
+            discoveries: VecDeque::with_capacity(alloc, places).ok()?,
+        })
+    }
+}
 
 /// What was reported to clients.
 #[derive(Clone, Copy, Debug, Default, Drop)]

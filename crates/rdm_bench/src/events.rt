@@ -84,10 +84,15 @@ impl Requests {
     }
 
     fn runs(&mut self, events: &[Event]) -> bool {
-        match self.session.run(self.alloc, events) {
-            Ok(answers) => answers.iter().all(is_right),
-            Err(_) => false,
+        let Ok(answers) = self.session.run(self.alloc, events) else {
+            return false;
+        };
+        for answer in answers.as_slice() {
+            if !is_right(answer) {
+                return false;
+            }
         }
+        true
     }
 }
 

@@ -7,14 +7,15 @@ use crate::bench::{Bench, holds};
 use rdm_agent::{Agent, AgentFault, DEFAULT_BUDGET, Kind, Op, OpReply, Search};
 use rdm_join::{LineFault, LineReply};
 use rdm_line::{
-    Collision, CollisionBytes, Line, Parameters, Scene, SceneDevice, SceneDevices, SimLine,
+    Asks, Collision, CollisionBytes, Counted, Line, Parameters, Scene, SceneDevice, SceneDevices,
+    SimLine,
 };
 use rdm_wire::{
-    Device, MuteAck, Uid, UidRange, UidSet, encode_response, mute_response, read_branch_reply,
-    write_branch_reply,
+    Device, Frame, MuteAck, Uid, UidRange, UidSet, encode_response, mute_response,
+    read_branch_reply, write_branch_reply,
 };
 use std::alloc::Global;
-use test_rig::controller;
+use test_rig::{Who, controller, two_devices};
 
 /// What is wrong with a line.
 #[derive(Clone, Copy, Debug)]
@@ -338,9 +339,16 @@ impl Ends {
         if agent.next() != Op::End {
             return None;
         }
-        let found = agent.found();
-        let has_all = good.iter().all(|uid| found.contains(*uid));
-        holds(found.iter().all(|device| good.contains(device.uid) || odd == Some(device.uid)))?;
+        // A set has no device twice.
+        let mut found: usize = 0;
+        for device in agent.found().iter() {
+            if good.contains(device.uid) {
+                found = found.wrapping_add(1);
+            } else {
+                holds(odd == Some(device.uid))?;
+            }
+        }
+        let has_all = found == good.len();
         let count = match agent.fault() {
             None if has_all => &mut self.right,
             None => &mut self.missing,
@@ -491,6 +499,35 @@ fn near(random: &mut Random, first: u64, count: u64) -> u64 {
 /// The UID with this number, below 2^48.
 pub fn uid_of(number: u64) -> Uid {
     Uid::from_number(number).unwrap_or(Uid::new(0, 0))
+}
+
+/// A line with two devices, one of which answers requests, whose losses and failures are drawn by this seed.
+pub fn drawn_line(alloc: Global, seed: u64) -> Option<Counted<Drawn>> {
+    Some(Counted::new(Drawn {
+        line: two_devices(alloc, [Who::First, Who::Second]).ok()?,
+        random: Random::new(seed),
+    }))
+}
+
+/// A line whose losses and failures are drawn as it goes: one exchange in 100 fails, and of the others the reply of one
+/// in 50 is lost.
+#[derive(Drop)]
+pub struct Drawn {
+    line: SimLine,
+    random: Random,
+}
+
+impl Asks for Drawn {
+    fn ask(&mut self, frame: &Frame) -> Option<LineReply> {
+        if self.random.below(100) == 0 {
+            return None;
+        }
+        let reply = self.line.exchange(frame).unwrap_or(LineReply::new());
+        if self.random.below(50) == 0 {
+            return Some(LineReply::new());
+        }
+        Some(reply)
+    }
 }
 
 /// A generator of numbers (xorshift64*).

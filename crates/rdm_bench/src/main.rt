@@ -5,7 +5,6 @@
 mod agent;
 mod bench;
 mod checked;
-mod drained;
 mod events;
 mod lines;
 mod packets;
@@ -17,8 +16,8 @@ mod soak;
 mod views;
 
 use crate::bench::{Bench, holds};
-use crate::drained::Port;
 use crate::served::CLIENTS;
+use crate::soak::Port;
 use std::env::{self, Env};
 use std::process::ExitCode;
 use std::rt::Files;
@@ -119,9 +118,7 @@ fn measure_all<R: Files + AllocGlobal + CpuClock + Print + Eprint + Threads + Wa
 
 // Whether its size is a number of requests.
 fn is_soak(subject: &str) -> bool {
-    ["soak", "drained", "runs"]
-        .iter()
-        .any(|front| subject.starts_with(*front))
+    subject.starts_with("soak") || subject.starts_with("drained") || subject.starts_with("runs")
 }
 
 // The number, if it is from 1 to this one.
@@ -162,16 +159,16 @@ fn print_soak<R: Files + AllocGlobal + Print + Eprint + Threads + Wait + Sync>(
     requests: u64,
 ) -> Option<()> {
     match soak {
-        "soak_locked" => soak::print(bench, true, requests),
-        "soak_rings" => soak::print(bench, false, requests),
+        "soak_locked" => soak::print_ports(bench, Port::Locked, requests),
+        "soak_rings" => soak::print_ports(bench, Port::Rings, requests),
         "drained" => print_drained(bench, requests),
-        "drained_session" => drained::print(bench, Port::Alone, false, requests),
-        "drained_port" => drained::print(bench, Port::Locked, false, requests),
-        "drained_rings" => drained::print(bench, Port::Rings, false, requests),
+        "drained_session" => soak::print_drained(bench, Port::Alone, false, requests),
+        "drained_port" => soak::print_drained(bench, Port::Locked, false, requests),
+        "drained_rings" => soak::print_drained(bench, Port::Rings, false, requests),
         "drained_threads" => paged::print(bench, false, requests),
-        "runs_session" => drained::print(bench, Port::Alone, true, requests),
-        "runs_port" => drained::print(bench, Port::Locked, true, requests),
-        "runs_rings" => drained::print(bench, Port::Rings, true, requests),
+        "runs_session" => soak::print_drained(bench, Port::Alone, true, requests),
+        "runs_port" => soak::print_drained(bench, Port::Locked, true, requests),
+        "runs_rings" => soak::print_drained(bench, Port::Rings, true, requests),
         "runs_threads" => paged::print(bench, true, requests),
         _ => None,
     }
@@ -182,7 +179,10 @@ fn print_drained<R: Files + AllocGlobal + Print + Eprint + Threads + Wait + Sync
     bench: &Bench<'_, R>,
     requests: u64,
 ) -> Option<()> {
-    drained::print_all(bench, requests)?;
+    for port in [Port::Alone, Port::Locked, Port::Rings] {
+        soak::print_drained(bench, port, false, requests)?;
+        soak::print_drained(bench, port, true, requests)?;
+    }
     paged::print(bench, false, requests)?;
     paged::print(bench, true, requests)
 }

@@ -7,29 +7,27 @@ ghost use Rattle.rdm_lanes.specs.Workers.{book_of};
 
 use crate::bench::{Bench, holds};
 use crate::checked::{History, Tally};
-use crate::drained::{Drawn, ENTRIES, drawn_line};
-use crate::lines::Random;
-use crate::ports::ending_of;
-use crate::served::{CLIENTS, Ending, PLACES, config};
+use crate::lines::{Drawn, Random, drawn_line};
+use crate::ports::{ask, collect, submit};
+use crate::served::{Answer, CLIENTS, ENTRIES, Ending, PLACES, config};
 use crate::soak::resident;
-use rdm_agent::{Kind, Search};
+use rdm_agent::Search;
 use rdm_client::WorkerEnd;
 use rdm_lanes::views::{BlankHistory, ViewHistory};
 use rdm_lanes::{
-    Body, ClientEnd, Gate, LanesEnd, PageSink, Pages, RingClient, RingFault, Spare, WORKER_STOPPED,
+    Body, ClientEnd, Gate, LanesEnd, PageSink, Pages, RingClient, Spare, WORKER_STOPPED,
     run_session_in_pages,
 };
 use rdm_line::Counted;
 use rdm_log::{Entry, Page, Setup};
 use rdm_past::Past;
 use std::alloc::Global;
-use std::collections::VecDeque;
 use std::marker::Brand;
 use std::rt::Files;
 use std::sync::Wait;
 use std::sync::atomic::{AtomicU64, Ordering};
 use std::thread::{self, Threads};
-use test_rig::{AskNote, LONG, Note, cancels, log, request};
+use test_rig::{AskNote, LONG, Note, cancels, log};
 
 // How often in a row a client that can do nothing tries before it gives up.
 const TRIES: u64 = 1_000_000_000;
@@ -65,7 +63,7 @@ fn print_over<
     };
     let log = log(alloc, ENTRIES).ok()?;
     let gate = Stop(AtomicU64::new(0));
-    let line = drawn_line(alloc)?;
+    let line = drawn_line(alloc, 1)?;
     let pages = pages_of(alloc)?;
     let ended = run_session_in_pages::<J, _, _, _, _, _, _, R>(
         rt,
@@ -90,9 +88,7 @@ fn callers_of(alloc: Global, discovers: bool, requests: u64) -> Option<Vec<Calle
     let mut callers = Vec::with_capacity(alloc, usize::from(CLIENTS)).ok()?;
     for client in 0..u64::from(CLIENTS) {
         let share = requests.wrapping_add(client) / u64::from(CLIENTS);
-        callers
-            .push(Caller::new(alloc, client, discovers, share)?)
-            .ok()?;
+        callers.push(Caller::new(client, discovers, share)).ok()?;
     }
     Some(callers)
 }
@@ -194,8 +190,7 @@ impl PageSink for Follower {
     }
 }
 
-// What a client does: it makes its calls as fast as its queue accepts them, and keeps the numbers of those that aren't
-// told yet.
+// What a client does: it makes its calls as fast as its queue accepts them, and counts those that are told.
 #[derive(Drop)]
 struct Caller {
     client: u64,
@@ -206,15 +201,13 @@ struct Caller {
     asked: u64,
     // Whether its next call is a discovery.
     asks_next: bool,
-    requests: VecDeque<u64>,
-    discoveries: VecDeque<u64>,
     told: Tally,
     is_right: bool,
 }
 
 impl Caller {
-    fn new(alloc: Global, client: u64, discovers: bool, share: u64) -> Option<Caller> {
-        Some(Caller {
+    fn new(client: u64, discovers: bool, share: u64) -> Caller {
+        Caller {
             client,
             share,
             discovers,
@@ -222,11 +215,9 @@ impl Caller {
             submitted: 0,
             asked: 0,
             asks_next: false,
-            requests: VecDeque::with_capacity(alloc, usize::from(PLACES)).ok()?,
-            discoveries: VecDeque::with_capacity(alloc, usize::from(PLACES)).ok()?,
             told: Tally::default(),
             is_right: false,
-        })
+        }
     }
 
     // Makes its calls, and collects their outcomes. Returns whether it was told of each once, and rightly.
@@ -263,67 +254,38 @@ impl Caller {
             && self.told.discoveries() == self.asked
     }
 
-    // Makes a call, and collects an outcome. Returns whether it did either. None: something was wrong.
+    // Makes its next call, if there is one, and collects an outcome. Returns whether it did either. None: something was
+    // wrong.
     fn turn<J: ViewHistory>(&mut self, client: &mut RingClient<J, Note, AskNote>) -> Option<bool>
         ensures { SameClient client.old client.new }
     {
-        let Some(calls) = self.call(client) else {
+        let made = if self.submitted == self.share {
+            Some(Answer::Accepted(false))
+        } else if self.asks_next {
+            ask(client, self.asked)
+        } else {
+            submit(client, self.tag_of(self.submitted))
+        };
+        let ending = collect(client);
+        self.note(made, ending)
+    }
+
+    // What came of its call, and an outcome. The call after a request is drawn.
+    fn note(&mut self, made: Option<Answer>, ending: Option<Ending>) -> Option<bool> {
+        let Answer::Accepted(made) = made? else {
             return None;
         };
-        let Some(collects) = self.collect(client) else {
-            return None;
-        };
-        Some(calls || collects)
-    }
-
-    // Makes its next call, if there is one, and if its queue accepts it. Returns whether it did.
-    fn call<J: ViewHistory>(&mut self, client: &mut RingClient<J, Note, AskNote>) -> Option<bool>
-        ensures { SameClient client.old client.new }
-    {
-        if self.submitted == self.share {
-            return Some(false);
+        if made && self.asks_next {
+            self.asked = self.asked.wrapping_add(1);
+            self.asks_next = false;
+        } else if made {
+            self.submitted = self.submitted.wrapping_add(1);
+            self.asks_next = self.discovers && self.random.below(50) == 0;
         }
-        if self.asks_next {
-            return self.ask(client);
+        match ending {
+            None => Some(made),
+            Some(ending) => self.hear(ending),
         }
-        self.submit(client)
-    }
-
-    fn ask<J: ViewHistory>(&mut self, client: &mut RingClient<J, Note, AskNote>) -> Option<bool>
-        ensures { SameClient client.old client.new }
-    {
-        match client.discover(Kind::Full, AskNote(self.asked)) {
-            Ok(()) => self.asks(),
-            Err((RingFault::Full | RingFault::RingFull, _)) => Some(false),
-            Err(_) => None,
-        }
-    }
-
-    // A discovery was accepted.
-    fn asks(&mut self) -> Option<bool> {
-        self.discoveries.push_back(self.asked).ok()?;
-        self.asked = self.asked.wrapping_add(1);
-        self.asks_next = false;
-        Some(true)
-    }
-
-    fn submit<J: ViewHistory>(&mut self, client: &mut RingClient<J, Note, AskNote>) -> Option<bool>
-        ensures { SameClient client.old client.new }
-    {
-        let tag = self.tag_of(self.submitted);
-        match client.submit(request(tag), Note(tag)) {
-            Ok(()) => self.submits(),
-            Err((RingFault::Full | RingFault::RingFull, _, _)) => Some(false),
-            Err(_) => None,
-        }
-    }
-
-    // A request was accepted. The next call is drawn.
-    fn submits(&mut self) -> Option<bool> {
-        self.requests.push_back(self.submitted).ok()?;
-        self.submitted = self.submitted.wrapping_add(1);
-        self.asks_next = self.discovers && self.random.below(50) == 0;
-        Some(true)
     }
 
     // The tag of its request with this number. No other client has it. One in 8 asks for the parameter in three parts.
@@ -338,27 +300,17 @@ impl Caller {
         }
     }
 
-    // Collects an outcome, if there is one. Returns whether there was one.
-    fn collect<J: ViewHistory>(&mut self, client: &mut RingClient<J, Note, AskNote>) -> Option<bool>
-        ensures { SameClient client.old client.new }
-    {
-        match client.collect() {
-            Some(collected) => self.hear(ending_of(collected)),
-            None => Some(false),
-        }
-    }
-
-    // The outcome has to be that of its oldest call of this kind.
+    // The outcome has to be that of its oldest call of this kind, of which so many were told before.
     fn hear(&mut self, ending: Ending) -> Option<bool> {
         match ending {
             Ending::Request(told) => {
-                let number = self.requests.pop_front()?;
-                holds(told.tag == self.tag_of(number))?;
+                let number = self.told.requests();
+                holds(number < self.submitted && told.tag == self.tag_of(number))?;
                 self.told.count(told)?;
             }
             Ending::Discovery(tag, devices) => {
-                let number = self.discoveries.pop_front()?;
-                holds(tag == number)?;
+                let number = self.told.discoveries();
+                holds(number < self.asked && tag == number)?;
                 self.told.count_discovery(devices)?;
             }
         }

@@ -1,18 +1,21 @@
 //! Clients of a port, which has a mutex, and clients with ring buffers.
 ghost use Rattle.std.specs.Prelude.{◌≡◌, []};
+ghost use Rattle.rdm_lanes.specs.Clients.{SameClient};
 ghost use Rattle.rdm_lanes.specs.Workers.{book_of};
 ghost use Rattle.rdm_locked.specs.Recorded.{ring_of};
 
 use crate::bench::{Bench, holds};
 use crate::packets::Replay;
 use crate::queue::replay_of;
-use crate::served::{CLIENTS, Ending, FREE, Job, PLACES, Served, Timing, config, written_log};
+use crate::served::{
+    Answer, CLIENTS, Call, Ending, FREE, Job, PLACES, Served, Timing, config, written_log,
+};
 use left_right::Absorb;
 use rdm_agent::{Kind, Search};
-use rdm_client::{AskTold, Collected, DeviceView, Told, WorkerEnd};
+use rdm_client::{AskTold, Collected, DeviceView, WorkerEnd};
 use rdm_join::{LineEvent, LineFault, LineReply};
 use rdm_lanes::views::{BlankHistory, Shown, ViewHistory};
-use rdm_lanes::{Lanes, RingFault, open_lanes};
+use rdm_lanes::{Lanes, RingClient, RingFault, ViewWorker, open_lanes};
 use rdm_line::Line;
 use rdm_locked::{CallShare, Exchange, Left, LockedClient, PageEnds, PageRing, Port, Record};
 use rdm_log::{AskFault, Entry, Log, Page, Setup, SubmitFault};
@@ -51,15 +54,7 @@ pub fn time_requests<R: CpuClock + Print + Eprint + Wait>(
     let line = Replay::of_two_bytes(bench.alloc)?;
     let log = written_log(bench, waiting)?;
     let record = written_record(bench.alloc, bench.repeats())?;
-    let mut timing = Timing {
-        bench,
-        subject,
-        work: clients,
-        clients,
-        waiting,
-        discovery: None,
-        drained_after: 0,
-    };
+    let mut timing = Timing::new(subject, clients, clients, waiting);
     on_session(bench, with_mutex, clients, log, record, line, &mut timing)
 }
 
@@ -73,20 +68,13 @@ pub fn time_discoveries<R: CpuClock + Print + Eprint + Wait>(
     let line = replay_of(bench.alloc, devices)?;
     let log = log(bench.alloc, FREE).ok()?;
     let record = Vec::with_capacity(bench.alloc, FREE / 2).ok()?;
-    let mut timing = Timing {
-        bench,
-        subject,
-        work: "Full",
-        clients: 1,
-        waiting: 0,
-        discovery: Some((line.replies.len() as u64, devices)),
-        drained_after: 0,
-    };
+    let mut timing = Timing::new(subject, "Full", 1, 0);
+    timing.discovery = Some((line.replies.len() as u64, devices));
     on_session(bench, with_mutex, 1, log, record, line, &mut timing)
 }
 
-/// What a client collected.
-pub fn ending_of(collected: Collected) -> Ending {
+// What a client collected.
+fn ending_of(collected: Collected) -> Ending {
     match collected {
         Collected::Request(told) => Ending::Request(told),
         Collected::Ask(told) => Ending::Discovery(told.tag, count_of(&told)),
@@ -97,13 +85,6 @@ pub fn ending_of(collected: Collected) -> Ending {
 fn count_of(told: &AskTold) -> Option<usize> {
     holds(told.done.fault().is_none())?;
     Some(told.done.devices().len())
-}
-
-fn count_in(collected: &Option<Collected>) -> Option<usize> {
-    match collected {
-        Some(Collected::Ask(told)) => count_of(told),
-        _ => None,
-    }
 }
 
 type PortClient<'a, L, J> = LockedClient<'a, L, Note, AskNote, J>;
@@ -155,48 +136,19 @@ struct Locked<'a, L: Ledger, J: PageRing, R, X: Drop> {
 }
 
 impl<L: Ledger, J: PageRing, R: Wait, X: Line + Drop> Served for Locked<'_, L, J, R, X> {
-    fn submit(&mut self, client: usize, tag: u64) -> Option<bool> {
-        let client = self.clients.get_mut(client)?;
-        match client.submit(self.bench.rt, request(tag), Note(tag)) {
-            Ok(_) => Some(true),
-            Err((SubmitFault::Full, _, _)) => Some(false),
-            Err(_) => None,
-        }
+    fn call(&mut self, client: usize, call: Call) -> Option<Answer> {
+        call_locked(self.bench.rt, self.clients.get_mut(client)?, call)
     }
 
     fn work(&mut self, turns: u64) -> Option<()> {
-        let (rt, alloc) = (self.bench.rt, self.bench.alloc);
         let Locked {
+            bench,
             port,
             line,
             kept,
             ..
         } = self;
-        let end = match kept {
-            Kept::Exchanges(made) => port.work(rt, alloc, line, turns, made),
-            Kept::Record(record) => port.work_recorded(rt, alloc, line, turns, record),
-        };
-        holds(end == WorkerEnd::Turns)
-    }
-
-    fn collect(&mut self, client: usize) -> Option<Told> {
-        self.clients.get_mut(client)?.collect_request(self.bench.rt)
-    }
-
-    fn discover(&mut self) -> Option<()> {
-        let client = self.clients.get_mut(0)?;
-        holds(
-            client
-                .discover(self.bench.rt, Kind::Full, AskNote(0))
-                .is_ok(),
-        )
-    }
-
-    #[inline(never)]
-    fn found(&mut self) -> Option<usize> {
-        let client = self.clients.get_mut(0)?;
-        let told = client.collect_discovery(self.bench.rt)?;
-        count_of(&told)
+        holds(kept.work(bench, port, line, turns) == WorkerEnd::Turns)
     }
 
     fn pause(&mut self, pauses: bool) -> Option<()> {
@@ -205,21 +157,6 @@ impl<L: Ledger, J: PageRing, R: Wait, X: Line + Drop> Served for Locked<'_, L, J
         } else {
             self.port.resume(self.bench.rt).ok()
         }
-    }
-
-    fn ask(&mut self, client: usize, tag: u64) -> Option<bool> {
-        let client = self.clients.get_mut(client)?;
-        match client.discover(self.bench.rt, Kind::Full, AskNote(tag)) {
-            Ok(_) => Some(true),
-            Err((AskFault::Full, _)) => Some(false),
-            Err(_) => None,
-        }
-    }
-
-    #[inline(never)]
-    fn collect_next(&mut self, client: usize) -> Option<Ending> {
-        let collected = self.clients.get_mut(client)?.collect(self.bench.rt)?;
-        Some(ending_of(collected))
     }
 
     // The page goes through the record, which compares it.
@@ -241,7 +178,76 @@ impl<L: Ledger, J: PageRing, R: Wait, X: Line + Drop> Served for Locked<'_, L, J
     }
 }
 
+// A port's client makes this call.
+fn call_locked<L: Ledger, J: PageRing, R: Wait>(
+    rt: &R,
+    client: &mut PortClient<'_, L, J>,
+    call: Call,
+) -> Option<Answer> {
+    match call {
+        Call::Submit(tag) => submit_locked(rt, client, tag),
+        Call::Ask(tag) => ask_locked(rt, client, tag),
+        Call::CollectRequest => match client.collect_request(rt) {
+            Some(told) => Some(Answer::Told(Some(Ending::Request(told)))),
+            None => Some(Answer::Told(None)),
+        },
+        Call::Collect => collect_locked(rt, client),
+    }
+}
+
+// A port's client submits the request with this tag. Returns whether its queue accepted it.
+fn submit_locked<L: Ledger, J: PageRing, R: Wait>(
+    rt: &R,
+    client: &mut PortClient<'_, L, J>,
+    tag: u64,
+) -> Option<Answer> {
+    match client.submit(rt, request(tag), Note(tag)) {
+        Ok(_) => Some(Answer::Accepted(true)),
+        Err((SubmitFault::Full, _, _)) => Some(Answer::Accepted(false)),
+        Err(_) => None,
+    }
+}
+
+// It asks for a full discovery with this tag. Returns whether its queue accepted it.
+fn ask_locked<L: Ledger, J: PageRing, R: Wait>(
+    rt: &R,
+    client: &mut PortClient<'_, L, J>,
+    tag: u64,
+) -> Option<Answer> {
+    match client.discover(rt, Kind::Full, AskNote(tag)) {
+        Ok(_) => Some(Answer::Accepted(true)),
+        Err((AskFault::Full, _)) => Some(Answer::Accepted(false)),
+        Err(_) => None,
+    }
+}
+
+// What it is told next.
+#[inline(never)]
+fn collect_locked<L: Ledger, J: PageRing, R: Wait>(
+    rt: &R,
+    client: &mut PortClient<'_, L, J>,
+) -> Option<Answer> {
+    match client.collect(rt) {
+        Some(collected) => Some(Answer::Told(Some(ending_of(collected)))),
+        None => Some(Answer::Told(None)),
+    }
+}
+
 impl<J: PageRing> Kept<J> {
+    // The port's worker makes this many turns.
+    fn work<L: Ledger, R: Wait, X: Line>(
+        &mut self,
+        bench: &Bench<'_, R>,
+        port: &Port<L, J>,
+        line: &mut X,
+        turns: u64,
+    ) -> WorkerEnd {
+        match self {
+            Kept::Exchanges(made) => port.work(bench.rt, bench.alloc, line, turns, made),
+            Kept::Record(record) => port.work_recorded(bench.rt, bench.alloc, line, turns, record),
+        }
+    }
+
     // The next page of its port. None: there is none, or its exchanges aren't those of the record.
     fn next_page(&mut self) -> Option<Page> {
         match self {
@@ -253,7 +259,7 @@ impl<J: PageRing> Kept<J> {
 
 /// Opens a port, or ring buffers, for this many clients over this log and this line. Does this, and ends the clients. A
 /// port gets this record, which is empty. It isn't drained.
-pub fn on_session<X: Line + Drop, D: Job, R: Wait>(
+pub fn on_session<X: Line + Drop, D: Job<R>, R: Wait>(
     bench: &Bench<'_, R>,
     with_mutex: bool,
     clients: u8,
@@ -268,12 +274,12 @@ pub fn on_session<X: Line + Drop, D: Job, R: Wait>(
         on_port::<Brand, X, D, R>(bench, Blank::new(17), clients, log, record, line, job)
     } else {
         let history = BlankHistory::new();
-        on_rings::<Brand, X, D, &R>(bench.rt, bench.alloc, history, clients, log, line, job)
+        on_rings::<Brand, X, D, R, &R>(bench, bench.rt, history, clients, log, line, job)
     }
 }
 
 // The port, with the ledger of this blank. It is ended with the record and the clients' shares.
-fn on_port<L: Ledger, X: Line + Drop, D: Job, R: Wait>(
+fn on_port<L: Ledger, X: Line + Drop, D: Job<R>, R: Wait>(
     bench: &Bench<'_, R>,
     blank: Blank,
     count: u8,
@@ -296,7 +302,7 @@ fn on_port<L: Ledger, X: Line + Drop, D: Job, R: Wait>(
 }
 
 /// The same with a port whose log is drained. Its pages go to a record, which is compared with the log at the end.
-pub fn on_recorded_port<X: Line + Drop, D: Job, R: Wait>(
+pub fn on_recorded_port<X: Line + Drop, D: Job<R>, R: Wait>(
     bench: &Bench<'_, R>,
     clients: u8,
     log: Log,
@@ -310,7 +316,7 @@ pub fn on_recorded_port<X: Line + Drop, D: Job, R: Wait>(
 }
 
 // The port and its record, with the ledger of this blank and the ring of these ends.
-fn on_record<L: Ledger, J: PageRing, X: Line + Drop, D: Job, R: Wait>(
+fn on_record<L: Ledger, J: PageRing, X: Line + Drop, D: Job<R>, R: Wait>(
     bench: &Bench<'_, R>,
     blank: Blank,
     ends: PageEnds,
@@ -339,7 +345,7 @@ fn on_record<L: Ledger, J: PageRing, X: Line + Drop, D: Job, R: Wait>(
 }
 
 // Does this with so many clients of a port. Returns their shares, and what the worker noted.
-fn perform<L: Ledger, J: PageRing, X: Line + Drop, D: Job, R: Wait>(
+fn perform<L: Ledger, J: PageRing, X: Line + Drop, D: Job<R>, R: Wait>(
     bench: &Bench<'_, R>,
     port: &Port<L, J>,
     count: u8,
@@ -353,15 +359,16 @@ fn perform<L: Ledger, J: PageRing, X: Line + Drop, D: Job, R: Wait>(
         line,
         next: None,
     };
+    let mut clients = Vec::new(bench.alloc);
+    let joined = join(bench, port, count, &mut clients);
     let mut locked = Locked {
         bench,
         port,
-        clients: Vec::new(bench.alloc),
+        clients,
         line,
         kept,
     };
-    let joined = join(bench, port, count, &mut locked.clients);
-    let done = job.perform(&mut locked);
+    let done = job.perform(bench, &mut locked);
     let Locked {
         bench: _,
         port: _,
@@ -433,32 +440,12 @@ struct Rings<
 }
 
 impl<J: ViewHistory, W: Wait + Drop, X: Line> Served for Rings<J, Shown<J>, W, X> {
-    fn submit(&mut self, client: usize, tag: u64) -> Option<bool> {
-        let client = self.lanes.clients.get_mut(client)?;
-        match client.submit(request(tag), Note(tag)) {
-            Ok(()) => Some(true),
-            Err((RingFault::Full | RingFault::RingFull, _, _)) => Some(false),
-            Err(_) => None,
-        }
+    fn call(&mut self, client: usize, call: Call) -> Option<Answer> {
+        call_rings(self.lanes.clients.get_mut(client)?, call)
     }
 
     fn work(&mut self, turns: u64) -> Option<()> {
-        holds(self.lanes.worker.work(self.alloc, &mut self.line, turns) == WorkerEnd::Turns)
-    }
-
-    fn collect(&mut self, client: usize) -> Option<Told> {
-        self.lanes.clients.get_mut(client)?.collect_request()
-    }
-
-    fn discover(&mut self) -> Option<()> {
-        let client = self.lanes.clients.get_mut(0)?;
-        holds(client.discover(Kind::Full, AskNote(0)).is_ok())
-    }
-
-    #[inline(never)]
-    fn found(&mut self) -> Option<usize> {
-        let client = self.lanes.clients.get_mut(0)?;
-        count_in(&client.collect())
+        holds(works(&mut self.lanes.worker, self.alloc, &mut self.line, turns))
     }
 
     fn pause(&mut self, pauses: bool) -> Option<()> {
@@ -469,30 +456,74 @@ impl<J: ViewHistory, W: Wait + Drop, X: Line> Served for Rings<J, Shown<J>, W, X
         }
     }
 
-    fn ask(&mut self, client: usize, tag: u64) -> Option<bool> {
-        let client = self.lanes.clients.get_mut(client)?;
-        match client.discover(Kind::Full, AskNote(tag)) {
-            Ok(()) => Some(true),
-            Err((RingFault::Full | RingFault::RingFull, _)) => Some(false),
-            Err(_) => None,
-        }
-    }
-
-    #[inline(never)]
-    fn collect_next(&mut self, client: usize) -> Option<Ending> {
-        let collected = self.lanes.clients.get_mut(client)?.collect()?;
-        Some(ending_of(collected))
-    }
-
     fn drain(&mut self, next: Vec<Entry>) -> Option<Page> {
         self.lanes.worker.drain(next).ok()
     }
 }
 
-// The ring buffers, with the history of the views that this blank begins.
-fn on_rings<J: ViewHistory, X: Line + Drop, D: Job, W: Wait + Drop>(
-    rt: W,
+// The worker makes this many turns. Returns whether it made all of them.
+fn works<J: ViewHistory, W: Wait + Drop, X: Line>(
+    worker: &mut ViewWorker<J, Shown<J>, W>,
     alloc: Global,
+    line: &mut X,
+    turns: u64,
+) -> bool {
+    worker.work(alloc, line, turns) == WorkerEnd::Turns
+}
+
+// A client with ring buffers makes this call.
+fn call_rings<J: ViewHistory>(
+    client: &mut RingClient<J, Note, AskNote>,
+    call: Call,
+) -> Option<Answer> {
+    match call {
+        Call::Submit(tag) => submit(client, tag),
+        Call::Ask(tag) => ask(client, tag),
+        Call::CollectRequest => match client.collect_request() {
+            Some(told) => Some(Answer::Told(Some(Ending::Request(told)))),
+            None => Some(Answer::Told(None)),
+        },
+        Call::Collect => Some(Answer::Told(collect(client))),
+    }
+}
+
+/// A client with ring buffers submits the request with this tag. Returns whether its queue accepted it.
+pub fn submit<J: ViewHistory>(client: &mut RingClient<J, Note, AskNote>, tag: u64) -> Option<Answer>
+    ensures { SameClient client.old client.new }
+{
+    match client.submit(request(tag), Note(tag)) {
+        Ok(()) => Some(Answer::Accepted(true)),
+        Err((RingFault::Full | RingFault::RingFull, _, _)) => Some(Answer::Accepted(false)),
+        Err(_) => None,
+    }
+}
+
+/// It asks for a full discovery with this tag. Returns whether its queue accepted it.
+pub fn ask<J: ViewHistory>(client: &mut RingClient<J, Note, AskNote>, tag: u64) -> Option<Answer>
+    ensures { SameClient client.old client.new }
+{
+    match client.discover(Kind::Full, AskNote(tag)) {
+        Ok(()) => Some(Answer::Accepted(true)),
+        Err((RingFault::Full | RingFault::RingFull, _)) => Some(Answer::Accepted(false)),
+        Err(_) => None,
+    }
+}
+
+/// What it is told next. None: it is told nothing.
+#[inline(never)]
+pub fn collect<J: ViewHistory>(client: &mut RingClient<J, Note, AskNote>) -> Option<Ending>
+    ensures { SameClient client.old client.new }
+{
+    match client.collect() {
+        Some(collected) => Some(ending_of(collected)),
+        None => None,
+    }
+}
+
+// The ring buffers, with the history of the views that this blank begins.
+fn on_rings<J: ViewHistory, X: Line + Drop, D: Job<R>, R, W: Wait + Drop>(
+    bench: &Bench<'_, R>,
+    rt: W,
     history: BlankHistory,
     count: u8,
     log: Log,
@@ -502,25 +533,30 @@ fn on_rings<J: ViewHistory, X: Line + Drop, D: Job, W: Wait + Drop>(
     requires name { book_of history ≡ J.book }
     requires empty { log.entries ≡ [] }
 {
+    let alloc = bench.alloc;
     let places = &[PLACES; 16][..usize::from(count.min(16))];
     let opened = open_lanes(rt, alloc, history, config(), log, PLACES, places);
     let lanes: Lanes<J, Shown<J>, W, Note, AskNote> = opened.ok()?;
     let mut rings = Rings { alloc, lanes, line };
-    let done = job.perform(&mut rings);
+    let done = job.perform(bench, &mut rings);
     let Rings {
         alloc: _,
         lanes,
         line: _line,
     } = rings;
     let Lanes {
-        mut clients,
+        clients,
         operator: _operator,
         worker: _worker,
     } = lanes;
-    // The callbacks of requests that were never told are cancelled.
+    end_clients(alloc, clients);
+    done
+}
+
+// Ends the clients. The callbacks of requests that were never told are cancelled.
+fn end_clients<J: ViewHistory>(alloc: Global, mut clients: Vec<RingClient<J, Note, AskNote>>) {
     while let Some(client) = clients.pop() {
         cancels(alloc, client.end().into_unspent());
     }
     clients.destroy_empty();
-    done
 }

@@ -11,7 +11,10 @@ use rdm_wire::Uid;
 use std::alloc::Global;
 use std::time::CpuClock;
 use std::{fmt, mem};
-use test_rig::log;
+use test_rig::{LONG, log};
+
+/// How many entries the log of a soak has free if it is drained, beside one for a close.
+pub const ENTRIES: usize = 1_000;
 
 /// How many clients there are, unless there is one.
 pub const CLIENTS: u8 = 16;
@@ -31,33 +34,38 @@ pub enum Ending {
     Discovery(u64, Option<usize>),
 }
 
+/// What a client calls.
+#[derive(Clone, Copy)]
+pub enum Call {
+    /// It submits the request with this tag.
+    Submit(u64),
+    /// It asks for a full discovery with this tag.
+    Ask(u64),
+    /// It collects an outcome of a request.
+    CollectRequest,
+    /// It collects its next outcome.
+    Collect,
+}
+
+/// What a call returns.
+#[derive(Drop)]
+pub enum Answer {
+    /// The queue accepted the request or the discovery, or it is full.
+    Accepted(bool),
+    /// The client is told this. None: it is told nothing, or not of a request.
+    Told(Option<Ending>),
+}
+
 /// Clients of a session, with their worker and its line. None: a call didn't return what it should.
 pub trait Served {
-    /// A client submits the request with this tag. Returns whether its queue accepted it.
-    fn submit(&mut self, client: usize, tag: u64) -> Option<bool>;
+    /// A client makes this call.
+    fn call(&mut self, client: usize, call: Call) -> Option<Answer>;
 
     /// The worker makes this many turns.
     fn work(&mut self, turns: u64) -> Option<()>;
 
-    /// What a client is told of a request. None: it is told nothing, or not of a request.
-    fn collect(&mut self, client: usize) -> Option<Told>;
-
-    /// The first client asks for a full discovery.
-    fn discover(&mut self) -> Option<()>;
-
-    /// How many devices its discovery found. None: it is told nothing, or of a fault.
-    fn found(&mut self) -> Option<usize>;
-
-    /// The operator pauses, or resumes, if there is one.
-    fn pause(&mut self, _pauses: bool) -> Option<()> {
-        Some(())
-    }
-
-    /// A client asks for a full discovery with this tag. Returns whether its queue accepted it.
-    fn ask(&mut self, client: usize, tag: u64) -> Option<bool>;
-
-    /// What a client is told next. None: it is told nothing.
-    fn collect_next(&mut self, client: usize) -> Option<Ending>;
+    /// The operator pauses, or resumes.
+    fn pause(&mut self, pauses: bool) -> Option<()>;
 
     /// The entries that the log stores; it goes on in this memory. None: there is no log, or too little memory.
     fn drain(&mut self, next: Vec<Entry>) -> Option<Page>
@@ -73,14 +81,39 @@ pub trait Served {
     }
 }
 
+/// A client submits a request, or asks for a discovery. Returns whether its queue accepted it.
+pub fn accepts<S: Served>(served: &mut S, client: usize, call: Call) -> Option<bool> {
+    match served.call(client, call)? {
+        Answer::Accepted(accepted) => Some(accepted),
+        Answer::Told(_) => None,
+    }
+}
+
+/// What a client is told if it collects. None: it is told nothing.
+pub fn collected<S: Served>(served: &mut S, client: usize, call: Call) -> Option<Ending> {
+    match served.call(client, call)? {
+        Answer::Accepted(_) => None,
+        Answer::Told(ending) => ending,
+    }
+}
+
 /// What is done with the clients of a session.
-pub trait Job {
+pub trait Job<R> {
     /// Does it.
-    fn perform<S: Served>(&mut self, served: &mut S) -> Option<()>;
+    fn perform<S: Served>(&mut self, bench: &Bench<'_, R>, served: &mut S) -> Option<()>;
 
     /// Looks at the log of a session that was drained, once it has ended.
     fn end(&mut self, _log: &Log) -> Option<()> {
         Some(())
+    }
+}
+
+/// The tag of the request with this number. One in 8 asks for the parameter in three parts.
+pub fn tag_of(number: u64) -> u64 {
+    if number % 8 == 0 {
+        number.wrapping_add(LONG)
+    } else {
+        number
     }
 }
 
@@ -113,8 +146,7 @@ pub fn written_log<R>(bench: &Bench<'_, R>, waiting: usize) -> Option<Log>
 /// Times turns while this many requests wait: one is answered and collected, and another submitted. Or times
 /// discoveries that have this many frames and find this many devices.
 #[derive(Drop)]
-pub struct Timing<'a, R, W> {
-    pub bench: &'a Bench<'a, R>,
+pub struct Timing<W> {
     pub subject: &'static str,
     pub work: W,
     pub clients: u8,
@@ -124,11 +156,25 @@ pub struct Timing<'a, R, W> {
     pub drained_after: usize,
 }
 
-impl<R: CpuClock + Print + Eprint, W: fmt::Display + Copy> Job for Timing<'_, R, W> {
-    fn perform<S: Served>(&mut self, served: &mut S) -> Option<()> {
+impl<W> Timing<W> {
+    /// Times requests of this many clients, while this many wait, without a drain.
+    pub fn new(subject: &'static str, work: W, clients: u8, waiting: usize) -> Timing<W> {
+        Timing {
+            subject,
+            work,
+            clients,
+            waiting,
+            discovery: None,
+            drained_after: 0,
+        }
+    }
+}
+
+impl<R: CpuClock + Print + Eprint, W: fmt::Display + Copy> Job<R> for Timing<W> {
+    fn perform<S: Served>(&mut self, bench: &Bench<'_, R>, served: &mut S) -> Option<()> {
         let clients = usize::from(self.clients.max(1));
         for index in 0..self.waiting {
-            holds(served.submit(index % clients, TAG)?)?;
+            holds(accepts(served, index % clients, Call::Submit(TAG))?)?;
         }
         let mut turns = Turns {
             served,
@@ -137,10 +183,10 @@ impl<R: CpuClock + Print + Eprint, W: fmt::Display + Copy> Job for Timing<'_, R,
             turn: 0,
             discovery: self.discovery,
             drained_after: self.drained_after,
-            alloc: self.bench.alloc,
-            next: written_page(self.bench.alloc, self.drained_after, self.waiting)?,
+            alloc: bench.alloc,
+            next: written_page(bench.alloc, self.drained_after, self.waiting)?,
         };
-        self.bench.time(self.subject, self.work, &mut turns)
+        bench.time(self.subject, self.work, &mut turns)
     }
 }
 
@@ -160,15 +206,19 @@ struct Turns<'a, S> {
 impl<S: Served> Sample for Turns<'_, S> {
     fn perform(&mut self) -> Option<u64> {
         if let Some((frames, devices)) = self.discovery {
-            self.served.discover()?;
-            self.served.work(frames)?;
-            holds(self.served.found()? == devices)?;
-            return Some(frames);
+            return self.discover(frames, devices);
         }
-        let submitter = self.turn.wrapping_add(self.waiting) % self.clients.max(1);
+        let clients = self.clients.max(1);
+        let (collector, submitter) = (
+            self.turn % clients,
+            self.turn.wrapping_add(self.waiting) % clients,
+        );
         self.served.work(1)?;
-        let told = self.served.collect(self.turn % self.clients.max(1))?;
-        holds(told.done.bytes.len() == 2 && self.served.submit(submitter, TAG)?)?;
+        let Ending::Request(told) = collected(self.served, collector, Call::CollectRequest)? else {
+            return None;
+        };
+        holds(told.done.bytes.len() == 2)?;
+        holds(accepts(self.served, submitter, Call::Submit(TAG))?)?;
         self.turn = self.turn.wrapping_add(1);
         if self.turn.checked_rem(self.drained_after) == Some(0) {
             self.drain()?;
@@ -178,6 +228,18 @@ impl<S: Served> Sample for Turns<'_, S> {
 }
 
 impl<S: Served> Turns<'_, S> {
+    // The first client asks for a discovery, and is told of it.
+    #[inline(never)]
+    fn discover(&mut self, frames: u64, devices: usize) -> Option<u64> {
+        holds(accepts(self.served, 0, Call::Ask(0))?)?;
+        self.served.work(frames)?;
+        match collected(self.served, 0, Call::Collect)? {
+            Ending::Discovery(_, found) => holds(found == Some(devices))?,
+            Ending::Request(_) => return None,
+        }
+        Some(frames)
+    }
+
     // The page that was drained before is the memory of the next.
     fn drain(&mut self) -> Option<()> {
         let mut next = mem::replace(&mut self.next, Vec::new(self.alloc));

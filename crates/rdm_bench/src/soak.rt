@@ -1,146 +1,233 @@
-//! Ports one after another, each with sixteen clients, on a line that loses and fails, with pauses. Each request has to
-//! be accepted and told once. Clients take turns drawn at random, the same in each run.
+//! Many requests of sixteen clients of one session, on a line that loses and fails, with pauses. Each request and each
+//! discovery has to be reported once, to its client, in order. Clients take turns drawn at random, the same in each
+//! run. The log of a session that never ends is drained all the time, and each page has to follow the one before it. A
+//! port's pages go through its record.
+
 use crate::bench::{Bench, holds};
-use crate::lines::Random;
-use crate::ports::on_session;
-use crate::served::{CLIENTS, FREE, Job, Served};
-use rdm_client::Told;
-use rdm_join::Status;
-use rdm_line::SimLine;
+use crate::checked::{Held, History, Tally, Waiting};
+use crate::lines::{Random, drawn_line};
+use crate::ports::{on_recorded_port, on_session};
+use crate::queue::on_queue;
+use crate::served::{
+    CLIENTS, Call, ENTRIES, Ending, FREE, Job, Served, accepts, collected, tag_of,
+};
+use rdm_log::{Entry, Log};
 use std::alloc::Global;
-use std::fs;
 use std::rt::Files;
 use std::sync::Wait;
-use test_rig::{Heard, LONG, LineOf, Meeting, TimedDevice, Who, completion_told, line_of, log};
+use std::{fs, mem};
+use test_rig::log;
+
+// How many rounds there are between two drains. In one round of as many, drawn at random, there is one more, before the
+// reply to a frame.
+const ROUNDS: u64 = 8;
+
+/// Which session it is.
+#[derive(Clone, Copy)]
+pub enum Port {
+    Alone,
+    Locked,
+    Rings,
+}
+
+impl Port {
+    // The name of one that is drained, or isn't.
+    fn name(self, drained: bool) -> &'static str {
+        match self {
+            Port::Alone => "Drained session",
+            Port::Locked if drained => "Drained port",
+            Port::Locked => "Locked",
+            Port::Rings if drained => "Drained rings",
+            Port::Rings => "Rings",
+        }
+    }
+}
 
 /// Prints what the clients of as many ports as there are rounds are told, each of this many requests. How much memory
 /// the process holds after each port goes to standard error.
-pub fn print<R: Files + AllocGlobal + Print + Eprint + Wait>(
+pub fn print_ports<R: Files + AllocGlobal + Print + Eprint + Wait>(
     bench: &Bench<'_, R>,
-    with_mutex: bool,
+    port: Port,
     requests: u64,
 ) -> Option<()> {
-    let rt = bench.rt;
-    let kind = if with_mutex { "Locked" } else { "Rings" };
-    for port in 1..=bench.rounds as u64 {
-        let tally = soaked(bench, with_mutex, requests, port)?;
-        let (completed, timeouts, failed) = (tally.completed, tally.timeouts, tally.failed);
-        println!(rt; "{kind}: {completed} completed, {timeouts} timeouts, {failed} failed").ok()?;
-        let kilobytes = resident(rt).unwrap_or(0);
-        eprintln!(rt; "{kind}: {kilobytes} kB").ok()?;
+    let alloc = bench.alloc;
+    let with_mutex = matches!(port, Port::Locked);
+    for seed in 1..=bench.rounds as u64 {
+        let mut soak = Soak::new(alloc, port, false, requests, seed)?;
+        let (log, line) = (log(alloc, FREE).ok()?, drawn_line(alloc, seed)?);
+        on_session(
+            bench,
+            with_mutex,
+            CLIENTS,
+            log,
+            Vec::new(alloc),
+            line,
+            &mut soak,
+        )?;
+        soak.print(bench)?;
     }
     Some(())
+}
+
+/// Prints what the clients of one session are told of this many requests, as often as there are rounds, and how many
+/// entries its pages have. How much memory the process holds after each goes to standard error. `discovers`: one call
+/// in 50 is a discovery.
+pub fn print_drained<R: Files + AllocGlobal + Print + Eprint + Wait>(
+    bench: &Bench<'_, R>,
+    port: Port,
+    discovers: bool,
+    requests: u64,
+) -> Option<()> {
+    let alloc = bench.alloc;
+    let mut soak = Soak::new(alloc, port, true, requests, 2)?;
+    soak.discovers = discovers;
+    let (log, line) = (log(alloc, ENTRIES).ok()?, drawn_line(alloc, 1)?);
+    match port {
+        Port::Alone => on_queue(bench, log, line, &mut soak),
+        Port::Locked => on_recorded_port(bench, CLIENTS, log, line, &mut soak),
+        Port::Rings => on_session(bench, false, CLIENTS, log, Vec::new(alloc), line, &mut soak),
+    }
 }
 
 /// How many kilobytes of memory the process holds now, if the system says it, as Linux does.
 pub fn resident<R: Files + AllocGlobal>(rt: &R) -> Option<u64> {
     let text = fs::read_to_string(rt, "/proc/self/status").ok()?;
-    let line = text
-        .as_str()
-        .lines()
-        .find_map(|line| line.strip_prefix("VmRSS:"))?;
-    line.split_ascii_whitespace().next()?.parse::<u64>().ok()
+    let (_, from) = text.as_str().split_once("VmRSS:")?;
+    from.split_ascii_whitespace().next()?.parse::<u64>().ok()
 }
 
-// Soaks one port.
-fn soaked<R: Wait>(
-    bench: &Bench<'_, R>,
-    with_mutex: bool,
-    requests: u64,
-    seed: u64,
-) -> Option<Tally> {
-    let alloc = bench.alloc;
-    let line = line_for(alloc, requests, seed)?;
-    let log = log(alloc, FREE).ok()?;
-    let mut tally = Tally {
-        requests,
-        random: Random::new(seed),
-        owners: Vec::new(alloc),
-        completed: 0,
-        timeouts: 0,
-        failed: 0,
-    };
-    let record = Vec::new(alloc);
-    on_session(bench, with_mutex, CLIENTS, log, record, line, &mut tally)?;
-    Some(tally)
-}
-
-// A line for this many requests, by this seed. One device answers. One exchange in 100 fails, and of the others the
-// reply of one in 50 is lost.
-fn line_for(alloc: Global, requests: u64, seed: u64) -> Option<SimLine> {
-    let (mut losses, mut fails) = (Vec::new(alloc), Vec::new(alloc));
-    let mut random = Random::new(seed);
-    for exchange in 0..requests.wrapping_mul(2) {
-        if random.below(100) == 0 {
-            fails.push(exchange).ok()?;
-        } else if random.below(50) == 0 {
-            losses.push(exchange).ok()?;
-        }
-    }
-    let devices = [TimedDevice::stays(Who::First)];
-    let line = LineOf {
-        devices: &devices,
-        meeting: Meeting::Noise,
-        losses: losses.as_slice(),
-        fails: fails.as_slice(),
-    };
-    line_of(alloc, line).ok()
-}
-
-/// The tag of the request with this number. One in 8 asks for the parameter in three parts.
-pub fn tag_of(number: u64) -> u64 {
-    if number % 8 == 0 {
-        number.wrapping_add(LONG)
-    } else {
-        number
-    }
-}
-
-// What was reported to clients. Requests have numbers in the order of their submits.
+// Requests of the clients of one session, and what was reported of them.
 #[derive(Drop)]
-struct Tally {
+struct Soak {
+    alloc: Global,
+    port: Port,
+    // Whether the log is drained.
+    drained: bool,
     requests: u64,
+    discovers: bool,
     random: Random,
-    // Whose request each is; None once it was told.
-    owners: Vec<Option<usize>>,
-    completed: u64,
-    timeouts: u64,
-    failed: u64,
+    // What each client waits for.
+    waiting: Vec<Waiting>,
+    submitted: u64,
+    asked: u64,
+    told: Tally,
+    // The memory of the next page.
+    next: Vec<Entry>,
+    history: History,
+    held: Held,
 }
 
-impl Job for Tally {
-    // There are many more rounds than it takes. At last each client looks for one outcome more.
-    fn perform<S: Served>(&mut self, served: &mut S) -> Option<()> {
-        for _ in 0..self.requests.wrapping_mul(2).wrapping_add(1_000) {
-            self.round(served)?;
-            if self.told() == self.requests {
-                break;
+impl<R: Files + AllocGlobal + Print + Eprint> Job<R> for Soak {
+    // At last each client looks for one outcome more.
+    fn perform<S: Served>(&mut self, bench: &Bench<'_, R>, served: &mut S) -> Option<()> {
+        let rounds = if self.drained { bench.rounds } else { 1 };
+        for _ in 0..rounds {
+            self.submit_until(served, self.submitted.wrapping_add(self.requests))?;
+            if self.drained {
+                self.print(bench)?;
             }
         }
         for client in 0..usize::from(CLIENTS) {
             self.collect(served, client)?;
         }
-        holds(self.told() == self.requests)
+        if !self.drained {
+            return holds(self.is_told());
+        }
+        // The second page is empty, and has the number of all entries.
+        self.drain(served, false)?;
+        self.drain(served, false)?;
+        self.history.holds_all(self.submitted, self.asked)
+    }
+
+    fn end(&mut self, log: &Log) -> Option<()> {
+        self.history.end(log, self.submitted, self.asked)
     }
 }
 
-impl Tally {
-    fn told(&self) -> u64 {
-        self.completed
-            .wrapping_add(self.timeouts)
-            .wrapping_add(self.failed)
+impl Soak {
+    fn new(alloc: Global, port: Port, drained: bool, requests: u64, seed: u64) -> Option<Soak> {
+        let mut waiting = Vec::new(alloc);
+        for _ in 0..CLIENTS {
+            waiting.push(Waiting::new(alloc)?).ok()?;
+        }
+        Some(Soak {
+            alloc,
+            port,
+            drained,
+            requests,
+            discovers: false,
+            random: Random::new(seed),
+            waiting,
+            submitted: 0,
+            asked: 0,
+            told: Tally::default(),
+            next: Vec::with_capacity(alloc, if drained { ENTRIES } else { 0 }).ok()?,
+            history: History::default(),
+            held: Held::default(),
+        })
     }
 
-    // A client submits up to four requests, the worker makes up to four turns, and a client collects up to seven
-    // outcomes. One round in 200 has a pause.
-    fn round<S: Served>(&mut self, served: &mut S) -> Option<()> {
-        self.submit(served)?;
+    // Rounds until so many requests were submitted, and all were reported. There are many more rounds than it takes.
+    fn submit_until<S: Served>(&mut self, served: &mut S, submitted: u64) -> Option<()> {
+        for round in 0..self.requests.wrapping_mul(8).wrapping_add(10_000) {
+            if self.submitted < submitted {
+                self.submit(served, submitted)?;
+            } else if self.is_told() {
+                return Some(());
+            }
+            self.serve(served)?;
+            if round % ROUNDS == 0 {
+                self.drain(served, false)?;
+            }
+        }
+        None
+    }
+
+    // Whether each call was told.
+    fn is_told(&self) -> bool {
+        self.told.requests() == self.submitted && self.told.discoveries() == self.asked
+    }
+
+    // A client submits up to four requests, or asks for a discovery, as far as its queue has places. Unless the log is
+    // drained, there are no more requests than these.
+    fn submit<S: Served>(&mut self, served: &mut S, most: u64) -> Option<()> {
+        let client = self.random.below(u64::from(CLIENTS)) as usize;
+        if self.discovers && self.random.below(50) == 0 {
+            return self.ask(served, client);
+        }
+        for _ in 0..self.random.below(5) {
+            let tag = tag_of(self.submitted);
+            let may_submit = self.drained || self.submitted < most;
+            if may_submit && accepts(served, client, Call::Submit(tag))? {
+                self.waiting.get_mut(client)?.requests.push_back(tag).ok()?;
+                self.submitted = self.submitted.wrapping_add(1);
+            }
+        }
+        Some(())
+    }
+
+    fn ask<S: Served>(&mut self, served: &mut S, client: usize) -> Option<()> {
+        if accepts(served, client, Call::Ask(self.asked))? {
+            let waiting = self.waiting.get_mut(client)?;
+            waiting.discoveries.push_back(self.asked).ok()?;
+            self.asked = self.asked.wrapping_add(1);
+        }
+        Some(())
+    }
+
+    // The worker makes up to four turns, and a client collects up to seven outcomes. One round in 200 has a pause, in
+    // which the log is drained. In some rounds it is drained between a frame and its reply.
+    fn serve<S: Served>(&mut self, served: &mut S) -> Option<()> {
         if self.random.below(200) == 0 {
             served.pause(true)?;
             served.work(self.random.below(4))?;
+            self.drain(served, false)?;
             served.pause(false)?;
         }
         served.work(self.random.below(4).wrapping_add(1))?;
+        if self.drained && self.random.below(ROUNDS) == 0 {
+            self.drain(served, true)?;
+        }
         let client = self.random.below(u64::from(CLIENTS)) as usize;
         for _ in 0..self.random.below(8) {
             self.collect(served, client)?;
@@ -148,34 +235,68 @@ impl Tally {
         Some(())
     }
 
-    // A client submits, as far as there are places.
-    fn submit<S: Served>(&mut self, served: &mut S) -> Option<()> {
-        let client = self.random.below(u64::from(CLIENTS)) as usize;
-        for _ in 0..self.random.below(5) {
-            let number = self.owners.len() as u64;
-            if number < self.requests && served.submit(client, tag_of(number))? {
-                self.owners.push(Some(client)).ok()?;
+    // A client collects an outcome, if there is one. It has to be that of its oldest call of this kind.
+    fn collect<S: Served>(&mut self, served: &mut S, client: usize) -> Option<()> {
+        let Some(ending) = collected(served, client, Call::Collect) else {
+            return Some(());
+        };
+        let waiting = self.waiting.get_mut(client)?;
+        match ending {
+            Ending::Request(told) => {
+                holds(waiting.requests.pop_front()? == told.tag)?;
+                self.told.count(told)
+            }
+            Ending::Discovery(tag, devices) => {
+                holds(waiting.discoveries.pop_front()? == tag)?;
+                self.told.count_discovery(devices)
             }
         }
+    }
+
+    // Drains the log, if it is to be drained: at once, or in a turn of the worker. The page that was drained before is
+    // the memory of the next.
+    fn drain<S: Served>(&mut self, served: &mut S, works: bool) -> Option<()> {
+        if !self.drained {
+            return Some(());
+        }
+        let mut next = mem::replace(&mut self.next, Vec::new(self.alloc));
+        next.clear();
+        let page = if works {
+            served.work_drained(next)?
+        } else {
+            served.drain(next)?
+        };
+        self.history.follow(&page)?;
+        self.next = page.entries;
         Some(())
     }
 
-    // A client collects an outcome, if there is one. It has to be that of a request of its own that wasn't told yet. A
-    // long answer that broke off before goes on with its next part of 231 bytes.
-    fn collect<S: Served>(&mut self, served: &mut S, client: usize) -> Option<()> {
-        let Some(Told { tag, done }) = served.collect(client) else {
-            return Some(());
-        };
-        let owner = self.owners.get_mut((tag % LONG) as usize)?.take();
-        holds(owner == Some(client))?;
-        match completion_told(&Some((tag, done))) {
-            Heard::Answered(_, 1, 2) | Heard::Data(_, 231 | 462 | 693) => {
-                self.completed = self.completed.wrapping_add(1);
-            }
-            Heard::Request(_, Status::Timeout) => self.timeouts = self.timeouts.wrapping_add(1),
-            Heard::Request(_, Status::FailedToSend) => self.failed = self.failed.wrapping_add(1),
-            _ => return None,
+    fn print<R: Files + AllocGlobal + Print + Eprint>(
+        &mut self,
+        bench: &Bench<'_, R>,
+    ) -> Option<()> {
+        let rt = bench.rt;
+        let name = self.port.name(self.drained);
+        let Tally {
+            completed,
+            timeouts,
+            failed,
+            ..
+        } = self.told;
+        println!(rt; "{name}: {completed} completed, {timeouts} timeouts, {failed} failed").ok()?;
+        if self.drained {
+            self.print_pages(rt)?;
         }
-        Some(())
+        let kilobytes = resident(rt).unwrap_or(0);
+        eprintln!(rt; "{name}: {kilobytes} kB").ok()?;
+        self.held.stays(self.submitted, kilobytes)
+    }
+
+    fn print_pages<R: Print>(&self, rt: &R) -> Option<()> {
+        let name = self.port.name(true);
+        let (discovered, aborted) = (self.told.discovered, self.told.aborted);
+        println!(rt; "{name}: {discovered} discovered, {aborted} failed").ok()?;
+        let (entries, awaited) = (self.history.entries, self.history.awaited);
+        println!(rt; "{name}: {entries} entries, {awaited} drains before a reply").ok()
     }
 }
