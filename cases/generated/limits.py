@@ -8,6 +8,7 @@ from .arguments import NO_COMMAND
 from .commands import NO_JSON, NO_SCENE, discover_case, scene_case, session_case
 from .objects import FULL_SCENE, SCENE, SESSION, Change, Edit, scene_text
 
+NO_RUN = "the log has no exchange of a discovery"
 # Values of a scene that are out of range: the object, the key and the value.
 BEYOND = r"""
 scene source ""
@@ -191,11 +192,12 @@ def longest() -> Iterator[Case]:
 def most_present() -> Iterator[Case]:
     """The greatest number of devices of explain, by arguments, by the scene, and by both; there may not be one more."""
     uids = [f"5000:{number:08x}" for number in range(1025)]
+    unjudged = f"{NO_RUN}\n" + "".join(f"{uid} can't be judged: {NO_RUN}\n" for uid in uids[:1024])
     rows = (
-        (uids[:1024], [], ""),
+        (uids[:1024], [], unjudged),
         (uids[:1025], [], NO_COMMAND),
-        ([], uids[:1024], ""),
-        (uids[:1024], uids[:1024], ""),
+        ([], uids[:1024], unjudged),
+        (uids[:1024], uids[:1024], unjudged),
         (uids[1024:], uids[:1024], NO_SCENE),
         (uids[1:], uids[:1], NO_SCENE),
     )
@@ -204,7 +206,7 @@ def most_present() -> Iterator[Case]:
         rig = f'{{"source":"7a70:00000100","devices":[{devices}]}}'
         words = [word for uid in given for word in ("--present", uid)]
         yield Case(
-            name=f"{len(given)} devices by arguments, and {len(staying)} by a scene: {due.strip()}",
+            name=f"{len(given)} devices by arguments, and {len(staying)} by a scene: {due.splitlines()[0]}",
             commands=(arguments_of("explain", EXPLAINED_NAME, "--rig", RIG_NAME, *words),),
             expected=prints(due),
             files=(File(b"", EXPLAINED_NAME), File(rig.encode(), RIG_NAME)),

@@ -1,10 +1,11 @@
 -- What is printed for a log, run by run and line by line.
 use Rattle.std.proofs.Common.{◌≡◌, ℕ, Bool, true, false, List, [], ◌∷◌, ◌++◌, refl, sym, ap, ◌∙◌, subst, append_assoc}
 use Rattle.std.proofs.Common.{append-nil, Option, true≢false}
-use Rattle.std.specs.Prelude.{◌||◌, fold, if◌then◌else◌}
+use Rattle.std.specs.Prelude.{◌+◌, ◌||◌, ◌&&◌, fold, length, if◌then◌else◌}
 use Rattle.std.specs.Io.KnownBytes.{Appends, Consumes}
 use Rattle.std.proofs.KnownBytes.{Appends-trans, Consumes-trans}
 use Rattle.std.proofs.lemmas.Grind.{flat_map-append}
+use Rattle.std.proofs.lemmas.List.{length-append}
 use Rattle.rdm_explain.specs.declared.exchange.Exchange.{Exchange}
 use Rattle.rdm_explain.specs.Exchanges.{seen_all}
 use Rattle.rdm_findings.specs.declared.head.RunHead.{RunHead}
@@ -13,7 +14,7 @@ use Rattle.rdm_findings.specs.Explained.{IsExplained}
 use Rattle.rdm_findings.specs.Lines.{line_text, lines_text}
 use Rattle.rdm_findings.specs.Runs.{RunRead, ReadState, nothing_read, begins, ended, after_line, read_on, read_all}
 use Rattle.rdm_findings.specs.Runs.{runs_of}
-use Rattle.rdm_findings.specs.Logs.{IsRunText, AreExplained}
+use Rattle.rdm_findings.specs.Logs.{IsRunText, AreExplained, IsLogText, EndsLog, IsRefusedAt}
 
 or_assoc : (a b c : Bool) → (a || b) || c ≡ a || (b || c)
 or_assoc true b c = refl
@@ -24,42 +25,44 @@ or_false true = refl
 or_false false = refl
 
 -- some runs, and then others
-pub explained_append : (present : List ℕ) (runs more : List RunRead) (text later : List ℕ) (broken breaks : Bool)
-    → AreExplained present runs text broken → AreExplained present more later breaks
-    → AreExplained present (runs ++ more) (text ++ later) (broken || breaks)
-explained_append present [] more text later broken breaks (none, fine) next =
-    subst (λ t. AreExplained present more (t ++ later) (broken || breaks)) (sym none)
-    (subst (λ b. AreExplained present more later (b || breaks)) (sym fine) next)
-explained_append present (run ∷ runs) more text later broken breaks
+pub explained_append : (present passing : List ℕ) (runs more : List RunRead) (text later : List ℕ)
+    (broken breaks : Bool)
+    → AreExplained present passing runs text broken → AreExplained present passing more later breaks
+    → AreExplained present passing (runs ++ more) (text ++ later) (broken || breaks)
+explained_append present passing [] more text later broken breaks (none, fine) next =
+    subst (λ t. AreExplained present passing more (t ++ later) (broken || breaks)) (sym none)
+    (subst (λ b. AreExplained present passing more later (b || breaks)) (sym fine) next)
+explained_append present passing (run ∷ runs) more text later broken breaks
     (first, rest, here, there, is_run, others, is, was) next = (
       first,
       rest ++ later,
       here,
       there || breaks,
       is_run,
-      explained_append present runs more rest later there breaks others next,
+      explained_append present passing runs more rest later there breaks others next,
       ap (λ t. t ++ later) is ∙ append_assoc first rest later,
       ap (λ b. b || breaks) was ∙ or_assoc here there breaks,
     )
 
 -- one run
-pub explained_one : (present : List ℕ) (run : RunRead) (text : List ℕ) (broken : Bool)
-    → IsRunText present run text broken → AreExplained present (run ∷ []) text broken
-explained_one present run text broken is =
+pub explained_one : (present passing : List ℕ) (run : RunRead) (text : List ℕ) (broken : Bool)
+    → IsRunText present passing run text broken → AreExplained present passing (run ∷ []) text broken
+explained_one present passing run text broken is =
     (text, [], broken, false, is, (refl, refl), sym (append-nil text), or_false broken)
 
 -- the run in progress
-pub run_explained : (present : List ℕ) (s : ReadState) (xs : List Exchange) (head : RunHead) (known : Option (List ℕ))
-    (text : List ℕ) (broken : Bool) → s.has_run ≡ true → seen_all xs ≡ s.run.exchanges → head ≡ s.run.head
-    → known ≡ s.run.known → IsExplained head known present xs text broken
-    → AreExplained present (ended s) text broken
-run_explained present s xs head known text broken has same is_head is_known explained =
-    subst (λ b. AreExplained present (if b then s.run ∷ [] else []) text broken) (sym has)
-    (explained_one present s.run text broken (record {
+pub run_explained : (present passing : List ℕ) (s : ReadState) (xs : List Exchange) (head : RunHead)
+    (known : Option (List ℕ)) (text : List ℕ) (broken : Bool)
+    → s.has_run ≡ true → seen_all xs ≡ s.run.exchanges → head ≡ s.run.head
+    → known ≡ s.run.known → IsExplained head known present passing xs text broken
+    → AreExplained present passing (ended s) text broken
+run_explained present passing s xs head known text broken has same is_head is_known explained =
+    subst (λ b. AreExplained present passing (if b then s.run ∷ [] else []) text broken) (sym has)
+    (explained_one present passing s.run text broken (record {
       exchanges = xs;
       same = same;
-      explained = subst (λ k. IsExplained s.run.head k present xs text broken) is_known
-          (subst (λ h. IsExplained h known present xs text broken) is_head explained);
+      explained = subst (λ k. IsExplained s.run.head k present passing xs text broken) is_known
+          (subst (λ h. IsExplained h known present passing xs text broken) is_head explained);
     }))
 
 -- the text of one more line
@@ -76,71 +79,135 @@ fold_more f b (y ∷ ys) x = fold_more f (f b y) ys x
 read_more : (lines : List LogLine) (line : LogLine) → read_all (lines ++ line ∷ []) ≡ read_on (read_all lines) line
 read_more lines line = fold_more read_on ([], nothing_read) lines line
 
+-- whether there are runs
+abbrev pub has_any : List RunRead → Bool
+has_any [] = false
+has_any (run ∷ runs) = true
+
+any_append : (xs ys : List RunRead) → has_any (xs ++ ys) ≡ has_any xs || has_any ys
+any_append [] ys = refl
+any_append (x ∷ xs) ys = refl
+
+-- whether there is a run that ended
+any_ended : (b h : Bool) (run : RunRead)
+    → has_any (if b then (if h then run ∷ [] else []) else []) ≡ b && h
+any_ended true true run = refl
+any_ended true false run = refl
+any_ended false h run = refl
+
 -- the lines so far were read, and their runs that ended were explained
-abbrev pub IsSoFar : List ℕ → Option (List ℕ) → Option (List ℕ) → Option (List ℕ) → Option (List ℕ) → ReadState → Bool
-    → Type 0
-IsSoFar present left now held writes reading broken =
-    (lines : List LogLine) × (text : List ℕ)
-    × Consumes left now (lines_text lines)
-    × (reading ≡ (read_all lines).1)
-    × AreExplained present (read_all lines).0 text broken
-    × Appends held writes text
+pub record IsSoFar (present passing : List ℕ) (left now held writes : Option (List ℕ)) (reading : ReadState)
+    (any broken : Bool) (many : ℕ) : Type 0 where
+  pub lines : List LogLine
+  pub text : List ℕ
+  pub consumed : Consumes left now (lines_text lines)
+  pub reads : reading ≡ (read_all lines).1
+  pub explained : AreExplained present passing (read_all lines).0 text broken
+  pub wrote : Appends held writes text
+  pub some : any ≡ has_any (read_all lines).0
+  pub count : length lines ≡ many
+
+-- the lines so far, and then more bytes
+more_consumed : (left now later : Option (List ℕ)) (so_far bytes : List ℕ) → Consumes left now so_far
+    → Consumes now later bytes → Consumes left later (so_far ++ bytes)
+more_consumed left now later so_far bytes before more = Consumes-trans left now later so_far bytes before more
 
 -- nothing more was read
-pub nothing_more : (present : List ℕ) (left now later held writes : Option (List ℕ)) (reading : ReadState)
-    (broken : Bool) (bytes : List ℕ) → IsSoFar present left now held writes reading broken
-    → Consumes now later bytes → bytes ≡ [] → IsSoFar present left later held writes reading broken
-nothing_more present left now later held writes reading broken bytes
-    (lines, text, consumed, reads, explained, wrote) read none = (
-      lines,
-      text,
-      subst (λ l. Consumes left later l) (append-nil (lines_text lines))
-          (Consumes-trans left now later (lines_text lines) [] consumed (subst (λ b. Consumes now later b) none read)),
-      reads,
-      explained,
-      wrote,
-    )
+pub nothing_more : (present passing : List ℕ) (left now later held writes : Option (List ℕ)) (reading : ReadState)
+    (any broken : Bool) (many : ℕ) (bytes : List ℕ)
+    → IsSoFar present passing left now held writes reading any broken many → Consumes now later bytes → bytes ≡ []
+    → IsSoFar present passing left later held writes reading any broken many
+nothing_more present passing left now later held writes reading any broken many bytes f read none = record {
+  lines = f.lines;
+  text = f.text;
+  consumed = subst (λ l. Consumes left later l) (append-nil (lines_text f.lines))
+      (more_consumed left now later (lines_text f.lines) [] f.consumed
+      (subst (λ b. Consumes now later b) none read));
+  reads = f.reads;
+  explained = f.explained;
+  wrote = f.wrote;
+  some = f.some;
+  count = f.count;
+}
 
 -- after one more
-pub line_more : (present : List ℕ) (left now later held writes more : Option (List ℕ)) (reading next : ReadState)
-    (broken breaks either : Bool) (line : LogLine) (bytes : List ℕ)
-    → IsSoFar present left now held writes reading broken → Consumes now later bytes → line_text line ≡ bytes
-    → next ≡ after_line line reading → either ≡ broken || breaks
-    → (text : List ℕ) × AreExplained present (if begins line reading then ended reading else []) text breaks
+pub line_more : (present passing : List ℕ) (left now later held writes more : Option (List ℕ))
+    (reading next : ReadState) (any some broken breaks either : Bool) (many : ℕ) (line : LogLine) (bytes : List ℕ)
+    → IsSoFar present passing left now held writes reading any broken many → Consumes now later bytes
+    → line_text line ≡ bytes → next ≡ after_line line reading → some ≡ any || (begins line reading && reading.has_run)
+    → either ≡ broken || breaks
+    → (text : List ℕ)
+    × AreExplained present passing (if begins line reading then ended reading else []) text breaks
     × Appends writes more text
-    → IsSoFar present left later held more next either
-line_more present left now later held writes more reading next broken breaks either line bytes
-    (lines, text, consumed, reads, explained, wrote) read is moves both (own, said, written) = (
-      lines ++ line ∷ [],
-      text ++ own,
-      subst (λ l. Consumes left later l) (sym (lines_more lines line))
-          (Consumes-trans left now later (lines_text lines) (line_text line) consumed
-          (subst (λ l. Consumes now later l) (sym is) read)),
-      moves ∙ ap (after_line line) reads ∙ sym (ap (λ p. p.1) (read_more lines line)),
-      subst (λ p. AreExplained present p.0 (text ++ own) either) (sym (read_more lines line))
-          (subst (λ b. AreExplained present (read_on (read_all lines) line).0 (text ++ own) b) (sym both)
-          (explained_append present (read_all lines).0
-          (if begins line (read_all lines).1 then ended (read_all lines).1 else []) text own broken breaks explained
-          (subst (λ s. AreExplained present (if begins line s then ended s else []) own breaks) reads said))),
-      Appends-trans held writes more text own wrote written,
-    )
+    → IsSoFar present passing left later held more next some either (many + 1)
+line_more present passing left now later held writes more reading next any some broken breaks either many line bytes f
+    read is moves also both (own, said, written) = record {
+      lines = f.lines ++ line ∷ [];
+      text = f.text ++ own;
+      consumed = subst (λ l. Consumes left later l) (sym (lines_more f.lines line))
+          (more_consumed left now later (lines_text f.lines) (line_text line) f.consumed
+          (subst (λ l. Consumes now later l) (sym is) read));
+      reads = moves ∙ ap (after_line line) f.reads ∙ sym (ap (λ p. p.1) (read_more f.lines line));
+      explained = subst (λ p. AreExplained present passing p.0 (f.text ++ own) either) (sym (read_more f.lines line))
+          (subst (λ b. AreExplained present passing (read_on (read_all f.lines) line).0 (f.text ++ own) b) (sym both)
+          (explained_append present passing (read_all f.lines).0
+          (if begins line (read_all f.lines).1 then ended (read_all f.lines).1 else []) f.text own broken breaks
+          f.explained
+          (subst (λ s. AreExplained present passing (if begins line s then ended s else []) own breaks) f.reads said)));
+      wrote = Appends-trans held writes more f.text own f.wrote written;
+      some = also
+          ∙ ap (λ b. b || (begins line reading && reading.has_run)) f.some
+          ∙ ap (λ s. has_any (read_all f.lines).0 || (begins line s && s.has_run)) f.reads
+          ∙ ap (λ b. has_any (read_all f.lines).0 || b)
+          (sym (any_ended (begins line (read_all f.lines).1) (read_all f.lines).1.has_run (read_all f.lines).1.run))
+          ∙ sym (any_append (read_all f.lines).0
+          (if begins line (read_all f.lines).1 then ended (read_all f.lines).1 else []))
+          ∙ sym (ap (λ p. has_any p.0) (read_more f.lines line));
+      count = length-append f.lines (line ∷ []) ∙ ap (λ n. n + 1) f.count;
+    }
+
+-- all runs, of which the last ones come at the log's end
+text_end : (present passing : List ℕ) (runs last : List RunRead) (text own : List ℕ) (any broken breaks : Bool)
+    → any ≡ has_any runs → AreExplained present passing runs text broken
+    → EndsLog present passing any last own breaks
+    → IsLogText present passing (runs ++ last) (text ++ own) (broken || breaks)
+text_end present passing [] last text own any broken breaks none (empty, fine) ends =
+    subst (λ t. IsLogText present passing last (t ++ own) (broken || breaks)) (sym empty)
+    (subst (λ b. IsLogText present passing last own (b || breaks)) (sym fine)
+    (subst (λ b. EndsLog present passing b last own breaks) none ends))
+text_end present passing (run ∷ runs) last text own any broken breaks some before ends =
+    explained_append present passing (run ∷ runs) last text own broken breaks before
+    (subst (λ b. EndsLog present passing b last own breaks) some ends)
 
 -- at the end
-pub log_end : (present : List ℕ) (left now held writes more : Option (List ℕ)) (reading : ReadState)
-    (broken breaks either : Bool) → IsSoFar present left now held writes reading broken → either ≡ broken || breaks
-    → (text : List ℕ) × AreExplained present (ended reading) text breaks × Appends writes more text
+pub log_end : (present passing : List ℕ) (left now held writes more : Option (List ℕ)) (reading : ReadState)
+    (any broken breaks either : Bool) (many : ℕ)
+    → IsSoFar present passing left now held writes reading any broken many → either ≡ broken || breaks
+    → (text : List ℕ) × EndsLog present passing any (ended reading) text breaks × Appends writes more text
     → (lines : List LogLine) × (text : List ℕ) × Consumes left now (lines_text lines)
-    × AreExplained present (runs_of lines) text either × Appends held more text
-log_end present left now held writes more reading broken breaks either
-    (lines, text, consumed, reads, explained, wrote) both (own, said, written) = (
-      lines,
-      text ++ own,
-      consumed,
-      subst (λ b. AreExplained present (runs_of lines) (text ++ own) b) (sym both)
-          (explained_append present (read_all lines).0 (ended (read_all lines).1) text own broken breaks explained
-          (subst (λ s. AreExplained present (ended s) own breaks) reads said)),
-      Appends-trans held writes more text own wrote written,
+    × IsLogText present passing (runs_of lines) text either × Appends held more text
+log_end present passing left now held writes more reading any broken breaks either many f both
+    (own, said, written) = (
+      f.lines,
+      f.text ++ own,
+      f.consumed,
+      subst (λ b. IsLogText present passing (runs_of f.lines) (f.text ++ own) b) (sym both)
+          (text_end present passing (read_all f.lines).0 (ended (read_all f.lines).1) f.text own any broken breaks
+          f.some f.explained (subst (λ s. EndsLog present passing any (ended s) own breaks) f.reads said)),
+      Appends-trans held writes more f.text own f.wrote written,
     )
+
+-- where the next line isn't a log's
+pub line_refused : (present passing : List ℕ) (left now later held writes : Option (List ℕ)) (reading : ReadState)
+    (any broken : Bool) (many n : ℕ) (bytes : List ℕ)
+    → IsSoFar present passing left now held writes reading any broken many → Consumes now later bytes → n ≡ many + 1
+    → IsRefusedAt left later n
+line_refused present passing left now later held writes reading any broken many n bytes f read is = record {
+  lines = f.lines;
+  other = bytes;
+  read = more_consumed left now later (lines_text f.lines) bytes f.consumed read;
+  number = ap (λ k. k + 1) f.count ∙ sym is;
+}
 
 -- one was broken, or it is as the other
 pub either_broke : (a b c : Bool) → a ≡ true → c ≡ a → c ≡ a || b

@@ -1,23 +1,33 @@
--- Whether the log of a run shows that the run is over, and whether it was sure to have found each device.
+-- Whether the log of a run shows that the run is over, how it ended, and whether it found each device.
 use Rattle.std.specs.Prelude.{ℕ, ◌-◌, Bool, true, false, ◌&&◌, ◌||◌, not, nat_lt, List, Option, Some, None, length}
-use Rattle.std.specs.Prelude.{slice_get, is_some, ◌==◌, if◌then◌else◌}
+use Rattle.std.specs.Prelude.{slice_get, is_some, drop, ◌==◌, if◌then◌else◌}
+use Rattle.std.specs.List.{list_any, list_all}
 use Rattle.rdm_wire.specs.Uid.{has, is_broadcast}
 use Rattle.rdm_wire.specs.Devices.{uids_of}
 use Rattle.rdm_wire.specs.declared.device.Device.{Device}
+use Rattle.rdm_agent.specs.Run.{is_branch}
+use Rattle.rdm_agent.specs.declared.fault.AgentFault.{AgentFault}
+use Rattle.rdm_agent.specs.declared.fault.AgentFault.TheVariants.{Corrupt}
 use Rattle.rdm_explain.specs.declared.certificate.RunFinding.{RunFinding}
+use Rattle.rdm_explain.specs.declared.certificate.KnownFinding.{KnownFinding}
 use Rattle.rdm_explain.specs.declared.exchange.Asked.{Asked}
-use Rattle.rdm_explain.specs.declared.exchange.Asked.TheVariants.{Branch}
+use Rattle.rdm_explain.specs.declared.exchange.Asked.TheVariants.{Branch, Mute}
 use Rattle.rdm_explain.specs.declared.exchange.Heard.{Heard}
 use Rattle.rdm_explain.specs.declared.exchange.Heard.TheVariants.{Failed, Silent, One}
 use Rattle.rdm_explain.specs.declared.exchange.Exchange.{Exchange}
+use Rattle.rdm_explain.specs.Exchanges.{seen_all}
 use Rattle.rdm_findings.specs.declared.head.RunHead.{RunHead}
 use Rattle.rdm_findings.specs.Starts.{has_start}
 
--- whether no part of a certificate fails
+-- whether no part of a certificate fails, but those that depend on known UIDs
 abbrev pub is_complete : RunFinding → Bool
 is_complete f =
     not (is_some f.missing_unmute) && not (is_some f.failure) && not (is_some f.misreported)
     && not (is_some f.untried) && not (is_some f.uncovered) && not (is_some f.other_data)
+
+-- whether none of those fails
+abbrev pub is_known_complete : KnownFinding → Bool
+is_known_complete f = not (is_some f.not_muted_first) && not (is_some f.unread)
 
 -- whether an answer is the text of this UID
 abbrev pub is_own : ℕ → Heard → Bool
@@ -34,49 +44,123 @@ has_bytes _ = true
 abbrev pub shows_new : List ℕ → ℕ → Heard → Bool
 shows_new found u heard = is_own u heard && (not (is_broadcast u) && not (has found u))
 
--- whether this is a branch of one UID that was answered, and showed a device that isn't among these
-abbrev pub is_new_alone : List ℕ → Asked → Heard → Bool
-is_new_alone found (Branch lo hi) heard = (lo == hi) && shows_new found lo heard
-is_new_alone found _ heard = false
+-- the UID of a branch of one UID that was answered, and showed a device that isn't among these
+abbrev pub new_alone : List ℕ → Asked → Heard → Option ℕ
+new_alone found (Branch lo hi) heard = if (lo == hi) && shows_new found lo heard then Some lo else None
+new_alone found _ heard = None
 
 -- the same, but it showed no such device
-abbrev pub is_wrong_alone : List ℕ → Asked → Heard → Bool
-is_wrong_alone found (Branch lo hi) heard = (lo == hi) && (has_bytes heard && not (shows_new found lo heard))
-is_wrong_alone found _ heard = false
+abbrev pub wrong_alone : List ℕ → Asked → Heard → Option ℕ
+wrong_alone found (Branch lo hi) heard =
+    if (lo == hi) && (has_bytes heard && not (shows_new found lo heard)) then Some lo else None
+wrong_alone found _ heard = None
 
--- whether an exchange of a list is such a branch
-abbrev pub has_new_alone : List ℕ → Option Exchange → Bool
-has_new_alone found None = false
-has_new_alone found (Some e) = is_new_alone found e.asked e.heard
+-- the UID of an exchange of a list, if it is such a branch that showed a device
+abbrev pub new_alone_in : List ℕ → Option Exchange → Option ℕ
+new_alone_in found None = None
+new_alone_in found (Some e) = new_alone found e.asked e.heard
 
--- whether it is a branch that showed none
-abbrev pub has_wrong_alone : List ℕ → Option Exchange → Bool
-has_wrong_alone found None = false
-has_wrong_alone found (Some e) = is_wrong_alone found e.asked e.heard
+-- the same, if it is one that showed none
+abbrev pub wrong_alone_in : List ℕ → Option Exchange → Option ℕ
+wrong_alone_in found None = None
+wrong_alone_in found (Some e) = wrong_alone found e.asked e.heard
 
 -- the exchange that has n - 1 others after it
 abbrev pub from_end : ℕ → List Exchange → Option Exchange
 from_end n xs = if nat_lt (length xs) n then None else slice_get xs (length xs - n)
 
--- Whether the run ended as Corrupt, if its agent is this project's, no exchange failed, and these are the devices that
--- it found. The last exchange is a branch of one UID that was answered, but showed no new device. Or such a branch
--- showed one, and the five mutes after it weren't acknowledged
-abbrev pub ends_corrupt : List ℕ → List Exchange → Bool
-ends_corrupt found xs = has_wrong_alone found (from_end 1 xs) || has_new_alone found (from_end 6 xs)
+-- the last n exchanges, or all if there are fewer
+abbrev pub last_of : ℕ → List Exchange → List Exchange
+last_of n xs = drop (length xs - n) xs
 
--- Whether the run found all devices that followed the rules, or ended as Corrupt, which no honest line allows. In any
--- other run, bytes that no listed device was due to send may be those of a device that it hadn't found yet
-abbrev pub is_settled : List Device → List Exchange → RunFinding → Bool
-is_settled reported xs f = is_complete f || (not (is_some f.failure) && ends_corrupt (uids_of reported) xs)
+-- whether this is the mute of a UID, and no byte came
+abbrev pub is_unanswered : ℕ → Asked → Heard → Bool
+is_unanswered u (Mute v) Silent = v == u
+is_unanswered u _ _ = false
+
+-- whether an exchange is one
+abbrev pub is_silent_mute : ℕ → Exchange → Bool
+is_silent_mute u e = is_unanswered u e.asked e.heard
+
+-- the UID, if each of these exchanges is a silent mute of it
+abbrev pub if_never_muted : List Exchange → Option ℕ → Option ℕ
+if_never_muted mutes None = None
+if_never_muted mutes (Some u) = if list_all (is_silent_mute u) mutes then Some u else None
+
+-- the first UID, or else the second
+abbrev pub first_uid : Option ℕ → Option ℕ → Option ℕ
+first_uid None second = second
+first_uid (Some u) second = Some u
+
+-- The UID with which a run of this project's agent ended as Corrupt, if these exchanges show that. `found` has the
+-- devices that the run found. The last exchange is a branch of one UID that was answered, but showed no new device. Or
+-- such a branch showed one, and the five exchanges after it are mutes of it without an answer
+abbrev pub corrupt_uid : List ℕ → List Exchange → Option ℕ
+corrupt_uid found xs =
+    first_uid (wrong_alone_in found (from_end 1 xs))
+    (if_never_muted (last_of 5 xs) (new_alone_in found (from_end 6 xs)))
+
+-- the same, if the run begins by its three unmutes, and no exchange failed
+abbrev pub corrupt_end : List Device → List Exchange → RunFinding → Option ℕ
+corrupt_end reported xs f =
+    if is_some f.missing_unmute || is_some f.failure then None else corrupt_uid (uids_of reported) xs
+
+-- the end as Corrupt with this UID
+abbrev pub as_corrupt : Option ℕ → Option (Option AgentFault)
+as_corrupt None = None
+as_corrupt (Some u) = Some (Some (Corrupt u))
+
+-- how a run ended that the log has from its beginning, if these exchanges show it
+abbrev pub shown_end : RunHead → List Device → List Exchange → RunFinding → Option (Option AgentFault)
+shown_end head reported xs f = if has_start head.start then as_corrupt (corrupt_end reported xs f) else None
+
+-- the end that the log says, or else the one that the exchanges show
+abbrev pub said_or_shown : Option (Option AgentFault) → Option (Option AgentFault) → Option (Option AgentFault)
+said_or_shown None shown = shown
+said_or_shown (Some fault) shown = Some fault
+
+-- how the run ended, if the log says it, or its exchanges show it
+abbrev pub end_of : RunHead → List Device → List Exchange → RunFinding → Option (Option AgentFault)
+end_of head reported xs f = said_or_shown head.fault (shown_end head reported xs f)
+
+-- Whether the exchanges of the run show that nothing came after them: no UID is left to be searched, or the run ended
+-- as Corrupt
+abbrev pub shows_end : List Device → List Exchange → RunFinding → Bool
+shows_end reported xs f = is_complete f || is_some (corrupt_end reported xs f)
 
 -- whether the run is over: the log says how it ended, or its exchanges show that nothing came after them
 abbrev pub is_over : RunHead → List Device → List Exchange → RunFinding → Bool
-is_over head reported xs f = (is_some head.fault || is_some f.failure) || is_settled reported xs f
+is_over head reported xs f = (is_some head.fault || is_some f.failure) || shows_end reported xs f
 
 -- whether the log has all of the run
 abbrev pub is_whole : RunHead → List Device → List Exchange → RunFinding → Bool
 is_whole head reported xs f = has_start head.start && is_over head reported xs f
 
--- whether stray bytes in this log of the run show that a rule was broken
-abbrev pub decides_stray : RunHead → List Device → List Exchange → RunFinding → Bool
-decides_stray head reported xs f = has_start head.start && is_settled reported xs f
+-- Whether stray bytes in this log of the run show that a rule was broken: the run found all devices that followed the
+-- rules. In any other run they may be those of a device that it hadn't found yet, also if it ended as Corrupt
+abbrev pub decides_stray : RunHead → RunFinding → Bool
+decides_stray head f = has_start head.start && is_complete f
+
+-- Whether one of the three unmutes that begin a run is missing for good: one of so many exchanges is in its place.
+-- Otherwise it may still come
+abbrev pub lacks_unmute : ℕ → Option ℕ → Bool
+lacks_unmute many None = false
+lacks_unmute many (Some at) = nat_lt at many
+
+-- whether exchanges have a branch
+abbrev pub has_branch : List Exchange → Bool
+has_branch xs = list_any is_branch (seen_all xs)
+
+-- Whether a part that depends on known UIDs fails, and exchanges after these can't mend it: a mute of a UID that wasn't
+-- read before; a known UID that wasn't muted, after a branch
+abbrev pub loses_names : List Exchange → Option KnownFinding → Bool
+loses_names xs None = false
+loses_names xs (Some f) = is_some f.unread || (is_some f.not_muted_first && has_branch xs)
+
+-- Whether a part of the certificate fails that exchanges after these can't mend: an unmute that is missing before
+-- another exchange, an exchange that failed, what is reported, or such a part on known UIDs. They may still mend a mute
+-- of a UID that wasn't acknowledged, and rule out other UIDs
+abbrev pub is_lost : List Exchange → RunFinding → Option KnownFinding → Bool
+is_lost xs f names =
+    lacks_unmute (length xs) f.missing_unmute || is_some f.failure || is_some f.misreported || is_some f.other_data
+    || loses_names xs names

@@ -1,6 +1,7 @@
 -- The text of findings about a run: one finding a line.
 use Rattle.std.specs.Prelude.{ℕ, Bool, false, ◌&&◌, ◌||◌, not, List, [], ◌∷◌, ◌++◌, Option, Some, None, codes, decimal}
 use Rattle.std.specs.Prelude.{length, slice_get, is_some, ◌==◌, if◌then◌else◌}
+use Rattle.rdm_wire.specs.Uid.{is_broadcast}
 use Rattle.rdm_wire.specs.UidText.{uid_text}
 use Rattle.rdm_wire.specs.declared.device.Device.{Device}
 use Rattle.rdm_agent.specs.declared.kind.Kind.{Kind}
@@ -12,7 +13,9 @@ use Rattle.rdm_reports.specs.Report.{line_of, fault_text}
 use Rattle.rdm_explain.specs.declared.certificate.RunFinding.{RunFinding}
 use Rattle.rdm_explain.specs.declared.certificate.KnownFinding.{KnownFinding}
 use Rattle.rdm_explain.specs.declared.exchange.Asked.{Asked}
-use Rattle.rdm_explain.specs.declared.exchange.Asked.TheVariants.{Unmute, Branch, Mute, Other}
+use Rattle.rdm_explain.specs.declared.exchange.Asked.TheVariants.{Branch, Mute}
+use Rattle.rdm_explain.specs.declared.exchange.Heard.{Heard}
+use Rattle.rdm_explain.specs.declared.exchange.Heard.TheVariants.{One}
 use Rattle.rdm_explain.specs.declared.exchange.Exchange.{Exchange}
 use Rattle.rdm_explain.specs.declared.rule.Rule.{Rule}
 use Rattle.rdm_explain.specs.declared.rule.Rule.TheVariants.{SilentBranches, SilentMutes, GarbledMute}
@@ -22,9 +25,12 @@ use Rattle.rdm_findings.specs.declared.head.RunHead.{RunHead}
 use Rattle.rdm_findings.specs.declared.head.Start.{Start}
 use Rattle.rdm_findings.specs.declared.head.Start.TheVariants.{At, Later, Unknown}
 use Rattle.rdm_findings.specs.declared.heard.HeardUids.{HeardUids}
-use Rattle.rdm_findings.specs.Ends.{is_complete, is_over}
+use Rattle.rdm_findings.specs.declared.stray_bytes.Sign.{Sign}
+use Rattle.rdm_findings.specs.declared.stray_bytes.Sign.TheVariants as signs
+use Rattle.rdm_findings.specs.Ends.{is_complete, is_known_complete, is_over, is_lost, end_of}
 use Rattle.rdm_findings.specs.HeardUids.{in_heard}
 use Rattle.rdm_findings.specs.Starts.{has_start, number_at}
+use Rattle.rdm_findings.specs.StrayBytes.{sign_of}
 
 -- an exchange, by its number
 abbrev pub exchange_name : ℕ → List ℕ
@@ -65,10 +71,6 @@ end_text None = []
 end_text (Some None) = codes ", no fault"
 end_text (Some (Some fault)) = codes ", " ++ fault_text fault
 
--- whether no part about known UIDs fails
-abbrev pub is_known_complete : KnownFinding → Bool
-is_known_complete f = not (is_some f.not_muted_first) && not (is_some f.unread)
-
 -- a certificate of which no part fails but those that can't be decided
 abbrev pub sound_text : Option Kind → Option KnownFinding → List ℕ
 sound_text kind (Some names) =
@@ -79,21 +81,21 @@ sound_text None None =
 sound_text (Some kind) None =
     codes "; its certificate is complete but for its known devices, which the log doesn't have"
 
--- a certificate of which a part fails. If the run isn't over, exchanges that the log doesn't have may decide it
+-- a certificate of which a part fails. If that isn't decided, exchanges that the log doesn't have may mend it
 abbrev pub gap_text : Bool → List ℕ
-gap_text over =
-    if over then codes "; its certificate is incomplete"
+gap_text decided =
+    if decided then codes "; its certificate is incomplete"
     else codes "; its certificate is incomplete, or the log ends within the run"
 
 -- the certificate, by the findings about its parts, if the log has the run's beginning
 abbrev pub begun_text : RunHead → Bool → RunFinding → Option KnownFinding → List ℕ
-begun_text head over f names = if is_complete f then sound_text head.kind names else gap_text over
+begun_text head decided f names = if is_complete f then sound_text head.kind names else gap_text decided
 
 -- the certificate; or why it can't be decided
 abbrev pub certificate_text : RunHead → Bool → RunFinding → Option KnownFinding → List ℕ
-certificate_text head over f names = elim head.start [
+certificate_text head decided f names = elim head.start [
   | At number ↦
-      if number == 0 then begun_text head over f names
+      if number == 0 then begun_text head decided f names
       else codes "; its certificate can't be decided, since the log begins within the run"
   | Later ↦
       codes "; its certificate can't be decided, since the log begins within the run; exchanges count from there"
@@ -109,16 +111,21 @@ what_text head = name_text head.number ++ codes ": " ++ (kind_text head.kind ++ 
 abbrev pub outcome_text : Option (Option AgentFault) → ℕ → List ℕ
 outcome_text fault devices = end_text fault ++ codes ", " ++ count_text devices (codes " device")
 
--- what the run was, and how many exchanges and devices it had
-abbrev pub head_text : RunHead → ℕ → ℕ → List ℕ
-head_text head exchanges devices =
-    what_text head ++ count_text exchanges (codes " exchange") ++ outcome_text head.fault devices
+-- what the run was, how many exchanges it had, how it ended, if that is known, and how many devices it had
+abbrev pub head_text : RunHead → Option (Option AgentFault) → ℕ → ℕ → List ℕ
+head_text head ending exchanges devices =
+    what_text head ++ count_text exchanges (codes " exchange") ++ outcome_text ending devices
+
+-- whether gaps of the certificate are those of the run, and not only of its log: no exchange came after these, or none
+-- could mend them
+abbrev pub decides_gaps : RunHead → List Device → List Exchange → RunFinding → Option KnownFinding → Bool
+decides_gaps head reported xs f names = is_over head reported xs f || is_lost xs f names
 
 -- the first line of a run
 abbrev pub head_line : RunHead → List Device → List Exchange → RunFinding → Option KnownFinding → List ℕ
 head_line head reported xs f names =
-    line_of (head_text head (length xs) (length reported)
-    ++ certificate_text head (is_over head reported xs f) f names)
+    line_of (head_text head (end_of head reported xs f) (length xs) (length reported)
+    ++ certificate_text head (decides_gaps head reported xs f names) f names)
 
 -- a part of the certificate that fails at an exchange
 abbrev pub exchange_gap : Option ℕ → List ℕ → List ℕ
@@ -195,18 +202,27 @@ breach_after SilentMutes =
     codes " is the fifth mute of it in a row without an answer; try it alone on the line"
 breach_after GarbledMute = codes " has no acknowledgement; try it alone on the line"
 
--- whether a device followed the rules, or which it broke first, and where. `whole` says that the log has all of the
--- run, and `heard` that the device was heard in it
-abbrev pub verdict_text : Start → Bool → Bool → Option Breach → List ℕ
-verdict_text start whole heard None =
+-- a device that followed the rules. `whole` says that the log has all of the run
+abbrev pub followed_text : Bool → List ℕ
+followed_text whole =
     if whole then codes " followed the rules" else codes " followed the rules in the exchanges that the log has"
-verdict_text start whole heard (Some b) =
+
+-- until when it did, if an exchange failed: what follows is never judged
+abbrev pub until_text : Start → Option ℕ → List ℕ
+until_text start None = []
+until_text start (Some at) = codes " until exchange " ++ decimal (number_at start at) ++ codes " failed"
+
+-- whether a device followed the rules, or which it broke first, and where. `whole` says that the log has all of the
+-- run, `failure` has the first exchange that failed, if one did, and `heard` says that the device was heard in the run
+abbrev pub verdict_text : Start → Bool → Option ℕ → Bool → Option Breach → List ℕ
+verdict_text start whole failure heard None = followed_text whole ++ until_text start failure
+verdict_text start whole failure heard (Some b) =
     breach_before (whole && not heard) b.rule ++ decimal (number_at start b.at) ++ breach_after b.rule
 
 -- the line of a device
-abbrev pub device_line : Start → Bool → HeardUids → DeviceFinding → List ℕ
-device_line start whole heard f =
-    line_of (uid_text f.uid ++ verdict_text start whole (in_heard heard f.uid) f.breach)
+abbrev pub device_line : Start → Bool → Option ℕ → HeardUids → DeviceFinding → List ℕ
+device_line start whole failure heard f =
+    line_of (uid_text f.uid ++ verdict_text start whole failure (in_heard heard f.uid) f.breach)
 
 -- a range, from which bytes came
 abbrev pub range_text : ℕ → ℕ → List ℕ
@@ -216,35 +232,81 @@ range_text lo hi = codes ": bytes came from " ++ uid_text lo ++ (codes " to " ++
 abbrev pub mute_text : ℕ → List ℕ
 mute_text u = codes ": bytes came after a mute of " ++ uid_text u ++ codes ", which isn't listed"
 
--- after what bytes came, though nobody was due
-abbrev pub stray_text : Asked → List ℕ
-stray_text (Branch lo hi) = range_text lo hi ++ codes ", where no listed device was due"
-stray_text (Mute u) = mute_text u
-stray_text Unmute = codes ": bytes came after an unmute"
-stray_text Other = codes ": bytes came"
+-- after what bytes came, though nobody was due. After other frames than these, no bytes are stray
+abbrev pub place_text : Asked → List ℕ
+place_text (Branch lo hi) = range_text lo hi ++ codes ", where no listed device was due"
+place_text (Mute u) = mute_text u
+place_text _ = []
 
--- what to do about it; or why no rule needs to be broken
-abbrev pub advice_text : Bool → List ℕ
-advice_text settled =
-    if settled then codes "; look for a device that isn't listed"
-    else codes "; they may be those of a device that the log doesn't show"
+-- what the bytes read as
+abbrev pub sign_text : Sign → List ℕ
+sign_text (signs.Listed u) = codes "; they read as " ++ uid_text u ++ codes ", which should be silent there"
+sign_text (signs.Other u) = codes "; they read as " ++ uid_text u ++ codes ", which isn't listed"
+sign_text signs.Unread = []
 
--- the line of a stray exchange with this number
-abbrev pub stray_found : ℕ → Bool → Option Exchange → List ℕ
-stray_found number settled None = []
-stray_found number settled (Some e) =
-    line_of (exchange_name number ++ (stray_text e.asked ++ advice_text settled))
+-- what to do about bytes that show that a rule was broken
+abbrev pub remedy_text : Sign → List ℕ
+remedy_text (signs.Listed u) = codes ": try it alone on the line"
+remedy_text (signs.Other u) = codes ": name it by --present, if it is there"
+remedy_text signs.Unread =
+    codes "; a rule was broken: look for a device that isn't listed, or one that should be silent there"
+
+-- the same, or why no rule needs to be broken, if it isn't decided that one was
+abbrev pub advice_text : Bool → Sign → List ℕ
+advice_text decided sign =
+    if decided then remedy_text sign else codes "; they may be those of a device that the log doesn't show"
+
+-- about stray bytes that came after this
+abbrev pub stray_text : Bool → Asked → Sign → List ℕ
+stray_text decided asked sign = place_text asked ++ sign_text sign ++ advice_text decided sign
+
+-- the line of a stray exchange with this number. `us` are the listed devices
+abbrev pub stray_found : ℕ → List ℕ → Bool → Option Exchange → List ℕ
+stray_found number us decided None = []
+stray_found number us decided (Some e) =
+    line_of (exchange_name number ++ stray_text decided e.asked (sign_of us e.asked e.heard))
 
 -- the line of the first stray exchange, if there is one
-abbrev pub stray_line : Start → Bool → List Exchange → Option ℕ → List ℕ
-stray_line start settled xs None = []
-stray_line start settled xs (Some at) = stray_found (number_at start at) settled (slice_get xs at)
+abbrev pub stray_line : Start → List ℕ → Bool → List Exchange → Option ℕ → List ℕ
+stray_line start us decided xs None = []
+stray_line start us decided xs (Some at) = stray_found (number_at start at) us decided (slice_get xs at)
+
+-- the first stray exchange, unless it is also the first that no device explains
+abbrev pub unless_garbled : Option ℕ → Option ℕ → Option ℕ
+unless_garbled None stray = stray
+unless_garbled (Some garbled) None = None
+unless_garbled (Some garbled) (Some at) = if at == garbled then None else Some at
+
+-- what to do about bytes that no honest line allows, whichever devices are on it
+abbrev pub alone_text : List ℕ
+alone_text = codes "; a rule was broken: try the device alone on the line"
+
+-- the same after a branch of one UID alone. Another device may have sent its own UID
+abbrev pub reply_text : Heard → List ℕ
+reply_text (One v) =
+    if is_broadcast v then alone_text
+    else codes "; they read as " ++ uid_text v ++ codes "; a rule was broken: try that one alone on the line"
+reply_text _ = alone_text
+
+-- about bytes that came after a branch of one UID alone and aren't its text, or after a mute and don't acknowledge it
+abbrev pub garbled_text : Asked → Heard → List ℕ
+garbled_text (Branch lo hi) heard =
+    codes ": bytes came from " ++ uid_text lo ++ (codes " alone that aren't its text" ++ reply_text heard)
+garbled_text (Mute u) heard =
+    codes ": bytes came after a mute of " ++ uid_text u ++ (codes " that don't acknowledge it" ++ alone_text)
+garbled_text _ heard = []
+
+-- the line of such an exchange with this number
+abbrev pub garbled_found : ℕ → Option Exchange → List ℕ
+garbled_found number None = []
+garbled_found number (Some e) = line_of (exchange_name number ++ garbled_text e.asked e.heard)
+
+-- the line of the first such exchange, if there is one
+abbrev pub garbled_line : Start → List Exchange → Option ℕ → List ℕ
+garbled_line start xs None = []
+garbled_line start xs (Some at) = garbled_found (number_at start at) (slice_get xs at)
 
 -- whether a device broke a rule
 abbrev pub any_broke : List DeviceFinding → Bool
 any_broke [] = false
 any_broke (f ∷ fs) = is_some f.breach || any_broke fs
-
--- whether any finding is that a rule was broken
-abbrev pub is_broken : List DeviceFinding → Bool → Option ℕ → Bool
-is_broken found settled stray = any_broke found || (is_some stray && settled)

@@ -3,6 +3,7 @@ pub mod Starts
 pub mod Asked
 pub mod Ends
 pub mod HeardUids
+pub mod StrayBytes
 pub mod FindingText
 pub mod Explained
 pub mod Runs

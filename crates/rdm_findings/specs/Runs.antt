@@ -1,6 +1,6 @@
 -- The runs that a log's lines have.
 use Rattle.std.specs.Prelude.{ℕ, ◌+◌, Bool, true, false, ◌&&◌, ◌||◌, not, ◌==◌, List, [], ◌∷◌, ◌++◌, Option, Some, None}
-use Rattle.std.specs.Prelude.{fold, length, if◌then◌else◌}
+use Rattle.std.specs.Prelude.{fold, length, is_some, nat_le, if◌then◌else◌}
 use Rattle.arrayvec.specs.ArrayVec.{ArrayVec}
 use Rattle.rdm_wire.specs.Devices.{uids_of}
 use Rattle.rdm_wire.specs.Honest.{Seen}
@@ -20,7 +20,8 @@ use Rattle.rdm_findings.specs.declared.head.Start.{Start}
 use Rattle.rdm_findings.specs.declared.head.Start.TheVariants.{At, Later, Unknown}
 use Rattle.rdm_findings.specs.declared.line.LogLine.{LogLine}
 use Rattle.rdm_findings.specs.declared.line.LogLine.TheVariants.{Discovery, Session, Entered, Exchanged}
-use Rattle.rdm_findings.specs.Asked.{no_asks, asks_from, start_of, kind_of_run, after_ask, after_answer, after_run}
+use Rattle.rdm_findings.specs.Asked.{no_asks, asks_from, is_answered, start_of, kind_of_run, after_ask, after_answer}
+use Rattle.rdm_findings.specs.Asked.{after_run}
 use Rattle.rdm_findings.specs.Starts.{has_start}
 
 -- what the log has of a run: what is known of it, the UIDs that were known before it, if the log has them, and its
@@ -71,14 +72,29 @@ abbrev pub is_number : ℕ → Option ℕ → Bool
 is_number r None = false
 is_number r (Some n) = r == n
 
--- whether the run of a session with this number is in progress
+-- whether the run of a session with this number is in progress: its end isn't known
 abbrev pub is_in_progress : ℕ → ReadState → Bool
-is_in_progress r s = s.has_run && is_number r s.run.head.number
+is_in_progress r s = (s.has_run && is_number r s.run.head.number) && not (is_some s.run.head.fault)
+
+-- whether this isn't above the number
+abbrev pub is_not_above : ℕ → Option ℕ → Bool
+is_not_above r None = false
+is_not_above r (Some n) = nat_le r n
+
+-- whether a run with this number that begins now is another session's: each run of a session has a higher number than
+-- those before it
+abbrev pub is_anothers : ℕ → ReadState → Bool
+is_anothers r s = s.has_run && is_not_above r s.run.head.number
 
 -- whether the run in progress, if there is one, ended before this entry: another run begins
 abbrev pub begins_run : Entry → ReadState → Bool
 begins_run (entries.Send (owners.Run r) frame) s = not (is_in_progress r s)
 begins_run _ s = false
+
+-- whether this entry begins the log of another session, without an opening: it asks for a discovery that was answered
+abbrev pub begins_log : Entry → ReadState → Bool
+begins_log (entries.Ask client number kind) s = is_answered number s.asks.answered
+begins_log _ s = false
 
 -- whether this is the number of a discovery's next exchange, after so many of which the first has this number
 abbrev pub is_next : ℕ → ℕ → Start → Bool
@@ -95,7 +111,7 @@ continues number s =
 abbrev pub begins : LogLine → ReadState → Bool
 begins (Discovery o) s = true
 begins (Session o) s = true
-begins (Entered entry) s = not s.is_session || begins_run entry s
+begins (Entered entry) s = (not s.is_session || begins_log entry s) || begins_run entry s
 begins (Exchanged number frame event) s = not (continues number s)
 
 -- the run that ended
@@ -116,6 +132,7 @@ known_by run (Some (Some fault)) = run.known
 abbrev pub known_after : ReadState → Option (List ℕ)
 known_after s = if s.has_run then known_by s.run s.run.head.fault else s.run.known
 
+-- with these known UIDs
 abbrev pub with_known : Option (List ℕ) → ReadState → ReadState
 with_known known s = record s { run = record s.run { known = known } }
 
@@ -156,11 +173,27 @@ after_event (Some frame) event s = with_exchange frame event s
 abbrev pub with_end : Option AgentFault → ReadState → ReadState
 with_end fault s = record s { run = record s.run { head = record s.run.head { fault = Some fault } } }
 
+-- whether a run that ended like this, and of which the log has no frame, replaced the known UIDs
+abbrev pub replaces_known : Option AgentFault → ReadState → Bool
+replaces_known fault s = not s.has_run && not (is_some fault)
+
+-- a run ended that isn't the one in progress. If it replaced the known UIDs, the log doesn't have the new ones
+abbrev pub with_other_end : Option AgentFault → ReadState → ReadState
+with_other_end fault s = if replaces_known fault s then with_known None s else s
+
+-- after the end of a run
+abbrev pub after_end : ℕ → Option AgentFault → ReadState → ReadState
+after_end r fault s = if is_in_progress r s then with_end fault s else with_other_end fault s
+
+-- a run of a session begins, or that of another one, of which nothing else is known
+abbrev pub begun_by : ℕ → ReadState → ReadState
+begun_by r s = begun r (if is_anothers r s then unopened true else s)
+
 -- after a frame of this owner
 abbrev pub after_send : Owner → ArrayVec ℕ → ReadState → ReadState
 after_send (owners.Request n) frame s = record s { sent = None }
 after_send (owners.Run r) frame s =
-    record (if is_in_progress r s then s else begun r s) { sent = Some frame }
+    record (if is_in_progress r s then s else begun_by r s) { sent = Some frame }
 
 -- with what the log shows of discoveries
 abbrev pub with_asks : Asks → ReadState → ReadState
@@ -172,7 +205,7 @@ after_entry (entries.Send owner frame) s = after_send owner frame s
 after_entry (entries.Came event) s = after_event s.sent event s
 after_entry (entries.Ask client number kind) s = with_asks (after_ask number kind s.asks) s
 after_entry (entries.Answer number r fault) s =
-    with_asks (after_answer number s.asks) (if is_in_progress r s then with_end fault s else s)
+    with_asks (after_answer number s.asks) (after_end r fault s)
 after_entry _ s = s
 
 -- after a line
@@ -182,7 +215,8 @@ after_line (Discovery o) s =
 after_line (Session o) s =
     awaiting true None (Some o.value.search) (Some (uids_of o.value.opening.devices))
     (asks_from o.value.opening.next_ask o.value.opening.next_run)
-after_line (Entered entry) s = after_entry entry (if s.is_session then s else unopened true)
+after_line (Entered entry) s =
+    after_entry entry (if not s.is_session || begins_log entry s then unopened true else s)
 after_line (Exchanged number frame event) s =
     with_exchange frame event (if continues number s then s else discovered number s)
 

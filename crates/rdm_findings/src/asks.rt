@@ -44,8 +44,8 @@ impl Asks {
         }
     }
 
-    // Whether a discovery was answered: they are answered in the order of their numbers.
-    fn is_answered(self, number: u64) -> bool
+    /// Whether a discovery was answered: they are answered in the order of their numbers.
+    pub(crate) fn is_answered(self, number: u64) -> bool
         ensures { result ≡ is_answered number self.answered }
     {
         match self.answered {

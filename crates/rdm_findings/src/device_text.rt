@@ -1,31 +1,29 @@
-//! What is printed about devices and about stray bytes.
-ghost use Rattle.std.specs.Prelude.{◌≡◌, ◌++◌, ◌∷◌, [], OnOk, codes, flat_map};
-ghost use Rattle.rdm_wire.specs.UidText.{uid_text};
-ghost use Rattle.rdm_reports.specs.Report.{line_of};
-ghost use Rattle.rdm_findings.specs.FindingText.{breach_before, breach_after, verdict_text, device_line};
-ghost use Rattle.rdm_findings.specs.FindingText.{exchange_name, range_text, mute_text, stray_text, advice_text};
-ghost use Rattle.rdm_findings.specs.FindingText.{stray_line};
+//! What is printed about devices.
+ghost use Rattle.std.specs.Prelude.{◌≡◌, ◌++◌, ◌∷◌, [], OnOk, codes, decimal, flat_map};
+ghost use Rattle.rdm_findings.specs.FindingText.{breach_before, breach_after, followed_text, until_text};
+ghost use Rattle.rdm_findings.specs.FindingText.{verdict_text, device_line};
 
 use crate::head::Start;
 use crate::heard::HeardUids;
-use crate::writing::{write, write_exchange, write_number, write_uid};
-use rdm_explain::{Asked, Breach, DeviceFinding, Exchange, Rule};
-use rdm_wire::Uid;
+use crate::writing::{write, write_number, write_uid};
+use rdm_explain::{Breach, DeviceFinding, Rule};
 use std::alloc::AllocError;
 
-/// Writes a line for each device. `whole` says that the log has all of the run.
+/// Writes a line for each device. `whole` says that the log has all of the run, and `failure` is the first exchange
+/// that failed, if one did.
 pub(crate) fn write_devices(
     text: &mut Vec<u8>,
     start: Start,
     whole: bool,
+    failure: Option<usize>,
     heard: &HeardUids,
     found: &[DeviceFinding],
 ) -> Result<(), AllocError>
     ensures { OnOk result (text.new.items ≡ text.old.items
-        ++ flat_map (device_line start whole heard.now) found.now) }
+        ++ flat_map (device_line start whole failure heard.now) found.now) }
 {
     'devices: for device in found {
-        write_device(text, start, whole, heard, device)?;
+        write_device(text, start, whole, failure, heard, device)?;
     }
     Ok(())
 }
@@ -34,13 +32,15 @@ fn write_device(
     text: &mut Vec<u8>,
     start: Start,
     whole: bool,
+    failure: Option<usize>,
     heard: &HeardUids,
     found: &DeviceFinding,
 ) -> Result<(), AllocError>
-    ensures { OnOk result (text.new.items ≡ text.old.items ++ device_line start whole heard.now found.now) }
+    ensures { OnOk result (text.new.items ≡ text.old.items ++ device_line start whole failure heard.now found.now) }
 {
+    let was_heard = heard.contains(found.uid);
     write_uid(text, found.uid)?;
-    write_verdict(text, start, whole, heard.contains(found.uid), found.breach)?;
+    write_verdict(text, start, whole, failure, was_heard, found.breach)?;
     text.extend_from_slice(b"\n")
 }
 
@@ -48,13 +48,17 @@ fn write_verdict(
     text: &mut Vec<u8>,
     start: Start,
     whole: bool,
+    failure: Option<usize>,
     heard: bool,
     breach: Option<Breach>,
 ) -> Result<(), AllocError>
-    ensures { OnOk result (text.new.items ≡ text.old.items ++ verdict_text start whole heard breach) }
+    ensures { OnOk result (text.new.items ≡ text.old.items ++ verdict_text start whole failure heard breach) }
 {
     match breach {
-        None => write(text, if whole { FOLLOWED } else { FOLLOWED_HERE }),
+        None => {
+            write(text, followed_text(whole))?;
+            write_until(text, start, failure)
+        }
         Some(breach) => {
             write(text, breach_before(whole && !heard, breach.rule))?;
             write_number(text, start.number(breach.at))?;
@@ -63,9 +67,34 @@ fn write_verdict(
     }
 }
 
-const FOLLOWED: &str = " followed the rules";
+fn followed_text(whole: bool) -> &'static str
+    ensures { result.now ≡ followed_text whole }
+{
+    if whole {
+        " followed the rules"
+    } else {
+        " followed the rules in the exchanges that the log has"
+    }
+}
 
-const FOLLOWED_HERE: &str = " followed the rules in the exchanges that the log has";
+// Until when a device followed the rules, if an exchange failed.
+fn write_until(text: &mut Vec<u8>, start: Start, failure: Option<usize>) -> Result<(), AllocError>
+    ensures { OnOk result (text.new.items ≡ text.old.items ++ until_text start failure) }
+{
+    match failure {
+        None => Ok(()),
+        Some(at) => write_until_failure(text, start.number(at)),
+    }
+}
+
+fn write_until_failure(text: &mut Vec<u8>, number: u64) -> Result<(), AllocError>
+    ensures { OnOk result (text.new.items ≡ text.old.items
+        ++ (codes " until exchange " ++ decimal number ++ codes " failed")) }
+{
+    write(text, " until exchange ")?;
+    write_number(text, number)?;
+    write(text, " failed")
+}
 
 fn breach_before(never: bool, rule: Rule) -> &'static str
     ensures { result.now ≡ breach_before never rule }
@@ -95,92 +124,4 @@ fn breach_after(rule: Rule) -> &'static str
         }
         Rule::GarbledMute => " has no acknowledgement; try it alone on the line",
     }
-}
-
-/// Writes the line of a stray exchange, if there is one. `settled` says that it shows that a rule was broken.
-pub(crate) fn write_stray(
-    text: &mut Vec<u8>,
-    start: Start,
-    settled: bool,
-    exchanges: &[Exchange],
-    stray: Option<usize>,
-) -> Result<(), AllocError>
-    ensures { OnOk result (text.new.items ≡ text.old.items ++ stray_line start settled exchanges.now stray) }
-{
-    let Some(at) = stray else {
-        return Ok(());
-    };
-    match exchanges.get(at) {
-        Some(exchange) => write_stray_line(text, start.number(at), settled, &exchange.asked),
-        None => Ok(()),
-    }
-}
-
-fn write_stray_line(
-    text: &mut Vec<u8>,
-    number: u64,
-    settled: bool,
-    asked: &Asked,
-) -> Result<(), AllocError>
-    ensures { OnOk result (text.new.items ≡ text.old.items
-        ++ line_of (exchange_name number ++ (stray_text asked.now ++ advice_text settled))) }
-{
-    write_exchange(text, number)?;
-    write_reason(text, settled, asked)?;
-    text.extend_from_slice(b"\n")
-}
-
-// After what the bytes came, and what to do about it.
-fn write_reason(text: &mut Vec<u8>, settled: bool, asked: &Asked) -> Result<(), AllocError>
-    ensures { OnOk result (text.new.items ≡ text.old.items ++ (stray_text asked.now ++ advice_text settled)) }
-{
-    write_asked(text, asked)?;
-    write(text, advice_text(settled))
-}
-
-fn advice_text(settled: bool) -> &'static str
-    ensures { result.now ≡ advice_text settled }
-{
-    if settled {
-        "; look for a device that isn't listed"
-    } else {
-        "; they may be those of a device that the log doesn't show"
-    }
-}
-
-fn write_asked(text: &mut Vec<u8>, asked: &Asked) -> Result<(), AllocError>
-    ensures { OnOk result (text.new.items ≡ text.old.items ++ stray_text asked.now) }
-{
-    match asked {
-        Asked::Branch { lo, hi } => {
-            write_range(text, *lo, *hi)?;
-            write(text, ", where no listed device was due")
-        }
-        Asked::Mute(uid) => write_mute(text, *uid),
-        Asked::Unmute => write(text, ": bytes came after an unmute"),
-        Asked::Other => write(text, ": bytes came"),
-    }
-}
-
-fn write_mute(text: &mut Vec<u8>, uid: Uid) -> Result<(), AllocError>
-    ensures { OnOk result (text.new.items ≡ text.old.items ++ mute_text uid) }
-{
-    write(text, ": bytes came after a mute of ")?;
-    write_uid(text, uid)?;
-    write(text, ", which isn't listed")
-}
-
-fn write_range(text: &mut Vec<u8>, lo: Uid, hi: Uid) -> Result<(), AllocError>
-    ensures { OnOk result (text.new.items ≡ text.old.items ++ range_text lo hi) }
-{
-    write(text, ": bytes came from ")?;
-    write_uid(text, lo)?;
-    write_to(text, hi)
-}
-
-fn write_to(text: &mut Vec<u8>, hi: Uid) -> Result<(), AllocError>
-    ensures { OnOk result (text.new.items ≡ text.old.items ++ (codes " to " ++ uid_text hi)) }
-{
-    write(text, " to ")?;
-    write_uid(text, hi)
 }

@@ -1,15 +1,21 @@
-//! Whether the log of a run shows that the run is over, and whether it was sure to have found each device.
-ghost use Rattle.std.specs.Prelude.{◌≡◌, ℕ};
+//! Whether the log of a run shows that the run is over, how it ended, and whether it found each device.
+ghost use Rattle.std.specs.Prelude.{◌≡◌, ℕ, Some, None, if◌then◌else◌};
 ghost use Rattle.rdm_wire.specs.Devices.{uids_of};
-ghost use Rattle.rdm_findings.specs.Ends.{is_complete, shows_new, is_new_alone, is_wrong_alone, has_new_alone};
-ghost use Rattle.rdm_findings.specs.Ends.{has_wrong_alone, from_end, ends_corrupt, is_settled, is_over, is_whole};
-ghost use Rattle.rdm_findings.specs.Ends.{decides_stray, has_bytes, is_own};
+ghost use Rattle.rdm_explain.specs.Exchanges.{seen_of};
+ghost use Rattle.rdm_agent.specs.Run.{is_branch};
+ghost use Rattle.std.specs.List.{list_all};
+ghost use Rattle.rdm_findings.specs.Ends.{is_complete, is_known_complete, shows_new, new_alone, wrong_alone};
+ghost use Rattle.rdm_findings.specs.Ends.{new_alone_in, wrong_alone_in, from_end, last_of, is_silent_mute};
+ghost use Rattle.rdm_findings.specs.Ends.{is_unanswered, if_never_muted, corrupt_uid, corrupt_end, as_corrupt};
+ghost use Rattle.rdm_findings.specs.Ends.{shown_end, end_of, shows_end, is_over, is_whole, decides_stray, has_bytes};
+ghost use Rattle.rdm_findings.specs.Ends.{is_own, lacks_unmute, has_branch, loses_names, is_lost};
 
 use crate::head::RunHead;
-use rdm_explain::{Asked, Exchange, Heard, RunFinding};
+use rdm_agent::AgentFault;
+use rdm_explain::{Asked, Exchange, Heard, KnownFinding, RunFinding};
 use rdm_wire::{DeviceSet, Uid};
 
-/// Whether no part of a certificate fails.
+/// Whether no part of a certificate fails, but those that depend on known UIDs.
 pub(crate) fn is_complete(found: &RunFinding) -> bool
     ensures { result ≡ is_complete found.now }
 {
@@ -21,6 +27,54 @@ pub(crate) fn is_complete(found: &RunFinding) -> bool
         && found.other_data.is_none()
 }
 
+/// Whether none of those fails.
+pub(crate) fn is_known_complete(found: &KnownFinding) -> bool
+    ensures { result ≡ is_known_complete found.now }
+{
+    found.not_muted_first.is_none() && found.unread.is_none()
+}
+
+/// How the run ended, if the log says it, or its exchanges show it.
+pub(crate) fn end_of(
+    head: &RunHead,
+    reported: &DeviceSet,
+    exchanges: &[Exchange],
+    found: &RunFinding,
+) -> Option<Option<AgentFault>>
+    ensures { result ≡ end_of head.now reported.now exchanges.now found.now }
+{
+    match head.fault {
+        Some(fault) => Some(fault),
+        None => shown_end(head, reported, exchanges, found),
+    }
+}
+
+// How a run ended that the log has from its beginning, if its exchanges show it.
+fn shown_end(
+    head: &RunHead,
+    reported: &DeviceSet,
+    exchanges: &[Exchange],
+    found: &RunFinding,
+) -> Option<Option<AgentFault>>
+    ensures { result ≡ shown_end head.now reported.now exchanges.now found.now }
+{
+    if head.start.is_first() {
+        as_corrupt(corrupt_end(reported, exchanges, found))
+    } else {
+        None
+    }
+}
+
+// The end as Corrupt with this UID.
+fn as_corrupt(uid: Option<Uid>) -> Option<Option<AgentFault>>
+    ensures { result ≡ as_corrupt uid }
+{
+    match uid {
+        Some(uid) => Some(Some(AgentFault::Corrupt(uid))),
+        None => None,
+    }
+}
+
 /// Whether the run is over: the log says how it ended, or its exchanges show that nothing came after them.
 pub(crate) fn is_over(
     head: &RunHead,
@@ -30,7 +84,7 @@ pub(crate) fn is_over(
 ) -> bool
     ensures { result ≡ is_over head.now reported.now exchanges.now found.now }
 {
-    (head.fault.is_some() || found.failure.is_some()) || is_settled(reported, exchanges, found)
+    (head.fault.is_some() || found.failure.is_some()) || shows_end(reported, exchanges, found)
 }
 
 /// Whether the log has all of the run.
@@ -45,31 +99,134 @@ pub(crate) fn is_whole(
     head.start.is_first() && is_over(head, reported, exchanges, found)
 }
 
-/// Whether stray bytes show that a rule was broken: the log has the run's beginning, and the run found all devices or
-/// ended as Corrupt.
-pub(crate) fn decides_stray(
-    head: &RunHead,
-    reported: &DeviceSet,
+// Whether its exchanges show that nothing came after them.
+fn shows_end(reported: &DeviceSet, exchanges: &[Exchange], found: &RunFinding) -> bool
+    ensures { result ≡ shows_end reported.now exchanges.now found.now }
+{
+    is_complete(found) || corrupt_end(reported, exchanges, found).is_some()
+}
+
+/// Whether stray bytes show that a rule was broken: the log has the run's beginning, and the run found all devices that
+/// followed the rules.
+pub(crate) fn decides_stray(head: &RunHead, found: &RunFinding) -> bool
+    ensures { result ≡ decides_stray head.now found.now }
+{
+    head.start.is_first() && is_complete(found)
+}
+
+/// Whether a part of the certificate fails that later exchanges can't mend.
+pub(crate) fn is_lost(
     exchanges: &[Exchange],
     found: &RunFinding,
+    names: &Option<KnownFinding>,
 ) -> bool
-    ensures { result ≡ decides_stray head.now reported.now exchanges.now found.now }
+    ensures { result ≡ is_lost exchanges.now found.now names.now }
 {
-    head.start.is_first() && is_settled(reported, exchanges, found)
+    lacks_unmute(exchanges.len(), found.missing_unmute)
+        || found.failure.is_some()
+        || found.misreported.is_some()
+        || found.other_data.is_some()
+        || loses_names(exchanges, names)
 }
 
-// Whether the run found all devices that followed the rules, or ended as Corrupt.
-fn is_settled(reported: &DeviceSet, exchanges: &[Exchange], found: &RunFinding) -> bool
-    ensures { result ≡ is_settled reported.now exchanges.now found.now }
+// Whether one of so many exchanges is in the place of the unmute that is missing.
+fn lacks_unmute(many: usize, missing: Option<usize>) -> bool
+    ensures { result ≡ lacks_unmute many missing }
 {
-    is_complete(found) || (!found.failure.is_some() && ends_corrupt(reported, exchanges))
+    match missing {
+        Some(at) => at < many,
+        None => false,
+    }
 }
 
-// Whether the run ended as Corrupt, if these are the devices that it found.
-fn ends_corrupt(found: &DeviceSet, exchanges: &[Exchange]) -> bool
-    ensures { result ≡ ends_corrupt (uids_of found.now) exchanges.now }
+// Whether a part fails that depends on known UIDs, and that later exchanges can't mend.
+fn loses_names(exchanges: &[Exchange], names: &Option<KnownFinding>) -> bool
+    ensures { result ≡ loses_names exchanges.now names.now }
 {
-    has_wrong_alone(found, from_end(1, exchanges)) || has_new_alone(found, from_end(6, exchanges))
+    match names {
+        Some(names) => {
+            names.unread.is_some() || (names.not_muted_first.is_some() && has_branch(exchanges))
+        }
+        None => false,
+    }
+}
+
+fn has_branch(exchanges: &[Exchange]) -> bool
+    ensures { result ≡ has_branch exchanges.now }
+{
+    for exchange in exchanges {
+        if is_branch(exchange) {
+            return true;
+        }
+    }
+    false
+}
+
+fn is_branch(exchange: &Exchange) -> bool
+    ensures { result ≡ is_branch (seen_of exchange.now) }
+{
+    matches!(exchange.asked, Asked::Branch { .. })
+}
+
+// The UID with which the run ended as Corrupt, if its exchanges show that, and these are the devices that it found.
+fn corrupt_end(reported: &DeviceSet, exchanges: &[Exchange], found: &RunFinding) -> Option<Uid>
+    ensures { result ≡ corrupt_end reported.now exchanges.now found.now }
+{
+    if found.missing_unmute.is_some() || found.failure.is_some() {
+        None
+    } else {
+        corrupt_uid(reported, exchanges)
+    }
+}
+
+// The same, if the run begins by its unmutes, and no exchange failed.
+fn corrupt_uid(found: &DeviceSet, exchanges: &[Exchange]) -> Option<Uid>
+    ensures { result ≡ corrupt_uid (uids_of found.now) exchanges.now }
+{
+    match wrong_alone_in(found, from_end(1, exchanges)) {
+        Some(uid) => Some(uid),
+        None => never_muted(found, exchanges),
+    }
+}
+
+// The UID that a branch of it alone showed, and that then didn't answer five mutes, which come last.
+fn never_muted(found: &DeviceSet, exchanges: &[Exchange]) -> Option<Uid>
+    ensures { result
+        ≡ if_never_muted (last_of 5 exchanges.now) (new_alone_in (uids_of found.now) (from_end 6 exchanges.now)) }
+{
+    match new_alone_in(found, from_end(6, exchanges)) {
+        Some(uid) => uid_if(are_silent_mutes(uid, last_of(5, exchanges)), uid),
+        None => None,
+    }
+}
+
+// The last exchanges, at most so many.
+fn last_of(many: usize, exchanges: &[Exchange]) -> &[Exchange]
+    ensures { result.now ≡ last_of many exchanges.now }
+{
+    &exchanges[exchanges.len().saturating_sub(many)..]
+}
+
+// Whether each exchange is a silent mute of this UID.
+fn are_silent_mutes(uid: Uid, exchanges: &[Exchange]) -> bool
+    ensures { result ≡ list_all (is_silent_mute uid) exchanges.now }
+{
+    for exchange in exchanges {
+        if !is_unanswered(uid, exchange.asked, &exchange.heard) {
+            return false;
+        }
+    }
+    true
+}
+
+// Whether this is the mute of a UID, and no byte came.
+fn is_unanswered(uid: Uid, asked: Asked, heard: &Heard) -> bool
+    ensures { result ≡ is_unanswered uid asked heard.now }
+{
+    match asked {
+        Asked::Mute(muted) => heard.is_silent() && muted == uid,
+        _ => false,
+    }
 }
 
 // The exchange at this place from the end; the last one has 1.
@@ -82,44 +239,52 @@ fn from_end(place: usize, exchanges: &[Exchange]) -> Option<Exchange>
     exchanges.get(exchanges.len() - place).copied()
 }
 
-fn has_wrong_alone(found: &DeviceSet, exchange: Option<Exchange>) -> bool
-    ensures { result ≡ has_wrong_alone (uids_of found.now) exchange }
+fn wrong_alone_in(found: &DeviceSet, exchange: Option<Exchange>) -> Option<Uid>
+    ensures { result ≡ wrong_alone_in (uids_of found.now) exchange }
 {
     match exchange {
-        Some(exchange) => is_wrong_alone(found, exchange.asked, &exchange.heard),
-        None => false,
+        Some(exchange) => wrong_alone(found, exchange.asked, &exchange.heard),
+        None => None,
     }
 }
 
-// Whether a branch of one UID was answered, but showed no device that wasn't found.
-fn is_wrong_alone(found: &DeviceSet, asked: Asked, heard: &Heard) -> bool
-    ensures { result ≡ is_wrong_alone (uids_of found.now) asked heard.now }
+// The UID of a branch of one UID that was answered, but showed no device that wasn't found.
+fn wrong_alone(found: &DeviceSet, asked: Asked, heard: &Heard) -> Option<Uid>
+    ensures { result ≡ wrong_alone (uids_of found.now) asked heard.now }
 {
     match asked {
-        Asked::Branch { lo, hi } => {
-            lo == hi && (has_bytes(heard) && !shows_new(found, lo, heard))
-        }
-        _ => false,
+        Asked::Branch { lo, hi } => uid_if(
+            lo == hi && (has_bytes(heard) && !shows_new(found, lo, heard)),
+            lo,
+        ),
+        _ => None,
     }
 }
 
-fn has_new_alone(found: &DeviceSet, exchange: Option<Exchange>) -> bool
-    ensures { result ≡ has_new_alone (uids_of found.now) exchange }
+fn new_alone_in(found: &DeviceSet, exchange: Option<Exchange>) -> Option<Uid>
+    ensures { result ≡ new_alone_in (uids_of found.now) exchange }
 {
     match exchange {
-        Some(exchange) => is_new_alone(found, exchange.asked, &exchange.heard),
-        None => false,
+        Some(exchange) => new_alone(found, exchange.asked, &exchange.heard),
+        None => None,
     }
 }
 
-// Whether a branch of one UID showed a device that wasn't found.
-fn is_new_alone(found: &DeviceSet, asked: Asked, heard: &Heard) -> bool
-    ensures { result ≡ is_new_alone (uids_of found.now) asked heard.now }
+// The UID of a branch of one UID that showed a device that wasn't found.
+fn new_alone(found: &DeviceSet, asked: Asked, heard: &Heard) -> Option<Uid>
+    ensures { result ≡ new_alone (uids_of found.now) asked heard.now }
 {
     match asked {
-        Asked::Branch { lo, hi } => lo == hi && shows_new(found, lo, heard),
-        _ => false,
+        Asked::Branch { lo, hi } => uid_if(lo == hi && shows_new(found, lo, heard), lo),
+        _ => None,
     }
+}
+
+// The UID, if the fact holds.
+fn uid_if(fact: bool, uid: Uid) -> Option<Uid>
+    ensures { result ≡ (if fact then Some uid else None) }
+{
+    if fact { Some(uid) } else { None }
 }
 
 fn shows_new(found: &DeviceSet, uid: Uid, heard: &Heard) -> bool

@@ -1,20 +1,25 @@
 //! The findings about a run, and their text.
-ghost use Rattle.std.specs.Prelude.{◌≡◌, IfOk, option_copied};
+ghost use Rattle.std.specs.Prelude.{◌≡◌, ◌++◌, IfOk, OnOk, flat_map, option_copied};
+ghost use Rattle.rdm_wire.specs.Uid.{has};
 ghost use Rattle.rdm_wire.specs.Devices.{uids_of};
-ghost use Rattle.rdm_findings.specs.FindingText.{any_broke, is_broken};
+ghost use Rattle.rdm_findings.specs.FindingText.{any_broke, device_line, stray_line, garbled_line, unless_garbled};
+ghost use Rattle.rdm_explain.specs.Rules.{uids_of_findings};
+ghost use Rattle.rdm_findings.specs.Ends.{decides_stray};
 ghost use Rattle.rdm_findings.specs.Explained.{listed, first_of, ExplainsNames, Finds, findings_text, IsExplained};
-ghost use Rattle.rdm_findings.specs.Explained.{shows_all, strays_count};
+ghost use Rattle.rdm_findings.specs.Explained.{shows_all, is_broken};
 
-use crate::device_text::{write_devices, write_stray};
+use crate::device_text::write_devices;
 use crate::ending::{decides_stray, is_whole};
 use crate::gap_text::write_run_gaps;
+use crate::garbled_text::write_garbled;
 use crate::head::RunHead;
 use crate::head_text::write_head;
 use crate::heard::{HeardUids, heard_uids};
+use crate::stray_text::write_stray;
 use rdm_agent::Kind;
 use rdm_explain::{
     DeviceFinding, Exchange, KnownFinding, RunFinding, acknowledged_devices, explain_known,
-    explain_run, first_breaches, first_stray,
+    explain_run, first_breaches, first_garbled, first_stray,
 };
 use rdm_wire::{DeviceSet, NoMemory, Uid};
 use std::alloc::{AllocError, Global};
@@ -24,8 +29,9 @@ use std::alloc::{AllocError, Global};
 pub struct Explained {
     /// The lines.
     pub text: Vec<u8>,
-    /// Whether a rule was broken. That bytes came though no listed device was due counts only if the run found all
-    /// devices, or ended as Corrupt: else they may be those of one that it hadn't found yet.
+    /// Whether a rule was broken. That bytes came though no device was due counts only if the log has the run from its
+    /// beginning and the run found all devices: else they may be those of one that it hadn't found yet. Bytes that no
+    /// honest line allows always count.
     pub is_broken: bool,
 }
 
@@ -37,29 +43,34 @@ struct Findings {
     names: Option<KnownFinding>,
     devices: Vec<DeviceFinding>,
     stray: Option<usize>,
+    garbled: Option<usize>,
     heard: HeardUids,
 }
 
-/// What the exchanges of a run show, a finding a line: whether they certify the devices whose mutes were acknowledged,
-/// whether each of these and each of the list `present` followed the rules, and where bytes came first though none of
-/// them was due. `known` has the UIDs that were known before the run, if the log has them; a full run needs none. The
-/// only error: out of memory.
+/// What the exchanges of a run show, a finding a line:
+/// - whether they certify the devices whose mutes were acknowledged;
+/// - whether each of these, and each of the list `present`, followed the rules;
+/// - where bytes came first though none of these was due, and none of `passing`, which come or leave;
+/// - where bytes came first that no honest line allows, whichever devices are on it.
+///
+/// `known` has the UIDs that were known before the run, if the log has them; a full run needs none. The only error: out
+/// of memory.
 pub fn explain(
     alloc: Global,
     head: &RunHead,
     known: Option<&[Uid]>,
     present: &[Uid],
+    passing: &[Uid],
     exchanges: &[Exchange],
 ) -> Result<Explained, NoMemory>
-    ensures { IfOk result (λ e. IsExplained head.now (option_copied known.entry) present.now exchanges.now e.text.items
-        e.is_broken) }
+    ensures { IfOk result (λ e. IsExplained head.now (option_copied known.entry) present.now passing.now exchanges.now
+        e.text.items e.is_broken) }
 {
-    let found = find(alloc, head.kind, known, present, exchanges)?;
-    let settled = strays_count(head, exchanges, &found);
+    let found = find(alloc, head.kind, known, present, passing, exchanges)?;
     match text(alloc, head, exchanges, &found) {
         Ok(text) => Ok(Explained {
             text,
-            is_broken: is_broken(&found.devices, settled, found.stray),
+            is_broken: is_broken(head, &found),
         }),
         Err(_) => Err(NoMemory),
     }
@@ -70,19 +81,25 @@ fn find(
     kind: Option<Kind>,
     known: Option<&[Uid]>,
     present: &[Uid],
+    passing: &[Uid],
     exchanges: &[Exchange],
 ) -> Result<Findings, NoMemory>
-    ensures { IfOk result (λ found. Finds (first_of kind (option_copied known.entry)) present.now exchanges.now found) }
+    ensures { IfOk result (λ found. Finds (first_of kind (option_copied known.entry)) present.now passing.now
+        exchanges.now found) }
 {
     let reported = acknowledged_devices(exchanges);
     let Ok(uids) = listed(alloc, &reported, present) else {
+        return Err(NoMemory);
+    };
+    let Ok(due) = listed_or_passing(alloc, &uids, passing) else {
         return Err(NoMemory);
     };
     Ok(Findings {
         certificate: explain_run(alloc, &reported, exchanges)?,
         names: names(alloc, kind, known, exchanges)?,
         devices: first_breaches(alloc, &uids, exchanges)?,
-        stray: first_stray(alloc, &uids, exchanges)?,
+        stray: first_stray(alloc, &due, exchanges)?,
+        garbled: first_garbled(exchanges),
         heard: heard_uids(alloc, exchanges)?,
         reported,
     })
@@ -99,6 +116,30 @@ fn listed(alloc: Global, reported: &DeviceSet, present: &[Uid]) -> Result<Vec<Ui
         }
     }
     Ok(uids)
+}
+
+// The listed devices, and then the others of those that come or leave.
+fn listed_or_passing(alloc: Global, uids: &[Uid], passing: &[Uid]) -> Result<Vec<Uid>, AllocError>
+    ensures { IfOk result (λ v. v.items ≡ listed uids.now passing.now) }
+{
+    let mut due = Vec::from_slice(alloc, uids)?;
+    'passing: for uid in passing {
+        if !has(uids, *uid) {
+            due.push(*uid)?;
+        }
+    }
+    Ok(due)
+}
+
+fn has(uids: &[Uid], uid: Uid) -> bool
+    ensures { result ≡ has uids.now uid }
+{
+    for one in uids {
+        if uid == *one {
+            return true;
+        }
+    }
+    false
 }
 
 // The findings that depend on the known UIDs, if the log has these.
@@ -138,11 +179,75 @@ fn text(
         &found.names,
     )?;
     write_run_gaps(&mut text, head.start, &found.certificate, &found.names)?;
-    let whole = shows_all(head, exchanges, found);
-    write_devices(&mut text, head.start, whole, &found.heard, &found.devices)?;
-    let settled = strays_count(head, exchanges, found);
-    write_stray(&mut text, head.start, settled, exchanges, found.stray)?;
+    write_listed(&mut text, head, exchanges, found)?;
+    write_bytes(&mut text, head, exchanges, found)?;
     Ok(text)
+}
+
+// Writes the lines of bytes that no device was due to send.
+fn write_bytes(
+    text: &mut Vec<u8>,
+    head: &RunHead,
+    exchanges: &[Exchange],
+    found: &Findings,
+) -> Result<(), AllocError>
+    ensures { OnOk result (text.new.items ≡ text.old.items
+        ++ (stray_line head.now.start (uids_of_findings found.now.devices.items)
+        (decides_stray head.now found.now.certificate) exchanges.now (unless_garbled found.now.garbled found.now.stray)
+        ++ garbled_line head.now.start exchanges.now found.now.garbled)) }
+{
+    write_first_stray(text, head, exchanges, found)?;
+    write_garbled(text, head.start, exchanges, found.garbled)
+}
+
+// Writes the line of the first stray exchange, unless another line is about the same one.
+fn write_first_stray(
+    text: &mut Vec<u8>,
+    head: &RunHead,
+    exchanges: &[Exchange],
+    found: &Findings,
+) -> Result<(), AllocError>
+    ensures { OnOk result (text.new.items ≡ text.old.items
+        ++ stray_line head.now.start (uids_of_findings found.now.devices.items)
+        (decides_stray head.now found.now.certificate) exchanges.now
+        (unless_garbled found.now.garbled found.now.stray)) }
+{
+    let decided = decides_stray(head, &found.certificate);
+    let stray = unless_garbled(found.garbled, found.stray);
+    write_stray(text, head.start, &found.devices, decided, exchanges, stray)
+}
+
+// The first stray exchange, unless another line is about the same one.
+fn unless_garbled(garbled: Option<usize>, stray: Option<usize>) -> Option<usize>
+    ensures { result ≡ unless_garbled garbled stray }
+{
+    match (garbled, stray) {
+        (None, stray) => stray,
+        (Some(_), None) => None,
+        (Some(garbled), Some(at)) => { if at == garbled { None } else { Some(at) } }
+    }
+}
+
+// Writes a line for each listed device.
+fn write_listed(
+    text: &mut Vec<u8>,
+    head: &RunHead,
+    exchanges: &[Exchange],
+    found: &Findings,
+) -> Result<(), AllocError>
+    ensures { OnOk result (text.new.items ≡ text.old.items
+        ++ flat_map (device_line head.now.start (shows_all head.now exchanges.now found.now)
+        found.now.certificate.failure found.now.heard) found.now.devices.items) }
+{
+    let whole = shows_all(head, exchanges, found);
+    write_devices(
+        text,
+        head.start,
+        whole,
+        found.certificate.failure,
+        &found.heard,
+        &found.devices,
+    )
 }
 
 // Whether the log has all of the run.
@@ -152,18 +257,12 @@ fn shows_all(head: &RunHead, exchanges: &[Exchange], found: &Findings) -> bool
     is_whole(head, &found.reported, exchanges, &found.certificate)
 }
 
-// Whether its stray bytes show that a rule was broken.
-fn strays_count(head: &RunHead, exchanges: &[Exchange], found: &Findings) -> bool
-    ensures { result ≡ strays_count head.now exchanges.now found.now }
-{
-    decides_stray(head, &found.reported, exchanges, &found.certificate)
-}
-
 // Whether any finding is that a rule was broken.
-fn is_broken(devices: &[DeviceFinding], settled: bool, stray: Option<usize>) -> bool
-    ensures { result ≡ is_broken devices.now settled stray }
+fn is_broken(head: &RunHead, found: &Findings) -> bool
+    ensures { result ≡ is_broken head.now found.now }
 {
-    any_broke(devices) || (stray.is_some() && settled)
+    (any_broke(&found.devices) || found.garbled.is_some())
+        || (decides_stray(head, &found.certificate) && found.stray.is_some())
 }
 
 fn any_broke(devices: &[DeviceFinding]) -> bool

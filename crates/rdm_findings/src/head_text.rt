@@ -2,10 +2,10 @@
 ghost use Rattle.std.specs.Prelude.{◌≡◌, ◌++◌, ◌∷◌, [], OnOk};
 ghost use Rattle.rdm_reports.specs.Report.{fault_text};
 ghost use Rattle.rdm_findings.specs.FindingText.{name_text, kind_text, search_text, what_text, end_text, outcome_text};
-ghost use Rattle.rdm_findings.specs.FindingText.{is_known_complete, sound_text, gap_text, begun_text, certificate_text};
+ghost use Rattle.rdm_findings.specs.FindingText.{sound_text, gap_text, begun_text, certificate_text, decides_gaps};
 ghost use Rattle.rdm_findings.specs.FindingText.{head_text, head_line};
 
-use crate::ending::{is_complete, is_over};
+use crate::ending::{end_of, is_complete, is_known_complete, is_lost, is_over};
 use crate::head::{RunHead, Start};
 use crate::writing::{write, write_count, write_number, write_uid};
 use rdm_agent::{AgentFault, Kind, Search};
@@ -25,23 +25,38 @@ pub(crate) fn write_head(
     ensures { OnOk result (text.new.items ≡ text.old.items
         ++ head_line head.now reported.now exchanges.now certificate.now names.now) }
 {
-    let over = is_over(head, reported, exchanges, certificate);
-    write_run(text, head, exchanges.len(), reported.len())?;
-    write(text, certificate_text(head, over, certificate, names))?;
+    let ending = end_of(head, reported, exchanges, certificate);
+    let decided = decides_gaps(head, reported, exchanges, certificate, names);
+    write_run(text, head, ending, exchanges.len(), reported.len())?;
+    write(text, certificate_text(head, decided, certificate, names))?;
     text.extend_from_slice(b"\n")
+}
+
+// Whether no exchanges that the log doesn't have could mend the certificate.
+fn decides_gaps(
+    head: &RunHead,
+    reported: &DeviceSet,
+    exchanges: &[Exchange],
+    certificate: &RunFinding,
+    names: &Option<KnownFinding>,
+) -> bool
+    ensures { result ≡ decides_gaps head.now reported.now exchanges.now certificate.now names.now }
+{
+    is_over(head, reported, exchanges, certificate) || is_lost(exchanges, certificate, names)
 }
 
 fn write_run(
     text: &mut Vec<u8>,
     head: &RunHead,
+    ending: Option<Option<AgentFault>>,
     exchanges: usize,
     reported: usize,
 ) -> Result<(), AllocError>
-    ensures { OnOk result (text.new.items ≡ text.old.items ++ head_text head.now exchanges reported) }
+    ensures { OnOk result (text.new.items ≡ text.old.items ++ head_text head.now ending exchanges reported) }
 {
     write_what(text, head)?;
     write_count(text, exchanges, " exchange")?;
-    write_outcome(text, head, reported)
+    write_outcome(text, ending, reported)
 }
 
 // The run's name, its kind, and how it searched.
@@ -94,10 +109,14 @@ fn search_text(search: Option<Search>) -> &'static str
 }
 
 // How the run ended, and how many devices it reported.
-fn write_outcome(text: &mut Vec<u8>, head: &RunHead, reported: usize) -> Result<(), AllocError>
-    ensures { OnOk result (text.new.items ≡ text.old.items ++ outcome_text head.now.fault reported) }
+fn write_outcome(
+    text: &mut Vec<u8>,
+    ending: Option<Option<AgentFault>>,
+    reported: usize,
+) -> Result<(), AllocError>
+    ensures { OnOk result (text.new.items ≡ text.old.items ++ outcome_text ending reported) }
 {
-    write_ending(text, head.fault)?;
+    write_ending(text, ending)?;
     write(text, ", ")?;
     write_count(text, reported, " device")
 }
@@ -133,16 +152,16 @@ fn write_fault(text: &mut Vec<u8>, fault: AgentFault) -> Result<(), AllocError>
 // The certificate; or why it can't be decided.
 fn certificate_text(
     head: &RunHead,
-    over: bool,
+    decided: bool,
     certificate: &RunFinding,
     names: &Option<KnownFinding>,
 ) -> &'static str
-    ensures { result.now ≡ certificate_text head.now over certificate.now names.now }
+    ensures { result.now ≡ certificate_text head.now decided certificate.now names.now }
 {
     match head.start {
         Start::At(number) => {
             if number == 0 {
-                begun_text(head, over, certificate, names)
+                begun_text(head, decided, certificate, names)
             } else {
                 "; its certificate can't be decided, since the log begins within the run"
             }
@@ -161,16 +180,16 @@ const UNKNOWN: &str =
 // The certificate, if the log has the run's beginning.
 fn begun_text(
     head: &RunHead,
-    over: bool,
+    decided: bool,
     certificate: &RunFinding,
     names: &Option<KnownFinding>,
 ) -> &'static str
-    ensures { result.now ≡ begun_text head.now over certificate.now names.now }
+    ensures { result.now ≡ begun_text head.now decided certificate.now names.now }
 {
     if is_complete(certificate) {
         sound_text(head.kind, names)
     } else {
-        gap_text(over)
+        gap_text(decided)
     }
 }
 
@@ -198,18 +217,12 @@ fn sound_text(kind: Option<Kind>, names: &Option<KnownFinding>) -> &'static str
 }
 
 // A certificate of which a part fails.
-fn gap_text(over: bool) -> &'static str
-    ensures { result.now ≡ gap_text over }
+fn gap_text(decided: bool) -> &'static str
+    ensures { result.now ≡ gap_text decided }
 {
-    if over {
+    if decided {
         "; its certificate is incomplete"
     } else {
         "; its certificate is incomplete, or the log ends within the run"
     }
-}
-
-fn is_known_complete(found: &KnownFinding) -> bool
-    ensures { result ≡ is_known_complete found.now }
-{
-    found.not_muted_first.is_none() && found.unread.is_none()
 }

@@ -1,5 +1,5 @@
 //! Reads the next line of a log.
-ghost use Rattle.std.specs.Prelude.{◌≡◌, [], None, OnOk, IfOk, option_to_list};
+ghost use Rattle.std.specs.Prelude.{◌≡◌, ◌≢◌, [], None, Err, OnOk, IfOk, option_to_list};
 ghost use Rattle.std.specs.Io.KnownBytes.{Consumes, IsAtEnd};
 
 use std::io::{ErrorKind, Read};
@@ -23,6 +23,8 @@ pub(crate) enum NoText {
 pub(crate) fn read_text<R: Read>(reader: &mut R, line: &mut Vec<u8>) -> Result<(), NoText>
     ensures text { OnOk result (Consumes (R.remaining reader.old) (R.remaining reader.new) line.new.items) }
     ensures end { OnOk result (line.new.items ≡ [] → IsAtEnd (R.remaining reader.new)) }
+    ensures long { result ≡ Err NoText.TooLong
+        → Consumes (R.remaining reader.old) (R.remaining reader.new) line.new.items }
 {
     line.clear();
     'bytes: for _ in 0..MOST_LINE_BYTES {
@@ -44,6 +46,7 @@ fn next_byte<R: Read>(reader: &mut R) -> Result<Option<u8>, NoText>
     ensures byte { IfOk result (λ found. Consumes (R.remaining reader.old) (R.remaining reader.new)
         (option_to_list found)) }
     ensures end { IfOk result (λ found. found ≡ None → IsAtEnd (R.remaining reader.new)) }
+    ensures short { result ≢ Err NoText.TooLong }
 {
     let mut one = [0u8; 1];
     'tries: for _ in 0..u64::MAX {

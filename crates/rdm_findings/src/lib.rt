@@ -9,6 +9,7 @@ mod entry;
 mod explaining;
 mod fields;
 mod gap_text;
+mod garbled_text;
 mod head;
 mod head_text;
 mod heard;
@@ -17,6 +18,8 @@ mod line;
 mod log;
 mod opening;
 mod reading;
+mod stray_bytes;
+mod stray_text;
 mod writing;
 
 pub use explaining::{Explained, explain};

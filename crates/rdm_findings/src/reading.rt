@@ -61,14 +61,17 @@ const UNKNOWN: RunHead = RunHead {
 };
 
 impl Reading {
-    ghost use Rattle.std.specs.Prelude.{◌≡◌, OnOk, None, Some, true, false, if◌then◌else◌};
+    ghost use Rattle.std.specs.Prelude.{◌≡◌, ◌||◌, not, OnOk, None, Some, true, false, if◌then◌else◌};
     ghost use Rattle.std.specs.Option.{option_map};
     ghost use Rattle.rdm_wire.specs.Devices.{uids_of};
     ghost use Rattle.rdm_explain.specs.Exchanges.{seen_all};
     ghost use Rattle.rdm_findings.specs.Asked.{no_asks, asks_from};
-    ghost use Rattle.rdm_findings.specs.Runs.{nothing_read, begins, begins_run, after_line, after_entry, after_send};
-    ghost use Rattle.rdm_findings.specs.Runs.{awaiting, unopened, begun, discovered, continues, is_in_progress};
-    ghost use Rattle.rdm_findings.specs.Runs.{with_exchange, after_event, with_end, with_known, known_after};
+    ghost use Rattle.rdm_findings.specs.Runs.{nothing_read, begins, begins_run, begins_log, after_line};
+    ghost use Rattle.rdm_findings.specs.Runs.{after_entry, after_send};
+    ghost use Rattle.rdm_findings.specs.Runs.{awaiting, unopened, begun, begun_by, discovered, continues};
+    ghost use Rattle.rdm_findings.specs.Runs.{is_in_progress, is_anothers};
+    ghost use Rattle.rdm_findings.specs.Runs.{with_exchange, after_event, after_end, with_end, with_other_end};
+    ghost use Rattle.rdm_findings.specs.Runs.{replaces_known, with_known, known_after};
 
     /// Before the first line.
     pub(crate) fn new(alloc: Global) -> Reading
@@ -122,7 +125,7 @@ impl Reading {
     {
         match line {
             LogLine::Discovery(_) | LogLine::Session(_) => true,
-            LogLine::Entered(entry) => !self.is_session || self.is_ended_by_entry(entry),
+            LogLine::Entered(entry) => self.begins_log(entry) || self.is_ended_by_entry(entry),
             LogLine::Exchanged { number, .. } => !self.continues(*number),
         }
     }
@@ -139,12 +142,39 @@ impl Reading {
         }
     }
 
-    // Whether the run of a session with this number is in progress.
+    // Whether this entry begins the log of a session, without an opening.
+    fn begins_log(&self, entry: &Entry) -> bool
+        ensures { result ≡ (not self.now.is_session || begins_log entry.now self.now) }
+    {
+        !self.is_session || self.begins_another(entry)
+    }
+
+    // Whether it begins that of another session: it asks for a discovery that was answered.
+    fn begins_another(&self, entry: &Entry) -> bool
+        ensures { result ≡ begins_log entry.now self.now }
+    {
+        match entry {
+            Entry::Ask { number, .. } => self.asks.is_answered(*number),
+            _ => false,
+        }
+    }
+
+    // Whether the run of a session with this number is in progress: its end isn't known.
     fn is_in_progress(&self, run: u64) -> bool
         ensures { result ≡ is_in_progress run self.now }
     {
         match self.head.number {
-            Some(number) => self.has_run && run == number,
+            Some(number) => (self.has_run && run == number) && self.head.fault.is_none(),
+            None => false,
+        }
+    }
+
+    // Whether a run with this number that begins now is another session's.
+    fn is_anothers(&self, run: u64) -> bool
+        ensures { result ≡ is_anothers run self.now }
+    {
+        match self.head.number {
+            Some(number) => self.has_run && run <= number,
             None => false,
         }
     }
@@ -165,7 +195,7 @@ impl Reading {
             LogLine::Discovery(opening) => self.open_discovery(alloc, opening),
             LogLine::Session(opening) => self.open_session(alloc, opening),
             LogLine::Entered(entry) => {
-                self.continue_session();
+                self.continue_session(&entry);
                 self.take_entry(alloc, entry)
             }
             LogLine::Exchanged {
@@ -230,11 +260,12 @@ impl Reading {
         self.sent = None;
     }
 
-    // An entry comes: without a session in progress, the log of one begins without an opening.
-    fn continue_session(&mut self)
-        ensures { self.new ≡ (if self.old.is_session then self.old else unopened true) }
+    // An entry comes, which may begin the log of a session, without an opening.
+    fn continue_session(&mut self, entry: &Entry)
+        ensures { self.new ≡ (if not self.old.is_session || begins_log entry.now self.old then unopened true
+            else self.old) }
     {
-        if !self.is_session {
+        if self.begins_log(entry) {
             self.begin_log(true, None, None, NO_ASKS);
         }
     }
@@ -251,6 +282,16 @@ impl Reading {
         }
         self.head.start = Start::At(number);
         self.has_run = true;
+    }
+
+    // A run of a session begins, or that of another one, of which nothing else is known.
+    fn begin_any_run(&mut self, alloc: Global, run: u64) -> Result<(), NoMemory>
+        ensures { OnOk result (self.new ≡ begun_by run self.old) }
+    {
+        if self.is_anothers(run) {
+            self.begin_log(true, None, None, NO_ASKS);
+        }
+        self.begin_run(alloc, run)
     }
 
     // A run of a session begins, or the log begins within it.
@@ -322,7 +363,7 @@ impl Reading {
             Owner::Request(_) => self.sent = None,
             Owner::Run(run) => {
                 if !self.is_in_progress(run) {
-                    self.begin_run(alloc, run)?;
+                    self.begin_any_run(alloc, run)?;
                 }
                 self.sent = Some(frame);
             }
@@ -340,10 +381,13 @@ impl Reading {
     }
 
     fn take_end(&mut self, run: u64, fault: Option<AgentFault>)
-        ensures { self.new ≡ (if is_in_progress run self.old then with_end fault self.old else self.old) }
+        ensures { self.new ≡ after_end run fault self.old }
     {
         if self.is_in_progress(run) {
             self.head.fault = Some(fault);
+        } else if !self.has_run && fault.is_none() {
+            // It replaced the known UIDs, and the log doesn't have its exchanges.
+            self.known = None;
         }
     }
 }

@@ -39,8 +39,8 @@ pub(crate) fn write_count(text: &mut Vec<u8>, count: usize, thing: &str) -> Resu
     write(text, if count == 1 { "" } else { "s" })
 }
 
-// Writes the end of a line.
-fn write_end(text: &mut Vec<u8>, last: &str) -> Result<(), AllocError>
+/// Writes the end of a line.
+pub(crate) fn write_end(text: &mut Vec<u8>, last: &str) -> Result<(), AllocError>
     ensures { OnOk result (text.new.items ≡ text.old.items ++ line_of last.now) }
 {
     write(text, last)?;

@@ -1,6 +1,6 @@
 -- What is printed for a log, and for which devices.
-use Rattle.std.specs.Prelude.{◌≡◌, ◌⊎◌, ◌<◌, ◌≤◌, ◌++◌, [], ℕ, Bool, false, not, List, Option, Some, None, ⊤, codes}
-use Rattle.std.specs.Prelude.{decimal, filter, flat_map, length, IfSome, if◌then◌else◌}
+use Rattle.std.specs.Prelude.{◌≡◌, ◌⊎◌, ◌+◌, ◌<◌, ◌≤◌, ◌++◌, [], ℕ, Bool, false, not, List, Option, Some, None, ⊤}
+use Rattle.std.specs.Prelude.{codes, decimal, filter, flat_map, length, IfSome, if◌then◌else◌}
 use Rattle.std.specs.Borrow.{Bor}
 use Rattle.clap.specs.Words.{Text}
 use Rattle.rdm_wire.specs.Uid.{has, set_of}
@@ -9,7 +9,7 @@ use Rattle.rdm_files.specs.RigFiles.{IsRigFile}
 use Rattle.rdm_files.specs.declared.scene.rig.RigFile.{RigFile}
 use Rattle.rdm_findings.specs.FindingText.{uid_line}
 use Rattle.rdm_findings.specs.Lines.{lines_text}
-use Rattle.rdm_findings.specs.Logs.{AreExplained}
+use Rattle.rdm_findings.specs.Logs.{IsLogText}
 use Rattle.rdm_findings.specs.Runs.{runs_of}
 use Rattle.rdm_findings.specs.declared.line.LogLine.{LogLine}
 use Rattle.rdm_port.specs.Fault.{Format, IsFileFault, ReadsFile}
@@ -70,13 +70,18 @@ pub record IsExplanation (present passing : List ℕ) (known : Option (List ℕ)
   pub all : IfSome known (λ bytes. bytes ≡ lines_text lines)
   pub findings : List ℕ
   pub broken : Bool
-  pub explained : AreExplained present (runs_of lines) findings broken
+  pub explained : IsLogText present passing (runs_of lines) findings broken
   pub prints : text ≡ flat_map passing_line passing ++ findings
   pub ends : status ≡ explain_status broken
 
--- the text says that a line, counted from 1, isn't a log's
-abbrev pub IsRefusedLine : List ℕ → ℕ → Type 0
-IsRefusedLine text status = (n : ℕ) × (text ≡ line_of (codes "fault: line " ++ decimal n)) × (status ≡ 1)
+-- The text says that the line after these, counted from 1, isn't a log's, which is tested and not proved. The log has
+-- these lines and then other bytes, if its bytes are known
+pub record IsRefusedLine (known : Option (List ℕ)) (text : List ℕ) (status : ℕ) : Type 0 where
+  pub lines : List LogLine
+  pub others : List ℕ
+  pub read : IfSome known (λ bytes. bytes ≡ lines_text lines ++ others)
+  pub prints : text ≡ line_of (codes "fault: line " ++ decimal (length lines + 1))
+  pub ends : status ≡ 1
 
 -- the text and the status explain a log about these devices; its bytes and those of the scene file may be known
 pub record Explains (job : ExplainJob) (log rig : Option (List ℕ)) (text : List ℕ) (status : ℕ) : Type 0 where
@@ -84,7 +89,7 @@ pub record Explains (job : ExplainJob) (log rig : Option (List ℕ)) (text : Lis
   pub passing : List ℕ
   pub devices : HasDevices job rig present passing
   pub few : length present ≤ 1024
-  pub answers : IsExplanation present passing log text status ⊎ IsRefusedLine text status
+  pub answers : IsExplanation present passing log text status ⊎ IsRefusedLine log text status
 
 -- the faults of a scene file with these bytes, if the arguments name one
 abbrev pub IsRigFault : Option (Bor Text) → Option (List ℕ) → Fault → Type 0

@@ -1,9 +1,9 @@
 //! Answers the command that explains a log.
-ghost use Rattle.std.specs.Prelude.{◌≡◌, ◌⊎◌, ◌++◌, ◌≤◌, ℕ, List, IfOk, IfErr, OnOk, IfSome, flat_map, length};
+ghost use Rattle.std.specs.Prelude.{◌≡◌, ◌⊎◌, ◌++◌, ◌+◌, ◌≤◌, ℕ, List, Err, IfOk, IfErr, OnOk, IfSome, flat_map};
 ghost use Rattle.rdm_findings.specs.FindingText.{uid_line};
 ghost use Rattle.rdm_findings.specs.declared.line.LogLine.{LogLine};
 ghost use Rattle.rdm_findings.specs.Lines.{lines_text};
-ghost use Rattle.rdm_findings.specs.Logs.{AreExplained};
+ghost use Rattle.rdm_findings.specs.Logs.{IsLogText};
 ghost use Rattle.rdm_findings.specs.Runs.{runs_of};
 ghost use Rattle.rdm_port.specs.Explanation.{Explains, HasDevices, HasRig, IsExplainFault, IsExplanation};
 ghost use Rattle.rdm_port.specs.Explanation.{IsRefusedLine, IsRigFault, SaysPresent, explain_status, passing_line};
@@ -11,7 +11,7 @@ ghost use Rattle.rdm_port.specs.Explanation.{rigs, without};
 ghost use Rattle.rdm_port.specs.Fault.{IsTextFault, SaysFile};
 ghost use Rattle.rdm_port.specs.body.Texts.{answer_bytes};
 ghost use Rattle.rdm_reports.specs.Report.{line_of};
-ghost use Rattle.std.specs.Prelude.{codes, decimal};
+ghost use Rattle.std.specs.Prelude.{codes, decimal, length};
 
 use crate::answer::{Answer, Answered, Refused};
 use crate::fault::Fault;
@@ -182,19 +182,21 @@ fn explained<'a, R: Read>(
     ensures ok { IfOk result (λ a.
         IsExplanation devices.now.present.items devices.now.passing.items (R.remaining reader.old)
         (answer_bytes a.text) a.status
-        ⊎ IsRefusedLine (answer_bytes a.text) a.status) }
+        ⊎ IsRefusedLine (R.remaining reader.old) (answer_bytes a.text) a.status) }
     ensures fault { IfErr result (λ e. (e.0 ≡ Fault.File) ⊎ (e.0 ≡ Fault.Memory)) }
 {
     let Ok(mut text) = passing_text(alloc, &devices.passing) else {
         return Err((Fault::Memory, None));
     };
-    match write_findings(alloc, reader, &devices.present, &mut text) {
+    match write_findings(alloc, reader, devices, &mut text) {
         Ok(broken) => Ok(Answered {
             text: Answer::Lines(text),
             status: explain_status(broken),
             reason: None,
         }),
-        Err(fault) => refused(alloc, path, fault),
+        Err(LogFault::Line(number)) => refused_line(alloc, path, number),
+        Err(LogFault::Unread(kind)) => Err((Fault::File, Some(Reason::Unreadable(path, kind)))),
+        Err(LogFault::Unwritten(_) | LogFault::NoMemory) => Err((Fault::Memory, None)),
     }
 }
 
@@ -238,18 +240,27 @@ fn write_line(text: &mut Vec<u8>, line: &str) -> Result<(), AllocError>
 fn write_findings<R: Read>(
     alloc: Global,
     reader: &mut R,
-    present: &[Uid],
+    devices: &Devices,
     text: &mut Vec<u8>,
 ) -> Result<bool, LogFault>
-    ensures { IfOk result (λ broken. (lines : List LogLine) × (findings : List ℕ)
+    ensures explained { IfOk result (λ broken. (lines : List LogLine) × (findings : List ℕ)
         × IfSome (R.remaining reader.old) (λ bytes. bytes ≡ lines_text lines)
-        × AreExplained present.now (runs_of lines) findings broken
+        × IsLogText devices.now.present.items devices.now.passing.items (runs_of lines) findings broken
         × (text.new.items ≡ text.old.items ++ findings)) }
+    ensures refused { (n : ℕ) → result ≡ Err (LogFault.Line n) → (lines : List LogLine) × (others : List ℕ)
+        × IfSome (R.remaining reader.old) (λ bytes. bytes ≡ lines_text lines ++ others)
+        × (length lines + 1 ≡ n) }
 {
     let Ok(mut buffered) = BufReader::new(alloc, &mut *reader) else {
         return Err(LogFault::NoMemory);
     };
-    explain_log(alloc, &mut buffered, present, text)
+    explain_log(
+        alloc,
+        &mut buffered,
+        &devices.present,
+        &devices.passing,
+        text,
+    )
 }
 
 /// The status if a rule was broken.
@@ -261,22 +272,19 @@ fn explain_status(broken: bool) -> u8
     if broken { BROKEN } else { 0 }
 }
 
-// Why the log at the path isn't explained.
-fn refused<'a>(alloc: Global, path: &'a str, fault: LogFault) -> Result<Answered<'a>, Refused<'a>>
-    ensures ok { IfOk result (λ a. IsRefusedLine (answer_bytes a.text) a.status) }
-    ensures fault { IfErr result (λ e. (e.0 ≡ Fault.File) ⊎ (e.0 ≡ Fault.Memory)) }
+// That this line of the log at the path isn't a log's.
+fn refused_line<'a>(alloc: Global, path: &'a str, number: u64) -> Result<Answered<'a>, Refused<'a>>
+    ensures text { IfOk result (λ a. answer_bytes a.text ≡ line_of (codes "fault: line " ++ decimal number)) }
+    ensures status { IfOk result (λ a. a.status ≡ 1) }
+    ensures fault { IfErr result (λ e. e.0 ≡ Fault.Memory) }
 {
-    match fault {
-        LogFault::Line(number) => match line_fault(alloc, number) {
-            Ok(text) => Ok(Answered {
-                text: Answer::Lines(text),
-                status: 1,
-                reason: Some(Reason::NoLogLine(path, number)),
-            }),
-            Err(_) => Err((Fault::Memory, None)),
-        },
-        LogFault::Unread(kind) => Err((Fault::File, Some(Reason::Unreadable(path, kind)))),
-        LogFault::Unwritten(_) | LogFault::NoMemory => Err((Fault::Memory, None)),
+    match line_fault(alloc, number) {
+        Ok(text) => Ok(Answered {
+            text: Answer::Lines(text),
+            status: 1,
+            reason: Some(Reason::NoLogLine(path, number)),
+        }),
+        Err(_) => Err((Fault::Memory, None)),
     }
 }
 

@@ -100,7 +100,12 @@ fn other_bytes_come_after_a_mute(rt: HostRuntime) {
     add(&rt, &mut run, &mute(Heard::One(liar())), 1);
     check(&rt, garbles(&run, 5));
     let mut run = opening(&rt, rt.alloc());
-    add(&rt, &mut run, &mute_of(Uid::new(0x1234, 8), Heard::Noise), 2);
+    add(
+        &rt,
+        &mut run,
+        &mute_of(Uid::new(0x1234, 8), Heard::Noise),
+        2,
+    );
     check(&rt, garbles(&run, 3));
 }
 

@@ -58,7 +58,7 @@ fn prints(
     broken: bool,
 ) {
     let present = [Uid::new(0x1234, 9)];
-    let Ok(explained) = explain(alloc, head, None, &present, exchanges) else {
+    let Ok(explained) = explain(alloc, head, None, &present, &[], exchanges) else {
         return check(rt, false);
     };
     check(rt, explained.is_broken == broken);
@@ -104,24 +104,26 @@ fn other() -> Uid {
     Uid::new(0x1234, 8)
 }
 
-const WRONG: &str = "run 1: 4 exchanges, 0 devices; its certificate is incomplete\n\
+const WRONG: &str =
+    "run 1: 4 exchanges, fault 1 1234:00000008, 0 devices; its certificate is incomplete\n\
     0000:00000000 is the first UID that wasn't ruled out: it needs five silences in a row of a range that holds it\n\
     1234:00000009 followed the rules\n\
-    exchange 3: bytes came from 1234:00000008 to 1234:00000008, where no listed device was due; \
-    look for a device that isn't listed\n";
+    exchange 3: bytes came from 1234:00000008 alone that aren't its text; \
+    a rule was broken: try the device alone on the line\n";
 
 const NEW: &str =
     "run 1: 4 exchanges, 0 devices; its certificate is incomplete, or the log ends within the run\n\
     0000:00000000 is the first UID that wasn't ruled out: it needs five silences in a row of a range that holds it\n\
     1234:00000009 followed the rules in the exchanges that the log has\n\
     exchange 3: bytes came from 1234:00000008 to 1234:00000008, where no listed device was due; \
-    they may be those of a device that the log doesn't show\n";
+    they read as 1234:00000008, which isn't listed; they may be those of a device that the log doesn't show\n";
 
-const UNMUTED: &str = "run 1: 9 exchanges, 0 devices; its certificate is incomplete\n\
+const UNMUTED: &str =
+    "run 1: 9 exchanges, fault 1 1234:00000008, 0 devices; its certificate is incomplete\n\
     0000:00000000 is the first UID that wasn't ruled out: it needs five silences in a row of a range that holds it\n\
     1234:00000009 followed the rules\n\
     exchange 3: bytes came from 1234:00000008 to 1234:00000008, where no listed device was due; \
-    look for a device that isn't listed\n";
+    they read as 1234:00000008, which isn't listed; they may be those of a device that the log doesn't show\n";
 
 // A run ends at the branch of one UID that shows no new device, or shows one that can't be muted. If it ends at one
 // that shows a new device, the log was cut.
@@ -137,7 +139,7 @@ fn a_corrupt_end_is_told_from_a_cut(rt: HostRuntime) {
     for _ in 0..5 {
         add(&rt, &mut new, Asked::Mute(other()), Heard::Silent);
     }
-    prints(&rt, alloc, &head(Start::At(0)), &new, UNMUTED, true);
+    prints(&rt, alloc, &head(Start::At(0)), &new, UNMUTED, false);
 }
 
 const HEARD: &str =

@@ -43,6 +43,12 @@ const UNHEARD: &str =
     "1234:00000009 was never heard: exchange 9 is the fifth silence in a row in a range that holds it; \
     check its power and its cable\n";
 
+// What is printed if there is no discovery, and for the same devices.
+const NONE: &str = "the log has no exchange of a discovery\n";
+
+const UNJUDGED: &str = "1234:00000009 can't be judged: the log has no exchange of a discovery\n\
+    1234:00000001 can't be judged: the log has no exchange of a discovery\n";
+
 // Without the opening.
 const UNKNOWN: &str =
     "discovery: 10 exchanges, 1 device; its certificate is complete but for what depends on its kind, \
@@ -89,7 +95,7 @@ pub fn prints(
     }
     let mut written = Vec::new(alloc);
     let mut reader = log.as_slice();
-    let ended = explain_log(alloc, &mut reader, present, &mut written);
+    let ended = explain_log(alloc, &mut reader, present, &[], &mut written);
     check(rt, ended == due);
     check(
         rt,
@@ -105,7 +111,15 @@ fn a_discovery_is_explained(rt: HostRuntime) {
     prints(&rt, alloc, &log, &[], &[FOUND], Ok(false));
     prints(&rt, alloc, &log, &liar, &[FOUND, UNHEARD], Ok(true));
     prints(&rt, alloc, &[&DISCOVERY], &[], &[UNKNOWN], Ok(false));
-    prints(&rt, alloc, &[], &[], &[], Ok(false));
+    prints(&rt, alloc, &[], &[], &[NONE], Ok(false));
+    prints(
+        &rt,
+        alloc,
+        &[&[OPENING]],
+        &liar,
+        &[NONE, UNJUDGED],
+        Ok(false),
+    );
 }
 
 // An opening is that of one run. An entry begins the log of a session.
@@ -131,7 +145,7 @@ const UNMUTED: &str =
     "discovery: full, steady, 4 exchanges, 0 devices; its certificate is incomplete, or the log ends within the run\n\
     0000:00000000 is the first UID that wasn't ruled out: it needs five silences in a row of a range that holds it\n\
     exchange 3: bytes came from 0000:00000000 to ffff:ffffffff, where no listed device was due; \
-    they may be those of a device that the log doesn't show\n";
+    they read as 1234:00000001, which isn't listed; they may be those of a device that the log doesn't show\n";
 
 // A device that no unmute in the log reaches may be muted.
 const LATE: &str = "1234:00000009 followed the rules in the exchanges that the log has\n";
@@ -140,7 +154,7 @@ const LATE: &str = "1234:00000009 followed the rules in the exchanges that the l
 const ALONE: &str =
     "discovery: 1 exchange, 0 devices; its certificate can't be decided, since the log begins within the run\n\
     exchange 3: bytes came from 0000:00000000 to ffff:ffffffff, where no listed device was due; \
-    they may be those of a device that the log doesn't show\n";
+    they read as 1234:00000001, which isn't listed; they may be those of a device that the log doesn't show\n";
 
 #[test]
 fn parts_of_a_discovery_are_explained(rt: HostRuntime) {

@@ -63,7 +63,12 @@ fn arguments_have_null_characters(rt: HostRuntime) {
 fn a_second_file_is_not_read(rt: HostRuntime) {
     let words = ["explain", "run.log", "--rig", "rig.json"];
     prints(&rt, rt.alloc(), &words, ("fault: file\n", 1));
-    prints(&rt, rt.alloc(), &words[..2], ("", 0));
+    prints(
+        &rt,
+        rt.alloc(),
+        &words[..2],
+        ("the log has no exchange of a discovery\n", 0),
+    );
 }
 
 // Nothing is wrong with arguments that fit a command, so no more specific complaint applies.

@@ -50,7 +50,7 @@ pub const SESSION: Due<'static> = (
 /// Arguments for an explanation.
 pub const EXPLAIN: [&str; 2] = ["explain", "run.log"];
 
-/// A log of one exchange: a branch of the UID 0 that was answered by other bytes, which ends a run.
+/// A log of one exchange: a branch of the UID 0 that was answered by other bytes.
 pub const LOG_FILE: &str =
     "{\"number\":0,\"operation\":\"branch\",\"frame\":\"cc0124ffffffffffff7a700000010000010000001000010c00\
      000000000000000000000007f4\",\"reply\":\"ff\"}\n";
@@ -60,8 +60,8 @@ pub const LOG: Due<'static> = (
     "discovery: 1 exchange, 0 devices; its certificate is incomplete\n\
      exchange 0 should be one of the three unmutes that begin a run\n\
      0000:00000000 is the first UID that wasn't ruled out: it needs five silences in a row of a range that holds it\n\
-     exchange 0: bytes came from 0000:00000000 to 0000:00000000, where no listed device was due; \
-     look for a device that isn't listed\n",
+     exchange 0: bytes came from 0000:00000000 alone that aren't its text; \
+     a rule was broken: try the device alone on the line\n",
     3,
 );
 

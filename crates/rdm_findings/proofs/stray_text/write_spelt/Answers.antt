@@ -1,5 +1,5 @@
 use Rattle.rdm_reports.proofs.WritingLemmas.{three_written}
-use Rattle.rdm_findings.proofs.device_text.write_mute.Goals as goal
+use Rattle.rdm_findings.proofs.stray_text.write_spelt.Goals as goal
 
 pub returns : goal.returns
 returns c = three_written c.write-2.result c.args.text.now.items c.write.new.text.items c.write_uid.new.text.items

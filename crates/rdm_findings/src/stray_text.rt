@@ -1,0 +1,146 @@
+//! What is printed about stray bytes.
+ghost use Rattle.std.specs.Prelude.{◌≡◌, ◌++◌, ◌∷◌, [], OnOk, codes};
+ghost use Rattle.rdm_wire.specs.UidText.{uid_text};
+ghost use Rattle.rdm_reports.specs.Report.{line_of};
+ghost use Rattle.rdm_explain.specs.Rules.{uids_of_findings};
+ghost use Rattle.rdm_findings.specs.FindingText.{exchange_name, range_text, mute_text, place_text, sign_text};
+ghost use Rattle.rdm_findings.specs.FindingText.{remedy_text, advice_text, stray_text, stray_found, stray_line};
+
+use crate::head::Start;
+use crate::stray_bytes::{Sign, sign_of};
+use crate::writing::{write, write_exchange, write_uid};
+use rdm_explain::{Asked, DeviceFinding, Exchange};
+use rdm_wire::Uid;
+use std::alloc::AllocError;
+
+/// Writes the line of a stray exchange, if there is one. The findings are about the listed devices. `decided` says that
+/// the bytes show that a rule was broken.
+pub(crate) fn write_stray(
+    text: &mut Vec<u8>,
+    start: Start,
+    listed: &[DeviceFinding],
+    decided: bool,
+    exchanges: &[Exchange],
+    stray: Option<usize>,
+) -> Result<(), AllocError>
+    ensures { OnOk result (text.new.items ≡ text.old.items
+        ++ stray_line start (uids_of_findings listed.now) decided exchanges.now stray) }
+{
+    let Some(at) = stray else {
+        return Ok(());
+    };
+    match exchanges.get(at) {
+        Some(exchange) => {
+            let sign = sign_of(listed, exchange);
+            write_stray_line(text, start.number(at), decided, &exchange.asked, &sign)
+        }
+        None => Ok(()),
+    }
+}
+
+fn write_stray_line(
+    text: &mut Vec<u8>,
+    number: u64,
+    decided: bool,
+    asked: &Asked,
+    sign: &Sign,
+) -> Result<(), AllocError>
+    ensures { OnOk result (text.new.items ≡ text.old.items
+        ++ line_of (exchange_name number ++ stray_text decided asked.now sign.now)) }
+{
+    write_exchange(text, number)?;
+    write_reason(text, decided, asked, sign)?;
+    text.extend_from_slice(b"\n")
+}
+
+// After what the bytes came, what they read as, and what to do about it.
+fn write_reason(
+    text: &mut Vec<u8>,
+    decided: bool,
+    asked: &Asked,
+    sign: &Sign,
+) -> Result<(), AllocError>
+    ensures { OnOk result (text.new.items ≡ text.old.items ++ stray_text decided asked.now sign.now) }
+{
+    write_place(text, asked)?;
+    write_sign(text, sign)?;
+    write(text, advice_text(decided, sign))
+}
+
+fn advice_text(decided: bool, sign: &Sign) -> &'static str
+    ensures { result.now ≡ advice_text decided sign.now }
+{
+    if decided {
+        remedy_text(sign)
+    } else {
+        "; they may be those of a device that the log doesn't show"
+    }
+}
+
+fn remedy_text(sign: &Sign) -> &'static str
+    ensures { result.now ≡ remedy_text sign.now }
+{
+    match sign {
+        Sign::Listed(_) => ": try it alone on the line",
+        Sign::Other(_) => ": name it by --present, if it is there",
+        Sign::Unread => {
+            "; a rule was broken: look for a device that isn't listed, or one that should be silent there"
+        }
+    }
+}
+
+fn write_sign(text: &mut Vec<u8>, sign: &Sign) -> Result<(), AllocError>
+    ensures { OnOk result (text.new.items ≡ text.old.items ++ sign_text sign.now) }
+{
+    match sign {
+        Sign::Listed(uid) => write_spelt(text, *uid, ", which should be silent there"),
+        Sign::Other(uid) => write_spelt(text, *uid, ", which isn't listed"),
+        Sign::Unread => Ok(()),
+    }
+}
+
+fn write_spelt(text: &mut Vec<u8>, uid: Uid, last: &str) -> Result<(), AllocError>
+    ensures { OnOk result (text.new.items ≡ text.old.items
+        ++ (codes "; they read as " ++ uid_text uid ++ last.now)) }
+{
+    write(text, "; they read as ")?;
+    write_uid(text, uid)?;
+    write(text, last)
+}
+
+// After which frame bytes came. After other frames than these, no bytes are stray.
+fn write_place(text: &mut Vec<u8>, asked: &Asked) -> Result<(), AllocError>
+    ensures { OnOk result (text.new.items ≡ text.old.items ++ place_text asked.now) }
+{
+    match asked {
+        Asked::Branch { lo, hi } => {
+            write_range(text, *lo, *hi)?;
+            write(text, ", where no listed device was due")
+        }
+        Asked::Mute(uid) => write_mute(text, *uid),
+        _ => Ok(()),
+    }
+}
+
+fn write_mute(text: &mut Vec<u8>, uid: Uid) -> Result<(), AllocError>
+    ensures { OnOk result (text.new.items ≡ text.old.items ++ mute_text uid) }
+{
+    write(text, ": bytes came after a mute of ")?;
+    write_uid(text, uid)?;
+    write(text, ", which isn't listed")
+}
+
+fn write_range(text: &mut Vec<u8>, lo: Uid, hi: Uid) -> Result<(), AllocError>
+    ensures { OnOk result (text.new.items ≡ text.old.items ++ range_text lo hi) }
+{
+    write(text, ": bytes came from ")?;
+    write_uid(text, lo)?;
+    write_to(text, hi)
+}
+
+fn write_to(text: &mut Vec<u8>, hi: Uid) -> Result<(), AllocError>
+    ensures { OnOk result (text.new.items ≡ text.old.items ++ (codes " to " ++ uid_text hi)) }
+{
+    write(text, " to ")?;
+    write_uid(text, hi)
+}
