@@ -13,6 +13,7 @@ use Rattle.rdm_agent.specs.Run.{acked_in}
 use Rattle.rdm_agent.proofs.Members.{member}
 use Rattle.rdm_agent.proofs.Pushes.{All-push}
 use Rattle.rdm_agent.proofs.Sets.{same_members, ascending-set_of, has-set_of}
+use Rattle.rdm_explain.proofs.CommonLemmas.{false_unless}
 use Rattle.rdm_explain.specs.Certificates.{IsFirstElementWithout, FirstMisreported}
 use Rattle.rdm_explain.specs.declared.exchange.Exchange.{Exchange}
 use Rattle.rdm_explain.specs.Exchanges.{seen_all}
@@ -50,7 +51,7 @@ no_less f (v ∷ front) back u w asc all h fails =
       | inr later ↦ no_less f front back u w asc.1 all.1 later fails
     ]
 
-has_middle : (front back : List ℕ) (u : ℕ) → has (front ++ u ∷ back) u ≡ true
+pub has_middle : (front back : List ℕ) (u : ℕ) → has (front ++ u ∷ back) u ≡ true
 has_middle [] back u = ap (λ b. b || has back u) (is u)
   where
     is : (v : ℕ) → (v == v) ≡ true
@@ -70,10 +71,6 @@ both_parts : (a b : Bool) → (a && not b) ≡ true → (a ≡ true) × (b ≡ f
 both_parts true false e = (refl, refl)
 both_parts true true e = absurd (true≢false (sym e))
 both_parts false b e = absurd (true≢false (sym e))
-
-false_unless : (b : Bool) → (b ≡ true → ⊥) → b ≡ false
-false_unless true never = absurd (never refl)
-false_unless false never = refl
 
 uids_tested : (f : ℕ → Bool) (ds : List Device) → AllByRecursion (λ (d : Device). f d.uid ≡ true) ds
     → AllByRecursion (λ v. f v ≡ true) (uids_of ds)

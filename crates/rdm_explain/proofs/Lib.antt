@@ -1,5 +1,5 @@
 pub mod FrameLemmas
-pub mod MapLemmas
+pub mod CommonLemmas
 pub mod GapLemmas
 pub mod CoverLemmas
 pub mod SortedLemmas
@@ -8,6 +8,9 @@ pub mod EndingLemmas
 pub mod EndLemmas
 pub mod RuleLemmas
 pub mod WatchLemmas
+pub mod QuietLemmas
+pub mod PartingLemmas
+pub mod DueLemmas
 pub mod StrayLemmas
 pub mod GarbledLemmas
 pub mod ReadLemmas

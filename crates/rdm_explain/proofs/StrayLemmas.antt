@@ -2,7 +2,7 @@
 use Rattle.std.proofs.Common.{◌≡◌, ℕ, zero, suc, ◌+◌, ◌<◌, ◌≤◌, Bool, true, false, not, List, [], ◌∷◌, ◌++◌, refl, sym}
 use Rattle.std.proofs.Common.{ap, ◌∙◌, subst, inl, inr, true≢false, arith, length, take, drop, Option, Some, None}
 use Rattle.std.proofs.Common.{get_or, length-append}
-use Rattle.std.specs.Prelude.{◌⊎◌, ◌≢◌, ◌==◌, ◌||◌, MatchOption, fold, if◌then◌else◌}
+use Rattle.std.specs.Prelude.{◌⊎◌, ◌≢◌, ◌==◌, ◌||◌, fold, if◌then◌else◌}
 use Rattle.std.specs.List.{AllByRecursion}
 use Rattle.std.proofs.lemmas.List.{map-append, take_more, take_at}
 use Rattle.std.proofs.lemmas.List.{get_or_at, drop_more, take-append-drop, length-take-le}
@@ -13,18 +13,16 @@ use Rattle.rdm_wire.specs.Honest.Asked.{Unmute, Branch, Mute, Other}
 use Rattle.rdm_wire.specs.Honest.Heard.{Failed, Silent, One, Acked, Noise}
 use Rattle.rdm_explain.specs.declared.exchange.Exchange.{Exchange}
 use Rattle.rdm_explain.specs.declared.rule.Breach.{Breach}
-use Rattle.rdm_explain.specs.declared.rule.Watched.{Watched}
 use Rattle.rdm_explain.specs.Exchanges.{seen_of, seen_all}
-use Rattle.rdm_explain.specs.Rules.{IsFirstBreach}
 use Rattle.rdm_explain.specs.Strays.{Leads, MayBeUnmuted, IsMuted, NobodyIsDue, IsStray}
 use Rattle.rdm_explain.specs.body.Standings.{Standing, is_alive, after, after_asked, at_start, standing}
-use Rattle.rdm_explain.specs.body.Watching.{Fits, Watches}
+use Rattle.rdm_explain.specs.body.Watching.{Watched, uids_watched, Fits, Watches}
 use Rattle.rdm_explain.specs.declared.ends.Ends.{Ends}
 use Rattle.rdm_explain.specs.body.Straying.{is_muted, is_quiet_one, is_listed, is_quiet, is_stray_by, is_stray}
 use Rattle.rdm_explain.proofs.StandingLemmas.{Allows, keeps, back, after_other, goes_on, start_allows, at_start_is}
 use Rattle.rdm_explain.proofs.StandingLemmas.{state_of, unmuted_state, alive_honest}
 use Rattle.rdm_explain.proofs.EndLemmas.{all_append}
-use Rattle.rdm_explain.proofs.WatchLemmas.{uids_watched, WatchesAll}
+use Rattle.rdm_explain.proofs.WatchLemmas.{WatchesAll, Known}
 
 abbrev pub NoFailure : List Seen → Type 0
 NoFailure x = AllByRecursion (λ (e : Seen). e.heard ≢ Failed) x
@@ -69,12 +67,6 @@ not_true false n b = true≢false (sym b)
 
 not_of : (b : Bool) → b ≡ false → not b ≡ true
 not_of b e = rw e refl
-
--- what is known of a device
-abbrev Known : List Exchange → Ends → Watched → Option Breach → Type 0
-Known xs l w o =
-    MatchOption o (Fits l w (standing w.uid (seen_all xs)) × (is_alive (standing w.uid (seen_all xs)) ≡ true))
-    (λ b. IsFirstBreach w.uid xs b × ((w.muted ≡ false) × (w.unmuted ≡ false)))
 
 -- whether a device is known to be muted
 known_muted : (xs : List Exchange) (l : Ends) (w : Watched) → NoFailure (seen_all xs) → Watches xs l w
@@ -138,6 +130,9 @@ nobody_quiet xs l lo hi (w ∷ ws) ok all none =
 listed : (u : ℕ) (ws : List Watched) → is_listed u ws ≡ has (uids_watched ws) u
 listed u [] = refl
 listed u (w ∷ ws) = ap (λ b. (u == w.uid) || b) (listed u ws)
+
+pub listed_in : (u : ℕ) (us : List ℕ) (ws : List Watched) → uids_watched ws ≡ us → is_listed u ws ≡ has us u
+listed_in u us ws same = listed u ws ∙ ap (λ l. has l u) same
 
 -- an exchange that is stray by what is known
 record StrayBy (xs : List Exchange) (ws : List Watched) (a : Asked) (h : Heard) : Type 0 where

@@ -1,9 +1,9 @@
 -- What is known of the devices of a list stays right with each exchange.
-use Rattle.std.proofs.Common.{◌≡◌, ℕ, ◌+◌, ◌<◌, Bool, true, false, ◌&&◌, ◌||◌, not, List, [], ◌∷◌, ◌++◌, refl, sym, ap}
+use Rattle.std.proofs.Common.{◌≡◌, ℕ, ◌+◌, ◌<◌, Bool, true, false, ◌||◌, List, [], ◌∷◌, ◌++◌, refl, sym, ap}
 use Rattle.std.proofs.Common.{◌∙◌, subst}
-use Rattle.std.proofs.Common.{append-nil, append_assoc, true≢false, arith, length, take, drop, map}
+use Rattle.std.proofs.Common.{append-nil, append_assoc, true≢false, arith, length, take, map}
 use Rattle.std.proofs.Common.{Option, Some, None, get_or}
-use Rattle.std.specs.Prelude.{MatchOption, ◌==◌, fold, if◌then◌else◌}
+use Rattle.std.specs.Prelude.{MatchOption, fold, if◌then◌else◌}
 use Rattle.std.specs.List.{AllByRecursion}
 use Rattle.std.proofs.lemmas.List.{map-append, take-append-le, take_all, length_push}
 use Rattle.std.proofs.lemmas.List.{take_at, take_more, length-take-le}
@@ -11,20 +11,17 @@ use Rattle.std.proofs.lemmas.List.Sums.{fold-append}
 use Rattle.rdm_wire.specs.Honest.{Seen, HonestTo}
 use Rattle.rdm_explain.specs.declared.exchange.Exchange.{Exchange}
 use Rattle.rdm_explain.specs.declared.rule.Breach.{Breach}
-use Rattle.rdm_explain.specs.declared.rule.Watched.{Watched}
 use Rattle.rdm_explain.specs.Exchanges.{seen_of, seen_all}
 use Rattle.rdm_explain.specs.Rules.{FirstBreach, IsFirstBreach, EndsBy, AreFirstBreaches, uids_of_findings}
 use Rattle.rdm_explain.specs.body.Standings.{Standing, is_alive, after, at_start, standing}
-use Rattle.rdm_explain.specs.body.Watching.{watched_by, watched_with, with_flags, heard_by, watch_of, finding_of}
-use Rattle.rdm_explain.specs.body.Watching.{touches, is_in}
+use Rattle.rdm_explain.specs.body.Watching.{Watched, uids_watched, watched_with, with_flags, heard_by, watch_of}
+use Rattle.rdm_explain.specs.body.Watching.{finding_of}
 use Rattle.rdm_explain.specs.body.Watching.{rule_by, muted_by_change, unmuted_by_change, Fits, FitsCounts, Watches}
 use Rattle.rdm_explain.specs.declared.ends.Ends.{Ends}
 use Rattle.rdm_explain.specs.declared.ends.Change.{Change}
-use Rattle.rdm_explain.specs.declared.ends.Change.TheVariants as changes
-use Rattle.rdm_explain.specs.body.Endings.{ended_after, is_nothing, change_after, at_first}
+use Rattle.rdm_explain.specs.body.Endings.{ended_after, change_after, at_first}
 use Rattle.rdm_explain.proofs.EndingLemmas.{steps_after, first_fits}
 use Rattle.rdm_explain.proofs.StandingLemmas.{honest_alive, alive_honest, alive_through}
-use Rattle.rdm_explain.proofs.MapLemmas.{written_back}
 use Rattle.rdm_explain.proofs.EndLemmas.{ends_none}
 use Rattle.rdm_explain.proofs.RuleLemmas.{EndsUnlessStopped, ends_after, breaks_rule}
 
@@ -89,7 +86,7 @@ new_breach u xs e alive dead = record {
         ∙ ap is_alive (standing_push u (seen_all xs) (seen_of e)) ∙ dead)
 
 -- what is known of a device after one more exchange
-abbrev Known : List Exchange → Ends → Watched → Option Breach → Type 0
+abbrev pub Known : List Exchange → Ends → Watched → Option Breach → Type 0
 Known xs l w o =
     MatchOption o (Fits l w (standing w.uid (seen_all xs)) × (is_alive (standing w.uid (seen_all xs)) ≡ true))
     (λ b. IsFirstBreach w.uid xs b × ((w.muted ≡ false) × (w.unmuted ≡ false)))
@@ -98,51 +95,11 @@ neither : (m n : Bool) → (m || n) ≡ false → (m ≡ false) × (n ≡ false)
 neither true n e = absurd (true≢false e)
 neither false n e = (refl, e)
 
-nothing_is : (c : Change) → is_nothing c ≡ true → c ≡ changes.Nothing
-nothing_is changes.Nothing is = refl
-nothing_is changes.Unmute is = absurd (true≢false (sym is))
-nothing_is changes.UnmuteAll is = absurd (true≢false (sym is))
-nothing_is (changes.Silence s) is = absurd (true≢false (sym is))
-nothing_is (changes.Acked u) is = absurd (true≢false (sym is))
-nothing_is (changes.Lost u) is = absurd (true≢false (sym is))
-nothing_is (changes.Broken u) is = absurd (true≢false (sym is))
-
--- what a change doesn't touch
-abbrev Untouched : Change → ℕ → Bool → Bool → Type 0
-Untouched c u m n = (muted_by_change c u m n ≡ m) × (unmuted_by_change c u m n ≡ n)
-
-untouched_unmute : (u : ℕ) (m n : Bool) → touches changes.Unmute u m n ≡ false → Untouched changes.Unmute u m n
-untouched_unmute u true true e = (refl, refl)
-untouched_unmute u true false e = absurd (true≢false e)
-untouched_unmute u false n e = (refl, refl)
-
-untouched_all : (u : ℕ) (m n : Bool) → touches changes.UnmuteAll u m n ≡ false → Untouched changes.UnmuteAll u m n
-untouched_all u true n e = absurd (true≢false e)
-untouched_all u false n e = (refl, refl)
-
-left_alone : (n i : Bool) → (n && i) ≡ false → (n && not i) ≡ n
-left_alone true true e = absurd (true≢false e)
-left_alone true false e = refl
-left_alone false i e = refl
-
--- a change of one device that is another one
-of_other : {X : Type 0} (b : Bool) (x y : X) → b ≡ false → (if b then x else y) ≡ y
-of_other b x y e = rw e refl
-
-untouched : (c : Change) (u : ℕ) (m n : Bool) → touches c u m n ≡ false → Untouched c u m n
-untouched changes.Nothing u m n e = (refl, refl)
-untouched changes.Unmute u m n e = untouched_unmute u m n e
-untouched changes.UnmuteAll u m n e = untouched_all u m n e
-untouched (changes.Silence s) u m n e = (refl, left_alone n (is_in s u) e)
-untouched (changes.Acked v) u m n e = (of_other (u == v) _ _ e, of_other (u == v) _ _ e)
-untouched (changes.Lost v) u m n e = (of_other (u == v) _ _ e, refl)
-untouched (changes.Broken v) u m n e = (of_other (u == v) _ _ e, of_other (u == v) _ _ e)
-
 pub watches_more : (xs : List Exchange) (e : Exchange) (l : Ends) (w : Watched) → Watches xs l w
     → Watches (xs ++ e ∷ []) (ended_after l (seen_of e))
     (heard_by (ended_after l (seen_of e)) (length xs) (seen_of e) w)
 watches_more xs e l w is =
-    by_touched (touches (change_after (ended_after l (seen_of e)) (seen_of e)) w.uid w.muted w.unmuted) refl
+    by_breach w.breach refl is
   where
     s : Seen
     s = seen_of e
@@ -181,38 +138,10 @@ watches_more xs e l w is =
         = sym (ap (λ k. k || (after w.uid p s).unmuted) steps.muted) ∙ ap (λ k. m || k) (sym steps.unmuted) ∙ now in
         (new_breach w.uid xs e alive dead, neither m n now)
 
-    same_known : Untouched (change_after (ended_after l s) s) w.uid w.muted w.unmuted → (o : Option Breach)
-        → Known xs l w o → Known (xs ++ e ∷ []) (ended_after l s) w o
-    same_known same (Some c) known = (breach_stays w.uid xs e c known.0, known.1)
-    same_known same None known =
-        let fits = known.0 in
-        let steps = steps_after l w.uid w.muted w.unmuted p s fits.muted fits.unmuted fits.counts in
-        let muted : w.muted ≡ (after w.uid p s).muted
-        = sym same.0 ∙ steps.muted in
-        let unmuted : w.unmuted ≡ (after w.uid p s).unmuted
-        = sym same.1 ∙ steps.unmuted in
-        let live : is_alive (after w.uid p s) ≡ true
-        = ap (λ k. k || (after w.uid p s).unmuted) (sym muted ∙ fits.muted)
-        ∙ ap (λ k. p.muted || k) (sym unmuted ∙ fits.unmuted) ∙ known.1 in (
-          record {
-            muted = muted ∙ ap (λ q. q.muted) next;
-            unmuted = unmuted ∙ ap (λ q. q.unmuted) next;
-            counts = subst (FitsCounts (ended_after l s) w.uid) next (steps.counts live);
-          },
-          ap is_alive (sym next) ∙ live,
-        )
-
     by_breach : (o : Option Breach) → w.breach ≡ o → Known xs l w o
         → Watches (xs ++ e ∷ []) (ended_after l s) (watched_with (change_after (ended_after l s) s) b w o)
     by_breach (Some c) has known = rw has (breach_stays w.uid xs e c known.0, known.1)
     by_breach None has known = known_after (m || n) refl known.0 known.1
-
-    by_touched : (t : Bool) → touches (change_after (ended_after l s) s) w.uid w.muted w.unmuted ≡ t
-        → Watches (xs ++ e ∷ []) (ended_after l s)
-        (if t then watched_with (change_after (ended_after l s) s) b w w.breach else w)
-    by_touched true now = by_breach w.breach refl is
-    by_touched false now =
-        same_known (untouched (change_after (ended_after l s) s) w.uid w.muted w.unmuted now) w.breach is
 
 fits_start : (u : ℕ) → Fits at_first (watch_of u) at_start
 fits_start u = record { muted = refl; unmuted = refl; counts = first_fits u }
@@ -232,37 +161,18 @@ all_watch_start [] = tt
 all_watch_start (u ∷ us) = (watches_start u, all_watch_start us)
 
 -- the devices stay the same
-abbrev pub uids_watched : List Watched → List ℕ
-uids_watched ws = map (λ (w : Watched). w.uid) ws
-
-same_uid : (t : Bool) (c : Change) (b : Breach) (w : Watched) (o : Option Breach)
-    → (if t then watched_with c b w o else w).uid ≡ w.uid
-same_uid true c b w None = refl
-same_uid true c b w (Some _) = refl
-same_uid false c b w o = refl
+same_uid : (c : Change) (b : Breach) (w : Watched) (o : Option Breach) → (watched_with c b w o).uid ≡ w.uid
+same_uid c b w None = refl
+same_uid c b w (Some _) = refl
 
 pub same_uids : (l : Ends) (at : ℕ) (e : Seen) (ws : List Watched)
     → uids_watched (map (heard_by l at e) ws) ≡ uids_watched ws
 same_uids l at e [] = refl
 same_uids l at e (w ∷ ws) =
     rw (
-      same_uid (touches (change_after l e) w.uid w.muted w.unmuted) (change_after l e)
-          (record { at = at; rule = rule_by e }) w w.breach,
+      same_uid (change_after l e) (record { at = at; rule = rule_by e }) w w.breach,
       same_uids l at e ws,
     ) refl
-
--- if nothing changes
-pub unchanged : (l : Ends) (at : ℕ) (e : Seen) (ws : List Watched) → is_nothing (change_after l e) ≡ true
-    → map (heard_by l at e) ws ≡ ws
-unchanged l at e [] none = refl
-unchanged l at e (w ∷ ws) none =
-    ap (λ c. watched_by c (record { at = at; rule = rule_by e }) w ∷ map (heard_by l at e) ws)
-    (nothing_is (change_after l e) none)
-    ∙ ap (λ k. w ∷ k) (unchanged l at e ws none)
-
-pub changed : (l : Ends) (at : ℕ) (e : Seen) (ws : List Watched)
-    → map (watched_by (change_after l e) (record { at = at; rule = rule_by e })) ws ≡ map (heard_by l at e) ws
-changed l at e ws = refl
 
 pub start_uids : (us : List ℕ) → uids_watched (map watch_of us) ≡ us
 start_uids [] = refl
@@ -303,13 +213,3 @@ heard xs us at e l k old new within read all ends is =
           (all_watch_more (take at xs) e l old all.0)),
       same_uids k2 at (seen_of e) old ∙ all.1,
     ))
-
--- a device that was tested, and is then changed or as before
-pub tested : (c : Change) (b : Breach) (w y : Watched) (t : Bool) → touches c w.uid w.muted w.unmuted ≡ t
-    → y ≡ (if t then watched_with c b w w.breach else w) → y ≡ watched_by c b w
-tested c b w y t is made = made ∙ ap (λ k. if k then watched_with c b w w.breach else w) (sym is)
-
--- as a slice writes them back
-pub written : (xs : List Exchange) (l : Ends) (us : List ℕ) (n : ℕ) (old new : List Watched) → n ≡ length old
-    → length new ≡ length old → WatchesAll xs l us new → WatchesAll xs l us (take n (new ++ drop (length new) old))
-written xs l us n old new long same all = subst (WatchesAll xs l us) (sym (written_back old new n long same)) all

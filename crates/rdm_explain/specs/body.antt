@@ -2,6 +2,8 @@
 pub mod Standings
 pub mod Endings
 pub mod Watching
+pub mod Parting
+pub mod Quieting
 pub mod FrameTests
 pub mod Covering
 pub mod Straying

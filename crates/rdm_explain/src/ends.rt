@@ -54,18 +54,6 @@ pub(crate) enum Change {
     Broken(Uid),
 }
 
-impl Change {
-    ghost use Rattle.std.specs.Prelude.{◌≡◌};
-    ghost use Rattle.rdm_explain.specs.body.Endings.{is_nothing};
-
-    /// Whether nothing changes.
-    pub(crate) fn is_nothing(&self) -> bool
-        ensures { result ≡ is_nothing self.now }
-    {
-        matches!(self, Change::Nothing)
-    }
-}
-
 // No UIDs.
 fn nobody() -> Stretch
     ensures { result ≡ nobody }

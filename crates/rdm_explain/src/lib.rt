@@ -4,6 +4,8 @@
 
 mod certificate;
 mod cover;
+mod devices;
+mod due;
 mod ends;
 mod exchange;
 mod firsts;
@@ -12,6 +14,7 @@ mod garbled;
 mod known;
 pub mod laws;
 mod order;
+mod quiet;
 mod reported;
 mod rule;
 mod stray;

@@ -1,12 +1,13 @@
 //! Bytes that came although no device of a list was due to send any.
-ghost use Rattle.std.specs.Prelude.{◌≡◌, IfOk};
+ghost use Rattle.std.specs.Prelude.{◌≡◌, IfOk, List, ℕ};
 ghost use Rattle.rdm_explain.specs.Exchanges.{seen_of};
 ghost use Rattle.rdm_explain.specs.Strays.{FirstStray};
-ghost use Rattle.rdm_explain.specs.body.Straying.{is_stray, is_listed, is_quiet, is_quiet_one};
+ghost use Rattle.rdm_explain.specs.body.Watching.{Watched};
+ghost use Rattle.rdm_explain.specs.body.Straying.{KnowsAll, is_stray};
 
+use crate::due::Due;
 use crate::ends::Ends;
 use crate::exchange::{Asked, Exchange};
-use crate::rule::{Watched, hear_all, watch};
 use rdm_wire::{NoMemory, Uid};
 use std::alloc::Global;
 
@@ -18,8 +19,9 @@ use std::alloc::Global;
 /// What comes after other frames isn't counted. A device is muted if it followed the rules so far, and by these rules
 /// must be muted now. `None`: there is no such exchange before the line fails. The only error: out of memory.
 ///
-/// The list has UIDs of devices that are on the line during the whole run. This is for runs of this project's agent,
-/// or of another that sends no mute to several devices and no unmute to one.
+/// The list has UIDs of devices that are on the line during the whole run. With others too, such as those that come or
+/// leave, it finds no exchange that it wouldn't find without them, but may find a later one or none. This is for runs
+/// of this project's agent, or of another that sends no mute to several devices and no unmute to one.
 pub fn first_stray(
     alloc: Global,
     uids: &[Uid],
@@ -27,63 +29,29 @@ pub fn first_stray(
 ) -> Result<Option<usize>, NoMemory>
     ensures { IfOk result (λ found. FirstStray uids.now exchanges.now found) }
 {
-    let mut watched = watch(alloc, uids)?;
+    let mut due = Due::new(alloc, uids)?;
     let mut ends = Ends::start();
     for (at, exchange) in exchanges.iter().enumerate() {
         if exchange.heard.is_failed() {
             return Ok(None);
         }
-        if is_stray(&watched, exchange) {
+        if is_stray(&due, exchange) {
             return Ok(Some(at));
         }
         ends = ends.after(exchange);
-        hear_all(&mut watched, &ends, at, exchange);
+        due.hear(&ends, at, exchange)?;
     }
     Ok(None)
 }
 
 // Whether an exchange was answered although nobody was due.
-fn is_stray(watched: &[Watched], exchange: &Exchange) -> bool
-    ensures { result ≡ is_stray watched.now (seen_of exchange.now) }
+fn is_stray(due: &Due, exchange: &Exchange) -> bool
+    ensures { (us : List ℕ) (ws : List Watched) → KnowsAll us ws due.now
+        → result ≡ is_stray ws (seen_of exchange.now) }
 {
     match exchange.asked {
-        Asked::Branch { lo, hi } if !exchange.heard.is_silent() => is_quiet(watched, lo, hi),
-        Asked::Mute(uid) if !exchange.heard.is_silent() => !is_listed(watched, uid),
+        Asked::Branch { lo, hi } => !exchange.heard.is_silent() && due.is_quiet(lo, hi),
+        Asked::Mute(uid) => !exchange.heard.is_silent() && !due.is_listed(uid),
         _ => false,
-    }
-}
-
-// Whether a device has this UID.
-fn is_listed(watched: &[Watched], uid: Uid) -> bool
-    ensures { result ≡ is_listed uid watched.now }
-{
-    for device in watched {
-        if uid == device.uid {
-            return true;
-        }
-    }
-    false
-}
-
-// Whether each device is outside of a range, or muted.
-fn is_quiet(watched: &[Watched], lo: Uid, hi: Uid) -> bool
-    ensures { result ≡ is_quiet lo hi watched.now }
-{
-    for device in watched {
-        if !is_quiet_one(device, lo, hi) {
-            return false;
-        }
-    }
-    true
-}
-
-// Whether a device is outside of a range, or muted.
-fn is_quiet_one(device: &Watched, lo: Uid, hi: Uid) -> bool
-    ensures { result ≡ is_quiet_one lo hi device.now }
-{
-    if lo <= device.uid && device.uid <= hi {
-        device.muted && !device.unmuted
-    } else {
-        true
     }
 }

@@ -104,15 +104,5 @@ change_of l (Mute u) heard =
     else (if is_silent heard && nat_le l.lost_mutes 4 then changes.Lost u else changes.Broken u)
 change_of l Other heard = changes.Nothing
 
--- whether an exchange changes nothing
-abbrev pub is_nothing : Change → Bool
-is_nothing changes.Nothing = true
-is_nothing changes.Unmute = false
-is_nothing changes.UnmuteAll = false
-is_nothing (changes.Silence s) = false
-is_nothing (changes.Acked u) = false
-is_nothing (changes.Lost u) = false
-is_nothing (changes.Broken u) = false
-
 abbrev pub change_after : Ends → Seen → Change
 change_after l e = if l.stopped then changes.Nothing else change_of l e.asked e.heard

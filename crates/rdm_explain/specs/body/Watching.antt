@@ -1,5 +1,5 @@
 -- What is known of the devices of a list, exchange by exchange.
-use Rattle.std.specs.Prelude.{◌≡◌, ℕ, Bool, true, false, ◌&&◌, ◌||◌, not, ◌==◌, nat_le, List, Option, Some, None}
+use Rattle.std.specs.Prelude.{◌≡◌, ℕ, Bool, true, false, ◌&&◌, ◌||◌, not, ◌==◌, nat_le, List, map, Option, Some, None}
 use Rattle.std.specs.Prelude.{MatchOption, if◌then◌else◌}
 use Rattle.rdm_wire.specs.Uid.{is_within}
 use Rattle.rdm_wire.specs.Honest.{Asked, Heard, Seen}
@@ -13,7 +13,6 @@ use Rattle.rdm_explain.specs.declared.rule.Rule.{Rule}
 use Rattle.rdm_explain.specs.declared.rule.Rule.TheVariants.{SilentBranches, SilentMutes, GarbledMute}
 use Rattle.rdm_explain.specs.declared.rule.Breach.{Breach}
 use Rattle.rdm_explain.specs.declared.rule.DeviceFinding.{DeviceFinding}
-use Rattle.rdm_explain.specs.declared.rule.Watched.{Watched}
 use Rattle.rdm_explain.specs.declared.exchange.Exchange.{Exchange}
 use Rattle.rdm_explain.specs.Exchanges.{seen_all}
 use Rattle.rdm_explain.specs.Rules.{IsFirstBreach}
@@ -34,6 +33,13 @@ rule_by e = rule_heard e.asked e.heard
 -- whether u is in the stretch
 abbrev pub is_in : Stretch → ℕ → Bool
 is_in s u = is_within s.lo s.hi u
+
+-- a device, whether it may be muted, and whether it may be unmuted. After its first breach it may be neither
+pub record Watched : Type 0 where
+  pub uid : ℕ
+  pub muted : Bool
+  pub unmuted : Bool
+  pub breach : Option Breach
 
 -- whether u may be muted after a change, by whether it may be muted or unmuted before
 abbrev pub muted_by_change : Change → ℕ → Bool → Bool → Bool
@@ -68,23 +74,9 @@ watched_with change b w (Some _) = w
 watched_with change b w None =
     with_flags b w (muted_by_change change w.uid w.muted w.unmuted) (unmuted_by_change change w.uid w.muted w.unmuted)
 
--- whether a change can change what is known of u
-abbrev pub touches : Change → ℕ → Bool → Bool → Bool
-touches changes.Nothing u m n = false
-touches changes.Unmute u m n = m && not n
-touches changes.UnmuteAll u m n = m
-touches (changes.Silence s) u m n = n && is_in s u
-touches (changes.Acked v) u m n = u == v
-touches (changes.Lost v) u m n = u == v
-touches (changes.Broken v) u m n = u == v
-
--- whether a change can change what is known of devices with this UID alone
-abbrev pub TouchesOnly : Change → ℕ → Type 0
-TouchesOnly c u = (v : ℕ) (m n : Bool) → touches c v m n ≡ (v == u)
-
 -- a device after a change, with which it may break a rule
 abbrev pub watched_by : Change → Breach → Watched → Watched
-watched_by change b w = if touches change w.uid w.muted w.unmuted then watched_with change b w w.breach else w
+watched_by change b w = watched_with change b w w.breach
 
 -- a device after an exchange, with which the exchanges end like this
 abbrev pub heard_by : Ends → ℕ → Seen → Watched → Watched
@@ -93,6 +85,10 @@ heard_by l at e w = watched_by (change_after l e) (record { at = at; rule = rule
 -- before the first exchange
 abbrev pub watch_of : ℕ → Watched
 watch_of u = record { uid = u; muted = true; unmuted = true; breach = None }
+
+-- the devices, in order
+abbrev pub uids_watched : List Watched → List ℕ
+uids_watched ws = map (λ (w : Watched). w.uid) ws
 
 abbrev pub finding_of : Watched → DeviceFinding
 finding_of w = record { uid = w.uid; breach = w.breach }
