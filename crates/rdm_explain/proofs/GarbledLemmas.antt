@@ -1,28 +1,113 @@
 -- The first garbled exchange, and that no honest line has one.
-use Rattle.std.proofs.Common.{◌≡◌, ℕ, ◌+◌, ◌<◌, ◌≤◌, Bool, true, false, ◌&&◌, not, List, [], ◌∷◌, ◌++◌, refl, sym}
+use Rattle.std.proofs.Common.{◌≡◌, ℕ, ◌+◌, ◌<◌, ◌≤◌, Bool, true, false, ◌&&◌, ◌||◌, not, List, [], ◌∷◌, ◌++◌, refl, sym}
 use Rattle.std.proofs.Common.{ap, ◌∙◌, subst, inl, inr, true≢false, arith, length, take, drop, get_or, length-append}
-use Rattle.std.specs.Prelude.{◌⊎◌, ◌≢◌, ◌==◌, nat_le, filter, MatchBool, if◌then◌else◌}
+use Rattle.std.proofs.Common.{append_assoc, append-nil, rules}
+use Rattle.std.specs.Prelude.{◌⊎◌, ◌≢◌, ◌==◌, nat_le, filter, fold, MatchBool, if◌then◌else◌}
 use Rattle.std.specs.List.{AllByRecursion}
-use Rattle.std.proofs.lemmas.List.{map-append, take_at, get_or_at, drop_more, take-append-drop, length-take-le}
-use Rattle.std.proofs.lemmas.Bool.{and_parts, and_from, cases_lt, eqb-true, eq-eqb, leb-true}
+use Rattle.std.proofs.lemmas.List.{map-append, take_more, take_at, get_or_at, drop_more}
+use Rattle.std.proofs.lemmas.List.{take-append-drop, length-take-le}
+use Rattle.std.proofs.lemmas.Bool.{and_parts, and_from, or_cases, cases_lt, eqb-true, eq-eqb, leb-true}
+use Rattle.std.proofs.lemmas.List.Sums.{fold-append}
 use Rattle.rdm_wire.specs.Uid.{has, is_within, IsAscending, IsDeviceSet}
 use Rattle.rdm_wire.specs.Honest.{Asked, Heard, Seen, LineState, HonestStep, HonestTrace, Chain, MayReply, MuteMoves}
-use Rattle.rdm_wire.specs.Honest.{KeepsMuted, Counts, before_run, is_acked}
-use Rattle.rdm_wire.specs.HonestOver.{HonestOver, ChainOver, first_set}
+use Rattle.rdm_wire.specs.Honest.{KeepsMuted, Counts, due_in, before_run, is_acked}
 use Rattle.rdm_agent.proofs.LeftLemmas.{at_most_one}
 use Rattle.rdm_wire.specs.Honest.Asked.{Unmute, Branch, Mute, Other}
 use Rattle.rdm_wire.specs.Honest.Heard.{Failed, Silent, One, Acked, Noise}
 use Rattle.rdm_explain.specs.declared.exchange.Exchange.{Exchange}
 use Rattle.rdm_explain.specs.Exchanges.{seen_of, seen_all}
-use Rattle.rdm_explain.specs.Garbled.{IsNoAnswer, IsGarbledExchange, IsGarbled}
-use Rattle.rdm_explain.specs.body.Garbling.{is_other_text, is_no_acknowledgement, is_garbled_by, is_garbled}
+use Rattle.rdm_explain.specs.Garbled.{StaysMuted, IsNoAnswer, IsGarbledExchange, IsGarbled}
+use Rattle.rdm_explain.specs.body.Garbling.{muted_after, muted_with, stays_muted, is_wrong_reply}
+use Rattle.rdm_explain.specs.body.Garbling.{is_no_acknowledgement, is_garbled_by, is_garbled}
+use Rattle.rdm_explain.proofs.EndLemmas.{all_append}
+use Rattle.rdm_explain.proofs.PartingLemmas.{own_elements}
 use Rattle.rdm_explain.proofs.StrayLemmas.{NoFailure, failed_in}
 
--- bytes that aren't the text of u
-record OtherText (u : ℕ) (h : Heard) : Type 0 where
-  not_failed : h ≢ Failed
-  not_silent : h ≢ Silent
-  not_its_text : h ≢ One u
+pub cons_head : {X : Type 0} (x y : X) (xs ys : List X) → x ∷ xs ≡ y ∷ ys → x ≡ y
+cons_head x y xs ys e = cc
+
+pub cons_tail : {X : Type 0} (x y : X) (xs ys : List X) → x ∷ xs ≡ y ∷ ys → xs ≡ ys
+cons_tail x y xs ys e = cc
+
+nil_cons : {X : Type 0} (x : X) (xs : List X) → [] ≡ x ∷ xs → ⊥
+nil_cons x xs e = cc
+
+-- u stays muted by what the test says
+extend : (u : ℕ) (x : List Seen) (e : Seen) → e.asked ≢ Unmute → StaysMuted u x → StaysMuted u (x ++ e ∷ [])
+extend u x e other is = record {
+  front = is.front;
+  mute = is.mute;
+  back = is.back ++ e ∷ [];
+  whole = ap (λ l. l ++ e ∷ []) is.whole ∙ append_assoc is.front (is.mute ∷ is.back) (e ∷ []);
+  asked = is.asked;
+  acked = is.acked;
+  no_unmute = all_append (λ (s : Seen). s.asked ≢ Unmute) is.back (e ∷ []) is.no_unmute (other, tt);
+}
+
+one_more_is : (u : ℕ) (x : List Seen) (b : Bool) (e : Seen) (a : Asked) → e.asked ≡ a → (b ≡ true → StaysMuted u x)
+    → muted_after u b a e.heard ≡ true → StaysMuted u (x ++ e ∷ [])
+one_more_is u x b e Unmute asked was is = absurd (true≢false (sym is))
+one_more_is u x b e (Branch lo hi) asked was is = extend u x e (λ other. cc) (was is)
+one_more_is u x b e Other asked was is = extend u x e (λ other. cc) (was is)
+one_more_is u x b e (Mute v) asked was is = elim (or_cases (is_acked e.heard && (u == v)) b is) [
+  | inl acked ↦
+      let both = and_parts (is_acked e.heard) (u == v) acked in record {
+        front = x;
+        mute = e;
+        back = [];
+        whole = refl;
+        asked = asked ∙ ap (λ w. Mute w) (sym (eqb-true u v both.1));
+        acked = both.0;
+        no_unmute = tt;
+      }
+  | inr before ↦ extend u x e (λ other. cc) (was before)
+]
+
+muted_from : (u : ℕ) (front x : List Seen) (b : Bool) → (b ≡ true → StaysMuted u front)
+    → fold (muted_with u) b x ≡ true → StaysMuted u (front ++ x)
+muted_from u front [] b was is = subst (StaysMuted u) (sym (append-nil front)) (was is)
+muted_from u front (e ∷ x) b was is =
+    subst (StaysMuted u) (append_assoc front (e ∷ []) x)
+    (muted_from u (front ++ e ∷ []) x (muted_with u b e)
+    (λ now. one_more_is u front b e e.asked refl was now) is)
+
+muted_is : (u : ℕ) (x : List Seen) → stays_muted x u ≡ true → StaysMuted u x
+muted_is u x is = muted_from u [] x false (λ never. absurd (true≢false (sym never))) is
+
+still_muted : (u : ℕ) (a : Asked) (h : Heard) → a ≢ Unmute → muted_after u true a h ≡ true
+still_muted u Unmute h other = absurd (other refl)
+still_muted u (Branch lo hi) h other = refl
+still_muted u Other h other = refl
+still_muted u (Mute v) h other = or_true (is_acked h && (u == v))
+  where
+    or_true : (b : Bool) → (b || true) ≡ true
+    or_true true = refl
+    or_true false = refl
+
+muted_through : (u : ℕ) (x : List Seen) → AllByRecursion (λ (e : Seen). e.asked ≢ Unmute) x
+    → fold (muted_with u) true x ≡ true
+muted_through u [] all = refl
+muted_through u (e ∷ x) all =
+    ap (λ b. fold (muted_with u) b x) (still_muted u e.asked e.heard all.0) ∙ muted_through u x all.1
+
+muted_by : (u : ℕ) (b : Bool) (e : Seen) → e.asked ≡ Mute u → is_acked e.heard ≡ true → muted_with u b e ≡ true
+muted_by u b e asked acked =
+    ap (λ a. muted_after u b a e.heard) asked ∙ ap (λ k. (k && (u == u)) || b) acked ∙ ap (λ k. k || b) (itself u)
+  where
+    itself : (v : ℕ) → (v == v) ≡ true
+    itself v = search rules
+
+is_muted : (u : ℕ) (x : List Seen) → StaysMuted u x → stays_muted x u ≡ true
+is_muted u x is =
+    ap (λ l. stays_muted l u) is.whole
+    ∙ fold-append (muted_with u) false is.front (is.mute ∷ is.back)
+    ∙ ap (λ b. fold (muted_with u) b is.back)
+    (muted_by u (fold (muted_with u) false is.front) is.mute is.asked is.acked)
+    ∙ muted_through u is.back is.no_unmute
+
+-- the set of muted devices after one more exchange
+muted_push : (u : ℕ) (x : List Seen) (e : Seen) → stays_muted (x ++ e ∷ []) u ≡ muted_with u (stays_muted x u) e
+muted_push u x e = fold-append (muted_with u) false x (e ∷ [])
 
 not_true : (b : Bool) → not b ≡ true → b ≡ true → ⊥
 not_true true n b = true≢false (sym n)
@@ -31,40 +116,55 @@ not_true false n b = true≢false (sym b)
 one_is : (u v : ℕ) → One v ≡ One u → v ≡ u
 one_is u v e = cc
 
-other_text : (u : ℕ) (h : Heard) → is_other_text u h ≡ true → OtherText u h
-other_text u Failed is = absurd (true≢false (sym is))
-other_text u Silent is = absurd (true≢false (sym is))
-other_text u (One v) is = record {
-  not_failed = λ e. cc;
-  not_silent = λ e. cc;
-  not_its_text = λ e. not_true (v == u) is (eq-eqb v u (one_is u v e));
-}
-other_text u (Acked ack) is = record { not_failed = λ e. cc; not_silent = λ e. cc; not_its_text = λ e. cc }
-other_text u Noise is = record { not_failed = λ e. cc; not_silent = λ e. cc; not_its_text = λ e. cc }
-
-of_other : (u : ℕ) (h : Heard) → h ≢ Failed → h ≢ Silent → h ≢ One u → is_other_text u h ≡ true
-of_other u Failed fine loud other = absurd (fine refl)
-of_other u Silent fine loud other = absurd (loud refl)
-of_other u (One v) fine loud other = by_test (v == u) refl
-  where
-    by_test : (b : Bool) → (v == u) ≡ b → not b ≡ true
-    by_test true is = absurd (other (ap (λ w. One w) (eqb-true v u is)))
-    by_test false is = refl
-of_other u (Acked ack) fine loud other = refl
-of_other u Noise fine loud other = refl
-
--- bytes that don't answer this
-record Garbles (a : Asked) (h : Heard) : Type 0 where
+-- bytes that u mustn't send
+record WrongReply (u : ℕ) (x : List Seen) (h : Heard) : Type 0 where
   not_failed : h ≢ Failed
   not_silent : h ≢ Silent
-  no_answer : IsNoAnswer a h
+  wrong : (h ≢ One u) ⊎ StaysMuted u x
 
-unacked : (u : ℕ) (h : Heard) → is_no_acknowledgement h ≡ true → Garbles (Mute u) h
-unacked u Failed is = absurd (true≢false (sym is))
-unacked u Silent is = absurd (true≢false (sym is))
-unacked u (One v) is = record { not_failed = λ e. cc; not_silent = λ e. cc; no_answer = refl }
-unacked u (Acked ack) is = absurd (true≢false (sym is))
-unacked u Noise is = record { not_failed = λ e. cc; not_silent = λ e. cc; no_answer = refl }
+wrong_reply : (u : ℕ) (x : List Seen) (h : Heard) → is_wrong_reply (stays_muted x u) u h ≡ true → WrongReply u x h
+wrong_reply u x Failed is = absurd (true≢false (sym is))
+wrong_reply u x Silent is = absurd (true≢false (sym is))
+wrong_reply u x (One v) is = record {
+  not_failed = λ e. cc;
+  not_silent = λ e. cc;
+  wrong = elim (or_cases (stays_muted x u) (not (v == u)) is) [
+    | inl muted ↦ inr (muted_is u x muted)
+    | inr other ↦ inl (λ e. not_true (v == u) other (eq-eqb v u (one_is u v e)))
+  ];
+}
+wrong_reply u x (Acked ack) is = record { not_failed = λ e. cc; not_silent = λ e. cc; wrong = inl (λ e. cc) }
+wrong_reply u x Noise is = record { not_failed = λ e. cc; not_silent = λ e. cc; wrong = inl (λ e. cc) }
+
+of_wrong : (u : ℕ) (x : List Seen) (h : Heard) → h ≢ Failed → h ≢ Silent → (h ≢ One u) ⊎ StaysMuted u x
+    → is_wrong_reply (stays_muted x u) u h ≡ true
+of_wrong u x Failed fine loud wrong = absurd (fine refl)
+of_wrong u x Silent fine loud wrong = absurd (loud refl)
+of_wrong u x (One v) fine loud (inl other) = by_test (v == u) refl
+  where
+    or_true : (b : Bool) → (b || true) ≡ true
+    or_true true = refl
+    or_true false = refl
+
+    by_test : (b : Bool) → (v == u) ≡ b → (stays_muted x u || not b) ≡ true
+    by_test true is = absurd (other (ap (λ w. One w) (eqb-true v u is)))
+    by_test false is = or_true (stays_muted x u)
+of_wrong u x (One v) fine loud (inr muted) = ap (λ b. b || not (v == u)) (is_muted u x muted)
+of_wrong u x (Acked ack) fine loud wrong = refl
+of_wrong u x Noise fine loud wrong = refl
+
+-- bytes that don't answer this
+record Garbles (x : List Seen) (a : Asked) (h : Heard) : Type 0 where
+  not_failed : h ≢ Failed
+  not_silent : h ≢ Silent
+  no_answer : IsNoAnswer x a h
+
+unacked : (x : List Seen) (u : ℕ) (h : Heard) → is_no_acknowledgement h ≡ true → Garbles x (Mute u) h
+unacked x u Failed is = absurd (true≢false (sym is))
+unacked x u Silent is = absurd (true≢false (sym is))
+unacked x u (One v) is = record { not_failed = λ e. cc; not_silent = λ e. cc; no_answer = refl }
+unacked x u (Acked ack) is = absurd (true≢false (sym is))
+unacked x u Noise is = record { not_failed = λ e. cc; not_silent = λ e. cc; no_answer = refl }
 
 of_unacked : (h : Heard) → h ≢ Failed → h ≢ Silent → is_acked h ≡ false → is_no_acknowledgement h ≡ true
 of_unacked Failed fine loud wrong = absurd (fine refl)
@@ -73,37 +173,59 @@ of_unacked (One v) fine loud wrong = refl
 of_unacked (Acked ack) fine loud wrong = absurd (true≢false wrong)
 of_unacked Noise fine loud wrong = refl
 
-garbles : (a : Asked) (h : Heard) → is_garbled_by a h ≡ true → Garbles a h
-garbles Unmute h holds = absurd (true≢false (sym holds))
-garbles Other h holds = absurd (true≢false (sym holds))
-garbles (Mute u) h holds = unacked u h holds
-garbles (Branch lo hi) h holds =
-    let both = and_parts (lo == hi) (is_other_text lo h) holds in
-    let other = other_text lo h both.1 in record {
-      not_failed = other.not_failed;
-      not_silent = other.not_silent;
-      no_answer = (eqb-true lo hi both.0, other.not_its_text);
+garbles : (x : List Seen) (a : Asked) (h : Heard) → is_garbled_by (stays_muted x) a h ≡ true → Garbles x a h
+garbles x Unmute h holds = absurd (true≢false (sym holds))
+garbles x Other h holds = absurd (true≢false (sym holds))
+garbles x (Mute u) h holds = unacked x u h holds
+garbles x (Branch lo hi) h holds =
+    let both = and_parts (lo == hi) (is_wrong_reply (stays_muted x lo) lo h) holds in
+    let reply = wrong_reply lo x h both.1 in record {
+      not_failed = reply.not_failed;
+      not_silent = reply.not_silent;
+      no_answer = (eqb-true lo hi both.0, reply.wrong);
     }
 
-of_garbles : (a : Asked) (h : Heard) → h ≢ Failed → h ≢ Silent → IsNoAnswer a h → is_garbled_by a h ≡ true
-of_garbles Unmute h fine loud wrong = absurd wrong
-of_garbles Other h fine loud wrong = absurd wrong
-of_garbles (Mute u) h fine loud wrong = of_unacked h fine loud wrong
-of_garbles (Branch lo hi) h fine loud wrong =
-    and_from (lo == hi) (is_other_text lo h) (eq-eqb lo hi wrong.0) (of_other lo h fine loud wrong.1)
+of_garbles : (x : List Seen) (a : Asked) (h : Heard) → h ≢ Failed → h ≢ Silent → IsNoAnswer x a h
+    → is_garbled_by (stays_muted x) a h ≡ true
+of_garbles x Unmute h fine loud wrong = absurd wrong
+of_garbles x Other h fine loud wrong = absurd wrong
+of_garbles x (Mute u) h fine loud wrong = of_unacked h fine loud wrong
+of_garbles x (Branch lo hi) h fine loud wrong =
+    and_from (lo == hi) (is_wrong_reply (stays_muted x lo) lo h) (eq-eqb lo hi wrong.0)
+    (of_wrong lo x h fine loud wrong.1)
 
 -- the test decides
-pub garbled_is : (e : Seen) → is_garbled e ≡ true → IsGarbledExchange e
-garbled_is e is =
-    let g = garbles e.asked e.heard is in
+pub garbled_is : (x : List Seen) (e : Seen) → is_garbled (stays_muted x) e ≡ true → IsGarbledExchange x e
+garbled_is x e is =
+    let g = garbles x e.asked e.heard is in
     record { not_failed = g.not_failed; not_silent = g.not_silent; no_answer = g.no_answer }
 
-pub is_garbled_of : (e : Seen) → IsGarbledExchange e → is_garbled e ≡ true
-is_garbled_of e g = of_garbles e.asked e.heard g.not_failed g.not_silent g.no_answer
+pub is_garbled_of : (x : List Seen) (e : Seen) → IsGarbledExchange x e → is_garbled (stays_muted x) e ≡ true
+is_garbled_of x e g = of_garbles x e.asked e.heard g.not_failed g.not_silent g.no_answer
+
+-- by the set of muted devices
+pub same_test : (f g : ℕ → Bool) (e : Seen) → ((u : ℕ) → f u ≡ g u) → is_garbled f e ≡ is_garbled g e
+same_test f g e same = by_asked e.asked e.heard
+  where
+    by_asked : (a : Asked) (h : Heard) → is_garbled_by f a h ≡ is_garbled_by g a h
+    by_asked Unmute h = refl
+    by_asked Other h = refl
+    by_asked (Mute u) h = refl
+    by_asked (Branch lo hi) h = ap (λ b. (lo == hi) && is_wrong_reply b lo h) (same lo)
+
+pub muted_more : (u : ℕ) (xs : List Exchange) (at : ℕ) (e : Exchange) (old new : Bool) → at < length xs
+    → e ≡ get_or xs at e → old ≡ stays_muted (seen_all (take at xs)) u → new ≡ muted_with u old (seen_of e)
+    → new ≡ stays_muted (seen_all (take (at + 1) xs)) u
+muted_more u xs at e old new within read was is =
+    is ∙ ap (λ b. muted_with u b (seen_of e)) was
+    ∙ sym (ap (λ l. stays_muted (seen_all l) u) (take_more xs at e within ∙ ap (λ x. take at xs ++ x ∷ []) (sym read))
+    ∙ ap (λ l. stays_muted l u) (map-append seen_of (take at xs) (e ∷ []))
+    ∙ muted_push u (seen_all (take at xs)) (seen_of e))
 
 -- at an index
 pub garbled_at : (xs : List Exchange) (at : ℕ) (e : Exchange) → at < length xs → e ≡ get_or xs at e
-    → NoFailure (seen_all (take at xs)) → is_garbled (seen_of e) ≡ true → IsGarbled xs at
+    → NoFailure (seen_all (take at xs)) → is_garbled (stays_muted (seen_all (take at xs))) (seen_of e) ≡ true
+    → IsGarbled xs at
 garbled_at xs at e within read ok holds = record {
   front = take at xs;
   exchange = e;
@@ -112,7 +234,7 @@ garbled_at xs at e within read ok holds = record {
       ∙ ap (λ l. take at xs ++ l) (drop_more xs at e within ∙ ap (λ x. x ∷ drop (at + 1) xs) (sym read));
   index = length-take-le at xs (omega arith);
   no_failure = ok;
-  garbled = garbled_is (seen_of e) holds;
+  garbled = garbled_is (seen_all (take at xs)) (seen_of e) holds;
 }
 
 same_exchange : (xs : List Exchange) (at : ℕ) (e : Exchange) → e ≡ get_or xs at e → (g : IsGarbled xs at)
@@ -120,11 +242,15 @@ same_exchange : (xs : List Exchange) (at : ℕ) (e : Exchange) → e ≡ get_or 
 same_exchange xs at e read g =
     sym (read ∙ ap (λ l. get_or l at e) g.whole ∙ get_or_at g.front g.exchange g.back e at g.index)
 
+same_front : (xs : List Exchange) (at : ℕ) (g : IsGarbled xs at) → g.front ≡ take at xs
+same_front xs at g = sym (ap (take at) g.whole ∙ take_at g.front (g.exchange ∷ g.back) at g.index)
+
 pub at_garbled : (xs : List Exchange) (at : ℕ) (e : Exchange) → e ≡ get_or xs at e → IsGarbled xs at
-    → is_garbled (seen_of e) ≡ true
+    → is_garbled (stays_muted (seen_all (take at xs))) (seen_of e) ≡ true
 at_garbled xs at e read g =
-    subst (λ x. is_garbled (seen_of x) ≡ true) (same_exchange xs at e read g)
-    (is_garbled_of (seen_of g.exchange) g.garbled)
+    subst (λ l. is_garbled (stays_muted (seen_all l)) (seen_of e) ≡ true) (same_front xs at g)
+    (subst (λ x. is_garbled (stays_muted (seen_all g.front)) (seen_of x) ≡ true) (same_exchange xs at e read g)
+    (is_garbled_of (seen_all g.front) (seen_of g.exchange) g.garbled))
 
 -- a garbled exchange is within the list
 pub garbled_within : (xs : List Exchange) (at : ℕ) → IsGarbled xs at → at < length xs
@@ -138,14 +264,11 @@ pub none_after : (xs : List Exchange) (at : ℕ) (e : Exchange) → at < length 
     → (seen_of e).heard ≡ Failed → ((j : ℕ) → j < at → IsGarbled xs j → ⊥) → (j : ℕ) → IsGarbled xs j → ⊥
 none_after xs at e within read failed before j g = by_order (cases_lt j at) (cases_lt at j)
   where
-    front : g.front ≡ take j xs
-    front = sym (ap (take j) g.whole ∙ take_at g.front (g.exchange ∷ g.back) j g.index)
-
     by_order : (j < at) ⊎ (at ≤ j) → (at < j) ⊎ (j ≤ at) → ⊥
     by_order (inl less) h = before j less g
     by_order (inr more) (inl later) =
         failed_in xs j at e later within (ap (λ x. (seen_of x).heard) (sym read) ∙ failed)
-        (subst (λ l. NoFailure (seen_all l)) front g.no_failure)
+        (subst (λ l. NoFailure (seen_all l)) (same_front xs j g) g.no_failure)
     by_order (inr more) (inr less) =
         let same : j ≡ at = omega arith in
         let here = subst (IsGarbled xs) same g in
@@ -189,49 +312,167 @@ after_mute present old new u h true loud wrong (inl acked) = true≢false (sym a
 after_mute present old new u h true loud wrong (inr silent) = loud silent.0
 after_mute present old new u h false loud wrong absent = loud absent.0
 
-not_answered : (present : List ℕ) (old new : LineState) (a : Asked) (h : Heard) → IsDeviceSet present → h ≢ Silent
-    → IsNoAnswer a h → HonestStep present old a h new → ⊥
+-- no device is due after a branch of one that is muted
+none_pass : (t : ℕ → Bool) (us : List ℕ) → AllByRecursion (λ v. t v ≡ false) us → filter t us ≡ []
+none_pass t [] all = refl
+none_pass t (v ∷ us) all = rw (all.0, none_pass t us all.1) refl
+
+none_due : (present us : List ℕ) (muted : ℕ → Bool) (u : ℕ) → (has present u ≡ true → muted u ≡ true)
+    → AllByRecursion (λ v. has present v ≡ true) us
+    → AllByRecursion (λ v. (is_within u u v && not (muted v)) ≡ false) us
+none_due present [] muted u is all = tt
+none_due present (v ∷ us) muted u is all = (by_within (is_within u u v) refl, none_due present us muted u is all.1)
+  where
+    by_within : (b : Bool) → is_within u u v ≡ b → (b && not (muted v)) ≡ false
+    by_within false outside = refl
+    by_within true within =
+        let same : v ≡ u = within_itself u v within in
+        ap not (ap muted same ∙ is (subst (λ k. has present k ≡ true) same all.0))
+
+muted_silent : (present : List ℕ) (muted : ℕ → Bool) (lo hi : ℕ) (h : Heard) → lo ≡ hi
+    → (has present lo ≡ true → muted lo ≡ true) → MayReply (due_in present muted lo hi) h → h ≡ Silent
+muted_silent present muted lo hi h same is may =
+    subst (λ l. MayReply l h)
+    (ap (λ k. due_in present muted lo k) (sym same)
+    ∙ none_pass (λ v. is_within lo lo v && not (muted v)) present
+    (none_due present present muted lo is (own_elements [] present))) may
+
+-- a device that is muted, and stays so to the end of these exchanges
+pub record IsMutedFor (present : List ℕ) (muted : ℕ → Bool) (u : ℕ) (x : List Seen) : Type 0 where
+  pub now : has present u ≡ true → muted u ≡ true
+  pub no_unmute : AllByRecursion (λ (e : Seen). e.asked ≢ Unmute) x
+
+-- it is, or it will acknowledge its mute in these exchanges
+abbrev pub WillBeMuted : List ℕ → (ℕ → Bool) → ℕ → List Seen → Type 0
+WillBeMuted present muted u x = IsMutedFor present muted u x ⊎ StaysMuted u x
+
+-- an honest step keeps a device muted, if it isn't an unmute
+pub step_keeps : (present : List ℕ) (old new : LineState) (u : ℕ) (a : Asked) (h : Heard) → a ≢ Unmute
+    → HonestStep present old a h new → old.muted u ≡ true → new.muted u ≡ true
+step_keeps present old new u Unmute h other step is = absurd (other refl)
+step_keeps present old new u Other h other step is = step.0 u ∙ is
+step_keeps present old new u (Branch lo hi) h other step is = step.1 u ∙ is
+step_keeps present old new u (Mute v) h other step is = by_uid (v == u) refl
+  where
+    by_present : (b : Bool) → v ≡ u
+        → MatchBool b (MuteMoves v old h new) ((h ≡ Silent) × KeepsMuted v old new × Counts new 0 0 0)
+        → new.muted u ≡ true
+    by_present true same (inl acked) = ap new.muted (sym same) ∙ acked.1
+    by_present true same (inr silent) = elim silent.1 [
+      | inl muted ↦ ap new.muted (sym same) ∙ muted
+      | inr keeps ↦ ap new.muted (sym same) ∙ keeps ∙ ap old.muted same ∙ is
+    ]
+    by_present false same absent = ap new.muted (sym same) ∙ absent.1 ∙ ap old.muted same ∙ is
+
+    by_uid : (b : Bool) → (v == u) ≡ b → new.muted u ≡ true
+    by_uid false apart = step.0 u apart ∙ is
+    by_uid true same = by_present (has present v) (eqb-true v u same) step.1
+
+-- a device that acknowledges its mute is there, and is muted
+pub step_mutes : (present : List ℕ) (old new : LineState) (u : ℕ) (a : Asked) (h : Heard) → a ≡ Mute u
+    → is_acked h ≡ true → HonestStep present old a h new → (has present u ≡ true) × (new.muted u ≡ true)
+step_mutes present old new u a h is acked step =
+    by_present (has present u) refl (subst (λ b. HonestStep present old b h new) is step).1
+  where
+    unsilent : h ≡ Silent → ⊥
+    unsilent silent = true≢false (sym (sym (ap is_acked silent) ∙ acked))
+
+    by_present : (b : Bool) → has present u ≡ b
+        → MatchBool b (MuteMoves u old h new) ((h ≡ Silent) × KeepsMuted u old new × Counts new 0 0 0)
+        → (has present u ≡ true) × (new.muted u ≡ true)
+    by_present true there (inl moves) = (there, moves.1)
+    by_present true there (inr silent) = absurd (unsilent silent.0)
+    by_present false there absent = absurd (unsilent absent.0)
+
+step_waits : (present : List ℕ) (old new : LineState) (u : ℕ) (e : Seen) (x : List Seen)
+    → HonestStep present old e.asked e.heard new → WillBeMuted present old.muted u (e ∷ x)
+    → WillBeMuted present new.muted u x
+step_waits present old new u e x step (inl is) = inl (record {
+  now = λ there. step_keeps present old new u e.asked e.heard is.no_unmute.0 step (is.now there);
+  no_unmute = is.no_unmute.1;
+})
+step_waits present old new u e x step (inr later) = by_front later.front later.whole
+  where
+    by_front : (front : List Seen) → e ∷ x ≡ front ++ later.mute ∷ later.back → WillBeMuted present new.muted u x
+    by_front [] whole =
+        let here : e ≡ later.mute = cons_head _ _ _ _ whole in
+        let rest : x ≡ later.back = cons_tail _ _ _ _ whole in
+        inl (record {
+          now = λ there.
+              (step_mutes present old new u e.asked e.heard (ap (λ s. s.asked) here ∙ later.asked)
+              (ap (λ s. is_acked s.heard) here ∙ later.acked) step).1;
+          no_unmute = subst (λ l. AllByRecursion (λ (s : Seen). s.asked ≢ Unmute) l) (sym rest) later.no_unmute;
+        })
+    by_front (y ∷ front) whole = inr (record {
+      front = front;
+      mute = later.mute;
+      back = later.back;
+      whole = cons_tail _ _ _ _ whole;
+      asked = later.asked;
+      acked = later.acked;
+      no_unmute = later.no_unmute;
+    })
+
+at_end : (present : List ℕ) (muted : ℕ → Bool) (u : ℕ) → WillBeMuted present muted u []
+    → has present u ≡ true → muted u ≡ true
+at_end present muted u (inl is) = is.now
+at_end present muted u (inr later) = absurd (no_middle later.front later.mute later.back later.whole)
+  where
+    no_middle : (front : List Seen) (e : Seen) (back : List Seen) → [] ≡ front ++ e ∷ back → ⊥
+    no_middle [] e back is = nil_cons e back is
+    no_middle (y ∷ front) e back is = nil_cons y (front ++ e ∷ back) is
+
+-- what must hold before the last exchange, for it not to be an answer
+abbrev pub Waits : List ℕ → (ℕ → Bool) → List Seen → Asked → Heard → Type 0
+Waits present muted x (Branch lo hi) h = (lo ≡ hi) × ((h ≢ One lo) ⊎ WillBeMuted present muted lo x)
+Waits present muted x (Mute u) h = is_acked h ≡ false
+Waits present muted x Unmute h = ⊥
+Waits present muted x Other h = ⊥
+
+first_waits : (present : List ℕ) (muted : ℕ → Bool) (x : List Seen) (a : Asked) (h : Heard) → IsNoAnswer x a h
+    → Waits present muted x a h
+first_waits present muted x Unmute h wrong = wrong
+first_waits present muted x Other h wrong = wrong
+first_waits present muted x (Mute u) h wrong = wrong
+first_waits present muted x (Branch lo hi) h (same, inl other) = (same, inl other)
+first_waits present muted x (Branch lo hi) h (same, inr later) = (same, inr (inr later))
+
+next_waits : (present : List ℕ) (old new : LineState) (e : Seen) (x : List Seen) (a : Asked) (h : Heard)
+    → HonestStep present old e.asked e.heard new → Waits present old.muted (e ∷ x) a h → Waits present new.muted x a h
+next_waits present old new e x Unmute h step waits = waits
+next_waits present old new e x Other h step waits = waits
+next_waits present old new e x (Mute u) h step waits = waits
+next_waits present old new e x (Branch lo hi) h step (same, inl other) = (same, inl other)
+next_waits present old new e x (Branch lo hi) h step (same, inr later) =
+    (same, inr (step_waits present old new lo e x step later))
+
+pub not_answered : (present : List ℕ) (old new : LineState) (a : Asked) (h : Heard) → IsDeviceSet present → h ≢ Silent
+    → Waits present old.muted [] a h → HonestStep present old a h new → ⊥
 not_answered present old new Unmute h set loud wrong step = wrong
 not_answered present old new Other h set loud wrong step = wrong
 not_answered present old new (Mute u) h set loud wrong step =
     after_mute present old new u h (has present u) loud wrong step.1
-not_answered present old new (Branch lo hi) h set loud wrong step =
+not_answered present old new (Branch lo hi) h set loud (same, inl other) step =
     one_reply (λ v. is_within lo hi v && not (old.muted v)) present lo h set.ascending
-    (λ v passes. within_itself lo v (subst (λ x. is_within lo x v ≡ true) (sym wrong.0)
+    (λ v passes. within_itself lo v (subst (λ x. is_within lo x v ≡ true) (sym same)
     (and_parts (is_within lo hi v) (not (old.muted v)) passes).0))
-    loud wrong.1 step.0
-
-no_step : (present : List ℕ) (old new : LineState) (e : Seen) → IsDeviceSet present → IsGarbledExchange e
-    → HonestStep present old e.asked e.heard new → ⊥
-no_step present old new e set g step =
-    not_answered present old new e.asked e.heard set g.not_silent g.no_answer step
+    loud other step.0
+not_answered present old new (Branch lo hi) h set loud (same, inr muted) step =
+    loud (muted_silent present old.muted lo hi h same (at_end present old.muted lo muted) step.0)
 
 -- with the same devices at each exchange
 in_chain : (present : List ℕ) (s : LineState) (front : List Seen) (e : Seen) (rest : List Seen) → IsDeviceSet present
-    → NoFailure front → IsGarbledExchange e → Chain (HonestStep present) s (front ++ e ∷ rest) → ⊥
-in_chain present s [] e rest set ok g (inl failed) = g.not_failed failed
-in_chain present s [] e rest set ok g (inr step) = no_step present s step.0 e set g step.1
-in_chain present s (x ∷ front) e rest set ok g (inl failed) = ok.0 failed
-in_chain present s (x ∷ front) e rest set ok g (inr step) = in_chain present step.0 front e rest set ok.1 g step.2
+    → NoFailure front → e.heard ≢ Failed → e.heard ≢ Silent → Waits present s.muted front e.asked e.heard
+    → Chain (HonestStep present) s (front ++ e ∷ rest) → ⊥
+in_chain present s [] e rest set ok fine loud waits (inl failed) = fine failed
+in_chain present s [] e rest set ok fine loud waits (inr step) =
+    not_answered present s step.0 e.asked e.heard set loud waits step.1
+in_chain present s (x ∷ front) e rest set ok fine loud waits (inl failed) = ok.0 failed
+in_chain present s (x ∷ front) e rest set ok fine loud waits (inr step) =
+    in_chain present step.0 front e rest set ok.1 fine loud
+    (next_waits present s step.0 x front e.asked e.heard step.1 waits) step.2
 
--- with devices that come and leave
-in_chain_over : (earlier last : List ℕ) (s : LineState) (sets : List (List ℕ)) (front : List Seen) (e : Seen)
-    (rest : List Seen) → AllByRecursion IsDeviceSet sets → NoFailure front → IsGarbledExchange e
-    → ChainOver earlier last s sets (front ++ e ∷ rest) → ⊥
-in_chain_over earlier last s [] [] e rest all ok g chain = chain
-in_chain_over earlier last s [] (x ∷ front) e rest all ok g chain = chain
-in_chain_over earlier last s (present ∷ sets) [] e rest all ok g chain =
-    elim chain.2 [
-      | inl failed ↦ g.not_failed failed
-      | inr step ↦ no_step present chain.0 step.0 e all.0 g step.1
-    ]
-in_chain_over earlier last s (present ∷ sets) (x ∷ front) e rest all ok g chain =
-    elim chain.2 [
-      | inl failed ↦ ok.0 failed
-      | inr step ↦ in_chain_over (present ++ earlier) present step.0 sets front e rest all.1 ok.1 g step.2
-    ]
-
-seen_whole : (xs : List Exchange) (at : ℕ) (g : IsGarbled xs at)
+pub seen_whole : (xs : List Exchange) (at : ℕ) (g : IsGarbled xs at)
     → seen_all xs ≡ seen_all g.front ++ seen_of g.exchange ∷ seen_all g.back
 seen_whole xs at g = ap seen_all g.whole ∙ map-append seen_of g.front (g.exchange ∷ g.back)
 
@@ -239,13 +480,7 @@ pub garbled_dishonest : (present : List ℕ) (xs : List Exchange) (at : ℕ) →
     → HonestTrace present (seen_all xs) → ⊥
 garbled_dishonest present xs at g honest =
     in_chain present (before_run honest.1) (seen_all g.front) (seen_of g.exchange) (seen_all g.back) honest.0
-    g.no_failure g.garbled
+    g.no_failure g.garbled.not_failed g.garbled.not_silent
+    (first_waits present honest.1 (seen_all g.front) (seen_of g.exchange).asked (seen_of g.exchange).heard
+    g.garbled.no_answer)
     (subst (λ l. Chain (HonestStep present) (before_run honest.1) l) (seen_whole xs at g) honest.2)
-
-pub garbled_dishonest_over : (sets : List (List ℕ)) (xs : List Exchange) (at : ℕ) → IsGarbled xs at
-    → HonestOver sets (seen_all xs) → ⊥
-garbled_dishonest_over sets xs at g honest =
-    in_chain_over (first_set sets) (first_set sets) (before_run honest.muted) sets (seen_all g.front)
-    (seen_of g.exchange) (seen_all g.back) honest.devices g.no_failure g.garbled
-    (subst (λ l. ChainOver (first_set sets) (first_set sets) (before_run honest.muted) sets l) (seen_whole xs at g)
-    honest.chain)

@@ -13,6 +13,7 @@ pub mod PartingLemmas
 pub mod DueLemmas
 pub mod StrayLemmas
 pub mod GarbledLemmas
+pub mod GarbledOverLemmas
 pub mod ReadLemmas
 pub mod TriedLemmas
 pub mod UntriedLemmas

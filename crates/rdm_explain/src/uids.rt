@@ -40,6 +40,13 @@ impl Uids {
         }
     }
 
+    /// Removes all UIDs.
+    pub(crate) fn clear(&mut self)
+        ensures { (u : ℕ) → in_tree self.new u ≡ false }
+    {
+        self.tree.clear();
+    }
+
     /// Removes a UID. Whether it was in the set.
     pub(crate) fn remove(&mut self, uid: Uid) -> bool
         ensures was { result ≡ in_tree self.old uid }

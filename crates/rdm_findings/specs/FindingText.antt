@@ -278,22 +278,33 @@ unless_garbled (Some garbled) None = None
 unless_garbled (Some garbled) (Some at) = if at == garbled then None else Some at
 
 -- what to do about bytes that no honest line allows, whichever devices are on it
-abbrev pub alone_text : List ℕ
-alone_text = codes "; a rule was broken: try the device alone on the line"
+abbrev pub each_text : List ℕ
+each_text = codes "; a rule was broken, by it or by another device: try each alone on the line"
 
 -- the same after a branch of one UID alone. Another device may have sent its own UID
 abbrev pub reply_text : Heard → List ℕ
 reply_text (One v) =
-    if is_broadcast v then alone_text
+    if is_broadcast v then each_text
     else codes "; they read as " ++ uid_text v ++ codes "; a rule was broken: try that one alone on the line"
-reply_text _ = alone_text
+reply_text _ = each_text
+
+-- after a branch of one UID alone: bytes that aren't its text
+abbrev pub other_bytes : Heard → List ℕ
+other_bytes heard = codes " alone that aren't its text" ++ reply_text heard
+
+-- after a branch of u alone: its own text although it is muted, or other bytes
+abbrev pub own_text : ℕ → Heard → List ℕ
+own_text u (Heard.One v) =
+    if v == u then codes " alone, which had acknowledged its mute; a rule was broken: try it alone on the line"
+    else other_bytes (Heard.One v)
+own_text u heard = other_bytes heard
 
 -- about bytes that came after a branch of one UID alone and aren't its text, or after a mute and don't acknowledge it
 abbrev pub garbled_text : Asked → Heard → List ℕ
 garbled_text (Branch lo hi) heard =
-    codes ": bytes came from " ++ uid_text lo ++ (codes " alone that aren't its text" ++ reply_text heard)
+    codes ": bytes came from " ++ uid_text lo ++ own_text lo heard
 garbled_text (Mute u) heard =
-    codes ": bytes came after a mute of " ++ uid_text u ++ (codes " that don't acknowledge it" ++ alone_text)
+    codes ": bytes came after a mute of " ++ uid_text u ++ (codes " that don't acknowledge it" ++ each_text)
 garbled_text _ heard = []
 
 -- the line of such an exchange with this number

@@ -99,7 +99,7 @@ fn find(
         names: names(alloc, kind, known, exchanges)?,
         devices: first_breaches(alloc, &uids, exchanges)?,
         stray: first_stray(alloc, &due, exchanges)?,
-        garbled: first_garbled(exchanges),
+        garbled: first_garbled(alloc, exchanges)?,
         heard: heard_uids(alloc, exchanges)?,
         reported,
     })

@@ -2,7 +2,8 @@
 ghost use Rattle.std.specs.Prelude.{◌≡◌, ◌++◌, ◌∷◌, [], OnOk, codes};
 ghost use Rattle.rdm_wire.specs.UidText.{uid_text};
 ghost use Rattle.rdm_reports.specs.Report.{line_of};
-ghost use Rattle.rdm_findings.specs.FindingText.{exchange_name, alone_text, reply_text, garbled_text, garbled_found};
+ghost use Rattle.rdm_findings.specs.FindingText.{exchange_name, each_text, reply_text, garbled_text, garbled_found};
+ghost use Rattle.rdm_findings.specs.FindingText.{own_text, other_bytes};
 ghost use Rattle.rdm_findings.specs.FindingText.{garbled_line};
 
 use crate::head::Start;
@@ -55,18 +56,30 @@ fn write_reason(text: &mut Vec<u8>, asked: &Asked, heard: &Heard) -> Result<(), 
 
 fn write_from(text: &mut Vec<u8>, uid: Uid, heard: &Heard) -> Result<(), AllocError>
     ensures { OnOk result (text.new.items ≡ text.old.items
-        ++ (codes ": bytes came from " ++ uid_text uid
-        ++ (codes " alone that aren't its text" ++ reply_text heard.now))) }
+        ++ (codes ": bytes came from " ++ uid_text uid ++ own_text uid heard.now)) }
 {
     write(text, ": bytes came from ")?;
     write_uid(text, uid)?;
-    write_alone(text, heard)
+    write_own(text, uid, heard)
 }
+
+// Its own text, although it is muted, or other bytes.
+fn write_own(text: &mut Vec<u8>, uid: Uid, heard: &Heard) -> Result<(), AllocError>
+    ensures { OnOk result (text.new.items ≡ text.old.items ++ own_text uid heard.now) }
+{
+    match heard {
+        Heard::One(read) if *read == uid => write(text, MUTED),
+        _ => write_other_bytes(text, heard),
+    }
+}
+
+const MUTED: &str =
+    " alone, which had acknowledged its mute; a rule was broken: try it alone on the line";
 
 fn write_unmuted(text: &mut Vec<u8>, uid: Uid) -> Result<(), AllocError>
     ensures { OnOk result (text.new.items ≡ text.old.items
         ++ (codes ": bytes came after a mute of " ++ uid_text uid
-        ++ (codes " that don't acknowledge it" ++ alone_text))) }
+        ++ (codes " that don't acknowledge it" ++ each_text))) }
 {
     write(text, ": bytes came after a mute of ")?;
     write_uid(text, uid)?;
@@ -74,15 +87,14 @@ fn write_unmuted(text: &mut Vec<u8>, uid: Uid) -> Result<(), AllocError>
 }
 
 fn write_unacked(text: &mut Vec<u8>) -> Result<(), AllocError>
-    ensures { OnOk result (text.new.items ≡ text.old.items ++ (codes " that don't acknowledge it" ++ alone_text)) }
+    ensures { OnOk result (text.new.items ≡ text.old.items ++ (codes " that don't acknowledge it" ++ each_text)) }
 {
     write(text, " that don't acknowledge it")?;
-    write(text, ALONE)
+    write(text, EACH)
 }
 
-fn write_alone(text: &mut Vec<u8>, heard: &Heard) -> Result<(), AllocError>
-    ensures { OnOk result (text.new.items ≡ text.old.items
-        ++ (codes " alone that aren't its text" ++ reply_text heard.now)) }
+fn write_other_bytes(text: &mut Vec<u8>, heard: &Heard) -> Result<(), AllocError>
+    ensures { OnOk result (text.new.items ≡ text.old.items ++ other_bytes heard.now) }
 {
     write(text, " alone that aren't its text")?;
     write_reply(text, heard)
@@ -94,17 +106,17 @@ fn write_reply(text: &mut Vec<u8>, heard: &Heard) -> Result<(), AllocError>
 {
     match heard {
         Heard::One(uid) => write_spelt(text, *uid),
-        _ => write(text, ALONE),
+        _ => write(text, EACH),
     }
 }
 
-const ALONE: &str = "; a rule was broken: try the device alone on the line";
+const EACH: &str = "; a rule was broken, by it or by another device: try each alone on the line";
 
 fn write_spelt(text: &mut Vec<u8>, uid: Uid) -> Result<(), AllocError>
     ensures { OnOk result (text.new.items ≡ text.old.items ++ reply_text (Heard.One uid)) }
 {
     if uid.is_broadcast() {
-        write(text, ALONE)
+        write(text, EACH)
     } else {
         write_other(text, uid)
     }

@@ -1,7 +1,7 @@
 //! A run for each lie, alone on the line.
 use super::rig::{
     acked, add, alone, branch, breaks, check, covers, follows, garbles, has_no_garbled,
-    has_no_stray, leaves, liar, lower, mute, mute_of, opening, strays, upper, whole,
+    has_no_stray, leaves, liar, lower, mute, mute_of, opening, other, strays, unmute, upper, whole,
 };
 use rdm_explain::{Heard, Rule};
 use rdm_wire::Uid;
@@ -55,6 +55,26 @@ fn a_device_that_stays_unmuted_answers_although_it_is_not_due(rt: HostRuntime) {
     add(&rt, &mut run, &whole(Heard::One(liar())), 1);
     check(&rt, follows(rt.alloc(), &run));
     check(&rt, strays(rt.alloc(), &run, 5));
+    check(&rt, has_no_garbled(rt.alloc(), &run));
+    add(&rt, &mut run, &mute_of(other(), acked()), 1);
+    add(&rt, &mut run, &alone(Heard::One(liar())), 2);
+    check(&rt, garbles(rt.alloc(), &run, 7));
+}
+
+#[test]
+fn a_device_may_answer_alone_unless_its_mute_was_acknowledged(rt: HostRuntime) {
+    let mut run = opening(&rt, rt.alloc());
+    add(&rt, &mut run, &mute(acked()), 1);
+    add(&rt, &mut run, &unmute(), 1);
+    add(&rt, &mut run, &mute(Heard::Silent), 1);
+    add(&rt, &mut run, &mute_of(other(), acked()), 1);
+    add(&rt, &mut run, &alone(Heard::One(liar())), 1);
+    check(&rt, has_no_garbled(rt.alloc(), &run));
+    add(&rt, &mut run, &mute(acked()), 1);
+    add(&rt, &mut run, &alone(Heard::Silent), 1);
+    check(&rt, has_no_garbled(rt.alloc(), &run));
+    add(&rt, &mut run, &alone(Heard::One(liar())), 1);
+    check(&rt, garbles(rt.alloc(), &run, 10));
 }
 
 #[test]
@@ -69,26 +89,24 @@ fn bytes_come_from_a_range_without_a_listed_device(rt: HostRuntime) {
 #[test]
 fn bytes_come_after_the_mute_of_an_unlisted_uid(rt: HostRuntime) {
     let mut run = opening(&rt, rt.alloc());
-    let other = Uid::new(0x1234, 8);
     add(&rt, &mut run, &mute(Heard::Noise), 1);
-    add(&rt, &mut run, &mute_of(other, Heard::Silent), 1);
+    add(&rt, &mut run, &mute_of(other(), Heard::Silent), 1);
     check(&rt, has_no_stray(rt.alloc(), &run));
-    add(&rt, &mut run, &mute_of(other, Heard::Noise), 1);
+    add(&rt, &mut run, &mute_of(other(), Heard::Noise), 1);
     check(&rt, strays(rt.alloc(), &run, 5));
 }
 
 #[test]
 fn noise_comes_after_the_branch_of_one_uid(rt: HostRuntime) {
     let mut run = opening(&rt, rt.alloc());
-    let other = Uid::new(0x1234, 8);
     add(&rt, &mut run, &whole(Heard::Noise), 1);
-    add(&rt, &mut run, &branch(other, liar(), Heard::Noise), 1);
+    add(&rt, &mut run, &branch(other(), liar(), Heard::Noise), 1);
     add(&rt, &mut run, &mute(Heard::Silent), 1);
     add(&rt, &mut run, &alone(Heard::Silent), 1);
     add(&rt, &mut run, &alone(Heard::One(liar())), 1);
-    check(&rt, has_no_garbled(&run));
+    check(&rt, has_no_garbled(rt.alloc(), &run));
     add(&rt, &mut run, &alone(Heard::Noise), 2);
-    check(&rt, garbles(&run, 8));
+    check(&rt, garbles(rt.alloc(), &run, 8));
 }
 
 #[test]
@@ -96,29 +114,23 @@ fn other_bytes_come_after_a_mute(rt: HostRuntime) {
     let mut run = opening(&rt, rt.alloc());
     add(&rt, &mut run, &mute(Heard::Silent), 1);
     add(&rt, &mut run, &mute(acked()), 1);
-    check(&rt, has_no_garbled(&run));
+    check(&rt, has_no_garbled(rt.alloc(), &run));
     add(&rt, &mut run, &mute(Heard::One(liar())), 1);
-    check(&rt, garbles(&run, 5));
+    check(&rt, garbles(rt.alloc(), &run, 5));
     let mut run = opening(&rt, rt.alloc());
-    add(
-        &rt,
-        &mut run,
-        &mute_of(Uid::new(0x1234, 8), Heard::Noise),
-        2,
-    );
-    check(&rt, garbles(&run, 3));
+    add(&rt, &mut run, &mute_of(other(), Heard::Noise), 2);
+    check(&rt, garbles(rt.alloc(), &run, 3));
 }
 
 #[test]
 fn the_text_of_another_uid_comes_after_the_branch_of_one(rt: HostRuntime) {
     let mut run = opening(&rt, rt.alloc());
-    let other = Uid::new(0x1234, 8);
-    add(&rt, &mut run, &alone(Heard::One(other)), 1);
-    check(&rt, garbles(&run, 3));
+    add(&rt, &mut run, &alone(Heard::One(other())), 1);
+    check(&rt, garbles(rt.alloc(), &run, 3));
     let mut run = opening(&rt, rt.alloc());
     add(&rt, &mut run, &alone(Heard::Failed), 1);
-    add(&rt, &mut run, &alone(Heard::One(other)), 1);
-    check(&rt, has_no_garbled(&run));
+    add(&rt, &mut run, &alone(Heard::One(other())), 1);
+    check(&rt, has_no_garbled(rt.alloc(), &run));
 }
 
 #[test]

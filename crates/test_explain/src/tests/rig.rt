@@ -21,6 +21,11 @@ pub fn liar() -> Uid {
     Uid::new(0x1234, 9)
 }
 
+/// Another device.
+pub fn other() -> Uid {
+    Uid::new(0x1234, 8)
+}
+
 /// Three unmutes, with which a run begins.
 pub fn opening(rt: &impl Abort, alloc: Global) -> Vec<Exchange> {
     unmutes(rt, alloc, 3)
@@ -29,12 +34,16 @@ pub fn opening(rt: &impl Abort, alloc: Global) -> Vec<Exchange> {
 /// This many unmutes.
 pub fn unmutes(rt: &impl Abort, alloc: Global, times: usize) -> Vec<Exchange> {
     let mut run = Vec::new(alloc);
-    let unmute = Exchange {
+    add(rt, &mut run, &unmute(), times);
+    run
+}
+
+/// An unmute.
+pub fn unmute() -> Exchange {
+    Exchange {
         asked: Asked::Unmute,
         heard: Heard::Silent,
-    };
-    add(rt, &mut run, &unmute, times);
-    run
+    }
 }
 
 /// Adds an exchange this many times.
@@ -128,16 +137,16 @@ pub fn has_no_stray(alloc: Global, exchanges: &[Exchange]) -> bool {
 }
 
 /// Whether this is the first exchange with bytes that no honest line allows.
-pub fn garbles(exchanges: &[Exchange], at: usize) -> bool {
-    match first_garbled(exchanges) {
-        Some(found) => found == at,
-        None => false,
+pub fn garbles(alloc: Global, exchanges: &[Exchange], at: usize) -> bool {
+    match first_garbled(alloc, exchanges) {
+        Ok(Some(found)) => found == at,
+        _ => false,
     }
 }
 
 /// Whether there is no such exchange.
-pub fn has_no_garbled(exchanges: &[Exchange]) -> bool {
-    first_garbled(exchanges).is_none()
+pub fn has_no_garbled(alloc: Global, exchanges: &[Exchange]) -> bool {
+    matches!(first_garbled(alloc, exchanges), Ok(None))
 }
 
 /// Whether the first UID that these exchanges don't cover is this one.

@@ -109,7 +109,7 @@ const WRONG: &str =
     0000:00000000 is the first UID that wasn't ruled out: it needs five silences in a row of a range that holds it\n\
     1234:00000009 followed the rules\n\
     exchange 3: bytes came from 1234:00000008 alone that aren't its text; \
-    a rule was broken: try the device alone on the line\n";
+    a rule was broken, by it or by another device: try each alone on the line\n";
 
 const NEW: &str =
     "run 1: 4 exchanges, 0 devices; its certificate is incomplete, or the log ends within the run\n\

@@ -2,5 +2,5 @@ use Rattle.rdm_reports.proofs.WritingLemmas.{three_written}
 use Rattle.rdm_findings.proofs.garbled_text.write_from.Goals as goal
 
 pub returns : goal.returns
-returns c = three_written c.write_alone.result c.args.text.now.items c.write.new.text.items c.write_uid.new.text.items
-    c.write_alone.new.text.items _ _ _ c.in_ok-write.ensures c.in_ok-write_uid.ensures c.write_alone.ensures
+returns c = three_written c.write_own.result c.args.text.now.items c.write.new.text.items c.write_uid.new.text.items
+    c.write_own.new.text.items _ _ _ c.in_ok-write.ensures c.in_ok-write_uid.ensures c.write_own.ensures

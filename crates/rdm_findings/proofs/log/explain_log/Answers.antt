@@ -1,7 +1,6 @@
-use Rattle.std.proofs.Common.{◌≡◌, [], ◌∙◌, ◌||◌, ◌&&◌, arith}
+use Rattle.std.proofs.Common.{◌≡◌, [], ◌∙◌, ◌||◌, arith}
 use Rattle.std.proofs.lemmas.Grind.{common_steps}
 use Rattle.std.proofs.lemmas.List.{nil_from_length}
-use Rattle.rdm_findings.specs.Runs.{begins}
 use Rattle.rdm_findings.proofs.LogLemmas.{nothing_more, line_more, log_end, either_broke, other_broke}
 use Rattle.rdm_findings.proofs.log.explain_log.Goals as goal
 use Rattle.rdm_findings.proofs.log.explain_log.Goals.{then-any, else-any}
