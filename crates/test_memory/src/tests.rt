@@ -8,6 +8,7 @@ mod inside;
 mod lines;
 mod ports;
 mod publications;
+mod recorded;
 mod replies;
 mod rings;
 mod scenes;
