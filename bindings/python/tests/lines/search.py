@@ -11,7 +11,7 @@ from typing import Dict, List, Optional, Set, Tuple
 from wurstlinen.line import Line, LineFailed
 from wurstlinen.lines.numbers import CommandClass, Pid, ResponseType
 from wurstlinen.lines.packets import (
-    ALL_DEVICES, LAST_DEVICE, Packet, decode_branch_reply, decode_packet, is_broadcast,
+    ALL_DEVICES, Packet, decode_branch_reply, decode_packet, is_broadcast,
 )
 
 SOURCE = 0x7A7000000100
@@ -56,7 +56,7 @@ class Controller:
         self.found = {}
         for _ in range(UNMUTES):
             self._send(ALL_DEVICES, CommandClass.DISCOVERY, Pid.DISC_UN_MUTE)
-        ranges: List[Tuple[int, int]] = [(0, LAST_DEVICE)]
+        ranges: List[Tuple[int, int]] = [(0, ALL_DEVICES)]
         while ranges:
             low, high = ranges.pop()
             reply = self._branch(low, high)

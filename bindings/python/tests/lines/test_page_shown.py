@@ -18,7 +18,7 @@ MANY = 100_000
 SECONDS_TO_OPEN = 10.0
 FINDINGS = ("discovery: full, steady, no fault, 1 device; its certificate is complete", f"{LEFT} followed the rules",
             f"{SILENT} was never heard: exchange 8 is the fifth silence in a row in a range that holds it",
-            "exchange 3: bytes came from 0000:00000000 to ffff:fffffffe, where no listed device was due")
+            "exchange 3: bytes came from 0000:00000000 to ffff:ffffffff, where no listed device was due")
 # The place of an exchange in the window, by what the page itself computes.
 PLACE = """(() => {{
     const box = view.getBoundingClientRect();
@@ -98,7 +98,7 @@ class Shown(TestCase):
         self.assertIn("A rule was broken.", self.page.value("get('verdict').textContent"))
         found = self.clicked(3)
         self.assertEqual(found["title"], ["exchange 3"])
-        self.assertEqual(found["command"], ["BRANCH 0000:00000000-ffff:fffffffe"])
+        self.assertEqual(found["command"], ["BRANCH 0000:00000000-ffff:ffffffff"])
         self.assertEqual(found["answer"], [LEFT])
         self.assertEqual(found["found"], [f"\u25bc {FINDINGS[3]}"])
         self.assertIn("PID0001", found["fields"])
