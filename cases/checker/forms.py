@@ -17,6 +17,9 @@ FAULTS: Dict[bytes, int] = {
     b"fault: command line\n": 2,
 }
 
+# The statuses of explain: no rule was broken, or one was.
+FOLLOWED, BROKEN = 0, 3
+
 NUMBER = "(?:0|[1-9][0-9]*)"
 UID = "[0-9a-f]{4}:[0-9a-f]{8}"
 RUN_FAULT = f"fault (?:1 {UID}|[2-5])"
@@ -62,6 +65,11 @@ def is_session(text: bytes, status: int, calls: int) -> bool:
     if status != 0 or not lines.endswith("\n") or len(positions) != calls:
         return False
     return all(follows(last, position) for last, position in zip([None, *positions], positions))
+
+
+def is_findings(text: bytes, status: int) -> bool:
+    """The whole answer of explain, which refused no line."""
+    return status in (FOLLOWED, BROKEN) and text.endswith(b"\n") and not text.startswith(b"fault")
 
 
 def positions_of(lines: str) -> Iterator[Optional[Position]]:

@@ -1,4 +1,4 @@
-"""Runs cases in an empty folder of their own, each in one of several processes."""
+"""Runs cases in an empty folder of their own, each in one of several processes. Explains each log that is written."""
 from __future__ import annotations
 
 import os
@@ -9,15 +9,17 @@ from dataclasses import dataclass, field, replace
 from pathlib import Path
 from typing import IO, Any, Dict, List, Tuple, Union
 
-from .case import LOG_NAME, Answer, Arguments, Case, File, Log, Output
+from .case import LOG_NAME, PROGRAM_NAME, Answer, Arguments, Case, Expected, File, Log, Output, arguments_of
 from .comparing import differences
 from .far_end import attached, descriptors_of
+from .forms import is_findings
 
 SECONDS = 120
 MOST_SHOWN = 200
 NOBODY = 65534
 MODE_OF_ALL = 0o755
 MODE_OF_UNREADABLE = 0o222
+EXPLAIN = arguments_of("explain", LOG_NAME)
 
 
 @dataclass(frozen=True)
@@ -59,8 +61,18 @@ class Runner:
             problems = differences(case.expected, answer, first)
             if problems:
                 return (shown_command(case, arguments), *problems)
+            problems = self._problems_of_log(case, answer.log)
+            if problems:
+                return (shown_command(case, arguments), shown_command(case, EXPLAIN), *problems)
             first = answer
         return ()
+
+    def _problems_of_log(self, case: Case, log: Log) -> List[str]:
+        """What is wrong with a log that was written: explain has to read it to its end."""
+        if log.contents is None or File(log.contents, LOG_NAME) in case.files:
+            return []
+        explained = replace(case, program=PROGRAM_NAME, output=Output.READ, far_end=None)
+        return differences(Expected(status=None, err=b"", form=is_findings), self._answer(explained, EXPLAIN), None)
 
     def _answer_with_log(self, case: Case, arguments: Arguments) -> Answer:
         log = (case.folder or self.folder) / LOG_NAME
