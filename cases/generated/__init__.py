@@ -8,9 +8,9 @@ from __future__ import annotations
 from typing import List
 
 from ..checker.case import Subject
-from . import arguments, damage, encodings, keys, lies, limits, logs, neighbours, nesting, ports, remarks
+from . import arguments, damage, damaged_logs, encodings, keys, lies, limits, logs, neighbours, nesting, ports, remarks
 
-MODULES = (damage, arguments, keys, limits, encodings, nesting, remarks, neighbours, ports, logs, lies)
+MODULES = (damage, arguments, keys, limits, encodings, nesting, remarks, neighbours, ports, logs, lies, damaged_logs)
 
 
 def subjects() -> List[Subject]:
