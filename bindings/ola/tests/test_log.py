@@ -1,9 +1,10 @@
 """An unchanged olad with the library: its log on bad disks, its messages, and what the script wurstlinen says of it.
 
-usage: test_log.py LIBRARY REDIRECT PRELOAD
+usage: test_log.py LIBRARY REDIRECT PRELOAD [PROGRAM]
   LIBRARY   libwurstlinen-ola.so
   REDIRECT  what redirect.c makes
   PRELOAD   what daemon_preload.c makes
+  PROGRAM   the built program, which explains the log of runs
 
 The last line is 'N passed, M failed'.
 """
@@ -51,11 +52,12 @@ HAS_LIBRARY, HAS_NONE, BAD_ARGUMENTS, NOT_RUN = 0, 1, 2, 125
 
 
 class Files(NamedTuple):
-    """The shared objects."""
+    """The shared objects, and the built program if it is named."""
 
     library: Path
     redirect: Path
     preload: Path
+    program: Optional[Path] = None
 
 
 def start(files: Files, scene: Scene, forks: bool = False, **settings: str) -> Daemon:
@@ -192,6 +194,11 @@ class Run(NamedTuple):
     exchanges: List[Exchange]
 
     @property
+    def has_failed(self) -> bool:
+        """Whether an exchange failed."""
+        return any(exchange.reply is None for exchange in self.exchanges)
+
+    @property
     def found(self) -> List[str]:
         """The devices whose mutes were acknowledged, ascending."""
         return sorted({exchange.muted for exchange in self.exchanges if exchange.muted is not None})
@@ -234,7 +241,23 @@ def check_runs(checks: Checks, files: Files) -> None:
         checks.check(all(exchange.is_command for exchange in run.exchanges), f"a run's frames: {run}")
         operations = [exchange.operation for exchange in run.exchanges]
         checks.check(operations[:UNMUTES] == ["unmute"] * UNMUTES and "branch" in operations, f"a run: {operations}")
-    check_found(checks, [run for run in runs if all(each.reply is not None for each in run.exchanges)], scenes)
+    check_found(checks, [run for run in runs if not run.has_failed], scenes)
+    if files.program is not None:
+        check_explained(checks, files.program, text, runs)
+
+
+def check_explained(checks: Checks, program: Path, text: str, runs: Sequence[Run]) -> None:
+    """The program reads the log of runs to its end: no rule was broken, and each run without a failure is whole."""
+    with tempfile.TemporaryDirectory() as folder:
+        (Path(folder) / "runs").write_text(text)
+        done = subprocess.run([str(program), "explain", f"{folder}/runs"], stdout=subprocess.PIPE,
+                              stderr=subprocess.STDOUT, check=False)
+    lines = done.stdout.decode().splitlines()
+    checks.check(done.returncode == 0, f"explain ends with {done.returncode}: {lines}")
+    heads = [line for line in lines if line.startswith("discovery: ")]
+    checks.check(len(heads) == len(runs), f"explain shows {len(heads)} of {len(runs)} runs: {lines}")
+    for run, head in zip(runs, heads):
+        checks.check(run.has_failed or head.endswith("; its certificate is complete"), f"explain: {head}")
 
 
 def check_found(checks: Checks, runs: Sequence[Run], scenes: Sequence[Scene]) -> None:
