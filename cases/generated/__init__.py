@@ -1,4 +1,4 @@
-"""Cases that are too many or too large to write out: hostile input, and large rigs.
+"""Cases that are too many or too large to write out: hostile input, large rigs, and logs.
 
 Each answer to hostile input is one of the named faults, alone and with its status, or a whole answer: the one that the
 formats give, or, if bytes are changed at random, one of the right form.
@@ -8,9 +8,13 @@ from __future__ import annotations
 from typing import List
 
 from ..checker.case import Subject
-from . import arguments, damage, damaged_logs, encodings, keys, lies, limits, logs, neighbours, nesting, ports, remarks
+from . import (
+    arguments, damage, damaged_logs, encodings, explained_logs, explained_runs, keys, lies, limits, log_lines, logs,
+    neighbours, nesting, ports, remarks,
+)
 
-MODULES = (damage, arguments, keys, limits, encodings, nesting, remarks, neighbours, ports, logs, lies, damaged_logs)
+MODULES = (damage, arguments, keys, limits, encodings, nesting, remarks, neighbours, ports, logs, log_lines,
+           explained_runs, explained_logs, lies, damaged_logs)
 
 
 def subjects() -> List[Subject]:

@@ -5,10 +5,11 @@ from functools import partial
 from pathlib import Path
 from typing import Iterator
 
-from ..checker.case import EXPLAINED_NAME, Case, Expected, File, arguments_of, prints
+from ..checker.case import Case, Expected, prints
 from ..checker.forms import is_findings
 from ..checker.tables import read_table
 from .damage import with_byte
+from .runs import explained
 
 LOGS = Path(__file__).resolve().parent.parent / "logs.txt"
 # The cases with these logs, and how far two cuts, and two flipped bits, are apart.
@@ -44,11 +45,6 @@ def flipped(name: str, log: bytes, step: int) -> Iterator[Case]:
         file = with_byte(log, at, log[at] ^ 1 << number % 8)
         expected = Expected(status=None, form=partial(is_refused_or_findings, line_at(log, at)))
         yield explained(f"bit {number % 8} of byte {at} of the log of {name} is flipped", file, expected)
-
-
-def explained(name: str, log: bytes, expected: Expected) -> Case:
-    """What explain prints of a log."""
-    return Case(name, (arguments_of("explain", EXPLAINED_NAME),), expected, (File(log, EXPLAINED_NAME),))
 
 
 def line_at(log: bytes, at: int) -> int:

@@ -1,0 +1,181 @@
+"""What explain shows of whole logs: parts of a discovery, logs one after another, the runs of sessions.
+
+The texts are those that the rules of docs/FORMATS.md give.
+"""
+from __future__ import annotations
+
+from typing import Iterator
+
+from ..checker.case import Case
+from .runs import LIAR, answer, ask, discovery, opening, refuses, session_opening, session_run, shows
+
+# A discovery that finds one device.
+FINDS = "3 unmute; all > found; mute found > ack; 5 all"
+FULL = opening("full")
+
+FOUND = """\
+discovery: full, steady, 10 exchanges, 1 device; its certificate is complete
+1234:00000001 followed the rules
+"""
+
+# Without its opening.
+FOUND_UNOPENED = """\
+discovery: 10 exchanges, 1 device; its certificate is complete but for what depends on its kind, \
+which the log doesn't have
+1234:00000001 followed the rules
+"""
+
+# Its exchanges 0 to 3, exchange 3 alone, and those from 5.
+UNMUTED = """\
+discovery: full, steady, 4 exchanges, 0 devices; its certificate is incomplete, or the log ends within the run
+0000:00000000 is the first UID that wasn't ruled out: it needs five silences in a row of a range that holds it
+exchange 3: bytes came from 0000:00000000 to ffff:ffffffff, where no listed device was due; \
+they read as 1234:00000001, which isn't listed; they may be those of a device that the log doesn't show
+"""
+
+ALONE = """\
+discovery: 1 exchange, 0 devices; its certificate can't be decided, since the log begins within the run
+exchange 3: bytes came from 0000:00000000 to ffff:ffffffff, where no listed device was due; \
+they read as 1234:00000001, which isn't listed; they may be those of a device that the log doesn't show
+"""
+
+CUT_BEFORE = """\
+discovery: 5 exchanges, 0 devices; its certificate can't be decided, since the log begins within the run
+"""
+
+# A device that no unmute in the log reaches may be muted.
+LATE = "1234:00000009 followed the rules in the exchanges that the log has\n"
+
+# A session with a run whose line fails after a request.
+FAILING = (
+    '{"entry":"join","client":0,"places":1}\n' + ask(0, "full") + session_run(1, "unmute; unmute > failed")
+    + answer(0, 1, fault=4) + '{"entry":"collect","client":0}\n'
+)
+
+FAILED = """\
+run 1: full, 2 exchanges, fault 4, 0 devices; its certificate is incomplete
+exchange 2 should be one of the three unmutes that begin a run
+exchange 1 failed: check the adapter and the cable
+0000:00000000 is the first UID that wasn't ruled out: it needs five silences in a row of a range that holds it
+"""
+
+# A new session, and those of logs that continue one: no run is in progress, and discovery 1 may wait; or run 2 is in
+# progress.
+NEW = session_opening("quick", next_ask=0, next_run=1)
+WAITING = session_opening("steady", next_ask=2, next_run=2, number=10, devices=["1234:00000001"])
+WITHIN = session_opening("steady", next_ask=2, next_run=3, number=11, devices=["1234:00000001"])
+
+# Runs of one exchange, the second of which serves a full discovery. The last one has no answer.
+KINDS = (
+    ask(0, "incremental") + session_run(1, "unmute") + answer(0, 1, fault=3)
+    + ask(1, "incremental") + ask(2, "full") + ask(3, "incremental") + session_run(2, "unmute")
+    + answer(1, 2, fault=3) + answer(2, 2, fault=3) + answer(3, 2, fault=3)
+    + ask(4, "incremental") + session_run(3, "unmute")
+)
+
+# Run 2 serves discovery 1, and run 3 discovery 2.
+CONTINUED = (
+    session_run(2, "unmute") + answer(1, 2, fault=3)
+    + ask(2, "incremental") + session_run(3, "unmute") + answer(2, 3, fault=3)
+)
+
+# A run that finds a device, one with a fault, and one without an answer.
+THREE_RUNS = (
+    ask(0, "full") + session_run(1, FINDS) + answer(0, 1)
+    + ask(1, "incremental") + session_run(2, "unmute") + answer(1, 2, fault=3)
+    + ask(2, "incremental") + session_run(3, "unmute")
+)
+
+# What one exchange leaves open.
+GAPS = """\
+exchange 1 should be one of the three unmutes that begin a run
+0000:00000000 is the first UID that wasn't ruled out: it needs five silences in a row of a range that holds it
+"""
+
+OF_KINDS = f"""\
+run 1: incremental, quick, 1 exchange, fault 3, 0 devices; its certificate is incomplete
+{GAPS}\
+run 2: full, quick, 1 exchange, fault 3, 0 devices; its certificate is incomplete
+{GAPS}\
+run 3: incremental, quick, 1 exchange, 0 devices; its certificate is incomplete, or the log ends within the run
+{GAPS}"""
+
+AFTER_WAITING = f"""\
+run 2: steady, 1 exchange, fault 3, 0 devices; its certificate is incomplete
+{GAPS}\
+run 3: incremental, steady, 1 exchange, fault 3, 0 devices; its certificate is incomplete
+{GAPS}\
+1234:00000001 is known, but wasn't muted before the first branch
+"""
+
+FROM_WITHIN = f"""\
+run 2: steady, 1 exchange, fault 3, 0 devices; its certificate can't be decided, since the log begins within the run; \
+exchanges count from there
+run 3: incremental, steady, 1 exchange, fault 3, 0 devices; its certificate is incomplete
+{GAPS}\
+1234:00000001 is known, but wasn't muted before the first branch
+"""
+
+UNOPENED = f"""\
+run 2: 1 exchange, fault 3, 0 devices; its certificate can't be decided, since the log may begin within the run; \
+exchanges count from there
+run 3: incremental, 1 exchange, fault 3, 0 devices; its certificate is incomplete
+{GAPS}"""
+
+OF_THREE_RUNS = f"""\
+run 1: full, quick, 10 exchanges, no fault, 1 device; its certificate is complete
+1234:00000001 followed the rules
+run 2: incremental, quick, 1 exchange, fault 3, 0 devices; its certificate is incomplete
+{GAPS}\
+1234:00000001 is known, but wasn't muted before the first branch
+run 3: incremental, quick, 1 exchange, 0 devices; its certificate is incomplete, or the log ends within the run
+{GAPS}\
+1234:00000001 is known, but wasn't muted before the first branch
+"""
+
+# What no writer of logs writes, as the last line.
+BAD = (
+    "\n",
+    "{}\n",
+    '{"entry":"came","reply":""}',
+    '{"entry":"came","reply":""}\r\n',
+    '{"entry":"came","reply":""}{"entry":"pause"}\n',
+    '{"entry":"send","run":18446744073709551616,"frame":""}\n',
+    '{"number":0,"operation":"mute","frame":"","reply":""}\n',
+)
+
+
+def cases() -> Iterator[Case]:
+    """All logs."""
+    yield from parts()
+    yield from sequences()
+    yield from sessions()
+    for line in BAD:
+        yield refuses(f"after a session: {line!r}", NEW + KINDS + line, (NEW + KINDS).count("\n") + 1)
+
+
+def parts() -> Iterator[Case]:
+    """Parts of the discovery. A gap between two of them makes two runs."""
+    first, last = FULL + discovery("3 unmute; all > found"), discovery("5 all", first=5)
+    yield shows("a device without its mute", first, UNMUTED)
+    yield shows("the branch that found it", discovery("all > found", first=3), ALONE)
+    yield shows("the silences after its mute", last, CUT_BEFORE + LATE, present=[LIAR])
+    yield shows("all but its mute", first + last, UNMUTED + CUT_BEFORE)
+
+
+def sequences() -> Iterator[Case]:
+    """Logs one after another. An opening is that of one run. An entry begins the log of a session."""
+    found = discovery(FINDS)
+    yield shows("a discovery twice, with one opening", FULL + found + found, FOUND + FOUND_UNOPENED)
+    log = FULL + found + FAILING + found
+    yield shows("a session between two discoveries", log, FOUND + FAILED + FOUND_UNOPENED)
+
+
+def sessions() -> Iterator[Case]:
+    """The runs of sessions: their kinds, and what was known before them."""
+    yield shows("a session whose line fails", FAILING, FAILED)
+    yield shows("a run that serves several discoveries, one of which is full", NEW + KINDS, OF_KINDS)
+    yield shows("an opening after which an earlier discovery may wait", WAITING + CONTINUED, AFTER_WAITING)
+    yield shows("an opening within a run", WITHIN + CONTINUED, FROM_WITHIN)
+    yield shows("two runs without an opening", CONTINUED, UNOPENED)
+    yield shows("devices that a run without a fault made known", NEW + THREE_RUNS, OF_THREE_RUNS)

@@ -1,0 +1,354 @@
+"""What explain shows of single runs: devices that break a rule, bytes that no line should have, gaps in a certificate.
+
+The texts are those that the rules of docs/FORMATS.md give.
+"""
+from __future__ import annotations
+
+from typing import Iterator, List, NamedTuple, Sequence
+
+from ..checker.case import Case
+from .runs import LIAR, discovery, opening, session_opening, session_run, shows
+
+# Each block has a name, a run, all that is printed of it, and the status. An empty line ends a block.
+#
+# A discovery without an opening, and the same run in logs of sessions that don't have its kind either. The liar is
+# given.
+RUNS = """\
+a device that never answers
+3 unmute; 5 all
+8 exchanges, 0 devices; its certificate is complete but for what depends on its kind, which the log doesn't have
+1234:00000009 was never heard: exchange 7 is the fifth silence in a row in a range that holds it; \
+check its power and its cable
+status 3
+
+a device that answers too late
+3 unmute; 5 all; all > liar; mute liar
+10 exchanges, 0 devices; its certificate is incomplete, or the log ends within the run
+exchange 9 mutes a UID that neither acknowledged nor was muted five times in a row: it may be no device's
+1234:00000009 wasn't heard: exchange 7 is the fifth silence in a row in a range that holds it; \
+check its power and its cable
+status 3
+
+other bytes from another UID alone, with which a run ends
+3 unmute; alone other > noise
+4 exchanges, fault 1 1234:00000008, 0 devices; its certificate is incomplete
+0000:00000000 is the first UID that wasn't ruled out: it needs five silences in a row of a range that holds it
+1234:00000009 followed the rules
+exchange 3: bytes came from 1234:00000008 alone that aren't its text; \
+a rule was broken, by it or by another device: try each alone on the line
+status 3
+
+another UID's text from it alone, after which a run goes on
+3 unmute; alone other > other
+4 exchanges, 0 devices; its certificate is incomplete, or the log ends within the run
+0000:00000000 is the first UID that wasn't ruled out: it needs five silences in a row of a range that holds it
+1234:00000009 followed the rules in the exchanges that the log has
+exchange 3: bytes came from 1234:00000008 to 1234:00000008, where no listed device was due; \
+they read as 1234:00000008, which isn't listed; they may be those of a device that the log doesn't show
+status 0
+
+the same and five mutes of it, with which a run ends
+3 unmute; alone other > other; 5 mute other
+9 exchanges, fault 1 1234:00000008, 0 devices; its certificate is incomplete
+0000:00000000 is the first UID that wasn't ruled out: it needs five silences in a row of a range that holds it
+1234:00000009 followed the rules
+exchange 3: bytes came from 1234:00000008 to 1234:00000008, where no listed device was due; \
+they read as 1234:00000008, which isn't listed; they may be those of a device that the log doesn't show
+status 0
+"""
+
+# Runs without an opening. The liar is given.
+LIES = """\
+four silent branches
+3 unmute; 4 all
+discovery: 7 exchanges, 0 devices; its certificate is incomplete, or the log ends within the run
+0000:00000000 is the first UID that wasn't ruled out: it needs five silences in a row of a range that holds it
+1234:00000009 followed the rules in the exchanges that the log has
+status 0
+
+four silent mutes
+3 unmute; all > liar; 4 mute liar
+discovery: 8 exchanges, 0 devices; its certificate is incomplete, or the log ends within the run
+exchange 4 mutes a UID that neither acknowledged nor was muted five times in a row: it may be no device's
+0000:00000000 is the first UID that wasn't ruled out: it needs five silences in a row of a range that holds it
+1234:00000009 followed the rules in the exchanges that the log has
+status 0
+
+bytes of a device that stays unmuted, first where another one was due, and then from it alone
+3 unmute; all > liar; mute liar > ack; all > liar; mute other > ack; 2 alone liar > liar
+discovery: 9 exchanges, fault 1 1234:00000009, 2 devices; its certificate is incomplete
+0000:00000000 is the first UID that wasn't ruled out: it needs five silences in a row of a range that holds it
+1234:00000008 followed the rules
+1234:00000009 followed the rules
+exchange 7: bytes came from 1234:00000009 alone, which had acknowledged its mute; \
+a rule was broken: try it alone on the line
+status 3
+
+a device that answers alone, after an unmute and a mute that it didn't acknowledge
+3 unmute; mute liar > ack; unmute; mute liar; mute other > ack; alone liar > liar
+discovery: 8 exchanges, fault 1 1234:00000009, 2 devices; its certificate is incomplete
+0000:00000000 is the first UID that wasn't ruled out: it needs five silences in a row of a range that holds it
+1234:00000008 followed the rules
+1234:00000009 followed the rules
+status 0
+
+the same, and then a mute that it acknowledged and silence
+3 unmute; mute liar > ack; unmute; mute liar; mute other > ack; alone liar > liar; mute liar > ack; alone liar
+discovery: 10 exchanges, 2 devices; its certificate is incomplete, or the log ends within the run
+0000:00000000 is the first UID that wasn't ruled out: it needs five silences in a row of a range that holds it
+1234:00000008 followed the rules in the exchanges that the log has
+1234:00000009 followed the rules in the exchanges that the log has
+status 0
+
+the same, and then its text
+3 unmute; mute liar > ack; unmute; mute liar; mute other > ack; alone liar > liar; mute liar > ack; alone liar; \
+alone liar > liar
+discovery: 11 exchanges, fault 1 1234:00000009, 2 devices; its certificate is incomplete
+0000:00000000 is the first UID that wasn't ruled out: it needs five silences in a row of a range that holds it
+1234:00000008 followed the rules
+1234:00000009 followed the rules
+exchange 10: bytes came from 1234:00000009 alone, which had acknowledged its mute; \
+a rule was broken: try it alone on the line
+status 3
+
+bytes from a range with a listed device
+3 unmute; lower > noise
+discovery: 4 exchanges, 0 devices; its certificate is incomplete, or the log ends within the run
+0000:00000000 is the first UID that wasn't ruled out: it needs five silences in a row of a range that holds it
+1234:00000009 followed the rules in the exchanges that the log has
+status 0
+
+bytes from a range with a listed device, and from one without
+3 unmute; lower > noise; upper > noise
+discovery: 5 exchanges, 0 devices; its certificate is incomplete, or the log ends within the run
+0000:00000000 is the first UID that wasn't ruled out: it needs five silences in a row of a range that holds it
+1234:00000009 followed the rules in the exchanges that the log has
+exchange 4: bytes came from 8000:00000000 to ffff:ffffffff, where no listed device was due; \
+they may be those of a device that the log doesn't show
+status 0
+
+other bytes after a mute of a listed device, and silence after one of another UID
+3 unmute; mute liar > noise; mute other
+discovery: 5 exchanges, 0 devices; its certificate is incomplete, or the log ends within the run
+exchange 3 mutes a UID that neither acknowledged nor was muted five times in a row: it may be no device's
+0000:00000000 is the first UID that wasn't ruled out: it needs five silences in a row of a range that holds it
+1234:00000009 was muted, and other bytes came: exchange 3 has no acknowledgement; try it alone on the line
+exchange 3: bytes came after a mute of 1234:00000009 that don't acknowledge it; \
+a rule was broken, by it or by another device: try each alone on the line
+status 3
+
+the same, and other bytes after a mute of that UID
+3 unmute; mute liar > noise; mute other; mute other > noise
+discovery: 6 exchanges, 0 devices; its certificate is incomplete, or the log ends within the run
+exchange 3 mutes a UID that neither acknowledged nor was muted five times in a row: it may be no device's
+0000:00000000 is the first UID that wasn't ruled out: it needs five silences in a row of a range that holds it
+1234:00000009 was muted, and other bytes came: exchange 3 has no acknowledgement; try it alone on the line
+exchange 5: bytes came after a mute of 1234:00000008, which isn't listed; \
+they may be those of a device that the log doesn't show
+exchange 3: bytes came after a mute of 1234:00000009 that don't acknowledge it; \
+a rule was broken, by it or by another device: try each alone on the line
+status 3
+
+noise from all UIDs and from two, and then the text of one from it alone
+3 unmute; all > noise; other to liar > noise; mute liar; alone liar; alone liar > liar
+discovery: 8 exchanges, 0 devices; its certificate is incomplete, or the log ends within the run
+exchange 5 mutes a UID that neither acknowledged nor was muted five times in a row: it may be no device's
+0000:00000000 is the first UID that wasn't ruled out: it needs five silences in a row of a range that holds it
+1234:00000009 followed the rules in the exchanges that the log has
+status 0
+
+the same, and then noise from it alone
+3 unmute; all > noise; other to liar > noise; mute liar; alone liar; alone liar > liar; 2 alone liar > noise
+discovery: 10 exchanges, fault 1 1234:00000009, 0 devices; its certificate is incomplete
+exchange 5 mutes a UID that neither acknowledged nor was muted five times in a row: it may be no device's
+0000:00000000 is the first UID that wasn't ruled out: it needs five silences in a row of a range that holds it
+1234:00000009 followed the rules
+exchange 8: bytes came from 1234:00000009 alone that aren't its text; \
+a rule was broken, by it or by another device: try each alone on the line
+status 3
+
+a mute that is lost, and one that is acknowledged
+3 unmute; mute liar; mute liar > ack
+discovery: 5 exchanges, 1 device; its certificate is incomplete, or the log ends within the run
+0000:00000000 is the first UID that wasn't ruled out: it needs five silences in a row of a range that holds it
+1234:00000009 followed the rules in the exchanges that the log has
+status 0
+
+the same, and then one that is answered as a branch
+3 unmute; mute liar; mute liar > ack; mute liar > liar
+discovery: 6 exchanges, 1 device; its certificate is incomplete, or the log ends within the run
+0000:00000000 is the first UID that wasn't ruled out: it needs five silences in a row of a range that holds it
+1234:00000009 was muted, and other bytes came: exchange 5 has no acknowledgement; try it alone on the line
+exchange 5: bytes came after a mute of 1234:00000009 that don't acknowledge it; \
+a rule was broken, by it or by another device: try each alone on the line
+status 3
+
+other bytes after two mutes of a UID that isn't listed
+3 unmute; 2 mute other > noise
+discovery: 5 exchanges, 0 devices; its certificate is incomplete, or the log ends within the run
+exchange 3 mutes a UID that neither acknowledged nor was muted five times in a row: it may be no device's
+0000:00000000 is the first UID that wasn't ruled out: it needs five silences in a row of a range that holds it
+1234:00000009 followed the rules in the exchanges that the log has
+exchange 3: bytes came after a mute of 1234:00000008 that don't acknowledge it; \
+a rule was broken, by it or by another device: try each alone on the line
+status 3
+
+another UID's text from a UID alone, after an exchange that failed
+3 unmute; alone liar > failed; alone liar > other
+discovery: 5 exchanges, 0 devices; its certificate is incomplete
+exchange 3 failed: check the adapter and the cable
+0000:00000000 is the first UID that wasn't ruled out: it needs five silences in a row of a range that holds it
+1234:00000009 followed the rules until exchange 3 failed
+status 0
+
+silence of the upper half
+3 unmute; 5 upper
+discovery: 8 exchanges, 0 devices; its certificate is incomplete, or the log ends within the run
+0000:00000000 is the first UID that wasn't ruled out: it needs five silences in a row of a range that holds it
+1234:00000009 followed the rules in the exchanges that the log has
+status 0
+
+silence of the upper half, and then of the lower one
+3 unmute; 5 upper; 5 lower
+discovery: 13 exchanges, 0 devices; its certificate is complete but for what depends on its kind, \
+which the log doesn't have
+1234:00000009 was never heard: exchange 12 is the fifth silence in a row in a range that holds it; \
+check its power and its cable
+status 3
+"""
+
+# Runs that mute 1234:00000001, which answers, and 5678:00000009, which doesn't, before they find 9abc:00000002. After
+# the name comes the opening.
+CERTIFICATES = """\
+two known UIDs, one of which is there
+incremental 1234:00000001 5678:00000009
+3 unmute; mute found; mute found > bound; 5 mute absent; all > new; mute new > bound; 5 all
+discovery: incremental, steady, 17 exchanges, 2 devices; its certificate is complete
+1234:00000001 followed the rules
+9abc:00000002 followed the rules
+status 0
+
+two unmutes
+incremental 1234:00000001 5678:00000009
+2 unmute; mute found; mute found > bound; 5 mute absent; all > new; mute new > bound; 5 all
+discovery: incremental, steady, 16 exchanges, 2 devices; its certificate is incomplete
+exchange 2 should be one of the three unmutes that begin a run
+1234:00000001 followed the rules in the exchanges that the log has
+9abc:00000002 followed the rules in the exchanges that the log has
+status 0
+
+two exchanges that fail
+incremental 1234:00000001 5678:00000009
+3 unmute; mute found; mute found > bound; 5 mute absent; all > new; mute new > bound; 5 all; 2 all > failed
+discovery: incremental, steady, 19 exchanges, 2 devices; its certificate is incomplete
+exchange 17 failed: check the adapter and the cable
+1234:00000001 followed the rules until exchange 17 failed
+9abc:00000002 followed the rules until exchange 17 failed
+status 0
+
+four mutes of a UID that isn't there
+incremental 1234:00000001 5678:00000009
+3 unmute; mute found; mute found > bound; 4 mute absent; all > new; mute new > bound; 5 all
+discovery: incremental, steady, 16 exchanges, 2 devices; its certificate is incomplete, or the log ends within the run
+exchange 5 mutes a UID that neither acknowledged nor was muted five times in a row: it may be no device's
+1234:00000001 followed the rules in the exchanges that the log has
+9abc:00000002 followed the rules in the exchanges that the log has
+status 0
+
+a mute of a UID that is neither known nor read
+incremental 1234:00000001
+3 unmute; mute found; mute found > bound; 5 mute absent; all > new; mute new > bound; 5 all
+discovery: incremental, steady, 17 exchanges, 2 devices; its certificate is incomplete
+exchange 5 mutes a UID that no earlier branch had read
+1234:00000001 followed the rules
+9abc:00000002 followed the rules
+status 0
+
+a known UID that is muted only after a branch
+incremental 1234:00000001 5678:00000009 9abc:00000002
+3 unmute; mute found; mute found > bound; 5 mute absent; all > new; mute new > bound; 5 all
+discovery: incremental, steady, 17 exchanges, 2 devices; its certificate is incomplete
+9abc:00000002 is known, but wasn't muted before the first branch
+1234:00000001 followed the rules
+9abc:00000002 followed the rules
+status 0
+
+a full run that mutes known UIDs
+full 1234:00000001 5678:00000009
+3 unmute; mute found; mute found > bound; 5 mute absent; all > new; mute new > bound; 5 all
+discovery: full, steady, 17 exchanges, 2 devices; its certificate is incomplete
+exchange 3 mutes a UID that no earlier branch had read
+1234:00000001 followed the rules
+9abc:00000002 followed the rules
+status 0
+"""
+
+# A run of one exchange, within which the log may begin.
+BEGUN = """\
+run 1: 1 exchange, 0 devices; its certificate can't be decided, since the log may begin within the run; \
+exchanges count from there
+1234:00000009 followed the rules in the exchanges that the log has
+"""
+
+# Five silences of a run whose beginning the log doesn't have, or may not have.
+SILENCES = "3 unmute; 5 all"
+FROM_TWO = """\
+discovery: 8 exchanges, 0 devices; its certificate can't be decided, since the log begins within the run
+1234:00000009 wasn't heard: exchange 9 is the fifth silence in a row in a range that holds it; \
+check its power and its cable
+"""
+LATER = """\
+run 1: steady, 8 exchanges, 0 devices; its certificate can't be decided, since the log begins within the run; \
+exchanges count from there
+1234:00000009 wasn't heard: exchange 7 is the fifth silence in a row in a range that holds it; \
+check its power and its cable
+"""
+UNKNOWN = """\
+run 1: 8 exchanges, 0 devices; its certificate can't be decided, since the log may begin within the run; \
+exchanges count from there
+1234:00000009 wasn't heard: exchange 7 is the fifth silence in a row in a range that holds it; \
+check its power and its cable
+"""
+
+
+class Block(NamedTuple):
+    """What a table has of a case; the words of an opening only in some tables."""
+
+    name: str
+    opening: Sequence[str]
+    run: str
+    text: str
+    status: int
+
+
+def read(table: str, has_opening: bool = False) -> Iterator[Block]:
+    """The blocks of a table."""
+    for block in table.rstrip("\n").split("\n\n"):
+        name, *lines = block.split("\n")
+        words: List[str] = lines.pop(0).split() if has_opening else []
+        run, *text, status = lines
+        yield Block(name, words, run, "".join(f"{line}\n" for line in text), int(status.partition(" ")[2]))
+
+
+def cases() -> Iterator[Case]:
+    """All runs."""
+    continued, begun = session_opening("steady", next_ask=1, next_run=1), session_run(1, "unmute")
+    for it in read(RUNS):
+        yield shows(it.name, discovery(it.run), f"discovery: {it.text}", it.status, [LIAR])
+        log = continued + session_run(1, it.run)
+        yield shows(f"{it.name}, after an opening", log, f"run 1: steady, {it.text}", it.status, [LIAR])
+        log = begun + session_run(2, it.run)
+        yield shows(f"{it.name}, after another run", log, f"{BEGUN}run 2: {it.text}", it.status, [LIAR])
+    for it in read(LIES):
+        yield shows(it.name, discovery(it.run), it.text, it.status, [LIAR])
+    for it in read(CERTIFICATES, has_opening=True):
+        yield shows(it.name, opening(*it.opening) + discovery(it.run), it.text, it.status)
+    yield from begun_before()
+
+
+def begun_before() -> Iterator[Case]:
+    """Logs that begin, or may begin, within a run."""
+    within = session_opening("steady", next_ask=1, next_run=2)
+    yield shows("a log from exchange 2", discovery(SILENCES, first=2), FROM_TWO, 3, [LIAR])
+    yield shows("a log from within run 1", within + session_run(1, SILENCES), LATER, 3, [LIAR])
+    yield shows("a log that may begin within run 1", session_run(1, SILENCES), UNKNOWN, 3, [LIAR])
