@@ -1,5 +1,0 @@
-//! Tests of `rdm_findings`.
-#![tactic(auto)]
-
-#[cfg(test)]
-mod tests;

@@ -1,5 +1,0 @@
-mod findings;
-mod lines;
-mod logs;
-mod longest;
-mod sessions;
