@@ -6,9 +6,7 @@ use Rattle.std.specs.List.{filter}
 use Rattle.std.proofs.lemmas.List.Elements.{filter-append}
 use Rattle.std.proofs.lemmas.List.Filters.{length-filter_both}
 use Rattle.arrayvec.specs.ArrayVec.{ArrayVec}
-use Rattle.rdm_wire.specs.declared.request.Request.{Request}
 use Rattle.rdm_join.specs.declared.event.LineEvent.{LineEvent}
-use Rattle.rdm_agent.specs.declared.kind.Kind.{Kind}
 use Rattle.rdm_log.specs.declared.entry.ClientId.{ClientId}
 use Rattle.rdm_log.specs.declared.entry.Opening.{Opening}
 use Rattle.rdm_log.specs.declared.entry.Entry.{Entry}
@@ -24,15 +22,16 @@ use Rattle.rdm_log.specs.declared.fault.LogFull.{LogFull}
 use Rattle.rdm_log.specs.declared.fault.NotAsked.{NotAsked}
 use Rattle.rdm_log.specs.declared.outcome.Outcome.{Outcome}
 use Rattle.rdm_log.specs.log.LogState.{is_full_log}
+use Rattle.rdm_log.specs.log.Refusals.{work_fault}
 use Rattle.rdm_log.specs.promises.Blocks.{GrowsBy, is_result, AllResults, IsWithResults, UnlessFull, SwitchAdds}
-use Rattle.rdm_log.specs.promises.Blocks.{submit_refused, ask_refused}
-use Rattle.rdm_log.specs.promises.Blocks.{JoinLogs, SubmitLogs, DiscoverLogs, PauseLogs, ResumeLogs, TakeLogs}
-use Rattle.rdm_log.specs.promises.Blocks.{CloseAdds, CloseAddsWhere, DeliverAdds, CollectAdds, SubmitAdds, DiscoverAdds}
-use Rattle.rdm_log.proofs.PromiseLemmas.BlockLemmas.{join_ok, join_refusal, work_ok, work_adds}
+use Rattle.rdm_log.specs.promises.Blocks.{submit_refused, ask_refused, work_accepted, work_refused}
+use Rattle.rdm_log.specs.promises.Blocks.{JoinLogs, WorkLogs, PauseLogs, ResumeLogs, TakeLogs}
+use Rattle.rdm_log.specs.promises.Blocks.{CloseAdds, CloseAddsWhere, DeliverAdds, CollectAdds, WorkAdds}
+use Rattle.rdm_log.proofs.PromiseLemmas.BlockLemmas.{join_ok, join_refusal, work_ok}
+use Rattle.rdm_log.specs.declared.work.Work.{Work}
 use Rattle.rdm_log.specs.declared.work.Work.TheVariants as works
 use Rattle.rdm_log.proofs.LogLemmas.PushLemmas.{joins-append}
-use Rattle.rdm_locked.specs.Calls.{is_call, count_calls, refused_calls, submits_logged}
-use Rattle.rdm_locked.specs.Calls.{discovers_logged}
+use Rattle.rdm_locked.specs.Calls.{is_call, count_calls, refused_calls, calls_logged}
 
 -- there are no more calls than entries
 pub calls_few : (h : List Entry) → count_calls h ≤ length h
@@ -135,7 +134,7 @@ unfolding joins
 join_refused_brings k n fault block is = elim (join_refusal k n fault block is)
     [ inl empty ↦ nothing block empty | inr refused ↦ rw refused (one _) ]
 
--- a submit, and a discover: no other fault than LogFull is that one
+-- work: no other fault than LogFull is that one
 no_full_log : (a b c : Bool) → ◌≡◌ {A = Option WorkFault}
     (if a then Some work_faults.Closed else (if b then Some work_faults.UnknownClient else
     (if c then Some work_faults.Full else None))) (Some work_faults.LogFull) → ⊥
@@ -144,51 +143,43 @@ no_full_log false true c is = let same : work_faults.UnknownClient ≡ work_faul
 no_full_log false false true is = let same : work_faults.Full ≡ work_faults.LogFull = cc in cc
 no_full_log false false false is = cc
 
+no_full_work : (o : Opening) (h : List Entry) (c : ℕ) (work : Work)
+    → work_fault o h c work ≡ Some work_faults.LogFull → ⊥
+no_full_work o h c (works.Submit request) is = no_full_log _ _ _ is
+no_full_work o h c (works.Discover kind) is = no_full_log _ _ _ is
+
 counted_call : (fault : WorkFault) → (fault ≡ work_faults.LogFull → ⊥) → refused_calls fault ≡ 1
 counted_call work_faults.Closed other = refl
 counted_call work_faults.UnknownClient other = refl
 counted_call work_faults.Full other = refl
 counted_call work_faults.LogFull other = absurd (other refl)
 
-pub submit_brings : (k : LogState) (c : ClientId) (request : Request) (answer : Result ℕ (WorkFault × Request))
-    (block : List Entry) → SubmitLogs k c request answer block → Brings (submits_logged answer) 0 block
+accepted_brings : (c : ClientId) (n : ℕ) (work : Work) → Brings 1 0 (work_accepted c n work ∷ [])
 unfolding joins
-submit_brings k c request (Ok n) block is =
-    let work = works.Submit request in
-    rw (work_ok k c work n block (work_adds k c work (Ok n) block is)).2 (one (Accept c n request))
-submit_brings k c request (Err e) block is = by_flag (is_full_log k) is
-  where
-    full : ◌≡◌ {A = Result ℕ (WorkFault × Request)} (Err e) (Err (work_faults.LogFull, request))
-        → e.0 ≡ work_faults.LogFull
-    full same = let pair : e ≡ (work_faults.LogFull, request) = cc in ap (λ p. p.0) pair
+accepted_brings c n (works.Submit request) = one (Accept c n request)
+accepted_brings c n (works.Discover kind) = one (Ask c n kind)
 
-    by_flag : (b : Bool) → UnlessFull b (◌≡◌ {A = Result ℕ (WorkFault × Request)} (Err e)
-        (Err (work_faults.LogFull, request)) × (block ≡ [])) (SubmitAdds k.opening k.entries c request (Err e) block)
-        → Brings (refused_calls e.0) 0 block
-    by_flag true refused = rw (full refused.0) (nothing block refused.1)
-    by_flag false refused = rw (
-      counted_call e.0 (λ is_full. no_full_log _ _ _ (refused.0 ∙ ap Some is_full)),
-      refused.2,
-    ) (one (submit_refused c request e.0))
-
-pub discover_brings : (k : LogState) (c : ClientId) (kind : Kind) (answer : Result ℕ WorkFault) (block : List Entry)
-    → DiscoverLogs k c kind answer block → Brings (discovers_logged answer) 0 block
+refused_brings : (c : ClientId) (work : Work) (fault : WorkFault) → Brings 1 0 (work_refused c work fault ∷ [])
 unfolding joins
-discover_brings k c kind (Ok n) block is = rw (work_ok k c (works.Discover kind) n block is).2 (one (Ask c n kind))
-discover_brings k c kind (Err fault) block is = by_flag (is_full_log k) is
+refused_brings c (works.Submit request) fault = one (submit_refused c request fault)
+refused_brings c (works.Discover kind) fault = one (ask_refused c kind fault)
+
+pub work_brings : (k : LogState) (c : ClientId) (work : Work) (answer : Result ℕ WorkFault) (block : List Entry)
+    → WorkLogs k c work answer block → Brings (calls_logged answer) 0 block
+work_brings k c work (Ok n) block is = rw (work_ok k c work n block is).2 (accepted_brings c n work)
+work_brings k c work (Err fault) block is = by_flag (is_full_log k) is
   where
     full : ◌≡◌ {A = Result ℕ WorkFault} (Err fault) (Err work_faults.LogFull) → fault ≡ work_faults.LogFull
     full same = cc
 
     by_flag : (b : Bool) → UnlessFull b (◌≡◌ {A = Result ℕ WorkFault} (Err fault) (Err work_faults.LogFull)
-        × (block ≡ [])) (DiscoverAdds k.opening k.entries c kind (Err fault) block)
+        × (block ≡ [])) (WorkAdds k.opening k.entries c work (Err fault) block)
         → Brings (refused_calls fault) 0 block
     by_flag true refused = rw (full refused.0) (nothing block refused.1)
     by_flag false refused = rw (
-      counted_call fault (λ is_full. no_full_log _ _ _
-          (refused.0 ∙ ap Some is_full)),
+      counted_call fault (λ is_full. no_full_work k.opening k.entries c.0 work (refused.0 ∙ ap Some is_full)),
       refused.1,
-    ) (one (ask_refused c kind fault))
+    ) (refused_brings c work fault)
 
 -- a collect
 pub collect_brings : (o : Opening) (h : List Entry) (c : ClientId) (outcome : Outcome) (block : List Entry)

@@ -1,6 +1,5 @@
 -- Which entries of a log are clients' calls, and which refusals a client counts.
 use Rattle.std.specs.Prelude.{ℕ, Bool, true, false, List, length, filter, Some, Result, Ok, Err}
-use Rattle.rdm_wire.specs.declared.request.Request.{Request}
 use Rattle.rdm_log.specs.declared.entry.Entry.{Entry}
 use Rattle.rdm_log.specs.declared.entry.Entry.TheVariants.{Refuse, Accept, Ask, Collect}
 use Rattle.rdm_log.specs.declared.fault.WorkFault.{WorkFault}
@@ -24,12 +23,7 @@ abbrev pub refused_calls : WorkFault → ℕ
 refused_calls work_faults.LogFull = 0
 refused_calls _ = 1
 
--- how many calls in the log a submit with this answer is
-abbrev pub submits_logged : Result ℕ (WorkFault × Request) → ℕ
-submits_logged (Ok n) = 1
-submits_logged (Err e) = refused_calls e.0
-
--- how many calls in the log a discover with this answer is
-abbrev pub discovers_logged : Result ℕ WorkFault → ℕ
-discovers_logged (Ok n) = 1
-discovers_logged (Err fault) = refused_calls fault
+-- how many calls in the log a submit or discover with this answer is
+abbrev pub calls_logged : Result ℕ WorkFault → ℕ
+calls_logged (Ok n) = 1
+calls_logged (Err fault) = refused_calls fault

@@ -7,13 +7,13 @@ ghost use Rattle.rdm_log.specs.log.LogState.{stored, drained, MayGoOn};
 ghost use Rattle.rdm_log.specs.log.History.{next_client};
 ghost use Rattle.rdm_log.specs.log.Legal.{Legal};
 ghost use Rattle.rdm_log.specs.log.Runs.{known_devices, devices_run};
-ghost use Rattle.rdm_log.specs.promises.Blocks.{JoinLogs, SubmitLogs, DiscoverLogs, PauseLogs, ResumeLogs, GrowsBy};
-ghost use Rattle.rdm_log.specs.promises.Blocks.{CloseAdds, DeliverAdds};
+ghost use Rattle.rdm_log.specs.promises.Blocks.{JoinLogs, WorkLogs, SubmitLogs, DiscoverLogs, PauseLogs, ResumeLogs};
+ghost use Rattle.rdm_log.specs.promises.Blocks.{GrowsBy, CloseAdds, DeliverAdds, number_or_fault};
 ghost use Rattle.rdm_log.specs.promises.Promised.{Promised};
 ghost use Rattle.rdm_log.specs.promises.Outcomes.{oldest_kind, request_outcome, discovery_outcome};
 ghost use Rattle.rdm_log.specs.declared.outcome.Outcome.TheVariants as outcomes;
 ghost use Rattle.rdm_log.specs.declared.outcome.OutcomeKind.TheVariants as kinds;
-ghost use Rattle.rdm_locked.specs.Calls.{count_calls, submits_logged, discovers_logged};
+ghost use Rattle.rdm_locked.specs.Calls.{count_calls, calls_logged};
 ghost use Rattle.rdm_locked.specs.Openings.{MayOpen, IsOpened};
 ghost use Rattle.rdm_locked.specs.Turns.{TurnLogs};
 ghost use Rattle.rdm_locked.specs.Pages.{IsOf};
@@ -35,7 +35,7 @@ use rdm_client::{BoxedAsk, DeviceView};
 use rdm_join::LineEvent;
 use rdm_log::{
     AskFault, ClientId, Completion, DiscoveryEnd, Entry, IntoSetup, JoinFault, Log, LogFull,
-    NotAsked, OutcomeKind, Page, Setup, SubmitFault,
+    NotAsked, OutcomeKind, Page, Setup, SubmitFault, Work, WorkFault,
 };
 use rdm_queue::Session;
 use rdm_wire::{DeviceSet, NoMemory, Request};
@@ -151,10 +151,28 @@ impl<L: Ledger, J: PageRing> Inside<L, J> {
         Ok((client, share))
     }
 
-    /// Accepts a client's request, as [`Session::submit`] does, and counts the call in the client's share, even if it
-    /// is refused. If the log is full, it isn't counted.
+    /// Accepts a client's work, as [`Session::accept`] does, and counts the call in the client's share, even if it is
+    /// refused. If the log is full, it isn't counted.
     /// Err: LogFull, or else the first other fault that applies; nothing changes but the log and the counts, and the
-    /// request is returned.
+    /// work is returned.
+    pub fn accept(
+        &mut self,
+        client: ClientId,
+        work: Work,
+        mine: &mut CallShare<L>,
+    ) -> Result<u64, (WorkFault, Work)>
+        ensures adds { AddsOnly (WorkLogs self.old.session client work (number_or_fault result)) self.old self.new }
+        ensures returned { IfErr result (λ e. e.1 ≡ work) }
+        ensures counted { mine.new.count ≡ mine.old.count + calls_logged (number_or_fault result) }
+    {
+        let Inside { session, calls, .. } = self;
+        let answer = session.accept(client, work);
+        mine.add_calls(calls, calls_logged(&answer), session.log().len_in_all());
+        answer
+    }
+
+    /// Accepts a client's request, as [`Inside::accept`] does.
+    /// Err: as `accept` returns; the request is returned.
     pub fn submit(
         &mut self,
         client: ClientId,
@@ -162,17 +180,16 @@ impl<L: Ledger, J: PageRing> Inside<L, J> {
         mine: &mut CallShare<L>,
     ) -> Result<u64, (SubmitFault, Request)>
         ensures adds { AddsOnly (SubmitLogs self.old.session client request result) self.old self.new }
-        ensures counted { mine.new.count ≡ mine.old.count + submits_logged result }
+        ensures counted { mine.new.count ≡ mine.old.count + calls_logged (number_or_fault result) }
     {
-        let Inside { session, calls, .. } = self;
-        let answer = session.submit(client, request);
-        mine.add_calls(calls, submits_logged(&answer), session.log().len_in_all());
-        answer
+        match self.accept(client, Work::Submit(request), mine) {
+            Ok(number) => Ok(number),
+            Err((fault, work)) => Err((fault, work.into_request())),
+        }
     }
 
-    /// Accepts a client's discovery, as [`Session::discover`] does, and counts the call in the client's share, even if
-    /// it is refused. If the log is full, it isn't counted.
-    /// Err: LogFull, or else the first other fault that applies; nothing changes but the log and the counts.
+    /// Accepts a client's discovery, as [`Inside::accept`] does.
+    /// Err: as `accept` returns.
     pub fn discover(
         &mut self,
         client: ClientId,
@@ -180,12 +197,12 @@ impl<L: Ledger, J: PageRing> Inside<L, J> {
         mine: &mut CallShare<L>,
     ) -> Result<u64, AskFault>
         ensures adds { AddsOnly (DiscoverLogs self.old.session client kind result) self.old self.new }
-        ensures counted { mine.new.count ≡ mine.old.count + discovers_logged result }
+        ensures counted { mine.new.count ≡ mine.old.count + calls_logged result }
     {
-        let Inside { session, calls, .. } = self;
-        let answer = session.discover(client, kind);
-        mine.add_calls(calls, discovers_logged(&answer), session.log().len_in_all());
-        answer
+        match self.accept(client, Work::Discover(kind), mine) {
+            Ok(number) => Ok(number),
+            Err((fault, _)) => Err(fault),
+        }
     }
 
     /// Hands out all entries that the log stores, as [`Session::drain`] does, with the number of the first.
@@ -416,22 +433,12 @@ impl<L: Ledger, J: PageRing> Inside<L, J> {
     }
 }
 
-// How many calls in the log a submit with this answer is: none if the log was full.
-fn submits_logged(answer: &Result<u64, (SubmitFault, Request)>) -> u64
-    ensures { result ≡ submits_logged answer.now }
+// How many calls in the log a call with this answer is: none if the log was full.
+fn calls_logged(answer: &Result<u64, (WorkFault, Work)>) -> u64
+    ensures { result ≡ calls_logged (number_or_fault answer.now) }
 {
     match answer {
         Ok(_) => 1,
-        Err((fault, _)) => u64::from(*fault != SubmitFault::LogFull),
-    }
-}
-
-// How many calls in the log a discover with this answer is: none if the log was full.
-fn discovers_logged(answer: &Result<u64, AskFault>) -> u64
-    ensures { result ≡ discovers_logged answer.now }
-{
-    match answer {
-        Ok(_) => 1,
-        Err(fault) => u64::from(*fault != AskFault::LogFull),
+        Err((fault, _)) => u64::from(*fault != WorkFault::LogFull),
     }
 }
