@@ -253,15 +253,24 @@ fn opening_shared(alloc: Global) -> Option<Arc<DeviceView>>
 fn shared_view(alloc: Global, run: u64, devices: &DeviceSet) -> Option<Arc<DeviceView>>
     ensures { IfSome result (λ view. view.value ≡ record { run = run; set = devices.now }) }
 {
-    let mut view = DeviceView {
-        run,
+    let mut shared = empty_view(alloc)?;
+    // Nobody else owns it yet.
+    let view = Arc::get_mut(&mut shared)?;
+    view.run = run;
+    view.set.copy_from(devices);
+    Some(shared)
+}
+
+// The opening view, in memory that its owners share. It isn't inlined, since a view is made in its frame.
+#[inline(never)]
+fn empty_view(alloc: Global) -> Option<Arc<DeviceView>>
+    ensures { IfSome result (λ view. view.value ≡ opening_view) }
+{
+    let view = DeviceView {
+        run: 0,
         set: DeviceSet::new(),
     };
-    view.set.copy_from(devices);
-    match Arc::new(alloc, view) {
-        Ok(view) => Some(view),
-        Err(_) => None,
-    }
+    Arc::new(alloc, view).ok()
 }
 
 // Prepares a view for publication, unless that is done.
