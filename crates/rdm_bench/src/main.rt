@@ -127,29 +127,52 @@ fn within(number: usize, most: usize) -> Option<usize> {
     Some(number)
 }
 
+// The largest size of a subject.
+fn most(subject: &str) -> usize {
+    match subject {
+        "ports" | "port" | "rings" => 8,
+        "calls" => 231,
+        "scenes" => 1_000,
+        "agent" | "port_discovery" | "ring_discovery" | "views" | "frames" => 1_024,
+        "queue" | "controller" | "session" | "session_drained" | "answer" | "run" => 4_080,
+        _ => 100_000,
+    }
+}
+
 fn measure<R: Files + AllocGlobal + CpuClock + Print + Eprint + Threads + Wait + Sync>(
     bench: &Bench<'_, R>,
     subject: &str,
     size: usize,
 ) -> Option<()> {
+    let size = within(size, most(subject))?;
     match subject {
-        "agent" => agent::time(bench, within(size, 1_024)?),
-        "calls" => packets::time(bench, within(size, 231)?),
-        "queue" => queue::time(bench, within(size, 4_080)?),
-        "controller" => queue::time_requests(bench, false, false, within(size, 4_080)?),
-        "session" => queue::time_requests(bench, true, false, within(size, 4_080)?),
-        "session_drained" => queue::time_drained(bench, within(size, 4_080)?),
-        "answer" => events::time(bench, false, within(size, 4_080)?),
-        "run" => events::time(bench, true, within(size, 4_080)?),
-        "ports" => ports::time(bench, within(size, 8)?),
-        "port" => ports::time_requests(bench, true, CLIENTS, within(size, 8)?),
-        "rings" => ports::time_requests(bench, false, CLIENTS, within(size, 8)?),
-        "port_discovery" => ports::time_discoveries(bench, true, within(size, 1_024)?),
-        "ring_discovery" => ports::time_discoveries(bench, false, within(size, 1_024)?),
-        "views" => views::time(bench, within(size, 1_024)?),
-        "frames" => lines::honest(bench, within(size, 1_024)?),
-        "scenes" => lines::dishonest(bench, within(size, 1_000)?),
-        soak => print_soak(bench, soak, within(size, 100_000)? as u64),
+        "agent" => agent::time(bench, size),
+        "calls" => packets::time(bench, size),
+        "queue" => queue::time(bench, size),
+        "controller" => queue::time_requests(bench, false, false, size),
+        "session" => queue::time_requests(bench, true, false, size),
+        "session_drained" => queue::time_drained(bench, size),
+        "answer" => events::time(bench, false, size),
+        "run" => events::time(bench, true, size),
+        "frames" => lines::honest(bench, size),
+        "scenes" => lines::dishonest(bench, size),
+        port => measure_port(bench, port, size),
+    }
+}
+
+fn measure_port<R: Files + AllocGlobal + CpuClock + Print + Eprint + Threads + Wait + Sync>(
+    bench: &Bench<'_, R>,
+    subject: &str,
+    size: usize,
+) -> Option<()> {
+    match subject {
+        "ports" => ports::time(bench, size),
+        "port" => ports::time_requests(bench, true, CLIENTS, size),
+        "rings" => ports::time_requests(bench, false, CLIENTS, size),
+        "port_discovery" => ports::time_discoveries(bench, true, size),
+        "ring_discovery" => ports::time_discoveries(bench, false, size),
+        "views" => views::time(bench, size),
+        soak => print_soak(bench, soak, size as u64),
     }
 }
 
