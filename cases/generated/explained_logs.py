@@ -30,13 +30,13 @@ UNMUTED = """\
 discovery: full, steady, 4 exchanges, 0 devices; its certificate is incomplete, or the log ends within the run
 0000:00000000 is the first UID that wasn't ruled out: it needs five silences in a row of a range that holds it
 exchange 3: bytes came from 0000:00000000 to ffff:ffffffff, where no listed device was due; \
-they read as 1234:00000001, which isn't listed; they may be those of a device that the log doesn't show
+they read as 1234:00000001, which isn't listed: name it by --present, if it is there
 """
 
 ALONE = """\
 discovery: 1 exchange, 0 devices; its certificate can't be decided, since the log begins within the run
 exchange 3: bytes came from 0000:00000000 to ffff:ffffffff, where no listed device was due; \
-they read as 1234:00000001, which isn't listed; they may be those of a device that the log doesn't show
+they read as 1234:00000001, which isn't listed: name it by --present, if it is there
 """
 
 CUT_BEFORE = """\

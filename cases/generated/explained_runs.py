@@ -44,7 +44,7 @@ another UID's text from it alone, after which a run goes on
 0000:00000000 is the first UID that wasn't ruled out: it needs five silences in a row of a range that holds it
 1234:00000009 followed the rules in the exchanges that the log has
 exchange 3: bytes came from 1234:00000008 to 1234:00000008, where no listed device was due; \
-they read as 1234:00000008, which isn't listed; they may be those of a device that the log doesn't show
+they read as 1234:00000008, which isn't listed: name it by --present, if it is there
 status 0
 
 the same and five mutes of it, with which a run ends
@@ -53,7 +53,7 @@ the same and five mutes of it, with which a run ends
 0000:00000000 is the first UID that wasn't ruled out: it needs five silences in a row of a range that holds it
 1234:00000009 followed the rules
 exchange 3: bytes came from 1234:00000008 to 1234:00000008, where no listed device was due; \
-they read as 1234:00000008, which isn't listed; they may be those of a device that the log doesn't show
+they read as 1234:00000008, which isn't listed: name it by --present, if it is there
 status 0
 """
 

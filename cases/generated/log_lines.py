@@ -99,7 +99,7 @@ exchange 18446744073709551615 failed: check the adapter and the cable
 """, """\
 discovery: 1 exchange, 0 devices; its certificate can't be decided, since the log begins within the run
 exchange 1: bytes came from 0000:00000000 to ffff:ffffffff, where no listed device was due; \
-they read as 1234:00000001, which isn't listed; they may be those of a device that the log doesn't show
+they read as 1234:00000001, which isn't listed: name it by --present, if it is there
 """, 0),
     ("""\
 {"number":4,"operation":"mute","frame":"cc01181234000000017a7000000100040100000010000200022e","reply":"00"}

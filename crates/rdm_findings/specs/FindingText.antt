@@ -1,6 +1,6 @@
 -- The text of findings about a run: one finding a line.
 use Rattle.std.specs.Prelude.{ℕ, Bool, false, ◌&&◌, ◌||◌, not, List, [], ◌∷◌, ◌++◌, Option, Some, None, codes, decimal}
-use Rattle.std.specs.Prelude.{length, slice_get, is_some, ◌==◌, if◌then◌else◌}
+use Rattle.std.specs.Prelude.{length, slice_get, is_some, ◌==◌, if◌then◌else◌, true}
 use Rattle.rdm_wire.specs.Uid.{is_broadcast}
 use Rattle.rdm_wire.specs.UidText.{uid_text}
 use Rattle.rdm_wire.specs.declared.device.Device.{Device}
@@ -244,17 +244,15 @@ sign_text (signs.Listed u) = codes "; they read as " ++ uid_text u ++ codes ", w
 sign_text (signs.Other u) = codes "; they read as " ++ uid_text u ++ codes ", which isn't listed"
 sign_text signs.Unread = []
 
--- what to do about bytes that show that a rule was broken
-abbrev pub remedy_text : Sign → List ℕ
-remedy_text (signs.Listed u) = codes ": try it alone on the line"
-remedy_text (signs.Other u) = codes ": name it by --present, if it is there"
-remedy_text signs.Unread =
-    codes "; a rule was broken: look for a device that isn't listed, or one that should be silent there"
-
--- the same, or why no rule needs to be broken, if it isn't decided that one was
+-- what to do about bytes. The flag says that they show that a rule was broken; otherwise another device may have sent
+-- them
 abbrev pub advice_text : Bool → Sign → List ℕ
-advice_text decided sign =
-    if decided then remedy_text sign else codes "; they may be those of a device that the log doesn't show"
+advice_text true (signs.Listed u) = codes ": try it alone on the line"
+advice_text false (signs.Listed u) = codes ", unless a device that the log doesn't show sent them"
+advice_text decided (signs.Other u) = codes ": name it by --present, if it is there"
+advice_text true signs.Unread =
+    codes "; a rule was broken: look for a device that isn't listed, or one that should be silent there"
+advice_text false signs.Unread = codes "; they may be those of a device that the log doesn't show"
 
 -- about stray bytes that came after this
 abbrev pub stray_text : Bool → Asked → Sign → List ℕ

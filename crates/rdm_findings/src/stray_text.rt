@@ -4,7 +4,7 @@ ghost use Rattle.rdm_wire.specs.UidText.{uid_text};
 ghost use Rattle.rdm_reports.specs.Report.{line_of};
 ghost use Rattle.rdm_explain.specs.Rules.{uids_of_findings};
 ghost use Rattle.rdm_findings.specs.FindingText.{exchange_name, range_text, mute_text, place_text, sign_text};
-ghost use Rattle.rdm_findings.specs.FindingText.{remedy_text, advice_text, stray_text, stray_found, stray_line};
+ghost use Rattle.rdm_findings.specs.FindingText.{advice_text, stray_text, stray_found, stray_line};
 
 use crate::head::Start;
 use crate::stray_bytes::{Sign, sign_of};
@@ -70,22 +70,14 @@ fn write_reason(
 fn advice_text(decided: bool, sign: &Sign) -> &'static str
     ensures { result.now ≡ advice_text decided sign.now }
 {
-    if decided {
-        remedy_text(sign)
-    } else {
-        "; they may be those of a device that the log doesn't show"
-    }
-}
-
-fn remedy_text(sign: &Sign) -> &'static str
-    ensures { result.now ≡ remedy_text sign.now }
-{
-    match sign {
-        Sign::Listed(_) => ": try it alone on the line",
-        Sign::Other(_) => ": name it by --present, if it is there",
-        Sign::Unread => {
+    match (sign, decided) {
+        (Sign::Listed(_), true) => ": try it alone on the line",
+        (Sign::Listed(_), false) => ", unless a device that the log doesn't show sent them",
+        (Sign::Other(_), _) => ": name it by --present, if it is there",
+        (Sign::Unread, true) => {
             "; a rule was broken: look for a device that isn't listed, or one that should be silent there"
         }
+        (Sign::Unread, false) => "; they may be those of a device that the log doesn't show",
     }
 }
 
