@@ -10,11 +10,11 @@ from typing import List
 from ..checker.case import Subject
 from . import (
     arguments, damage, damaged_logs, encodings, explained_logs, explained_runs, keys, lies, limits, log_lines, logs,
-    neighbours, nesting, ports, remarks,
+    neighbours, nesting, ports, remarks, soaks,
 )
 
 MODULES = (damage, arguments, keys, limits, encodings, nesting, remarks, neighbours, ports, logs, log_lines,
-           explained_runs, explained_logs, lies, damaged_logs)
+           explained_runs, explained_logs, lies, damaged_logs, soaks)
 
 
 def subjects() -> List[Subject]:
