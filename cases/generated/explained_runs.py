@@ -24,7 +24,7 @@ status 3
 a device that answers too late
 3 unmute; 5 all; all > liar; mute liar
 10 exchanges, 0 devices; its certificate is incomplete, or the log ends within the run
-exchange 9 mutes a UID that neither acknowledged nor was muted five times in a row: it may be no device's
+exchange 9 mutes a UID that neither acknowledged nor was muted five times in a row: perhaps no device has it
 1234:00000009 wasn't heard: exchange 7 is the fifth silence in a row in a range that holds it; \
 check its power and its cable
 status 3
@@ -35,7 +35,7 @@ other bytes from another UID alone, with which a run ends
 0000:00000000 is the first UID that wasn't ruled out: it needs five silences in a row of a range that holds it
 1234:00000009 followed the rules
 exchange 3: bytes came from 1234:00000008 alone that aren't its text; \
-a rule was broken, by it or by another device: try each alone on the line
+a rule was broken, by it, another device or noise: try each device alone on the line
 status 3
 
 another UID's text from it alone, after which a run goes on
@@ -55,6 +55,17 @@ the same and five mutes of it, with which a run ends
 exchange 3: bytes came from 1234:00000008 to 1234:00000008, where no listed device was due; \
 they read as 1234:00000008, which isn't listed: name it by --present, if it is there
 status 0
+
+the same with other bytes after each mute
+3 unmute; alone other > other; 5 mute other > noise
+9 exchanges, fault 1 1234:00000008, 0 devices; its certificate is incomplete
+0000:00000000 is the first UID that wasn't ruled out: it needs five silences in a row of a range that holds it
+1234:00000009 followed the rules
+exchange 3: bytes came from 1234:00000008 to 1234:00000008, where no listed device was due; \
+they read as 1234:00000008, which isn't listed: name it by --present, if it is there
+exchange 4: bytes came after a mute of 1234:00000008 that don't acknowledge it; \
+a rule was broken, by it, another device or noise: try each device alone on the line
+status 3
 """
 
 # Runs without an opening. The liar is given.
@@ -66,10 +77,17 @@ discovery: 7 exchanges, 0 devices; its certificate is incomplete, or the log end
 1234:00000009 followed the rules in the exchanges that the log has
 status 0
 
+a device that is off, which an incremental run mutes first
+3 unmute; 5 mute liar; 5 all
+discovery: 13 exchanges, 0 devices; its certificate is complete but for what depends on its kind, \
+which the log doesn't have
+1234:00000009 didn't mute: exchange 7 is the fifth mute of it in a row without an answer; check its power and its cable
+status 3
+
 four silent mutes
 3 unmute; all > liar; 4 mute liar
 discovery: 8 exchanges, 0 devices; its certificate is incomplete, or the log ends within the run
-exchange 4 mutes a UID that neither acknowledged nor was muted five times in a row: it may be no device's
+exchange 4 mutes a UID that neither acknowledged nor was muted five times in a row: perhaps no device has it
 0000:00000000 is the first UID that wasn't ruled out: it needs five silences in a row of a range that holds it
 1234:00000009 followed the rules in the exchanges that the log has
 status 0
@@ -130,29 +148,29 @@ status 0
 other bytes after a mute of a listed device, and silence after one of another UID
 3 unmute; mute liar > noise; mute other
 discovery: 5 exchanges, 0 devices; its certificate is incomplete, or the log ends within the run
-exchange 3 mutes a UID that neither acknowledged nor was muted five times in a row: it may be no device's
+exchange 3 mutes a UID that neither acknowledged nor was muted five times in a row: perhaps no device has it
 0000:00000000 is the first UID that wasn't ruled out: it needs five silences in a row of a range that holds it
-1234:00000009 was muted, and other bytes came: exchange 3 has no acknowledgement; try it alone on the line
+1234:00000009 was to mute, and other bytes came: exchange 3 has no acknowledgement; try it alone on the line
 exchange 3: bytes came after a mute of 1234:00000009 that don't acknowledge it; \
-a rule was broken, by it or by another device: try each alone on the line
+a rule was broken, by it, another device or noise: try each device alone on the line
 status 3
 
 the same, and other bytes after a mute of that UID
 3 unmute; mute liar > noise; mute other; mute other > noise
 discovery: 6 exchanges, 0 devices; its certificate is incomplete, or the log ends within the run
-exchange 3 mutes a UID that neither acknowledged nor was muted five times in a row: it may be no device's
+exchange 3 mutes a UID that neither acknowledged nor was muted five times in a row: perhaps no device has it
 0000:00000000 is the first UID that wasn't ruled out: it needs five silences in a row of a range that holds it
-1234:00000009 was muted, and other bytes came: exchange 3 has no acknowledgement; try it alone on the line
+1234:00000009 was to mute, and other bytes came: exchange 3 has no acknowledgement; try it alone on the line
 exchange 5: bytes came after a mute of 1234:00000008, which isn't listed; \
 they may be those of a device that the log doesn't show
 exchange 3: bytes came after a mute of 1234:00000009 that don't acknowledge it; \
-a rule was broken, by it or by another device: try each alone on the line
+a rule was broken, by it, another device or noise: try each device alone on the line
 status 3
 
 noise from all UIDs and from two, and then the text of one from it alone
 3 unmute; all > noise; other to liar > noise; mute liar; alone liar; alone liar > liar
 discovery: 8 exchanges, 0 devices; its certificate is incomplete, or the log ends within the run
-exchange 5 mutes a UID that neither acknowledged nor was muted five times in a row: it may be no device's
+exchange 5 mutes a UID that neither acknowledged nor was muted five times in a row: perhaps no device has it
 0000:00000000 is the first UID that wasn't ruled out: it needs five silences in a row of a range that holds it
 1234:00000009 followed the rules in the exchanges that the log has
 status 0
@@ -160,11 +178,11 @@ status 0
 the same, and then noise from it alone
 3 unmute; all > noise; other to liar > noise; mute liar; alone liar; alone liar > liar; 2 alone liar > noise
 discovery: 10 exchanges, fault 1 1234:00000009, 0 devices; its certificate is incomplete
-exchange 5 mutes a UID that neither acknowledged nor was muted five times in a row: it may be no device's
+exchange 5 mutes a UID that neither acknowledged nor was muted five times in a row: perhaps no device has it
 0000:00000000 is the first UID that wasn't ruled out: it needs five silences in a row of a range that holds it
 1234:00000009 followed the rules
 exchange 8: bytes came from 1234:00000009 alone that aren't its text; \
-a rule was broken, by it or by another device: try each alone on the line
+a rule was broken, by it, another device or noise: try each device alone on the line
 status 3
 
 a mute that is lost, and one that is acknowledged
@@ -178,19 +196,19 @@ the same, and then one that is answered as a branch
 3 unmute; mute liar; mute liar > ack; mute liar > liar
 discovery: 6 exchanges, 1 device; its certificate is incomplete, or the log ends within the run
 0000:00000000 is the first UID that wasn't ruled out: it needs five silences in a row of a range that holds it
-1234:00000009 was muted, and other bytes came: exchange 5 has no acknowledgement; try it alone on the line
+1234:00000009 was to mute, and other bytes came: exchange 5 has no acknowledgement; try it alone on the line
 exchange 5: bytes came after a mute of 1234:00000009 that don't acknowledge it; \
-a rule was broken, by it or by another device: try each alone on the line
+a rule was broken, by it, another device or noise: try each device alone on the line
 status 3
 
 other bytes after two mutes of a UID that isn't listed
 3 unmute; 2 mute other > noise
 discovery: 5 exchanges, 0 devices; its certificate is incomplete, or the log ends within the run
-exchange 3 mutes a UID that neither acknowledged nor was muted five times in a row: it may be no device's
+exchange 3 mutes a UID that neither acknowledged nor was muted five times in a row: perhaps no device has it
 0000:00000000 is the first UID that wasn't ruled out: it needs five silences in a row of a range that holds it
 1234:00000009 followed the rules in the exchanges that the log has
 exchange 3: bytes came after a mute of 1234:00000008 that don't acknowledge it; \
-a rule was broken, by it or by another device: try each alone on the line
+a rule was broken, by it, another device or noise: try each device alone on the line
 status 3
 
 another UID's text from a UID alone, after an exchange that failed
@@ -250,7 +268,7 @@ four mutes of a UID that isn't there
 incremental 1234:00000001 5678:00000009
 3 unmute; mute found; mute found > bound; 4 mute absent; all > new; mute new > bound; 5 all
 discovery: incremental, steady, 16 exchanges, 2 devices; its certificate is incomplete, or the log ends within the run
-exchange 5 mutes a UID that neither acknowledged nor was muted five times in a row: it may be no device's
+exchange 5 mutes a UID that neither acknowledged nor was muted five times in a row: perhaps no device has it
 1234:00000001 followed the rules in the exchanges that the log has
 9abc:00000002 followed the rules in the exchanges that the log has
 status 0

@@ -106,7 +106,7 @@ they read as 1234:00000001, which isn't listed: name it by --present, if it is t
 """, """\
 discovery: 1 exchange, 0 devices; its certificate can't be decided, since the log begins within the run
 exchange 4: bytes came after a mute of 1234:00000001 that don't acknowledge it; \
-a rule was broken, by it or by another device: try each alone on the line
+a rule was broken, by it, another device or noise: try each device alone on the line
 """, 3),
 )
 

@@ -2,6 +2,7 @@
 use Rattle.std.specs.Prelude.{ℕ, ◌-◌, Bool, true, false, ◌&&◌, ◌||◌, not, nat_lt, List, Option, Some, None, length}
 use Rattle.std.specs.Prelude.{slice_get, is_some, drop, ◌==◌, if◌then◌else◌}
 use Rattle.std.specs.List.{list_any, list_all}
+use Rattle.rdm_wire.specs.Honest.{is_acked}
 use Rattle.rdm_wire.specs.Uid.{has, is_broadcast}
 use Rattle.rdm_wire.specs.Devices.{uids_of}
 use Rattle.rdm_wire.specs.declared.device.Device.{Device}
@@ -15,7 +16,7 @@ use Rattle.rdm_explain.specs.declared.exchange.Asked.TheVariants.{Branch, Mute}
 use Rattle.rdm_explain.specs.declared.exchange.Heard.{Heard}
 use Rattle.rdm_explain.specs.declared.exchange.Heard.TheVariants.{Failed, Silent, One}
 use Rattle.rdm_explain.specs.declared.exchange.Exchange.{Exchange}
-use Rattle.rdm_explain.specs.Exchanges.{seen_all}
+use Rattle.rdm_explain.specs.Exchanges.{heard_of, seen_all}
 use Rattle.rdm_findings.specs.declared.head.RunHead.{RunHead}
 use Rattle.rdm_findings.specs.Starts.{has_start}
 
@@ -73,19 +74,19 @@ from_end n xs = if nat_lt (length xs) n then None else slice_get xs (length xs -
 abbrev pub last_of : ℕ → List Exchange → List Exchange
 last_of n xs = drop (length xs - n) xs
 
--- whether this is the mute of a UID, and no byte came
-abbrev pub is_unanswered : ℕ → Asked → Heard → Bool
-is_unanswered u (Mute v) Silent = v == u
-is_unanswered u _ _ = false
+-- whether this is the mute of a UID, and no acknowledgement came
+abbrev pub lacks_acknowledgement : ℕ → Asked → Heard → Bool
+lacks_acknowledgement u (Mute v) heard = not (is_acked (heard_of heard)) && (v == u)
+lacks_acknowledgement u _ heard = false
 
 -- whether an exchange is one
-abbrev pub is_silent_mute : ℕ → Exchange → Bool
-is_silent_mute u e = is_unanswered u e.asked e.heard
+abbrev pub is_lost_mute : ℕ → Exchange → Bool
+is_lost_mute u e = lacks_acknowledgement u e.asked e.heard
 
--- the UID, if each of these exchanges is a silent mute of it
+-- the UID, if each of these exchanges is a mute of it that wasn't acknowledged
 abbrev pub if_never_muted : List Exchange → Option ℕ → Option ℕ
 if_never_muted mutes None = None
-if_never_muted mutes (Some u) = if list_all (is_silent_mute u) mutes then Some u else None
+if_never_muted mutes (Some u) = if list_all (is_lost_mute u) mutes then Some u else None
 
 -- the first UID, or else the second
 abbrev pub first_uid : Option ℕ → Option ℕ → Option ℕ
@@ -94,7 +95,7 @@ first_uid (Some u) second = Some u
 
 -- The UID with which a run of this project's agent ended as Corrupt, if these exchanges show that. `found` has the
 -- devices that the run found. The last exchange is a branch of one UID that was answered, but showed no new device. Or
--- such a branch showed one, and the five exchanges after it are mutes of it without an answer
+-- such a branch showed one, and the five exchanges after it are mutes of it without an acknowledgement
 abbrev pub corrupt_uid : List ℕ → List Exchange → Option ℕ
 corrupt_uid found xs =
     first_uid (wrong_alone_in found (from_end 1 xs))

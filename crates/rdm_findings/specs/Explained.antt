@@ -20,13 +20,21 @@ use Rattle.rdm_findings.specs.FindingText.{head_line, run_gaps, device_line, str
 use Rattle.rdm_findings.specs.FindingText.{unless_garbled, any_broke}
 use Rattle.rdm_findings.specs.HeardUids.{heard_in, in_heard}
 
--- the reported devices, and then the others of the list
-abbrev pub listed : List ℕ → List ℕ → List ℕ
-listed reported present = reported ++ filter (λ u. not (has reported u)) present
+-- some UIDs, and then the others of a list
+abbrev pub with_others : List ℕ → List ℕ → List ℕ
+with_others us others = us ++ filter (λ u. not (has us u)) others
 
--- the listed devices, and then the others of those that come or leave
-abbrev pub listed_or_passing : List ℕ → List ℕ → List ℕ → List ℕ
-listed_or_passing reported present passing = listed (listed reported present) passing
+-- those that don't come or leave
+abbrev pub staying : List ℕ → List ℕ → List ℕ
+staying passing us = filter (λ u. not (has passing u)) us
+
+-- the reported devices, and then the others that are present; but none of those that come or leave
+abbrev pub listed : List ℕ → List ℕ → List ℕ → List ℕ
+listed reported present passing = staying passing (with_others reported present)
+
+-- the listed devices, and then those that come or leave
+abbrev pub with_passing : List ℕ → List ℕ → List ℕ → List ℕ
+with_passing reported present passing = listed reported present passing ++ passing
 
 -- the UIDs that a run was to mute first, if its kind is known and, for an incremental one, the known UIDs are
 abbrev pub first_of : Option Kind → Option (List ℕ) → Option (List ℕ)
@@ -41,15 +49,16 @@ ExplainsNames (Some first) xs None = ⊥
 ExplainsNames (Some first) xs (Some names) = ExplainsKnown first xs names
 
 -- The findings about these exchanges of a run: about its certificate of the devices whose mutes were acknowledged, and
--- about each of these and each of the list `present`. Then about bytes that came though none of these was due, and none
--- of `passing`, which come or leave; and about bytes that no honest line allows, whichever devices are on it
+-- about each of these and each of the list `present`, but none of `passing`, which come or leave. Then about bytes that
+-- came though none of all these was due; and about bytes that no honest line allows, whichever devices are on it
 pub record Finds (first : Option (List ℕ)) (present passing : List ℕ) (xs : List Exchange) (f : Findings) : Type 0 where
   pub acknowledged : f.reported ≡ reported_in (seen_all xs)
   pub certifies : ExplainsRun f.reported xs f.certificate
   pub named : ExplainsNames first xs f.names
-  pub all : uids_of_findings f.devices.items ≡ listed (uids_of f.reported) present
+  pub all : uids_of_findings f.devices.items ≡ listed (uids_of f.reported) present passing
   pub first_breaches : AreFirstBreaches xs f.devices.items
-  pub first_stray : FirstStray (listed_or_passing (uids_of f.reported) present passing) xs f.stray
+  pub due : f.due.items ≡ with_passing (uids_of f.reported) present passing
+  pub first_stray : FirstStray f.due.items xs f.stray
   pub first_garbled : FirstGarbled xs f.garbled
   -- the UIDs that were heard
   pub heard : (u : ℕ) → in_heard f.heard u ≡ has (heard_in (seen_all xs)) u
@@ -63,7 +72,7 @@ abbrev pub findings_text : RunHead → List Exchange → Findings → List ℕ
 findings_text head xs f =
     head_line head f.reported xs f.certificate f.names ++ run_gaps head.start f.certificate f.names
     ++ flat_map (device_line head.start (shows_all head xs f) f.certificate.failure f.heard) f.devices.items
-    ++ stray_line head.start (uids_of_findings f.devices.items) (decides_stray head f.certificate) xs
+    ++ stray_line head.start f.due.items (decides_stray head f.certificate) xs
     (unless_garbled f.garbled f.stray)
     ++ garbled_line head.start xs f.garbled
 

@@ -157,7 +157,7 @@ start_gaps f =
 abbrev pub end_gaps : RunFinding → List ℕ
 end_gaps f =
     exchange_gap f.untried
-    (codes " mutes a UID that neither acknowledged nor was muted five times in a row: it may be no device's")
+    (codes " mutes a UID that neither acknowledged nor was muted five times in a row: perhaps no device has it")
     ++ uid_gap f.uncovered
     (codes " is the first UID that wasn't ruled out: it needs five silences in a row of a range that holds it")
     ++ device_gap f.other_data (codes " isn't reported as in its first acknowledgement")
@@ -192,15 +192,16 @@ abbrev pub breach_before : Bool → Rule → List ℕ
 breach_before never SilentBranches =
     if never then codes " was never heard: exchange " else codes " wasn't heard: exchange "
 breach_before never SilentMutes = codes " didn't mute: exchange "
-breach_before never GarbledMute = codes " was muted, and other bytes came: exchange "
+breach_before never GarbledMute = codes " was to mute, and other bytes came: exchange "
 
--- and after it
-abbrev pub breach_after : Rule → List ℕ
-breach_after SilentBranches =
+-- and after it. The flag says that the device was heard in the run
+abbrev pub breach_after : Bool → Rule → List ℕ
+breach_after heard SilentBranches =
     codes " is the fifth silence in a row in a range that holds it; check its power and its cable"
-breach_after SilentMutes =
-    codes " is the fifth mute of it in a row without an answer; try it alone on the line"
-breach_after GarbledMute = codes " has no acknowledgement; try it alone on the line"
+breach_after true SilentMutes = codes " is the fifth mute of it in a row without an answer; try it alone on the line"
+breach_after false SilentMutes =
+    codes " is the fifth mute of it in a row without an answer; check its power and its cable"
+breach_after heard GarbledMute = codes " has no acknowledgement; try it alone on the line"
 
 -- a device that followed the rules. `whole` says that the log has all of the run
 abbrev pub followed_text : Bool → List ℕ
@@ -217,7 +218,7 @@ until_text start (Some at) = codes " until exchange " ++ decimal (number_at star
 abbrev pub verdict_text : Start → Bool → Option ℕ → Bool → Option Breach → List ℕ
 verdict_text start whole failure heard None = followed_text whole ++ until_text start failure
 verdict_text start whole failure heard (Some b) =
-    breach_before (whole && not heard) b.rule ++ decimal (number_at start b.at) ++ breach_after b.rule
+    breach_before (whole && not heard) b.rule ++ decimal (number_at start b.at) ++ breach_after heard b.rule
 
 -- the line of a device
 abbrev pub device_line : Start → Bool → Option ℕ → HeardUids → DeviceFinding → List ℕ
@@ -248,10 +249,11 @@ sign_text signs.Unread = []
 -- them
 abbrev pub advice_text : Bool → Sign → List ℕ
 advice_text true (signs.Listed u) = codes ": try it alone on the line"
-advice_text false (signs.Listed u) = codes ", unless a device that the log doesn't show sent them"
-advice_text decided (signs.Other u) = codes ": name it by --present, if it is there"
+advice_text false (signs.Listed u) = codes "; or a device that the log doesn't show sent them"
+advice_text true (signs.Other u) = codes "; a rule was broken: name it by --present, if it is there"
+advice_text false (signs.Other u) = codes ": name it by --present, if it is there"
 advice_text true signs.Unread =
-    codes "; a rule was broken: look for a device that isn't listed, or one that should be silent there"
+    codes "; a rule was broken: look for noise, a device that isn't listed, or one that should be silent there"
 advice_text false signs.Unread = codes "; they may be those of a device that the log doesn't show"
 
 -- about stray bytes that came after this
@@ -277,7 +279,7 @@ unless_garbled (Some garbled) (Some at) = if at == garbled then None else Some a
 
 -- what to do about bytes that no honest line allows, whichever devices are on it
 abbrev pub each_text : List ℕ
-each_text = codes "; a rule was broken, by it or by another device: try each alone on the line"
+each_text = codes "; a rule was broken, by it, another device or noise: try each device alone on the line"
 
 -- the same after a branch of one UID alone. Another device may have sent its own UID
 abbrev pub reply_text : Heard → List ℕ

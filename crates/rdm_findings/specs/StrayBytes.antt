@@ -8,7 +8,7 @@ use Rattle.rdm_explain.specs.declared.exchange.Heard.TheVariants.{One}
 use Rattle.rdm_findings.specs.declared.stray_bytes.Sign.{Sign}
 use Rattle.rdm_findings.specs.declared.stray_bytes.Sign.TheVariants as signs
 
--- the sign of bytes that are the text of this UID. The list has the listed devices
+-- the sign of bytes that are the text of this UID. The list has the devices that are listed, or come or leave
 abbrev pub sign_of_text : List ℕ → ℕ → Sign
 sign_of_text us u =
     if is_broadcast u then signs.Unread else (if has us u then signs.Listed u else signs.Other u)

@@ -62,7 +62,7 @@ fn write_verdict(
         Some(breach) => {
             write(text, breach_before(whole && !heard, breach.rule))?;
             write_number(text, start.number(breach.at))?;
-            write(text, breach_after(breach.rule))
+            write(text, breach_after(heard, breach.rule))
         }
     }
 }
@@ -108,19 +108,23 @@ fn breach_before(never: bool, rule: Rule) -> &'static str
             }
         }
         Rule::SilentMutes => " didn't mute: exchange ",
-        Rule::GarbledMute => " was muted, and other bytes came: exchange ",
+        Rule::GarbledMute => " was to mute, and other bytes came: exchange ",
     }
 }
 
-fn breach_after(rule: Rule) -> &'static str
-    ensures { result.now ≡ breach_after rule }
+fn breach_after(heard: bool, rule: Rule) -> &'static str
+    ensures { result.now ≡ breach_after heard rule }
 {
     match rule {
         Rule::SilentBranches => {
             " is the fifth silence in a row in a range that holds it; check its power and its cable"
         }
         Rule::SilentMutes => {
-            " is the fifth mute of it in a row without an answer; try it alone on the line"
+            if heard {
+                " is the fifth mute of it in a row without an answer; try it alone on the line"
+            } else {
+                " is the fifth mute of it in a row without an answer; check its power and its cable"
+            }
         }
         Rule::GarbledMute => " has no acknowledgement; try it alone on the line",
     }

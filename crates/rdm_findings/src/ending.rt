@@ -5,8 +5,8 @@ ghost use Rattle.rdm_explain.specs.Exchanges.{seen_of};
 ghost use Rattle.rdm_agent.specs.Run.{is_branch};
 ghost use Rattle.std.specs.List.{list_all};
 ghost use Rattle.rdm_findings.specs.Ends.{is_complete, is_known_complete, shows_new, new_alone, wrong_alone};
-ghost use Rattle.rdm_findings.specs.Ends.{new_alone_in, wrong_alone_in, from_end, last_of, is_silent_mute};
-ghost use Rattle.rdm_findings.specs.Ends.{is_unanswered, if_never_muted, corrupt_uid, corrupt_end, as_corrupt};
+ghost use Rattle.rdm_findings.specs.Ends.{new_alone_in, wrong_alone_in, from_end, last_of, is_lost_mute};
+ghost use Rattle.rdm_findings.specs.Ends.{lacks_acknowledgement, if_never_muted, corrupt_uid, corrupt_end, as_corrupt};
 ghost use Rattle.rdm_findings.specs.Ends.{shown_end, end_of, shows_end, is_over, is_whole, decides_stray, has_bytes};
 ghost use Rattle.rdm_findings.specs.Ends.{is_own, lacks_unmute, has_branch, loses_names, is_lost};
 
@@ -189,13 +189,13 @@ fn corrupt_uid(found: &DeviceSet, exchanges: &[Exchange]) -> Option<Uid>
     }
 }
 
-// The UID that a branch of it alone showed, and that then didn't answer five mutes, which come last.
+// The UID that a branch of it alone showed, and that then didn't acknowledge five mutes, which come last.
 fn never_muted(found: &DeviceSet, exchanges: &[Exchange]) -> Option<Uid>
     ensures { result
         ≡ if_never_muted (last_of 5 exchanges.now) (new_alone_in (uids_of found.now) (from_end 6 exchanges.now)) }
 {
     match new_alone_in(found, from_end(6, exchanges)) {
-        Some(uid) => uid_if(are_silent_mutes(uid, last_of(5, exchanges)), uid),
+        Some(uid) => uid_if(are_lost_mutes(uid, last_of(5, exchanges)), uid),
         None => None,
     }
 }
@@ -207,24 +207,24 @@ fn last_of(many: usize, exchanges: &[Exchange]) -> &[Exchange]
     &exchanges[exchanges.len().saturating_sub(many)..]
 }
 
-// Whether each exchange is a silent mute of this UID.
-fn are_silent_mutes(uid: Uid, exchanges: &[Exchange]) -> bool
-    ensures { result ≡ list_all (is_silent_mute uid) exchanges.now }
+// Whether each exchange is a mute of this UID that wasn't acknowledged.
+fn are_lost_mutes(uid: Uid, exchanges: &[Exchange]) -> bool
+    ensures { result ≡ list_all (is_lost_mute uid) exchanges.now }
 {
     for exchange in exchanges {
-        if !is_unanswered(uid, exchange.asked, &exchange.heard) {
+        if !lacks_acknowledgement(uid, exchange.asked, &exchange.heard) {
             return false;
         }
     }
     true
 }
 
-// Whether this is the mute of a UID, and no byte came.
-fn is_unanswered(uid: Uid, asked: Asked, heard: &Heard) -> bool
-    ensures { result ≡ is_unanswered uid asked heard.now }
+// Whether this is the mute of a UID, and no acknowledgement came.
+fn lacks_acknowledgement(uid: Uid, asked: Asked, heard: &Heard) -> bool
+    ensures { result ≡ lacks_acknowledgement uid asked heard.now }
 {
     match asked {
-        Asked::Mute(muted) => heard.is_silent() && muted == uid,
+        Asked::Mute(muted) => !heard.is_acked() && muted == uid,
         _ => false,
     }
 }

@@ -1,12 +1,9 @@
 //! The findings about a run, and their text.
 ghost use Rattle.std.specs.Prelude.{◌≡◌, ◌++◌, IfOk, OnOk, flat_map, option_copied};
-ghost use Rattle.rdm_wire.specs.Uid.{has};
-ghost use Rattle.rdm_wire.specs.Devices.{uids_of};
 ghost use Rattle.rdm_findings.specs.FindingText.{any_broke, device_line, stray_line, garbled_line, unless_garbled};
-ghost use Rattle.rdm_explain.specs.Rules.{uids_of_findings};
 ghost use Rattle.rdm_findings.specs.Ends.{decides_stray};
-ghost use Rattle.rdm_findings.specs.Explained.{listed, first_of, ExplainsNames, Finds, findings_text, IsExplained};
-ghost use Rattle.rdm_findings.specs.Explained.{shows_all, is_broken};
+ghost use Rattle.rdm_findings.specs.Explained.{first_of, ExplainsNames, Finds};
+ghost use Rattle.rdm_findings.specs.Explained.{findings_text, IsExplained, shows_all, is_broken};
 
 use crate::device_text::write_devices;
 use crate::ending::{decides_stray, is_whole};
@@ -15,6 +12,7 @@ use crate::garbled_text::write_garbled;
 use crate::head::RunHead;
 use crate::head_text::write_head;
 use crate::heard::{HeardUids, heard_uids};
+use crate::listing::{listed, with_passing};
 use crate::stray_text::write_stray;
 use rdm_agent::Kind;
 use rdm_explain::{
@@ -42,6 +40,8 @@ struct Findings {
     certificate: RunFinding,
     names: Option<KnownFinding>,
     devices: Vec<DeviceFinding>,
+    // The listed devices, and those that come or leave.
+    due: Vec<Uid>,
     stray: Option<usize>,
     garbled: Option<usize>,
     heard: HeardUids,
@@ -49,8 +49,9 @@ struct Findings {
 
 /// What the exchanges of a run show, a finding a line:
 /// - whether they certify the devices whose mutes were acknowledged;
-/// - whether each of these, and each of the list `present`, followed the rules;
-/// - where bytes came first though none of these was due, and none of `passing`, which come or leave;
+/// - whether each of these, and each of the list `present`, followed the rules, but none of `passing`, which come or
+///   leave;
+/// - where bytes came first though none of all these was due;
 /// - where bytes came first that no honest line allows, whichever devices are on it.
 ///
 /// `known` has the UIDs that were known before the run, if the log has them; a full run needs none. The only error: out
@@ -88,10 +89,10 @@ fn find(
         exchanges.now found) }
 {
     let reported = acknowledged_devices(exchanges);
-    let Ok(uids) = listed(alloc, &reported, present) else {
+    let Ok(uids) = listed(alloc, &reported, present, passing) else {
         return Err(NoMemory);
     };
-    let Ok(due) = listed_or_passing(alloc, &uids, passing) else {
+    let Ok(due) = with_passing(alloc, &uids, passing) else {
         return Err(NoMemory);
     };
     Ok(Findings {
@@ -101,45 +102,9 @@ fn find(
         stray: first_stray(alloc, &due, exchanges)?,
         garbled: first_garbled(alloc, exchanges)?,
         heard: heard_uids(alloc, exchanges)?,
+        due,
         reported,
     })
-}
-
-// The reported devices, and then the others of the list.
-fn listed(alloc: Global, reported: &DeviceSet, present: &[Uid]) -> Result<Vec<Uid>, AllocError>
-    ensures { IfOk result (λ v. v.items ≡ listed (uids_of reported.now) present.now) }
-{
-    let mut uids = Vec::from_slice(alloc, reported.uids().as_slice())?;
-    'present: for uid in present {
-        if !reported.contains(*uid) {
-            uids.push(*uid)?;
-        }
-    }
-    Ok(uids)
-}
-
-// The listed devices, and then the others of those that come or leave.
-fn listed_or_passing(alloc: Global, uids: &[Uid], passing: &[Uid]) -> Result<Vec<Uid>, AllocError>
-    ensures { IfOk result (λ v. v.items ≡ listed uids.now passing.now) }
-{
-    let mut due = Vec::from_slice(alloc, uids)?;
-    'passing: for uid in passing {
-        if !has(uids, *uid) {
-            due.push(*uid)?;
-        }
-    }
-    Ok(due)
-}
-
-fn has(uids: &[Uid], uid: Uid) -> bool
-    ensures { result ≡ has uids.now uid }
-{
-    for one in uids {
-        if uid == *one {
-            return true;
-        }
-    }
-    false
 }
 
 // The findings that depend on the known UIDs, if the log has these.
@@ -192,7 +157,7 @@ fn write_bytes(
     found: &Findings,
 ) -> Result<(), AllocError>
     ensures { OnOk result (text.new.items ≡ text.old.items
-        ++ (stray_line head.now.start (uids_of_findings found.now.devices.items)
+        ++ (stray_line head.now.start found.now.due.items
         (decides_stray head.now found.now.certificate) exchanges.now (unless_garbled found.now.garbled found.now.stray)
         ++ garbled_line head.now.start exchanges.now found.now.garbled)) }
 {
@@ -208,13 +173,13 @@ fn write_first_stray(
     found: &Findings,
 ) -> Result<(), AllocError>
     ensures { OnOk result (text.new.items ≡ text.old.items
-        ++ stray_line head.now.start (uids_of_findings found.now.devices.items)
+        ++ stray_line head.now.start found.now.due.items
         (decides_stray head.now found.now.certificate) exchanges.now
         (unless_garbled found.now.garbled found.now.stray)) }
 {
     let decided = decides_stray(head, &found.certificate);
     let stray = unless_garbled(found.garbled, found.stray);
-    write_stray(text, head.start, &found.devices, decided, exchanges, stray)
+    write_stray(text, head.start, &found.due, decided, exchanges, stray)
 }
 
 // The first stray exchange, unless another line is about the same one.

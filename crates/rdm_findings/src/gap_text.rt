@@ -61,7 +61,7 @@ fn write_start_gaps(text: &mut Vec<u8>, found: &RunFinding) -> Result<(), AllocE
 }
 
 const UNTRIED: &str =
-    " mutes a UID that neither acknowledged nor was muted five times in a row: it may be no device's";
+    " mutes a UID that neither acknowledged nor was muted five times in a row: perhaps no device has it";
 
 fn write_end_gaps(text: &mut Vec<u8>, found: &RunFinding) -> Result<(), AllocError>
     ensures { OnOk result (text.new.items ≡ text.old.items ++ end_gaps found.now) }

@@ -110,7 +110,8 @@ fn write_reply(text: &mut Vec<u8>, heard: &Heard) -> Result<(), AllocError>
     }
 }
 
-const EACH: &str = "; a rule was broken, by it or by another device: try each alone on the line";
+const EACH: &str =
+    "; a rule was broken, by it, another device or noise: try each device alone on the line";
 
 fn write_spelt(text: &mut Vec<u8>, uid: Uid) -> Result<(), AllocError>
     ensures { OnOk result (text.new.items ≡ text.old.items ++ reply_text (Heard.One uid)) }

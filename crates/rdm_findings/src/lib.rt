@@ -15,6 +15,7 @@ mod head_text;
 mod heard;
 mod input;
 mod line;
+mod listing;
 mod log;
 mod opening;
 mod reading;

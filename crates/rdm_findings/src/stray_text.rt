@@ -2,29 +2,28 @@
 ghost use Rattle.std.specs.Prelude.{◌≡◌, ◌++◌, ◌∷◌, [], OnOk, codes};
 ghost use Rattle.rdm_wire.specs.UidText.{uid_text};
 ghost use Rattle.rdm_reports.specs.Report.{line_of};
-ghost use Rattle.rdm_explain.specs.Rules.{uids_of_findings};
 ghost use Rattle.rdm_findings.specs.FindingText.{exchange_name, range_text, mute_text, place_text, sign_text};
 ghost use Rattle.rdm_findings.specs.FindingText.{advice_text, stray_text, stray_found, stray_line};
 
 use crate::head::Start;
 use crate::stray_bytes::{Sign, sign_of};
 use crate::writing::{write, write_exchange, write_uid};
-use rdm_explain::{Asked, DeviceFinding, Exchange};
+use rdm_explain::{Asked, Exchange};
 use rdm_wire::Uid;
 use std::alloc::AllocError;
 
-/// Writes the line of a stray exchange, if there is one. The findings are about the listed devices. `decided` says that
-/// the bytes show that a rule was broken.
+/// Writes the line of a stray exchange, if there is one. `listed` also has the devices that come or leave. `decided` says
+/// that the bytes show that a rule was broken.
 pub(crate) fn write_stray(
     text: &mut Vec<u8>,
     start: Start,
-    listed: &[DeviceFinding],
+    listed: &[Uid],
     decided: bool,
     exchanges: &[Exchange],
     stray: Option<usize>,
 ) -> Result<(), AllocError>
     ensures { OnOk result (text.new.items ≡ text.old.items
-        ++ stray_line start (uids_of_findings listed.now) decided exchanges.now stray) }
+        ++ stray_line start listed.now decided exchanges.now stray) }
 {
     let Some(at) = stray else {
         return Ok(());
@@ -72,10 +71,11 @@ fn advice_text(decided: bool, sign: &Sign) -> &'static str
 {
     match (sign, decided) {
         (Sign::Listed(_), true) => ": try it alone on the line",
-        (Sign::Listed(_), false) => ", unless a device that the log doesn't show sent them",
-        (Sign::Other(_), _) => ": name it by --present, if it is there",
+        (Sign::Listed(_), false) => "; or a device that the log doesn't show sent them",
+        (Sign::Other(_), true) => "; a rule was broken: name it by --present, if it is there",
+        (Sign::Other(_), false) => ": name it by --present, if it is there",
         (Sign::Unread, true) => {
-            "; a rule was broken: look for a device that isn't listed, or one that should be silent there"
+            "; a rule was broken: look for noise, a device that isn't listed, or one that should be silent there"
         }
         (Sign::Unread, false) => "; they may be those of a device that the log doesn't show",
     }
