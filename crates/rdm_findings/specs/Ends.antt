@@ -137,8 +137,9 @@ is_over head reported xs f = (is_some head.fault || is_some f.failure) || shows_
 abbrev pub is_whole : RunHead → List Device → List Exchange → RunFinding → Bool
 is_whole head reported xs f = has_start head.start && is_over head reported xs f
 
--- Whether stray bytes in this log of the run show that a rule was broken: the run found all devices that followed the
--- rules. In any other run they may be those of a device that it hadn't found yet, also if it ended as Corrupt
+-- Whether stray bytes in this log of the run show that a rule was broken, unless their device left: the run found all
+-- devices that stayed and followed the rules. In any other run they may be those of a device that it hadn't found yet,
+-- also if it ended as Corrupt
 abbrev pub decides_stray : RunHead → RunFinding → Bool
 decides_stray head f = has_start head.start && is_complete f
 

@@ -106,8 +106,8 @@ fn shows_end(reported: &DeviceSet, exchanges: &[Exchange], found: &RunFinding) -
     is_complete(found) || corrupt_end(reported, exchanges, found).is_some()
 }
 
-/// Whether stray bytes show that a rule was broken: the log has the run's beginning, and the run found all devices that
-/// followed the rules.
+/// Whether stray bytes show that a rule was broken, unless their device left: the log has the run's beginning, and the
+/// run found all devices that stayed and followed the rules.
 pub(crate) fn decides_stray(head: &RunHead, found: &RunFinding) -> bool
     ensures { result ≡ decides_stray head.now found.now }
 {

@@ -12,8 +12,8 @@ use rdm_explain::{Asked, Exchange};
 use rdm_wire::Uid;
 use std::alloc::AllocError;
 
-/// Writes the line of a stray exchange, if there is one. `listed` also has the devices that come or leave. `decided` says
-/// that the bytes show that a rule was broken.
+/// Writes the line of a stray exchange, if there is one. `listed` also has the devices that come or leave. `decided`
+/// says that the bytes show that a rule was broken.
 pub(crate) fn write_stray(
     text: &mut Vec<u8>,
     start: Start,
