@@ -1,6 +1,6 @@
 """What explain shows of whole logs: parts of a discovery, logs one after another, the runs of sessions.
 
-The texts are those that the rules of docs/FORMATS.md give.
+The texts are those of crates/rdm_findings/specs/FindingText.antt, by the rules of docs/FORMATS.md.
 """
 from __future__ import annotations
 

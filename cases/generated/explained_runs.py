@@ -1,13 +1,13 @@
 """What explain shows of single runs: devices that break a rule, bytes that no line should have, gaps in a certificate.
 
-The texts are those that the rules of docs/FORMATS.md give.
+The texts are those of crates/rdm_findings/specs/FindingText.antt, by the rules of docs/FORMATS.md.
 """
 from __future__ import annotations
 
 from typing import Iterator, List, NamedTuple, Sequence
 
 from ..checker.case import Case
-from .runs import LIAR, discovery, opening, session_opening, session_run, shows
+from .runs import LIAR, discovery, opening, session_opening, session_run, shows, shows_with_scene
 
 # Each block has a name, a run, all that is printed of it, and the status. An empty line ends a block.
 #
@@ -30,7 +30,7 @@ check its power and its cable
 status 3
 
 other bytes from another UID alone, with which a run ends
-3 unmute; alone other > noise
+3 unmute; alone spare > noise
 4 exchanges, fault 1 1234:00000008, 0 devices; its certificate is incomplete
 0000:00000000 is the first UID that wasn't ruled out: it needs five silences in a row of a range that holds it
 1234:00000009 followed the rules
@@ -39,7 +39,7 @@ a rule was broken, by it, another device or noise: try each device alone on the 
 status 3
 
 another UID's text from it alone, after which a run goes on
-3 unmute; alone other > other
+3 unmute; alone spare > spare
 4 exchanges, 0 devices; its certificate is incomplete, or the log ends within the run
 0000:00000000 is the first UID that wasn't ruled out: it needs five silences in a row of a range that holds it
 1234:00000009 followed the rules in the exchanges that the log has
@@ -48,7 +48,7 @@ they read as 1234:00000008, which isn't listed: name it by --present, if it is t
 status 0
 
 the same and five mutes of it, with which a run ends
-3 unmute; alone other > other; 5 mute other
+3 unmute; alone spare > spare; 5 mute spare
 9 exchanges, fault 1 1234:00000008, 0 devices; its certificate is incomplete
 0000:00000000 is the first UID that wasn't ruled out: it needs five silences in a row of a range that holds it
 1234:00000009 followed the rules
@@ -57,7 +57,7 @@ they read as 1234:00000008, which isn't listed: name it by --present, if it is t
 status 0
 
 the same with other bytes after each mute
-3 unmute; alone other > other; 5 mute other > noise
+3 unmute; alone spare > spare; 5 mute spare > noise
 9 exchanges, fault 1 1234:00000008, 0 devices; its certificate is incomplete
 0000:00000000 is the first UID that wasn't ruled out: it needs five silences in a row of a range that holds it
 1234:00000009 followed the rules
@@ -93,7 +93,7 @@ exchange 4 mutes a UID that neither acknowledged nor was muted five times in a r
 status 0
 
 bytes of a device that stays unmuted, first where another one was due, and then from it alone
-3 unmute; all > liar; mute liar > ack; all > liar; mute other > ack; 2 alone liar > liar
+3 unmute; all > liar; mute liar > ack; all > liar; mute spare > ack; 2 alone liar > liar
 discovery: 9 exchanges, fault 1 1234:00000009, 2 devices; its certificate is incomplete
 0000:00000000 is the first UID that wasn't ruled out: it needs five silences in a row of a range that holds it
 1234:00000008 followed the rules
@@ -103,7 +103,7 @@ a rule was broken: try it alone on the line
 status 3
 
 a device that answers alone, after an unmute and a mute that it didn't acknowledge
-3 unmute; mute liar > ack; unmute; mute liar; mute other > ack; alone liar > liar
+3 unmute; mute liar > ack; unmute; mute liar; mute spare > ack; alone liar > liar
 discovery: 8 exchanges, fault 1 1234:00000009, 2 devices; its certificate is incomplete
 0000:00000000 is the first UID that wasn't ruled out: it needs five silences in a row of a range that holds it
 1234:00000008 followed the rules
@@ -111,7 +111,7 @@ discovery: 8 exchanges, fault 1 1234:00000009, 2 devices; its certificate is inc
 status 0
 
 the same, and then a mute that it acknowledged and silence
-3 unmute; mute liar > ack; unmute; mute liar; mute other > ack; alone liar > liar; mute liar > ack; alone liar
+3 unmute; mute liar > ack; unmute; mute liar; mute spare > ack; alone liar > liar; mute liar > ack; alone liar
 discovery: 10 exchanges, 2 devices; its certificate is incomplete, or the log ends within the run
 0000:00000000 is the first UID that wasn't ruled out: it needs five silences in a row of a range that holds it
 1234:00000008 followed the rules in the exchanges that the log has
@@ -119,7 +119,7 @@ discovery: 10 exchanges, 2 devices; its certificate is incomplete, or the log en
 status 0
 
 the same, and then its text
-3 unmute; mute liar > ack; unmute; mute liar; mute other > ack; alone liar > liar; mute liar > ack; alone liar; \
+3 unmute; mute liar > ack; unmute; mute liar; mute spare > ack; alone liar > liar; mute liar > ack; alone liar; \
 alone liar > liar
 discovery: 11 exchanges, fault 1 1234:00000009, 2 devices; its certificate is incomplete
 0000:00000000 is the first UID that wasn't ruled out: it needs five silences in a row of a range that holds it
@@ -146,7 +146,7 @@ they may be those of a device that the log doesn't show
 status 0
 
 other bytes after a mute of a listed device, and silence after one of another UID
-3 unmute; mute liar > noise; mute other
+3 unmute; mute liar > noise; mute spare
 discovery: 5 exchanges, 0 devices; its certificate is incomplete, or the log ends within the run
 exchange 3 mutes a UID that neither acknowledged nor was muted five times in a row: perhaps no device has it
 0000:00000000 is the first UID that wasn't ruled out: it needs five silences in a row of a range that holds it
@@ -156,7 +156,7 @@ a rule was broken, by it, another device or noise: try each device alone on the 
 status 3
 
 the same, and other bytes after a mute of that UID
-3 unmute; mute liar > noise; mute other; mute other > noise
+3 unmute; mute liar > noise; mute spare; mute spare > noise
 discovery: 6 exchanges, 0 devices; its certificate is incomplete, or the log ends within the run
 exchange 3 mutes a UID that neither acknowledged nor was muted five times in a row: perhaps no device has it
 0000:00000000 is the first UID that wasn't ruled out: it needs five silences in a row of a range that holds it
@@ -168,7 +168,7 @@ a rule was broken, by it, another device or noise: try each device alone on the 
 status 3
 
 noise from all UIDs and from two, and then the text of one from it alone
-3 unmute; all > noise; other to liar > noise; mute liar; alone liar; alone liar > liar
+3 unmute; all > noise; spare to liar > noise; mute liar; alone liar; alone liar > liar
 discovery: 8 exchanges, 0 devices; its certificate is incomplete, or the log ends within the run
 exchange 5 mutes a UID that neither acknowledged nor was muted five times in a row: perhaps no device has it
 0000:00000000 is the first UID that wasn't ruled out: it needs five silences in a row of a range that holds it
@@ -176,7 +176,7 @@ exchange 5 mutes a UID that neither acknowledged nor was muted five times in a r
 status 0
 
 the same, and then noise from it alone
-3 unmute; all > noise; other to liar > noise; mute liar; alone liar; alone liar > liar; 2 alone liar > noise
+3 unmute; all > noise; spare to liar > noise; mute liar; alone liar; alone liar > liar; 2 alone liar > noise
 discovery: 10 exchanges, fault 1 1234:00000009, 0 devices; its certificate is incomplete
 exchange 5 mutes a UID that neither acknowledged nor was muted five times in a row: perhaps no device has it
 0000:00000000 is the first UID that wasn't ruled out: it needs five silences in a row of a range that holds it
@@ -202,7 +202,7 @@ a rule was broken, by it, another device or noise: try each device alone on the 
 status 3
 
 other bytes after two mutes of a UID that isn't listed
-3 unmute; 2 mute other > noise
+3 unmute; 2 mute spare > noise
 discovery: 5 exchanges, 0 devices; its certificate is incomplete, or the log ends within the run
 exchange 3 mutes a UID that neither acknowledged nor was muted five times in a row: perhaps no device has it
 0000:00000000 is the first UID that wasn't ruled out: it needs five silences in a row of a range that holds it
@@ -212,7 +212,7 @@ a rule was broken, by it, another device or noise: try each device alone on the 
 status 3
 
 another UID's text from a UID alone, after an exchange that failed
-3 unmute; alone liar > failed; alone liar > other
+3 unmute; alone liar > failed; alone liar > spare
 discovery: 5 exchanges, 0 devices; its certificate is incomplete
 exchange 3 failed: check the adapter and the cable
 0000:00000000 is the first UID that wasn't ruled out: it needs five silences in a row of a range that holds it
@@ -328,6 +328,18 @@ exchanges count from there
 check its power and its cable
 """
 
+# A known device is switched on after its mutes. Only a scene can say so.
+COMES = "3 unmute; 5 mute found; all > found; mute found > ack; 5 all"
+SCENE = '{"source": "7a70:00000100", "devices": [{"uid": "1234:00000001", "from": 8}]}'
+UNJUDGED = """\
+1234:00000001 can't be judged: it comes or leaves, and may have been absent when it was asked
+discovery: incremental, steady, 15 exchanges, 1 device; its certificate is complete
+"""
+JUDGED = """\
+discovery: incremental, steady, 15 exchanges, 1 device; its certificate is complete
+1234:00000001 didn't mute: exchange 7 is the fifth mute of it in a row without an answer; try it alone on the line
+"""
+
 
 class Block(NamedTuple):
     """What a table has of a case; the words of an opening only in some tables."""
@@ -362,6 +374,9 @@ def cases() -> Iterator[Case]:
     for it in read(CERTIFICATES, has_opening=True):
         yield shows(it.name, opening(*it.opening) + discovery(it.run), it.text, it.status)
     yield from begun_before()
+    log = opening("incremental", "1234:00000001") + discovery(COMES)
+    yield shows_with_scene("a known device that comes after its mutes", log, SCENE, UNJUDGED)
+    yield shows("the same without the scene", log, JUDGED, 3)
 
 
 def begun_before() -> Iterator[Case]:

@@ -6,9 +6,10 @@ liar answers, a mute that it acknowledges, and five silent branches. A packet's 
 from __future__ import annotations
 
 import sys
+from dataclasses import replace
 from typing import Dict, Iterator, NamedTuple, Optional, Sequence, Tuple
 
-from ..checker.case import EXPLAINED_NAME, Case, Expected, File, arguments_of
+from ..checker.case import EXPLAINED_NAME, RIG_NAME, Case, Expected, File, arguments_of
 from ..checker.tables import ROOT
 
 sys.path += [str(ROOT / "bindings/python"), str(ROOT / "bindings/python/tests/lines")]
@@ -18,7 +19,7 @@ from wurstlinen.lines.packets import ALL_DEVICES, Packet, encode_branch_reply, u
 
 UIDS: Dict[str, int] = {
     "found": 0x123400000001,
-    "other": 0x123400000008,
+    "spare": 0x123400000008,
     "liar": 0x123400000009,
     "absent": 0x567800000009,
     "new": 0x9ABC00000002,
@@ -73,7 +74,7 @@ def command_of(words: Sequence[str], number: int) -> Packet:
 
 
 def range_of(words: Sequence[str]) -> Tuple[int, int]:
-    """The first and the last UID of a branch: `all`, `alone liar` or `other to liar`."""
+    """The first and the last UID of a branch: `all`, `alone liar` or `spare to liar`."""
     if words[0] in RANGES:
         return RANGES[words[0]]
     low = words[1] if words[0] == "alone" else words[0]
@@ -135,6 +136,12 @@ def shows(name: str, log: str, text: str, status: int = 0, present: Sequence[str
     """Explain prints this text of a log, if these devices are given."""
     expected = Expected(status=status, out=text.encode(), err=b"")
     return explained(name, log.encode(), expected, *(f"--present={uid}" for uid in present))
+
+
+def shows_with_scene(name: str, log: str, scene: str, text: str) -> Case:
+    """Explain prints this text of a log with a scene, and finds no broken rule."""
+    case = explained(name, log.encode(), Expected(out=text.encode(), err=b""), f"--rig={RIG_NAME}")
+    return replace(case, files=(*case.files, File(scene.encode(), RIG_NAME)))
 
 
 def refuses(name: str, log: str, line: int) -> Case:
