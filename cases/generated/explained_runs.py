@@ -84,6 +84,14 @@ which the log doesn't have
 1234:00000009 didn't mute: exchange 7 is the fifth mute of it in a row without an answer; check its power and its cable
 status 3
 
+a broadcast UID that answers alone
+3 unmute; alone nobody > nobody
+discovery: 4 exchanges, fault 1 ffff:ffffffff, 0 devices; its certificate is incomplete
+0000:00000000 is the first UID that wasn't ruled out: it needs five silences in a row of a range that holds it
+1234:00000009 followed the rules
+exchange 3: bytes came from ffff:ffffffff alone, which no device may have; a rule was broken: look for one that has it
+status 3
+
 four silent mutes
 3 unmute; all > liar; 4 mute liar
 discovery: 8 exchanges, 0 devices; its certificate is incomplete, or the log ends within the run

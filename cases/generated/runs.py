@@ -23,6 +23,7 @@ UIDS: Dict[str, int] = {
     "liar": 0x123400000009,
     "absent": 0x567800000009,
     "new": 0x9ABC00000002,
+    "nobody": ALL_DEVICES,
 }
 LIAR = uid_text(UIDS["liar"])
 HALF = 0x800000000000

@@ -8,7 +8,7 @@ use Rattle.std.proofs.lemmas.List.{map-append, take_more, take_at, get_or_at, dr
 use Rattle.std.proofs.lemmas.List.{take-append-drop, length-take-le}
 use Rattle.std.proofs.lemmas.Bool.{and_parts, and_from, or_cases, cases_lt, eqb-true, eq-eqb, leb-true}
 use Rattle.std.proofs.lemmas.List.Sums.{fold-append}
-use Rattle.rdm_wire.specs.Uid.{has, is_within, IsAscending, IsDeviceSet}
+use Rattle.rdm_wire.specs.Uid.{has, is_broadcast, is_within, IsAscending, IsDevice, IsDeviceSet}
 use Rattle.rdm_wire.specs.Honest.{Asked, Heard, Seen, LineState, HonestStep, HonestTrace, Chain, MayReply, MuteMoves}
 use Rattle.rdm_wire.specs.Honest.{KeepsMuted, Counts, due_in, before_run, is_acked}
 use Rattle.rdm_agent.proofs.LeftLemmas.{at_most_one}
@@ -74,15 +74,15 @@ muted_from u front (e ∷ x) b was is =
 muted_is : (u : ℕ) (x : List Seen) → stays_muted x u ≡ true → StaysMuted u x
 muted_is u x is = muted_from u [] x false (λ never. absurd (true≢false (sym never))) is
 
+or_true : (b : Bool) → (b || true) ≡ true
+or_true true = refl
+or_true false = refl
+
 still_muted : (u : ℕ) (a : Asked) (h : Heard) → a ≢ Unmute → muted_after u true a h ≡ true
 still_muted u Unmute h other = absurd (other refl)
 still_muted u (Branch lo hi) h other = refl
 still_muted u Other h other = refl
 still_muted u (Mute v) h other = or_true (is_acked h && (u == v))
-  where
-    or_true : (b : Bool) → (b || true) ≡ true
-    or_true true = refl
-    or_true false = refl
 
 muted_through : (u : ℕ) (x : List Seen) → AllByRecursion (λ (e : Seen). e.asked ≢ Unmute) x
     → fold (muted_with u) true x ≡ true
@@ -120,7 +120,7 @@ one_is u v e = cc
 record WrongReply (u : ℕ) (x : List Seen) (h : Heard) : Type 0 where
   not_failed : h ≢ Failed
   not_silent : h ≢ Silent
-  wrong : (h ≢ One u) ⊎ StaysMuted u x
+  wrong : (h ≢ One u) ⊎ (StaysMuted u x ⊎ (is_broadcast u ≡ true))
 
 wrong_reply : (u : ℕ) (x : List Seen) (h : Heard) → is_wrong_reply (stays_muted x u) u h ≡ true → WrongReply u x h
 wrong_reply u x Failed is = absurd (true≢false (sym is))
@@ -128,28 +128,31 @@ wrong_reply u x Silent is = absurd (true≢false (sym is))
 wrong_reply u x (One v) is = record {
   not_failed = λ e. cc;
   not_silent = λ e. cc;
-  wrong = elim (or_cases (stays_muted x u) (not (v == u)) is) [
-    | inl muted ↦ inr (muted_is u x muted)
-    | inr other ↦ inl (λ e. not_true (v == u) other (eq-eqb v u (one_is u v e)))
+  wrong = elim (or_cases (stays_muted x u) (not (v == u) || is_broadcast u) is) [
+    | inl muted ↦ inr (inl (muted_is u x muted))
+    | inr rest ↦ elim (or_cases (not (v == u)) (is_broadcast u) rest) [
+      | inl other ↦ inl (λ e. not_true (v == u) other (eq-eqb v u (one_is u v e)))
+      | inr broadcast ↦ inr (inr broadcast)
+    ]
   ];
 }
 wrong_reply u x (Acked ack) is = record { not_failed = λ e. cc; not_silent = λ e. cc; wrong = inl (λ e. cc) }
 wrong_reply u x Noise is = record { not_failed = λ e. cc; not_silent = λ e. cc; wrong = inl (λ e. cc) }
 
-of_wrong : (u : ℕ) (x : List Seen) (h : Heard) → h ≢ Failed → h ≢ Silent → (h ≢ One u) ⊎ StaysMuted u x
-    → is_wrong_reply (stays_muted x u) u h ≡ true
+of_wrong : (u : ℕ) (x : List Seen) (h : Heard) → h ≢ Failed → h ≢ Silent
+    → (h ≢ One u) ⊎ (StaysMuted u x ⊎ (is_broadcast u ≡ true)) → is_wrong_reply (stays_muted x u) u h ≡ true
 of_wrong u x Failed fine loud wrong = absurd (fine refl)
 of_wrong u x Silent fine loud wrong = absurd (loud refl)
 of_wrong u x (One v) fine loud (inl other) = by_test (v == u) refl
   where
-    or_true : (b : Bool) → (b || true) ≡ true
-    or_true true = refl
-    or_true false = refl
-
-    by_test : (b : Bool) → (v == u) ≡ b → (stays_muted x u || not b) ≡ true
+    by_test : (b : Bool) → (v == u) ≡ b → (stays_muted x u || (not b || is_broadcast u)) ≡ true
     by_test true is = absurd (other (ap (λ w. One w) (eqb-true v u is)))
     by_test false is = or_true (stays_muted x u)
-of_wrong u x (One v) fine loud (inr muted) = ap (λ b. b || not (v == u)) (is_muted u x muted)
+of_wrong u x (One v) fine loud (inr (inl muted)) =
+    ap (λ b. b || (not (v == u) || is_broadcast u)) (is_muted u x muted)
+of_wrong u x (One v) fine loud (inr (inr broadcast)) =
+    ap (λ b. stays_muted x u || (not (v == u) || b)) broadcast
+    ∙ ap (λ b. stays_muted x u || b) (or_true (not (v == u))) ∙ or_true (stays_muted x u)
 of_wrong u x (Acked ack) fine loud wrong = refl
 of_wrong u x Noise fine loud wrong = refl
 
@@ -424,7 +427,8 @@ at_end present muted u (inr later) = absurd (no_middle later.front later.mute la
 
 -- what must hold before the last exchange, for it not to be an answer
 abbrev pub Waits : List ℕ → (ℕ → Bool) → List Seen → Asked → Heard → Type 0
-Waits present muted x (Branch lo hi) h = (lo ≡ hi) × ((h ≢ One lo) ⊎ WillBeMuted present muted lo x)
+Waits present muted x (Branch lo hi) h =
+    (lo ≡ hi) × ((h ≢ One lo) ⊎ (WillBeMuted present muted lo x ⊎ (is_broadcast lo ≡ true)))
 Waits present muted x (Mute u) h = is_acked h ≡ false
 Waits present muted x Unmute h = ⊥
 Waits present muted x Other h = ⊥
@@ -435,7 +439,8 @@ first_waits present muted x Unmute h wrong = wrong
 first_waits present muted x Other h wrong = wrong
 first_waits present muted x (Mute u) h wrong = wrong
 first_waits present muted x (Branch lo hi) h (same, inl other) = (same, inl other)
-first_waits present muted x (Branch lo hi) h (same, inr later) = (same, inr (inr later))
+first_waits present muted x (Branch lo hi) h (same, inr (inl later)) = (same, inr (inl (inr later)))
+first_waits present muted x (Branch lo hi) h (same, inr (inr broadcast)) = (same, inr (inr broadcast))
 
 next_waits : (present : List ℕ) (old new : LineState) (e : Seen) (x : List Seen) (a : Asked) (h : Heard)
     → HonestStep present old e.asked e.heard new → Waits present old.muted (e ∷ x) a h → Waits present new.muted x a h
@@ -443,8 +448,19 @@ next_waits present old new e x Unmute h step waits = waits
 next_waits present old new e x Other h step waits = waits
 next_waits present old new e x (Mute u) h step waits = waits
 next_waits present old new e x (Branch lo hi) h step (same, inl other) = (same, inl other)
-next_waits present old new e x (Branch lo hi) h step (same, inr later) =
-    (same, inr (step_waits present old new lo e x step later))
+next_waits present old new e x (Branch lo hi) h step (same, inr (inl later)) =
+    (same, inr (inl (step_waits present old new lo e x step later)))
+next_waits present old new e x (Branch lo hi) h step (same, inr (inr broadcast)) = (same, inr (inr broadcast))
+
+-- no device has a broadcast UID
+not_broadcast : (us : List ℕ) (u : ℕ) → AllByRecursion IsDevice us → has us u ≡ true → is_broadcast u ≡ false
+not_broadcast [] u all is = absurd (true≢false (sym is))
+not_broadcast (v ∷ us) u all is = by_test (u == v) refl is (λ h. not_broadcast us u all.1 h)
+  where
+    by_test : (b : Bool) → (u == v) ≡ b → (b || has us u) ≡ true → (has us u ≡ true → is_broadcast u ≡ false)
+        → is_broadcast u ≡ false
+    by_test true same h rest = ap is_broadcast (eqb-true u v same) ∙ all.0.own
+    by_test false other h rest = rest h
 
 pub not_answered : (present : List ℕ) (old new : LineState) (a : Asked) (h : Heard) → IsDeviceSet present → h ≢ Silent
     → Waits present old.muted [] a h → HonestStep present old a h new → ⊥
@@ -457,7 +473,10 @@ not_answered present old new (Branch lo hi) h set loud (same, inl other) step =
     (λ v passes. within_itself lo v (subst (λ x. is_within lo x v ≡ true) (sym same)
     (and_parts (is_within lo hi v) (not (old.muted v)) passes).0))
     loud other step.0
-not_answered present old new (Branch lo hi) h set loud (same, inr muted) step =
+not_answered present old new (Branch lo hi) h set loud (same, inr (inr broadcast)) step =
+    loud (muted_silent present old.muted lo hi h same
+    (λ there. absurd (true≢false (sym broadcast ∙ not_broadcast present lo set.devices there))) step.0)
+not_answered present old new (Branch lo hi) h set loud (same, inr (inl muted)) step =
     loud (muted_silent present old.muted lo hi h same (at_end present old.muted lo muted) step.0)
 
 -- with the same devices at each exchange

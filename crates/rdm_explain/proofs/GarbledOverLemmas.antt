@@ -3,7 +3,7 @@ use Rattle.std.proofs.Common.{◌≡◌, ℕ, Bool, true, false, ◌||◌, List,
 use Rattle.std.proofs.Common.{true≢false}
 use Rattle.std.specs.Prelude.{◌⊎◌, ◌≢◌, ◌==◌}
 use Rattle.std.specs.List.{AllByRecursion}
-use Rattle.rdm_wire.specs.Uid.{has, IsDeviceSet}
+use Rattle.rdm_wire.specs.Uid.{has, is_broadcast, IsDeviceSet}
 use Rattle.rdm_wire.specs.Honest.{Asked, Heard, Seen, LineState, HonestStep, before_run, is_acked}
 use Rattle.rdm_wire.specs.Honest.Asked.{Unmute, Branch, Mute, Other}
 use Rattle.rdm_wire.specs.Honest.Heard.{Failed, Silent, One}
@@ -27,7 +27,8 @@ WillBeMutedOver earlier last muted u x = IsMutedOver earlier last muted u x ⊎ 
 
 -- what must hold before the last exchange, for it not to be an answer
 abbrev WaitsOver : List ℕ → List ℕ → (ℕ → Bool) → List Seen → Asked → Heard → Type 0
-WaitsOver earlier last muted x (Branch lo hi) h = (lo ≡ hi) × ((h ≢ One lo) ⊎ WillBeMutedOver earlier last muted lo x)
+WaitsOver earlier last muted x (Branch lo hi) h =
+    (lo ≡ hi) × ((h ≢ One lo) ⊎ (WillBeMutedOver earlier last muted lo x ⊎ (is_broadcast lo ≡ true)))
 WaitsOver earlier last muted x (Mute u) h = is_acked h ≡ false
 WaitsOver earlier last muted x Unmute h = ⊥
 WaitsOver earlier last muted x Other h = ⊥
@@ -38,7 +39,8 @@ first_waits earlier last muted x Unmute h wrong = wrong
 first_waits earlier last muted x Other h wrong = wrong
 first_waits earlier last muted x (Mute u) h wrong = wrong
 first_waits earlier last muted x (Branch lo hi) h (same, inl other) = (same, inl other)
-first_waits earlier last muted x (Branch lo hi) h (same, inr later) = (same, inr (inr later))
+first_waits earlier last muted x (Branch lo hi) h (same, inr (inl later)) = (same, inr (inl (inr later)))
+first_waits earlier last muted x (Branch lo hi) h (same, inr (inr broadcast)) = (same, inr (inr broadcast))
 
 -- a device that has left doesn't come back, so those that are there stay muted
 still_there : (earlier last present : List ℕ) (old moved : LineState) (u : ℕ)
@@ -109,8 +111,10 @@ next_waits earlier last present old moved new e x Unmute h changes step waits = 
 next_waits earlier last present old moved new e x Other h changes step waits = waits
 next_waits earlier last present old moved new e x (Mute u) h changes step waits = waits
 next_waits earlier last present old moved new e x (Branch lo hi) h changes step (same, inl other) = (same, inl other)
-next_waits earlier last present old moved new e x (Branch lo hi) h changes step (same, inr later) =
-    (same, inr (step_waits earlier last present old moved new lo e x changes step later))
+next_waits earlier last present old moved new e x (Branch lo hi) h changes step (same, inr (inl later)) =
+    (same, inr (inl (step_waits earlier last present old moved new lo e x changes step later)))
+next_waits earlier last present old moved new e x (Branch lo hi) h changes step (same, inr (inr broadcast)) =
+    (same, inr (inr broadcast))
 
 -- before the last exchange devices leave and come, too
 last_waits : (earlier last present : List ℕ) (old moved : LineState) (a : Asked) (h : Heard)
@@ -120,13 +124,16 @@ last_waits earlier last present old moved Unmute h changes waits = waits
 last_waits earlier last present old moved Other h changes waits = waits
 last_waits earlier last present old moved (Mute u) h changes waits = waits
 last_waits earlier last present old moved (Branch lo hi) h changes (same, inl other) = (same, inl other)
-last_waits earlier last present old moved (Branch lo hi) h changes (same, inr (inr later)) = (same, inr (inr later))
-last_waits earlier last present old moved (Branch lo hi) h changes (same, inr (inl is)) = (
+last_waits earlier last present old moved (Branch lo hi) h changes (same, inr (inr broadcast)) =
+    (same, inr (inr broadcast))
+last_waits earlier last present old moved (Branch lo hi) h changes (same, inr (inl (inr later))) =
+    (same, inr (inl (inr later)))
+last_waits earlier last present old moved (Branch lo hi) h changes (same, inr (inl (inl is))) = (
   same,
-  inr (inl (record {
+  inr (inl (inl (record {
     now = λ there. still_there earlier last present old moved lo changes is.now is.was there;
     no_unmute = tt;
-  })),
+  }))),
 )
 
 in_chain_over : (earlier last : List ℕ) (s : LineState) (sets : List (List ℕ)) (front : List Seen) (e : Seen)

@@ -1,6 +1,7 @@
 -- Bytes that no honest line allows, whichever devices are on it.
 use Rattle.std.specs.Prelude.{◌≡◌, ◌≢◌, ◌⊎◌, ℕ, ◌<◌, true, false, List, ◌∷◌, ◌++◌, length, Option, Some, None}
 use Rattle.std.specs.List.{AllByRecursion}
+use Rattle.rdm_wire.specs.Uid.{is_broadcast}
 use Rattle.rdm_wire.specs.Honest.{Asked, Heard, Seen, is_acked}
 use Rattle.rdm_wire.specs.Honest.Asked.{Unmute, Branch, Mute, Other}
 use Rattle.rdm_wire.specs.Honest.Heard.{Failed, Silent, One}
@@ -18,10 +19,10 @@ pub record StaysMuted (u : ℕ) (x : List Seen) : Type 0 where
   pub no_unmute : AllByRecursion (λ e. e.asked ≢ Unmute) back
 
 -- After these exchanges this isn't what answers the frame. After a branch of one UID alone, it isn't the text of that
--- UID, or the device is muted. After a mute, it doesn't acknowledge it. Of what comes after other frames this says
--- nothing
+-- UID, or the device is muted, or no device has that UID. After a mute, it doesn't acknowledge it. Of what comes after
+-- other frames this says nothing
 abbrev pub IsNoAnswer : List Seen → Asked → Heard → Type 0
-IsNoAnswer x (Branch lo hi) heard = (lo ≡ hi) × ((heard ≢ One lo) ⊎ StaysMuted lo x)
+IsNoAnswer x (Branch lo hi) heard = (lo ≡ hi) × ((heard ≢ One lo) ⊎ (StaysMuted lo x ⊎ (is_broadcast lo ≡ true)))
 IsNoAnswer x (Mute u) heard = is_acked heard ≡ false
 IsNoAnswer x Unmute heard = ⊥
 IsNoAnswer x Other heard = ⊥

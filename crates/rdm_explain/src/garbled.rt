@@ -14,6 +14,7 @@ use std::alloc::Global;
 /// - a branch of one UID alone, and the bytes aren't the text of that UID: no other device may reply, so nothing
 ///   collides;
 /// - a branch of one UID alone, although that device acknowledged a mute before, and no unmute came after that;
+/// - a branch of one UID alone that is no device's, but a broadcast;
 /// - a mute, and the bytes don't acknowledge it.
 ///
 /// `None`: there is no such exchange before the line fails. The only error: out of memory.
@@ -44,13 +45,13 @@ fn is_garbled(muted: &Uids, exchange: &Exchange) -> bool
     }
 }
 
-// Whether bytes came that aren't the text of a UID, or bytes of a device although it is muted.
+// Whether bytes came that aren't the text of a UID, or that are although its device is muted, or it is no device's.
 fn is_wrong_reply(muted: &Uids, uid: Uid, heard: &Heard) -> bool
     ensures { result ≡ is_wrong_reply (in_tree muted.now uid) uid (heard_of heard.now) }
 {
     match heard {
         Heard::Failed | Heard::Silent => false,
-        Heard::One(read) => muted.contains(uid) || *read != uid,
+        Heard::One(read) => muted.contains(uid) || (*read != uid || uid.is_broadcast()),
         Heard::Acked(_) | Heard::Noise => true,
     }
 }

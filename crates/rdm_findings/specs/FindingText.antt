@@ -292,11 +292,15 @@ reply_text _ = each_text
 abbrev pub other_bytes : Heard → List ℕ
 other_bytes heard = codes " alone that aren't its text" ++ reply_text heard
 
--- after a branch of u alone: its own text although it is muted, or other bytes
+-- after a branch of u alone, its text: no device has such a UID, or it is muted
+abbrev pub same_text : ℕ → List ℕ
+same_text u =
+    if is_broadcast u then codes " alone, which no device may have; a rule was broken: look for one that has it"
+    else codes " alone, which had acknowledged its mute; a rule was broken: try it alone on the line"
+
+-- the same, or other bytes
 abbrev pub own_text : ℕ → Heard → List ℕ
-own_text u (Heard.One v) =
-    if v == u then codes " alone, which had acknowledged its mute; a rule was broken: try it alone on the line"
-    else other_bytes (Heard.One v)
+own_text u (Heard.One v) = if v == u then same_text u else other_bytes (Heard.One v)
 own_text u heard = other_bytes heard
 
 -- about bytes that came after a branch of one UID alone and aren't its text, or after a mute and don't acknowledge it

@@ -3,7 +3,7 @@ ghost use Rattle.std.specs.Prelude.{◌≡◌, ◌++◌, ◌∷◌, [], OnOk, co
 ghost use Rattle.rdm_wire.specs.UidText.{uid_text};
 ghost use Rattle.rdm_reports.specs.Report.{line_of};
 ghost use Rattle.rdm_findings.specs.FindingText.{exchange_name, each_text, reply_text, garbled_text, garbled_found};
-ghost use Rattle.rdm_findings.specs.FindingText.{own_text, other_bytes};
+ghost use Rattle.rdm_findings.specs.FindingText.{same_text, own_text, other_bytes};
 ghost use Rattle.rdm_findings.specs.FindingText.{garbled_line};
 
 use crate::head::Start;
@@ -63,18 +63,26 @@ fn write_from(text: &mut Vec<u8>, uid: Uid, heard: &Heard) -> Result<(), AllocEr
     write_own(text, uid, heard)
 }
 
-// Its own text, although it is muted, or other bytes.
+// Its own text, or other bytes.
 fn write_own(text: &mut Vec<u8>, uid: Uid, heard: &Heard) -> Result<(), AllocError>
     ensures { OnOk result (text.new.items ≡ text.old.items ++ own_text uid heard.now) }
 {
     match heard {
-        Heard::One(read) if *read == uid => write(text, MUTED),
+        Heard::One(read) if *read == uid => write(text, same_text(uid)),
         _ => write_other_bytes(text, heard),
     }
 }
 
-const MUTED: &str =
-    " alone, which had acknowledged its mute; a rule was broken: try it alone on the line";
+// Why it shouldn't answer: no device has such a UID, or it is muted.
+fn same_text(uid: Uid) -> &'static str
+    ensures { result.now ≡ same_text uid }
+{
+    if uid.is_broadcast() {
+        " alone, which no device may have; a rule was broken: look for one that has it"
+    } else {
+        " alone, which had acknowledged its mute; a rule was broken: try it alone on the line"
+    }
+}
 
 fn write_unmuted(text: &mut Vec<u8>, uid: Uid) -> Result<(), AllocError>
     ensures { OnOk result (text.new.items ≡ text.old.items

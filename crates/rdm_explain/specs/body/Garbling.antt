@@ -1,5 +1,6 @@
 -- Whether bytes came that no honest line allows, as a test.
 use Rattle.std.specs.Prelude.{ℕ, Bool, true, false, ◌&&◌, ◌||◌, not, List, fold, ◌==◌}
+use Rattle.rdm_wire.specs.Uid.{is_broadcast}
 use Rattle.rdm_wire.specs.Honest.{Asked, Heard, Seen, is_acked}
 use Rattle.rdm_wire.specs.Honest.Asked.{Unmute, Branch, Mute, Other}
 use Rattle.rdm_wire.specs.Honest.Heard.{Failed, Silent, One, Acked, Noise}
@@ -18,11 +19,11 @@ muted_with u before e = muted_after u before e.asked e.heard
 abbrev pub stays_muted : List Seen → ℕ → Bool
 stays_muted x u = fold (muted_with u) false x
 
--- whether bytes came that aren't the text of u, or bytes of u although it is muted
+-- whether bytes came that aren't the text of u, or that are although u is muted, or no device's
 abbrev pub is_wrong_reply : Bool → ℕ → Heard → Bool
 is_wrong_reply muted u Failed = false
 is_wrong_reply muted u Silent = false
-is_wrong_reply muted u (One v) = muted || not (v == u)
+is_wrong_reply muted u (One v) = muted || (not (v == u) || is_broadcast u)
 is_wrong_reply muted u (Acked ack) = true
 is_wrong_reply muted u Noise = true
 
