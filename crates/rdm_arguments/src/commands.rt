@@ -9,17 +9,15 @@ use clap::{Arg, ArgAction, Command};
 use std::alloc::{AllocError, Global};
 
 /// The program with its commands.
+// Each is added when it is made, so that only one value has to be dropped if an allocation fails.
 pub(crate) fn commands<'a>(alloc: Global) -> Result<Command<'a>, AllocError>
     ensures { IfOk result (λ c. app_of c ≡ commands) }
 {
-    let decode = command_of(alloc, &DECODE)?;
-    let encode = command_of(alloc, &ENCODE)?;
-    let discover = command_of(alloc, &DISCOVER)?;
-    let run = command_of(alloc, &RUN)?;
-    let explain = command_of(alloc, &EXPLAIN)?;
-    let replies = with_command(with_command(program(alloc), decode)?, encode)?;
-    let runs = with_command(with_command(replies, discover)?, run)?;
-    with_command(runs, explain)
+    let decode = with_command(alloc, program(alloc), &DECODE)?;
+    let encode = with_command(alloc, decode, &ENCODE)?;
+    let discover = with_command(alloc, encode, &DISCOVER)?;
+    let run = with_command(alloc, discover, &RUN)?;
+    with_command(alloc, run, &EXPLAIN)
 }
 
 // The program without its commands.
@@ -33,12 +31,16 @@ fn program<'a>(alloc: Global) -> Command<'a>
         .disable_help_subcommand(true)
 }
 
-// The program with one more command.
-fn with_command<'a>(program: Command<'a>, command: Command<'a>) -> Result<Command<'a>, AllocError>
-    requires { (fields_of command).has_globals ≡ false }
-    ensures { IfOk result (λ r. app_of r ≡ with_subcommand (app_of program.entry) (app_of command.entry).top) }
+// The program with one more command of the table.
+fn with_command<'a>(
+    alloc: Global,
+    program: Command<'a>,
+    rule: &CommandRule,
+) -> Result<Command<'a>, AllocError>
+    ensures { IfOk result (λ r. app_of r ≡ with_subcommand (app_of program.entry) (command_with rule.now.name.now
+        (map (λ (a : ArgumentRule). rule_for a.form a.name.now) rule.now.arguments.now))) }
 {
-    program.subcommand(command)
+    program.subcommand(command_of(alloc, rule)?)
 }
 
 // A command of the table.
