@@ -194,7 +194,7 @@ breach_before never SilentBranches =
 breach_before never SilentMutes = codes " didn't mute: exchange "
 breach_before never GarbledMute = codes " was to mute, and other bytes came: exchange "
 
--- and after it. The flag says that the device was heard in the run
+-- and after it. The flag says that the device was heard in the exchanges that the log has
 abbrev pub breach_after : Bool → Rule → List ℕ
 breach_after heard SilentBranches =
     codes " is the fifth silence in a row in a range that holds it; check its power and its cable"
@@ -245,8 +245,8 @@ sign_text (signs.Listed u) = codes "; they read as " ++ uid_text u ++ codes ", w
 sign_text (signs.Other u) = codes "; they read as " ++ uid_text u ++ codes ", which isn't listed"
 sign_text signs.Unread = []
 
--- what to do about bytes. The flag says that they show that a rule was broken; otherwise another device may have sent
--- them
+-- what to do about bytes. The flag says that they show that a rule was broken, unless their sender comes or leaves.
+-- Without it another device may have sent them
 abbrev pub advice_text : Bool → Sign → List ℕ
 advice_text true (signs.Listed u) = codes ": try it alone on the line"
 advice_text false (signs.Listed u) = codes "; or a device that the log doesn't show sent them"
@@ -260,7 +260,7 @@ advice_text false signs.Unread = codes "; they may be those of a device that the
 abbrev pub stray_text : Bool → Asked → Sign → List ℕ
 stray_text decided asked sign = place_text asked ++ sign_text sign ++ advice_text decided sign
 
--- the line of a stray exchange with this number. `us` are the listed devices
+-- the line of a stray exchange with this number. `us` are the devices that are listed, or come or leave
 abbrev pub stray_found : ℕ → List ℕ → Bool → Option Exchange → List ℕ
 stray_found number us decided None = []
 stray_found number us decided (Some e) =
