@@ -44,7 +44,8 @@ pub fn time<R: CpuClock + Print + Eprint>(bench: &Bench<'_, R>, count: usize) ->
 /// What comes in a steady run on a line with these devices that loses nothing.
 pub fn tape(alloc: Global, devices: &UidSet) -> Option<Vec<Taped>> {
     let mut line = TestLine::new(alloc, Wrong::Nothing, devices, 1)?;
-    holds(line.searched(Search::Steady)?.found().len() == devices.len())?;
+    let found = line.count(Search::Steady)?;
+    holds(found == devices.len())?;
     Some(line.tape)
 }
 
@@ -73,8 +74,8 @@ impl Sample for Runs<'_> {
         let mut agent = Agent::start(Kind::Full, self.known, self.budget);
         for (index, heard) in self.heard.as_slice().iter().enumerate() {
             let op = agent.next();
-            self.write(op, index)?;
-            hear(&mut agent, op, self.read(index, *heard))?;
+            let is_written = self.write(op, index);
+            holds(hear(&mut agent, op, self.read(index, *heard)) && is_written)?;
         }
         if agent.next() != Op::End {
             return None;
@@ -88,16 +89,16 @@ impl Sample for Runs<'_> {
 }
 
 impl Runs<'_> {
-    // Writes the frame of this operation, if that is to be done.
+    // Writes the frame of this operation, if that is to be done. Returns whether there is such a frame.
     #[inline(never)]
-    fn write(&self, op: Op, index: usize) -> Option<()>
+    fn write(&self, op: Op, index: usize) -> bool
         requires device { (u : ℕ) → op ≡ Op.Mute u → IsDevice u }
     {
         if !self.writes {
-            return Some(());
+            return true;
         }
         let tn = (index % 256) as u8;
-        holds(op != Op::End && op.frame(controller(), tn).get(TRANSACTION_NUMBER) == Some(&tn))
+        op != Op::End && op.frame(controller(), tn).get(TRANSACTION_NUMBER) == Some(&tn)
     }
 
     // What the agent hears. A branch reply is read from its bytes, if that is to be done.
@@ -109,13 +110,13 @@ impl Runs<'_> {
     }
 }
 
-// The agent hears the reply to this operation, which has to be what it asks next.
-fn hear(agent: &mut Agent, op: Op, reply: OpReply) -> Option<()>
+// The agent hears the reply to this operation, which has to be what it asks next. Returns whether the reply fits.
+fn hear(agent: &mut Agent, op: Op, reply: OpReply) -> bool
     requires { op ≡ next_op agent.old }
 {
-    if !reply.fits(&op) {
-        return None;
+    let fits = reply.fits(&op);
+    if fits {
+        agent.hear(reply);
     }
-    agent.hear(reply);
-    Some(())
+    fits
 }

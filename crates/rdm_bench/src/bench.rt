@@ -54,14 +54,20 @@ impl<R: CpuClock + Print + Eprint> Bench<'_, R> {
         sample: &mut S,
     ) -> Option<()> {
         let mut times = [0; SAMPLES];
+        let steps = self.sample_all(sample, &mut times)?;
+        times.sort_unstable();
+        self.print(subject, work, steps, times[SAMPLES / 2], times[0])
+    }
+
+    // Takes a sample for each of these times, and writes its time there. Returns how many steps the last one has.
+    fn sample_all<S: Sample>(&self, sample: &mut S, times: &mut [u64]) -> Option<u64> {
         let mut steps: u64 = 0;
         for time in times.iter_mut() {
             let (each, count) = self.sample(sample)?;
             *time = each;
             steps = count;
         }
-        times.sort_unstable();
-        self.print(subject, work, steps, times[SAMPLES / 2], times[0])
+        Some(steps)
     }
 
     // The processor time of a sample's step in picoseconds, and how many steps it has.

@@ -30,6 +30,16 @@ impl Waiting {
             discoveries: VecDeque::with_capacity(alloc, places).ok()?,
         })
     }
+
+    /// It waits for the request with this tag. None: out of memory.
+    pub fn wait_for_request(&mut self, tag: u64) -> Option<()> {
+        self.requests.push_back(tag).ok()
+    }
+
+    /// It waits for the discovery with this tag. None: out of memory.
+    pub fn wait_for_discovery(&mut self, tag: u64) -> Option<()> {
+        self.discoveries.push_back(tag).ok()
+    }
 }
 
 /// What was reported to clients.
@@ -134,19 +144,27 @@ impl History {
     fn go_on(&mut self, first: u64, entries: &[Entry]) -> Option<()> {
         holds(first == self.entries)?;
         for entry in entries {
-            self.entries = self.entries.wrapping_add(1);
-            match entry {
-                Entry::Accept { number, .. } => follows(&mut self.accepts, *number)?,
-                Entry::Finish { number, .. } => follows(&mut self.finishes, *number)?,
-                Entry::Ask { number, .. } => follows(&mut self.asks, *number)?,
-                Entry::Answer { number, .. } => follows(&mut self.answers, *number)?,
-                Entry::Collect { .. } => self.collects = self.collects.wrapping_add(1),
-                Entry::Send { .. } => switches(&mut self.awaits, true)?,
-                Entry::Came { .. } => switches(&mut self.awaits, false)?,
-                _ => {}
-            }
+            self.add(entry)?;
         }
         Some(())
+    }
+
+    // This entry comes next. None: it doesn't follow.
+    fn add(&mut self, entry: &Entry) -> Option<()> {
+        self.entries = self.entries.wrapping_add(1);
+        match entry {
+            Entry::Accept { number, .. } => follows(&mut self.accepts, *number),
+            Entry::Finish { number, .. } => follows(&mut self.finishes, *number),
+            Entry::Ask { number, .. } => follows(&mut self.asks, *number),
+            Entry::Answer { number, .. } => follows(&mut self.answers, *number),
+            Entry::Collect { .. } => {
+                self.collects = self.collects.wrapping_add(1);
+                Some(())
+            }
+            Entry::Send { .. } => switches(&mut self.awaits, true),
+            Entry::Came { .. } => switches(&mut self.awaits, false),
+            _ => Some(()),
+        }
     }
 }
 

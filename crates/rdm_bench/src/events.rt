@@ -16,11 +16,13 @@ pub fn time<R: CpuClock + Print + Eprint>(
     at_once: bool,
     waiting: usize,
 ) -> Option<()> {
+    let reply = reply(2)?;
+    let session = filled(session(bench, waiting)?, waiting)?;
     let mut requests = Requests {
         alloc: bench.alloc,
-        session: filled(session(bench, waiting)?, waiting)?,
+        session,
         at_once,
-        reply: reply(2)?,
+        reply,
         waiting,
         turn: 0,
     };

@@ -11,7 +11,7 @@ use rdm_line::{
     SimLine,
 };
 use rdm_wire::{
-    Device, Frame, MuteAck, Uid, UidRange, UidSet, encode_response, mute_response,
+    Device, DeviceSet, Frame, MuteAck, Uid, UidRange, UidSet, encode_response, mute_response,
     read_branch_reply, write_branch_reply,
 };
 use std::alloc::Global;
@@ -215,6 +215,11 @@ impl TestLine {
         Some(agent)
     }
 
+    /// How many devices a run on this line finds.
+    pub fn count(&mut self, search: Search) -> Option<usize> {
+        Some(self.searched(search)?.found().len())
+    }
+
     // The agent asks what it asks next, and hears what came.
     fn answer(&mut self, agent: &mut Agent, tn: u8) -> Option<()>
         requires { next_op agent.old ≢ End }
@@ -321,6 +326,19 @@ const DISHONEST: [Wrong; 5] = [
     Wrong::Noise(10),
 ];
 
+// Lines with a device that breaks the rules. It has the first UID, one in the middle, or the last.
+const ODD: [Wrong; 9] = [
+    Wrong::Odd(Odd::NeverMutes, 0),
+    Wrong::Odd(Odd::TenBytes, 0),
+    Wrong::Odd(Odd::GoesOn, 0),
+    Wrong::Odd(Odd::NeverMutes, 0x7fff_ffff_fffe),
+    Wrong::Odd(Odd::TenBytes, 0x7fff_ffff_fffe),
+    Wrong::Odd(Odd::GoesOn, 0x7fff_ffff_fffe),
+    Wrong::Odd(Odd::NeverMutes, 0xffff_ffff_fffe),
+    Wrong::Odd(Odd::TenBytes, 0xffff_ffff_fffe),
+    Wrong::Odd(Odd::GoesOn, 0xffff_ffff_fffe),
+];
+
 // How runs ended: without fault, with all devices that keep to the rules, or with one missing; with the fault Corrupt,
 // after all of them were found, or before.
 #[derive(Clone, Copy, Debug, Default)]
@@ -339,27 +357,33 @@ impl Ends {
         if agent.next() != Op::End {
             return None;
         }
-        // A set has no device twice.
-        let mut found: usize = 0;
-        for device in agent.found().iter() {
-            if good.contains(device.uid) {
-                found = found.wrapping_add(1);
-            } else {
-                holds(odd == Some(device.uid))?;
-            }
-        }
-        let has_all = found == good.len();
-        let count = match agent.fault() {
-            None if has_all => &mut self.right,
-            None => &mut self.missing,
-            Some(AgentFault::Corrupt(_)) if has_all => &mut self.corrupt_with_all,
-            Some(AgentFault::Corrupt(_)) => &mut self.corrupt,
-            Some(_) => return None,
-        };
-        *count = count.wrapping_add(1);
+        let has_all = found_of(agent.found(), good, odd)? == good.len();
         self.frames = self.frames.wrapping_add(agent.frames());
+        match agent.fault() {
+            None if has_all => self.right = self.right.wrapping_add(1),
+            None => self.missing = self.missing.wrapping_add(1),
+            Some(AgentFault::Corrupt(_)) if has_all => {
+                self.corrupt_with_all = self.corrupt_with_all.wrapping_add(1);
+            }
+            Some(AgentFault::Corrupt(_)) => self.corrupt = self.corrupt.wrapping_add(1),
+            Some(_) => return None,
+        }
         Some(())
     }
+}
+
+// How many of the good devices were found. None: a device was found that is neither good nor the odd one.
+fn found_of(found: &DeviceSet, good: &UidSet, odd: Option<Uid>) -> Option<usize> {
+    // A set has no device twice.
+    let mut count: usize = 0;
+    for device in found.iter() {
+        if good.contains(device.uid) {
+            count = count.wrapping_add(1);
+        } else {
+            holds(odd == Some(device.uid))?;
+        }
+    }
+    Some(count)
 }
 
 /// Prints the frames of both searches over this many devices, on honest lines. Each run has to find its devices.
@@ -377,11 +401,9 @@ pub fn dishonest<R: Print>(bench: &Bench<'_, R>, size: usize) -> Option<()> {
     for wrong in DISHONEST {
         print(bench, wrong, Spread::Random, size)?;
     }
-    for number in [0, 0x7fff_ffff_fffe, 0xffff_ffff_fffe] {
-        for odd in [Odd::NeverMutes, Odd::TenBytes, Odd::GoesOn] {
-            print(bench, Wrong::Odd(odd, number), Spread::Random, size)?;
-            print(bench, Wrong::Odd(odd, number), Spread::Close, size)?;
-        }
+    for wrong in ODD {
+        print(bench, wrong, Spread::Random, size)?;
+        print(bench, wrong, Spread::Close, size)?;
     }
     Some(())
 }
@@ -448,15 +470,7 @@ pub enum Spread {
 pub fn devices(count: usize, spread: Spread, seed: u64) -> Option<UidSet> {
     let mut set = UidSet::new();
     let mut random = Random::new(seed);
-    let firsts = match spread {
-        Spread::Block | Spread::Makers => [
-            first(&mut random),
-            first(&mut random),
-            first(&mut random),
-            first(&mut random),
-        ],
-        _ => [0; 4],
-    };
+    let firsts = firsts_of(spread, &mut random);
     for index in 0..10_000 {
         if set.len() == count {
             return Some(set);
@@ -478,6 +492,16 @@ fn close(random: &mut Random, seed: u64, count: u64) -> u64 {
     let maker = random.below(4).wrapping_add(seed) % 0x1_0000;
     let serial = random.below(count.wrapping_mul(4)).wrapping_add(seed << 16) % 0x1_0000_0000;
     number_of(maker, serial)
+}
+
+// The first UIDs of four makers or blocks, if the spread has these; otherwise zeros.
+fn firsts_of(spread: Spread, random: &mut Random) -> [u64; 4] {
+    match spread {
+        Spread::Block | Spread::Makers => {
+            [first(random), first(random), first(random), first(random)]
+        }
+        _ => [0; 4],
+    }
 }
 
 // The first UID of a maker: any maker below 8000, and any serial number below 80000000.

@@ -89,19 +89,29 @@ fn perform<R: Env + Files + AllocGlobal + CpuClock + Print + Eprint + Threads + 
         .skip(1)
         .collect::<Vec<String>>(rt.alloc())
         .ok()?;
-    let [subject, size, rounds] = words.as_slice() else {
-        eprintln!(rt; "{USAGE}").ok()?;
-        return None;
-    };
+    if let [subject, size, rounds] = words.as_slice() {
+        return measure_as_asked(rt, subject.as_str(), size.as_str(), rounds.as_str());
+    }
+    eprintln!(rt; "{USAGE}").ok()?;
+    None
+}
+
+fn measure_as_asked<R: Files + AllocGlobal + CpuClock + Print + Eprint + Threads + Wait + Sync>(
+    rt: &R,
+    subject: &str,
+    size: &str,
+    rounds: &str,
+) -> Option<()> {
+    let size = size.parse::<usize>().ok()?;
     let bench = Bench {
         rt,
         alloc: rt.alloc(),
-        rounds: within(rounds.as_str().parse::<usize>().ok()?, 1_000)?,
+        rounds: within(rounds.parse::<usize>().ok()?, 1_000)?,
     };
-    let size = size.as_str().parse::<usize>().ok()?;
-    match subject.as_str() {
-        "all" => measure_all(&bench, within(size, 8)?),
-        subject => measure(&bench, subject, size),
+    if subject == "all" {
+        measure_all(&bench, within(size, 8)?)
+    } else {
+        measure(&bench, subject, size)
     }
 }
 

@@ -55,8 +55,9 @@ pub struct Replay {
 impl Replay {
     /// A line that answers the request that is timed by two bytes.
     pub fn of_two_bytes(alloc: Global) -> Option<Replay> {
-        let mut replies = Vec::new(alloc);
-        replies.push(reply(2)?).ok()?;
+        let reply = reply(2)?;
+        let mut replies = Vec::with_capacity(alloc, 1).ok()?;
+        replies.push_reserved(reply);
         Some(Replay { replies, next: 0 })
     }
 }
@@ -169,10 +170,7 @@ impl Sample for Calls {
     fn perform(&mut self) -> Option<u64> {
         let mut tn: u8 = 0;
         for event in self.events.as_slice() {
-            let LineEvent::Reply(reply) = event else {
-                return None;
-            };
-            holds(self.is_right(tn, event, reply))?;
+            holds(self.is_right(tn, event))?;
             tn = tn.wrapping_add(1);
         }
         Some(256)
@@ -181,7 +179,10 @@ impl Sample for Calls {
 
 impl Calls {
     // Makes the call, and returns whether it came to what it should.
-    fn is_right(&self, tn: u8, event: &LineEvent, reply: &LineReply) -> bool {
+    fn is_right(&self, tn: u8, event: &LineEvent) -> bool {
+        let LineEvent::Reply(reply) = event else {
+            return false;
+        };
         match self.work {
             Work::EncodeRequest => !encode_request(&self.request, controller(), tn).is_empty(),
             Work::DecodeResponse => match decode_response(reply) {

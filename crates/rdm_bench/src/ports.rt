@@ -187,10 +187,7 @@ fn call_locked<L: Ledger, J: PageRing, R: Wait>(
     match call {
         Call::Submit(tag) => submit_locked(rt, client, tag),
         Call::Ask(tag) => ask_locked(rt, client, tag),
-        Call::CollectRequest => match client.collect_request(rt) {
-            Some(told) => Some(Answer::Told(Some(Ending::Request(told)))),
-            None => Some(Answer::Told(None)),
-        },
+        Call::CollectRequest => Some(Answer::Told(client.collect_request(rt).map(Ending::Request))),
         Call::Collect => collect_locked(rt, client),
     }
 }
@@ -227,10 +224,7 @@ fn collect_locked<L: Ledger, J: PageRing, R: Wait>(
     rt: &R,
     client: &mut PortClient<'_, L, J>,
 ) -> Option<Answer> {
-    match client.collect(rt) {
-        Some(collected) => Some(Answer::Told(Some(ending_of(collected)))),
-        None => Some(Answer::Told(None)),
-    }
+    Some(Answer::Told(client.collect(rt).map(ending_of)))
 }
 
 impl<J: PageRing> Kept<J> {
@@ -294,11 +288,11 @@ fn on_port<L: Ledger, X: Line + Drop, D: Job<R>, R: Wait>(
 {
     let port = Port::<L>::new(bench.alloc, blank, config(), log).ok()?;
     let kept = Kept::Exchanges(record);
-    let (shares, kept) = perform(bench, &port, count, line, kept, job)?;
+    let (shares, kept) = perform(bench, &port, count, line, kept, job);
     let Kept::Exchanges(record) = kept else {
         return None;
     };
-    holds(port.finish(shares, record.as_slice()).is_ok())
+    holds(port.finish(shares?, record.as_slice()).is_ok())
 }
 
 /// The same with a port whose log is drained. Its pages go to a record, which is compared with the log at the end.
@@ -336,15 +330,15 @@ fn on_record<L: Ledger, J: PageRing, X: Line + Drop, D: Job<R>, R: Wait>(
     };
     let (port, record) = Port::<L, J>::new_recorded(bench.alloc, blank, setup, log, ends).ok()?;
     let kept = Kept::Record(record);
-    let (shares, kept) = perform(bench, &port, count, line, kept, job)?;
+    let (shares, kept) = perform(bench, &port, count, line, kept, job);
     let Kept::Record(mut record) = kept else {
         return None;
     };
-    let end = port.finish_recorded(shares, &mut record).ok()?;
+    let end = port.finish_recorded(shares?, &mut record).ok()?;
     job.end(end.session.log())
 }
 
-// Does this with so many clients of a port. Returns their shares, and what the worker noted.
+// Does this with so many clients of a port. Returns their shares, if all of it was done, and what the worker noted.
 fn perform<L: Ledger, J: PageRing, X: Line + Drop, D: Job<R>, R: Wait>(
     bench: &Bench<'_, R>,
     port: &Port<L, J>,
@@ -352,7 +346,7 @@ fn perform<L: Ledger, J: PageRing, X: Line + Drop, D: Job<R>, R: Wait>(
     line: X,
     kept: Kept<J>,
     job: &mut D,
-) -> Option<(Vec<CallShare<L>>, Kept<J>)> {
+) -> (Option<Vec<CallShare<L>>>, Kept<J>) {
     let line = DrainingLine {
         rt: bench.rt,
         port,
@@ -376,10 +370,8 @@ fn perform<L: Ledger, J: PageRing, X: Line + Drop, D: Job<R>, R: Wait>(
         line: _line,
         kept,
     } = locked;
-    let shares = leave(bench, clients);
-    joined?;
-    done?;
-    Some((shares?, kept))
+    let shares = leave(bench, clients, joined.is_some() && done.is_some());
+    (shares, kept)
 }
 
 // A record for this many exchanges, whose memory was written before.
@@ -411,13 +403,15 @@ fn join<'a, L: Ledger, J: PageRing, R: Wait>(
     Some(())
 }
 
-// Lets the clients leave. The callbacks of requests that were never told are cancelled.
+// Lets the clients leave. Returns their shares, if the job is done and memory didn't run out. The callbacks of requests
+// that were never told are cancelled.
 fn leave<L: Ledger, J: PageRing, R: Wait>(
     bench: &Bench<'_, R>,
     mut clients: Vec<PortClient<'_, L, J>>,
+    is_done: bool,
 ) -> Option<Vec<CallShare<L>>> {
     let mut shares = Vec::new(bench.alloc);
-    let mut has_all = true;
+    let mut has_all = is_done;
     while let Some(client) = clients.pop() {
         let Left { unspent, calls } = client.leave(bench.rt);
         cancels(bench.alloc, unspent);
@@ -479,10 +473,9 @@ fn call_rings<J: ViewHistory>(
     match call {
         Call::Submit(tag) => submit(client, tag),
         Call::Ask(tag) => ask(client, tag),
-        Call::CollectRequest => match client.collect_request() {
-            Some(told) => Some(Answer::Told(Some(Ending::Request(told)))),
-            None => Some(Answer::Told(None)),
-        },
+        Call::CollectRequest => {
+            Some(Answer::Told(client.collect_request().map(Ending::Request)))
+        }
         Call::Collect => Some(Answer::Told(collect(client))),
     }
 }
@@ -514,10 +507,7 @@ pub fn ask<J: ViewHistory>(client: &mut RingClient<J, Note, AskNote>, tag: u64) 
 pub fn collect<J: ViewHistory>(client: &mut RingClient<J, Note, AskNote>) -> Option<Ending>
     ensures { SameClient client.old client.new }
 {
-    match client.collect() {
-        Some(collected) => Some(ending_of(collected)),
-        None => None,
-    }
+    client.collect().map(ending_of)
 }
 
 // The ring buffers, with the history of the views that this blank begins.
@@ -537,6 +527,17 @@ fn on_rings<J: ViewHistory, X: Line + Drop, D: Job<R>, R, W: Wait + Drop>(
     let places = &[PLACES; 16][..usize::from(count.min(16))];
     let opened = open_lanes(rt, alloc, history, config(), log, PLACES, places);
     let lanes: Lanes<J, Shown<J>, W, Note, AskNote> = opened.ok()?;
+    perform_on_rings(bench, lanes, line, job)
+}
+
+// Does this with these clients, and ends them.
+fn perform_on_rings<J: ViewHistory, X: Line + Drop, D: Job<R>, R, W: Wait + Drop>(
+    bench: &Bench<'_, R>,
+    lanes: Lanes<J, Shown<J>, W, Note, AskNote>,
+    line: X,
+    job: &mut D,
+) -> Option<()> {
+    let alloc = bench.alloc;
     let mut rings = Rings { alloc, lanes, line };
     let done = job.perform(bench, &mut rings);
     let Rings {

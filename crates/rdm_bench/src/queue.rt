@@ -268,7 +268,16 @@ pub fn on_queue<X: Line + Drop, D: Job<R>, R>(
 {
     let queue = Queue::Logged(session_over(bench.alloc, log, PLACES)?);
     let mut clients = clients_of(bench.alloc, queue, line, false);
-    job.perform(bench, &mut clients)?;
+    perform(bench, &mut clients, job)
+}
+
+// Does this with these clients, and looks at their log.
+fn perform<X: Line + Drop, D: Job<R>, R>(
+    bench: &Bench<'_, R>,
+    clients: &mut Clients<X>,
+    job: &mut D,
+) -> Option<()> {
+    job.perform(bench, clients)?;
     match &clients.queue {
         Queue::Plain(_) => None,
         Queue::Logged(session) => job.end(session.log()),

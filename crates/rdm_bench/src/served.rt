@@ -214,10 +214,7 @@ impl<S: Served> Sample for Turns<'_, S> {
             self.turn.wrapping_add(self.waiting) % clients,
         );
         self.served.work(1)?;
-        let Ending::Request(told) = collected(self.served, collector, Call::CollectRequest)? else {
-            return None;
-        };
-        holds(told.done.bytes.len() == 2)?;
+        holds(self.collects_two_bytes(collector))?;
         holds(accepts(self.served, submitter, Call::Submit(TAG))?)?;
         self.turn = self.turn.wrapping_add(1);
         if self.turn.checked_rem(self.drained_after) == Some(0) {
@@ -228,16 +225,23 @@ impl<S: Served> Sample for Turns<'_, S> {
 }
 
 impl<S: Served> Turns<'_, S> {
+    // A client collects the outcome of a request. Returns whether its answer has two bytes.
+    fn collects_two_bytes(&mut self, client: usize) -> bool {
+        match collected(self.served, client, Call::CollectRequest) {
+            Some(Ending::Request(told)) => told.done.bytes.len() == 2,
+            _ => false,
+        }
+    }
+
     // The first client asks for a discovery, and is told of it.
     #[inline(never)]
     fn discover(&mut self, frames: u64, devices: usize) -> Option<u64> {
         holds(accepts(self.served, 0, Call::Ask(0))?)?;
         self.served.work(frames)?;
-        match collected(self.served, 0, Call::Collect)? {
-            Ending::Discovery(_, found) => holds(found == Some(devices))?,
-            Ending::Request(_) => return None,
+        match collected(self.served, 0, Call::Collect) {
+            Some(Ending::Discovery(_, found)) if found == Some(devices) => Some(frames),
+            _ => None,
         }
-        Some(frames)
     }
 
     // The page that was drained before is the memory of the next.

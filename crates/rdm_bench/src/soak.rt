@@ -92,7 +92,12 @@ pub fn print_drained<R: Files + AllocGlobal + Print + Eprint + Wait>(
 /// How many kilobytes of memory the process holds now, if the system says it, as Linux does.
 pub fn resident<R: Files + AllocGlobal>(rt: &R) -> Option<u64> {
     let text = fs::read_to_string(rt, "/proc/self/status").ok()?;
-    let (_, from) = text.as_str().split_once("VmRSS:")?;
+    resident_in(text.as_str())
+}
+
+// The number after "VmRSS:".
+fn resident_in(text: &str) -> Option<u64> {
+    let (_, from) = text.split_once("VmRSS:")?;
     from.split_ascii_whitespace().next()?.parse::<u64>().ok()
 }
 
@@ -196,12 +201,18 @@ impl Soak {
             return self.ask(served, client);
         }
         for _ in 0..self.random.below(5) {
-            let tag = tag_of(self.submitted);
-            let may_submit = self.drained || self.submitted < most;
-            if may_submit && accepts(served, client, Call::Submit(tag))? {
-                self.waiting.get_mut(client)?.requests.push_back(tag).ok()?;
-                self.submitted = self.submitted.wrapping_add(1);
+            if self.drained || self.submitted < most {
+                self.submit_one(served, client)?;
             }
+        }
+        Some(())
+    }
+
+    fn submit_one<S: Served>(&mut self, served: &mut S, client: usize) -> Option<()> {
+        let tag = tag_of(self.submitted);
+        if accepts(served, client, Call::Submit(tag))? {
+            self.waiting.get_mut(client)?.wait_for_request(tag)?;
+            self.submitted = self.submitted.wrapping_add(1);
         }
         Some(())
     }
@@ -209,7 +220,7 @@ impl Soak {
     fn ask<S: Served>(&mut self, served: &mut S, client: usize) -> Option<()> {
         if accepts(served, client, Call::Ask(self.asked))? {
             let waiting = self.waiting.get_mut(client)?;
-            waiting.discoveries.push_back(self.asked).ok()?;
+            waiting.wait_for_discovery(self.asked)?;
             self.asked = self.asked.wrapping_add(1);
         }
         Some(())
@@ -266,9 +277,9 @@ impl Soak {
         } else {
             served.drain(next)?
         };
-        self.history.follow(&page)?;
+        let follows = self.history.follow(&page);
         self.next = page.entries;
-        Some(())
+        follows
     }
 
     fn print<R: Files + AllocGlobal + Print + Eprint>(
