@@ -1,5 +1,5 @@
 //! Sessions in threads that hand out their entries to a sink. Each request takes five entries, all in one turn.
-ghost use Rattle.std.specs.Prelude.{◌≡◌, length};
+ghost use Rattle.std.specs.Prelude.{◌≡◌};
 ghost use Rattle.rdm_lanes.specs.Workers.{book_of};
 
 use rdm_agent::Search;
@@ -8,8 +8,7 @@ use rdm_join::Status;
 use rdm_lanes::views::{BlankHistory, ViewHistory};
 use rdm_lanes::{ClientEnd, LanesEnd, PageSink, Pages, Spare, run_session_in_pages};
 use rdm_line::TapeLine;
-use rdm_log::{Entry, Page, Setup};
-use rdm_queue::Session;
+use rdm_log::{Entry, Log, Page, Setup};
 use std::alloc::Global;
 use std::marker::Brand;
 use std::sync::Wait;
@@ -105,21 +104,105 @@ impl PageSink for Kept {
     }
 }
 
-// How many entries of the log are free, how many fit into the spare memory, and how many pages the sink keeps.
+// A session whose clients, three at most, all have this script. This many entries of its log are free, and this many
+// fit into the spare memory. The sink keeps this many pages, and the worker makes this many turns.
 #[derive(Clone, Copy)]
-struct Sizes {
+struct Case {
+    script: &'static [Play],
+    clients: u8,
     free: usize,
     spare: usize,
     most: usize,
+    turns: u64,
 }
 
-// How a session ended, and its clients.
-#[derive(Drop)]
+impl Case {
+    // It has one client and enough turns, and its sink keeps this many pages.
+    fn alone(script: &'static [Play], most: usize) -> Case {
+        Case {
+            script,
+            clients: 1,
+            free: ROOM - 1,
+            spare: ROOM,
+            most,
+            turns: TURNS,
+        }
+    }
+
+    // The log has room for five entries.
+    fn small(script: &'static [Play], clients: u8, turns: u64) -> Case {
+        Case {
+            script,
+            clients,
+            free: 4,
+            spare: ROOM,
+            most: 1,
+            turns,
+        }
+    }
+}
+
+// The number of a page's first entry, and how many it has.
+type Span = (u64, usize);
+
+fn span_of(page: &Page) -> Span {
+    (page.first, page.entries.len())
+}
+
+// What is left of a session.
+#[derive(Clone, Copy, Debug, PartialEq, Eq)]
 struct Over {
-    session: Session,
-    players: Vec<Player>,
     worker: WorkerEnd,
-    pages: Pages<Kept>,
+    kept: [Option<Span>; 4],
+    refused: Option<Span>,
+    // How many entries fit into the spare memory; 0: there is none.
+    spare: usize,
+    // What the log stores.
+    stored: Span,
+    // How many requests were accepted and finished. None: a number wasn't the next one, or the two counts differ.
+    requests: Option<u64>,
+}
+
+impl Over {
+    fn new(worker: WorkerEnd, pages: &Pages<Kept>, log: &Log) -> Over {
+        let kept = pages.sink.pages.as_slice();
+        let (refused, spare) = match &pages.spare {
+            Spare::Memory(next) => (None, next.capacity()),
+            Spare::Refused(page) => (Some(page), 0),
+            Spare::Nothing => (None, 0),
+        };
+        Over {
+            worker,
+            kept: [
+                kept.get(0).map(span_of),
+                kept.get(1).map(span_of),
+                kept.get(2).map(span_of),
+                kept.get(3).map(span_of),
+            ],
+            refused: refused.map(span_of),
+            spare,
+            stored: (log.gone(), log.entries().len()),
+            requests: requests_in(kept, refused, log),
+        }
+    }
+}
+
+// How many requests these pages and the log have. None: a number isn't the next one, or some aren't finished.
+fn requests_in(kept: &[Page], refused: Option<&Page>, log: &Log) -> Option<u64> {
+    let mut numbers = Numbers {
+        accepted: 0,
+        finished: 0,
+    };
+    let mut are_next = numbers.go_through(kept);
+    if let Some(page) = refused {
+        are_next &= numbers.go_on(page.entries.as_slice());
+    }
+    are_next &= numbers.go_on(log.entries());
+    if are_next && numbers.accepted == numbers.finished {
+        Some(numbers.accepted)
+    } else {
+        None
+    }
 }
 
 // Cancels the callbacks that are left.
@@ -131,12 +214,13 @@ fn cancel_ends<J: ViewHistory>(alloc: Global, ends: Vec<ClientEnd<J, Note, AskNo
     ends.destroy_empty();
 }
 
-// What is left of a session.
+// What is left of a session. Err: a player didn't hear what its script hears.
 fn over_of<J: ViewHistory>(
     alloc: Global,
+    case: Case,
     end: LanesEnd<J, Player, TapeLine, Note, AskNote>,
     pages: Pages<Kept>,
-) -> Over {
+) -> Result<Over, Fail> {
     let LanesEnd {
         session,
         ends,
@@ -148,89 +232,77 @@ fn over_of<J: ViewHistory>(
         published: _,
     } = end;
     cancel_ends(alloc, ends);
-    Over {
-        session,
-        players: bodies,
-        worker,
-        pages,
+    match all_heard(bodies.as_slice(), case.script.len()) {
+        Ok(()) => Ok(Over::new(worker, &pages, session.log())),
+        Err(fail) => Err(fail),
     }
 }
 
-// Whether each player ran once, and heard this.
-fn all_heard(players: &[Player], heard: &[Heard]) -> Result<(), Fail> {
+// Whether each player ran once, and heard as many of the results above.
+fn all_heard(players: &[Player], count: usize) -> Result<(), Fail> {
+    let Some(heard) = HEARD.get(..count) else {
+        return Err("a longer script")?;
+    };
     for (number, player) in players.iter().enumerate() {
         player_heard(player, number, heard)?;
     }
     Ok(())
 }
 
-// Holds a session with these players, whose clients have these queue depths.
+// A player for each client.
+fn players_of(alloc: Global, case: Case) -> Result<Vec<Player>, Fail> {
+    let mut players = Vec::new(alloc);
+    for _ in 0..case.clients {
+        players.push(Player::new(case.script))?;
+    }
+    Ok(players)
+}
+
+// The sink, and the spare memory.
+fn pages_of(alloc: Global, case: Case) -> Result<Pages<Kept>, Fail> {
+    let spare = Vec::with_capacity(alloc, case.spare)?;
+    let pages = Vec::with_capacity(alloc, case.most)?;
+    let sink = Kept { alloc, pages };
+    let spare = Spare::Memory(spare);
+    Ok(Pages { sink, spare })
+}
+
+// Holds a session.
 fn holds<J: ViewHistory + Send + Sync, R: Threads + Wait + Sync>(
     rt: &R,
     alloc: Global,
     history: BlankHistory,
-    players: Vec<Player>,
-    places: &[u8],
-    sizes: Sizes,
-    turns: u64,
+    case: Case,
 ) -> Result<Over, Fail>
-    requires book { book_of history ≡ J.book }
-    requires one_each { length players.items ≡ length places.now }
+    requires { book_of history ≡ J.book }
 {
-    let sink = Kept {
-        alloc,
-        pages: Vec::with_capacity(alloc, sizes.most)?,
-    };
-    let spare = Spare::Memory(Vec::with_capacity(alloc, sizes.spare)?);
+    let places = &[1; 3][..usize::from(case.clients.min(3))];
+    let players = players_of(alloc, case)?;
+    if players.len() != places.len() {
+        return Err("more clients")?;
+    }
     let setup = Setup {
         config: config(3),
         search: Search::Steady,
     };
-    let log = log(alloc, sizes.free)?;
-    let line = silent(alloc, 6)?;
-    let gate = Points::new();
     let ended = run_session_in_pages::<J, _, _, _, _, _, _, R>(
         rt,
         alloc,
         history,
         setup,
-        log,
+        log(alloc, case.free)?,
         4,
         places,
         players,
-        &gate,
-        line,
-        turns,
-        Pages { sink, spare },
+        &Points::new(),
+        silent(alloc, 6)?,
+        case.turns,
+        pages_of(alloc, case)?,
     );
     match ended {
-        Ok((end, pages)) => Ok(over_of(alloc, end, pages)),
+        Ok((end, pages)) => over_of(alloc, case, end, pages),
         Err(_) => Err("it was refused")?,
     }
-}
-
-// Holds a session with a client that has this script, and with a sink for this many pages.
-fn serves<J: ViewHistory + Send + Sync, R: Threads + Wait + Sync>(
-    rt: &R,
-    alloc: Global,
-    history: BlankHistory,
-    script: &'static [Play],
-    most: usize,
-) -> Result<Over, Fail>
-    requires { book_of history ≡ J.book }
-{
-    let sizes = Sizes {
-        free: ROOM - 1,
-        spare: ROOM,
-        most,
-    };
-    let players = vec![in alloc; Player::new(script)]?;
-    holds::<J, R>(rt, alloc, history, players, &[1], sizes, TURNS)
-}
-
-// Whether a page begins with this entry, and has this many.
-fn is_page(page: &Page, first: u64, count: usize) -> bool {
-    page.first == first && page.entries.len() == count
 }
 
 // Which requests were accepted and finished so far: those with lower numbers.
@@ -272,135 +344,100 @@ impl Numbers {
 
 #[test]
 fn a_session_outlives_three_memories(rt: HostRuntime) -> Result<(), Fail> {
-    let new = BlankHistory::new();
-    let over = serves::<Brand, _>(&rt, rt.alloc(), new, &SENDS_SIX, 10)?;
-    assert_eq!(rt; over.worker, WorkerEnd::AllLeft);
-    all_heard(over.players.as_slice(), &HEARD)?;
-    assert!(rt; matches!(over.pages.spare, Spare::Memory(_)));
-    let pages = over.pages.sink.pages.as_slice();
-    let [first, second, third] = pages else {
-        return Err("another number of pages")?;
+    let case = Case::alone(&SENDS_SIX, 10);
+    let wanted = Over {
+        worker: WorkerEnd::AllLeft,
+        kept: [Some((0, 6)), Some((6, 10)), Some((16, 10)), None],
+        refused: None,
+        spare: ROOM,
+        stored: (26, 5),
+        requests: Some(6),
     };
-    assert!(rt; is_page(first, 0, 6) && is_page(second, 6, 10) && is_page(third, 16, 10));
-    let log = over.session.log();
-    assert_eq!(rt; (log.gone(), log.entries().len()), (26, 5));
-    let mut numbers = Numbers {
-        accepted: 0,
-        finished: 0,
-    };
-    assert!(rt; numbers.go_through(pages) && numbers.go_on(log.entries()));
-    assert_eq!(rt; (numbers.accepted, numbers.finished), (6, 6));
+    let over = holds::<Brand, _>(&rt, rt.alloc(), BlankHistory::new(), case)?;
+    assert_eq!(rt; over, wanted);
     Ok(())
 }
 
 #[test]
 fn a_refused_page_comes_back_with_a_full_log(rt: HostRuntime) -> Result<(), Fail> {
-    let new = BlankHistory::new();
-    let over = serves::<Brand, _>(&rt, rt.alloc(), new, &SENDS_FIVE, 1)?;
-    assert_eq!(rt; over.worker, WorkerEnd::LogFull);
-    all_heard(over.players.as_slice(), &HEARD[..11])?;
-    let ([first], Spare::Refused(second)) = (over.pages.sink.pages.as_slice(), &over.pages.spare)
-    else {
-        return Err("another number of pages")?;
+    let case = Case::alone(&SENDS_FIVE, 1);
+    let wanted = Over {
+        worker: WorkerEnd::LogFull,
+        kept: [Some((0, 6)), None, None, None],
+        refused: Some((6, 10)),
+        spare: 0,
+        stored: (16, 10),
+        requests: Some(5),
     };
-    assert!(rt; is_page(first, 0, 6) && is_page(second, 6, 10));
-    let log = over.session.log();
-    assert_eq!(rt; (log.gone(), log.entries().len()), (16, 10));
-    let mut numbers = Numbers {
-        accepted: 0,
-        finished: 0,
-    };
-    let pages = numbers.go_on(first.entries.as_slice()) && numbers.go_on(second.entries.as_slice());
-    assert!(rt; pages && numbers.go_on(log.entries()));
-    assert_eq!(rt; (numbers.accepted, numbers.finished), (5, 5));
+    let over = holds::<Brand, _>(&rt, rt.alloc(), BlankHistory::new(), case)?;
+    assert_eq!(rt; over, wanted);
     Ok(())
 }
 
 #[test]
 fn a_page_is_handed_out_after_the_last_turn(rt: HostRuntime) -> Result<(), Fail> {
-    let new = BlankHistory::new();
-    let sizes = Sizes {
-        free: 4,
+    let case = Case::small(&LEAVES, 2, 1);
+    let wanted = Over {
+        worker: WorkerEnd::Turns,
+        kept: [Some((0, 2)), None, None, None],
+        refused: None,
         spare: ROOM,
-        most: 1,
+        stored: (2, 0),
+        requests: Some(0),
     };
-    let alloc = rt.alloc();
-    let players = vec![in alloc; Player::new(&LEAVES), Player::new(&LEAVES)]?;
-    let over = holds::<Brand, _>(&rt, alloc, new, players, &[1, 1], sizes, 1)?;
-    assert_eq!(rt; over.worker, WorkerEnd::Turns);
-    all_heard(over.players.as_slice(), &HEARD[..1])?;
-    let [page] = over.pages.sink.pages.as_slice() else {
-        return Err("another number of pages")?;
-    };
-    assert!(rt; is_page(page, 0, 2));
-    let log = over.session.log();
-    assert_eq!(rt; (log.gone(), log.entries().len()), (2, 0));
+    let over = holds::<Brand, _>(&rt, rt.alloc(), BlankHistory::new(), case)?;
+    assert_eq!(rt; over, wanted);
     Ok(())
 }
 
 // Three of seven entries are joins, and three are free. It hands them out also if all leave before the first turn.
 #[test]
 fn clients_that_leave_at_once_leave_an_empty_log(rt: HostRuntime) -> Result<(), Fail> {
-    let new = BlankHistory::new();
-    let sizes = Sizes {
-        free: 6,
+    let mut case = Case::small(&LEAVES, 3, TURNS);
+    case.free = 6;
+    let wanted = Over {
+        worker: WorkerEnd::AllLeft,
+        kept: [Some((0, 3)), None, None, None],
+        refused: None,
         spare: ROOM,
-        most: 1,
+        stored: (3, 0),
+        requests: Some(0),
     };
-    let alloc = rt.alloc();
-    let leaves = Player::new(&LEAVES);
-    let players = vec![in alloc; leaves, leaves, leaves]?;
-    let over = holds::<Brand, _>(&rt, alloc, new, players, &[1, 1, 1], sizes, TURNS)?;
-    assert_eq!(rt; over.worker, WorkerEnd::AllLeft);
-    all_heard(over.players.as_slice(), &HEARD[..1])?;
-    let [page] = over.pages.sink.pages.as_slice() else {
-        return Err("another number of pages")?;
-    };
-    assert!(rt; is_page(page, 0, 3));
-    let log = over.session.log();
-    assert_eq!(rt; (log.gone(), log.entries().len()), (3, 0));
+    let over = holds::<Brand, _>(&rt, rt.alloc(), BlankHistory::new(), case)?;
+    assert_eq!(rt; over, wanted);
     Ok(())
 }
 
 #[test]
 fn without_a_turn_no_page_is_handed_out(rt: HostRuntime) -> Result<(), Fail> {
-    let new = BlankHistory::new();
-    let sizes = Sizes {
-        free: 4,
+    let case = Case::small(&LEAVES, 2, 0);
+    let wanted = Over {
+        worker: WorkerEnd::Turns,
+        kept: [None; 4],
+        refused: None,
         spare: ROOM,
-        most: 1,
+        stored: (0, 2),
+        requests: Some(0),
     };
-    let alloc = rt.alloc();
-    let players = vec![in alloc; Player::new(&LEAVES), Player::new(&LEAVES)]?;
-    let over = holds::<Brand, _>(&rt, alloc, new, players, &[1, 1], sizes, 0)?;
-    assert_eq!(rt; over.worker, WorkerEnd::Turns);
-    all_heard(over.players.as_slice(), &HEARD[..1])?;
-    assert!(rt; over.pages.sink.pages.is_empty());
-    assert!(rt; matches!(&over.pages.spare, Spare::Memory(next) if next.capacity() == ROOM));
-    let log = over.session.log();
-    assert_eq!(rt; (log.gone(), log.entries().len()), (0, 2));
+    let over = holds::<Brand, _>(&rt, rt.alloc(), BlankHistory::new(), case)?;
+    assert_eq!(rt; over, wanted);
     Ok(())
 }
 
+// The full log takes no call before both joins are handed out.
 #[test]
 fn a_log_that_the_joins_fill_goes_on(rt: HostRuntime) -> Result<(), Fail> {
-    let new = BlankHistory::new();
-    let sizes = Sizes {
-        free: 4,
-        spare: 40,
-        most: 1,
+    let mut case = Case::small(&SENDS_ONE, 2, TURNS);
+    case.spare = 40;
+    let wanted = Over {
+        worker: WorkerEnd::AllLeft,
+        kept: [Some((0, 2)), None, None, None],
+        refused: None,
+        spare: ROOM,
+        stored: (2, 10),
+        requests: Some(2),
     };
-    let alloc = rt.alloc();
-    let players = vec![in alloc; Player::new(&SENDS_ONE), Player::new(&SENDS_ONE)]?;
-    let over = holds::<Brand, _>(&rt, alloc, new, players, &[1, 1], sizes, TURNS)?;
-    assert_eq!(rt; over.worker, WorkerEnd::AllLeft);
-    all_heard(over.players.as_slice(), &HEARD[..3])?;
-    let [page] = over.pages.sink.pages.as_slice() else {
-        return Err("another number of pages")?;
-    };
-    // The full log takes no call before both joins are handed out.
-    assert!(rt; is_page(page, 0, 2));
-    let log = over.session.log();
-    assert_eq!(rt; (log.gone(), log.entries().len()), (2, 10));
+    let over = holds::<Brand, _>(&rt, rt.alloc(), BlankHistory::new(), case)?;
+    assert_eq!(rt; over, wanted);
     Ok(())
 }

@@ -2,5 +2,5 @@
 use Rattle.rdm_lanes.specs.Workers.{book_of}
 use Rattle.test_lanes.proofs.tests.paged.a_session_outlives_three_memories.Given as goal
 
-abbrev pub ghosts-serves : goal.ghosts-serves
-ghosts-serves g a = record { book = book_of a.history }
+abbrev pub ghosts-holds : goal.ghosts-holds
+ghosts-holds g a = record { book = book_of a.history }
