@@ -14,7 +14,7 @@ pub const LONGEST_TEXT: usize = 2 * LONGEST_BRANCH_REPLY;
 const LONGEST_LINE: usize = LONGEST_TEXT + 1;
 
 /// What is printed, with the ends of its lines.
-#[derive(Debug, Drop)]
+#[derive(Drop)]
 pub enum Answer {
     /// One line, without allocated memory.
     Line(ArrayVec<u8, LONGEST_LINE>),
@@ -49,7 +49,7 @@ impl Answer {
 pub type Refused<'a> = (Fault, Option<Reason<'a>>);
 
 /// What answers a command, with its status, and what is said to people.
-#[derive(Debug, Drop)]
+#[derive(Drop)]
 pub struct Answered<'a> {
     /// What is printed.
     pub text: Answer,

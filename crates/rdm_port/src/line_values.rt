@@ -10,7 +10,7 @@ use rdm_arguments::LineDiscovery;
 use rdm_wire::{MOST_DEVICES, Uid, UidSet};
 
 /// The UIDs that a discovery's texts spell.
-#[derive(Debug, Drop)]
+#[derive(Drop)]
 pub struct LineValues {
     /// The controller's.
     pub source: Uid,

@@ -20,7 +20,7 @@ const DEFECT: &str =
     "the session's outcomes and its log differ; this is a defect of the program, please report it";
 
 /// Why something isn't done, or what people should know about what was done. It borrows the arguments.
-#[derive(Debug, Drop)]
+#[derive(Drop)]
 pub enum Reason<'a> {
     /// The arguments fit no command.
     Arguments,
@@ -126,27 +126,24 @@ impl<'a> Reason<'a> {
 impl fmt::Display for Reason<'_> {
     fn fmt<W: fmt::Write>(&self, f: &mut fmt::Formatter<W>) -> fmt::Result {
         match self {
-            Reason::Arguments => write!(f, "{}", Complaint::Misfit),
+            Reason::Arguments => fmt::Display::fmt(&Complaint::Misfit, f),
             Reason::NoBytes(text) => write_no_bytes(f, text),
             Reason::NoUid(text) => write_no_uid(f, text),
-            Reason::Broadcast => write!(f, "no device has a broadcast UID for its own"),
+            Reason::Broadcast => f.write_str("no device has a broadcast UID for its own"),
             Reason::TooLong(path) => {
                 write!(f, "the file {path:?} has more than {MOST_BYTES} bytes")
             }
             Reason::Unreadable(path, kind) => write_unreadable(f, path, *kind),
-            Reason::Empty => write!(f, "the file is empty"),
+            Reason::Empty => f.write_str("the file is empty"),
             Reason::CutShort(position) => write!(
                 f,
                 "the file ends before its JSON does, at {position}"
             ),
             Reason::NoJson(position) => write!(f, "the file's JSON is wrong at {position}"),
             Reason::ByteOrderMark => {
-                write!(
-                    f,
-                    "the file begins with a byte order mark, which JSON doesn't allow"
-                )
+                f.write_str("the file begins with a byte order mark, which JSON doesn't allow")
             }
-            Reason::NoScene(mismatch) => write!(f, "{mismatch}"),
+            Reason::NoScene(mismatch) => fmt::Display::fmt(mismatch, f),
             Reason::OtherKind(mismatch, kind) => write!(f, "{mismatch}\nthis looks like {kind}"),
             Reason::TooLittle { key, found, hint } => {
                 write!(
@@ -154,7 +151,7 @@ impl fmt::Display for Reason<'_> {
                     "{key}: expected enough for the whole session, found {found}; {hint}"
                 )
             }
-            Reason::Defect => write!(f, "{DEFECT}"),
+            Reason::Defect => f.write_str(DEFECT),
             Reason::Fault(fault, found) => write_fault(f, *fault, found),
             Reason::Discoveries(outcomes) => write_discoveries(f, outcomes),
             Reason::Unwritten(kind) => write!(f, "the answer can't be written: {kind}"),
@@ -187,7 +184,7 @@ impl fmt::Display for Reason<'_> {
 fn write_no_bytes<W: fmt::Write>(f: &mut fmt::Formatter<W>, text: &str) -> fmt::Result {
     match no_digit(text, None) {
         Some(found) => write_no_digit(f, found),
-        None => write!(f, "the number of hexadecimal digits is odd"),
+        None => f.write_str("the number of hexadecimal digits is odd"),
     }
 }
 
@@ -209,14 +206,14 @@ fn write_no_uid<W: fmt::Write>(f: &mut fmt::Formatter<W>, text: &str) -> fmt::Re
     }
     match no_digit(text, Some(COLON_AT)) {
         Some(found) => write_no_digit(f, found),
-        None => write!(f, "a UID has hexadecimal digits"),
+        None => f.write_str("a UID has hexadecimal digits"),
     }
 }
 
 // Why a text isn't a device's UID. A UID that isn't a device's is broadcast.
 fn write_no_device<W: fmt::Write>(f: &mut fmt::Formatter<W>, text: &str) -> fmt::Result {
     match Uid::parse(text) {
-        Ok(_) => write!(f, "a broadcast UID is no device's own"),
+        Ok(_) => f.write_str("a broadcast UID is no device's own"),
         Err(_) => write_no_uid(f, text),
     }
 }
@@ -239,20 +236,14 @@ fn write_unreadable<W: fmt::Write>(
     path: &str,
     kind: ErrorKind,
 ) -> fmt::Result {
-    match kind {
-        ErrorKind::NotFound => write!(f, "the file {path:?} can't be opened: no such file"),
-        ErrorKind::PermissionDenied => {
-            write!(f, "the file {path:?} can't be opened: permission denied")
-        }
-        ErrorKind::NotADirectory => {
-            write!(
-                f,
-                "the file {path:?} can't be opened: a part of its path is no folder"
-            )
-        }
-        ErrorKind::IsADirectory => write!(f, "{path:?} can't be read: it is a folder"),
-        kind => write!(f, "the file {path:?} can't be read: {kind}"),
-    }
+    let why = match kind {
+        ErrorKind::NotFound => "no such file",
+        ErrorKind::PermissionDenied => "permission denied",
+        ErrorKind::NotADirectory => "a part of its path is no folder",
+        ErrorKind::IsADirectory => return write!(f, "{path:?} can't be read: it is a folder"),
+        kind => return write!(f, "the file {path:?} can't be read: {kind}"),
+    };
+    write!(f, "the file {path:?} can't be opened: {why}")
 }
 
 fn write_unopened<W: fmt::Write>(
@@ -316,11 +307,9 @@ fn write_faulty<W: fmt::Write>(
         let Some(fault) = discovered.fault else {
             continue;
         };
-        if !*is_first {
-            write!(f, "\nwurstlinen: ")?;
-        }
+        let before = if *is_first { "" } else { "\nwurstlinen: " };
         *is_first = false;
-        write!(f, "client {client} discovery {number}: {fault}; ")?;
+        write!(f, "{before}client {client} discovery {number}: {fault}; ")?;
         write_found(f, &discovered.uids)?;
     }
     Ok(())
@@ -328,9 +317,9 @@ fn write_faulty<W: fmt::Write>(
 
 fn write_found<W: fmt::Write>(f: &mut fmt::Formatter<W>, uids: &[Uid]) -> fmt::Result {
     if uids.is_empty() {
-        return write!(f, "no device was found until then");
+        return f.write_str("no device was found until then");
     }
-    write!(f, "found until then:")?;
+    f.write_str("found until then:")?;
     for uid in uids {
         write!(f, " {uid}")?;
     }
