@@ -14,4 +14,4 @@ devices_in (Some set) = set.value
 abbrev pub devices_of : FoundSet → List Device
 devices_of Empty = []
 devices_of (Boxed set) = set.value
-devices_of (Shared set) = arc_value set
+devices_of (Shared set) = (arc_value set).value

@@ -14,7 +14,7 @@ use std::marker::Model;
 use std::mem::size_of;
 use std::sync::Arc;
 
-/// An [`AskCompletion`](rdm_queue::AskCompletion) whose set is in a box or in shared memory, or left out if it is
+/// An [`AskCompletion`](rdm_queue::AskCompletion) whose set is in a box, shared or not, or left out if it is
 /// empty. Moving it copies no devices. Contracts treat it as an `AskCompletion`.
 #[derive(Debug, Drop)]
 pub struct BoxedAsk {
@@ -48,9 +48,9 @@ impl BoxedAsk {
         BoxedAsk { run, fault, found }
     }
 
-    /// The same with devices in memory that has other owners too. It is one of them until it is dropped.
-    pub fn shared(run: u64, fault: Option<AgentFault>, set: Arc<DeviceSet>) -> BoxedAsk
-        ensures { result ≡ record { run = run; fault = fault; set = arc_value set } }
+    /// The same with devices in a box that has other owners too. It is one of them until it is dropped.
+    pub fn shared(run: u64, fault: Option<AgentFault>, set: Arc<Box<DeviceSet>>) -> BoxedAsk
+        ensures { result ≡ record { run = run; fault = fault; set = (arc_value set).value } }
     {
         BoxedAsk {
             run,

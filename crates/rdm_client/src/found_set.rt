@@ -9,6 +9,6 @@ pub enum FoundSet {
     Empty,
     /// In a box.
     Boxed(Box<DeviceSet>),
-    /// In memory that has other owners too.
-    Shared(Arc<DeviceSet>),
+    /// In a box that has other owners too.
+    Shared(Arc<Box<DeviceSet>>),
 }

@@ -3,7 +3,7 @@ use rdm_client::BoxedAsk;
 use rdm_log::Completion;
 use std::mem::size_of;
 
-/// An outcome on its way to its client. The set of a discovery is in a box, which the worker allocates.
+/// An outcome on its way to its client. The set of a discovery is in a box, for which the worker allocates another.
 #[derive(Debug, Drop)]
 pub enum RingOutcome {
     /// A request has ended.

@@ -195,8 +195,8 @@ impl<'a, L: Ledger, C: Tells, A: TellsAsk, J: PageRing> LockedClient<'a, L, C, A
         }
     }
 
-    /// Collects the client's oldest outcome if that is a discovery's, as [`collect`](LockedClient::collect) does. The
-    /// devices are copied once, out of the session.
+    /// Collects the client's oldest outcome if that is a discovery's, as [`collect`](LockedClient::collect) does. It
+    /// copies no device: a box of the client's is exchanged for the one that has them.
     /// None: there is no outcome, it is a request's, all four sets are in use, or no callback is held for it; nothing
     /// changes. In the last case this call, `collect` and `collect_request` return None from then on.
     pub fn collect_discovery<R: Wait>(&mut self, rt: &R) -> Option<AskTold>

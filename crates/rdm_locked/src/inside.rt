@@ -37,7 +37,7 @@ use rdm_log::{
     AskFault, ClientId, Completion, DiscoveryEnd, Entry, IntoSetup, JoinFault, Log, LogFull,
     NotAsked, OutcomeKind, Page, Setup, SubmitFault, Work, WorkFault,
 };
-use rdm_queue::Session;
+use rdm_queue::{Session, TakesDevices};
 use rdm_wire::{DeviceSet, NoMemory, Request};
 use rtrb::Producer;
 use std::alloc::Global;
@@ -257,16 +257,16 @@ impl<L: Ledger, J: PageRing> Inside<L, J> {
     }
 
     /// Collects a client's oldest outcome if that is a discovery's, as [`Session::next_discovery`] does, and counts the
-    /// call in the client's share. The devices that the run found replace those in `set`.
+    /// call in the client's share. `set` takes the devices that the run found, in place of its own.
     /// None: there is no outcome, or it is a request's; nothing changes.
-    pub fn collect_discovery(
+    pub fn collect_discovery<T: TakesDevices>(
         &mut self,
         client: ClientId,
-        set: &mut DeviceSet,
+        set: &mut T,
         mine: &mut CallShare<L>,
     ) -> Option<DiscoveryEnd>
         ensures collected { IfSome result (λ end.
-            IsCollected client (discovery_outcome end set.new) self.old mine.old self.new mine.new) }
+            IsCollected client (discovery_outcome end (T.devices set.new)) self.old mine.old self.new mine.new) }
         ensures none { IfNone result
             (oldest_kind self.old.session.opening self.old.session.entries client.0 ≢ Some kinds.Discovery) }
         ensures unchanged { IfNone result
@@ -312,8 +312,8 @@ impl<L: Ledger, J: PageRing> Inside<L, J> {
         }
     }
 
-    // Collects a client's oldest outcome if that is a discovery's, as `collect_discovery` does. Its devices replace
-    // those in a set that no completion shares, and the completion then shares it. None: as there, or each is shared.
+    // Collects a client's oldest outcome if that is a discovery's, as `collect_discovery` does. A box that no
+    // completion shares takes its devices, and the completion then shares it. None: as there, or each is shared.
     fn collect_shared(
         &mut self,
         client: ClientId,
@@ -338,11 +338,11 @@ impl<L: Ledger, J: PageRing> Inside<L, J> {
     fn collect_into(
         &mut self,
         client: ClientId,
-        set: &mut Arc<DeviceSet>,
+        set: &mut Arc<Box<DeviceSet>>,
         mine: &mut CallShare<L>,
     ) -> Option<DiscoveryEnd>
         ensures collected { IfSome result (λ end.
-            IsCollected client (discovery_outcome end (arc_value set.new)) self.old mine.old self.new mine.new) }
+            IsCollected client (discovery_outcome end (arc_value set.new).value) self.old mine.old self.new mine.new) }
         ensures unchanged { IfNone result
             ((self.new.session ≡ self.old.session) × (mine.new.count ≡ mine.old.count)) }
         ensures clients { SameClients self.old self.new }

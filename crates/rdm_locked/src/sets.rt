@@ -8,10 +8,10 @@ use std::alloc::Global;
 use std::sync::Arc;
 
 /// A client's sets, [`MOST_ASKS_HELD`] when they are made. A completion shares one of them until it is dropped, and
-/// then the client uses that set again.
+/// then the client uses that set again. Each is in a box, which is exchanged for that of a collected discovery.
 #[derive(Drop)]
 pub(crate) struct SharedSets {
-    sets: Vec<Arc<DeviceSet>>,
+    sets: Vec<Arc<Box<DeviceSet>>>,
 }
 
 impl SharedSets {
@@ -33,7 +33,7 @@ impl SharedSets {
     }
 
     /// Takes out a set that no completion shares. None: each is shared.
-    pub(crate) fn take_unshared(&mut self) -> Option<Arc<DeviceSet>>
+    pub(crate) fn take_unshared(&mut self) -> Option<Arc<Box<DeviceSet>>>
         ensures one_less { OnSome result (length self.old.sets.items ≡ length self.new.sets.items + 1) }
         ensures room { OnSome result (length self.new.sets.items < vec_capacity self.new.sets) }
         ensures none { IfNone result (length self.new.sets.items ≡ length self.old.sets.items) }
@@ -47,7 +47,7 @@ impl SharedSets {
     }
 
     /// Puts back a set that was taken out.
-    pub(crate) fn put_back(&mut self, set: Arc<DeviceSet>)
+    pub(crate) fn put_back(&mut self, set: Arc<Box<DeviceSet>>)
         requires { length self.old.sets.items < vec_capacity self.old.sets }
         ensures { length self.new.sets.items ≡ length self.old.sets.items + 1 }
     {
@@ -55,7 +55,7 @@ impl SharedSets {
     }
 
     /// Puts back a set that was taken out, and returns it for a completion to share.
-    pub(crate) fn share(&mut self, set: Arc<DeviceSet>) -> Arc<DeviceSet>
+    pub(crate) fn share(&mut self, set: Arc<Box<DeviceSet>>) -> Arc<Box<DeviceSet>>
         requires { length self.old.sets.items < vec_capacity self.old.sets }
         ensures { arc_value result ≡ arc_value set }
     {
@@ -72,6 +72,7 @@ impl SharedSets {
 
 // It isn't inlined, since a set is made in its frame.
 #[inline(never)]
-fn shared_set(alloc: Global) -> Option<Arc<DeviceSet>> {
-    Arc::new(alloc, DeviceSet::new()).ok()
+fn shared_set(alloc: Global) -> Option<Arc<Box<DeviceSet>>> {
+    let set = Box::new(alloc, DeviceSet::new()).ok()?;
+    Arc::new(alloc, set).ok()
 }

@@ -5,6 +5,7 @@ ghost use Rattle.std.specs.VecDeque.{deque_len, deque_capacity};
 
 use crate::oldest::Oldest;
 use crate::set_ring::SetRing;
+use crate::takes_devices::TakesDevices;
 use rdm_agent::AgentFault;
 use rdm_log::{
     Completion, DiscoveryEnd, Entry, MOST_DISCOVERIES, NEVER_GIVEN, NEVER_GIVEN_TO_A_DISCOVERY,
@@ -209,11 +210,11 @@ impl Client {
         Some((number, done))
     }
 
-    /// Takes its oldest outcome out, if that is a discovery's, and writes its set into `set`.
-    pub(crate) fn collect_discovery(&mut self, set: &mut DeviceSet) -> Option<DiscoveryEnd>
+    /// Takes its oldest outcome out, if that is a discovery's. `set` takes its devices.
+    pub(crate) fn collect_discovery<T: TakesDevices>(&mut self, set: &mut T) -> Option<DiscoveryEnd>
         requires { HasSets self.old }
-        ensures removed { IfSome result (λ end. ClientCollects self.old (outcome_value (discovery_outcome end set.new))
-            self.new) }
+        ensures removed { IfSome result (λ end. ClientCollects self.old
+            (outcome_value (discovery_outcome end (T.devices set.new))) self.new) }
         ensures none { IfNone result (first_kind_owed self.old ≢ Some kinds.Discovery) }
         ensures unchanged { IfNone result ((self.new ≡ self.old) × (set.new ≡ set.old)) }
     {
@@ -223,11 +224,7 @@ impl Client {
         let Owed::Discovery { number, run, fault } = self.outcomes.pop_front()? else {
             unreachable!();
         };
-        let Some(found) = self.sets.oldest() else {
-            unreachable!();
-        };
-        set.copy_from(found);
-        self.sets.drop_oldest();
+        self.sets.move_oldest(set);
         Some(DiscoveryEnd { number, run, fault })
     }
 }

@@ -2,6 +2,7 @@
 
 use crate::oldest::Oldest;
 use crate::queue::Queue;
+use crate::takes_devices::TakesDevices;
 use rdm_agent::{Kind, Search};
 use rdm_join::LineEvent;
 use rdm_log::{
@@ -225,12 +226,17 @@ impl Controller {
         self.queue.next_completion(client)
     }
 
-    /// Collects a client's oldest outcome if that is a discovery's. The devices that its run found replace those in
-    /// `set`. None: there is no outcome, it is a request's, or there is no such client; nothing has changed, and `set`
-    /// is unchanged.
-    pub fn next_discovery(&mut self, client: ClientId, set: &mut DeviceSet) -> Option<DiscoveryEnd>
-        ensures adds { IfSome result (λ end. AddsToEach self.old
-            (λ k. CollectAdds k.opening k.entries client (Some (discovery_outcome end set.new))) self.new) }
+    /// Collects a client's oldest outcome if that is a discovery's. `set` takes the devices that its run found, in
+    /// place of its own. A [`DeviceSet`] gets a copy of them. A box with one is exchanged for the one that has them.
+    /// None: there is no outcome, it is a request's, or there is no such client; nothing has changed, and `set` is
+    /// unchanged.
+    pub fn next_discovery<T: TakesDevices>(
+        &mut self,
+        client: ClientId,
+        set: &mut T,
+    ) -> Option<DiscoveryEnd>
+        ensures adds { IfSome result (λ end. AddsToEach self.old (λ k. CollectAdds k.opening k.entries client
+            (Some (discovery_outcome end (T.devices set.new)))) self.new) }
         ensures none { IfNone result (ForEachLog self.old (λ o h. oldest_kind o h client.0 ≢ Some kinds.Discovery)) }
         ensures unchanged { IfNone result ((self.new ≡ self.old) × (set.new ≡ set.old)) }
     {

@@ -9,12 +9,13 @@
 //!
 //! - `take` and `deliver` look at the clients' oldest requests, 16 at most; `submit` and the calls that collect look at
 //!   one client. So none of them takes longer if more requests wait.
-//! - `next_completion` moves no set of devices, and `next_discovery` writes one into the caller's. `next_outcome`
-//!   returns a value that could hold a set, 32 KB, even for a request. `answer` and `run` move no set for a request,
-//!   and allocate memory for the set of each discovery that is collected.
+//! - `next_completion` moves no set of devices. `next_discovery` copies one into the caller's, or exchanges its box for
+//!   the caller's. `next_outcome` returns a value that could hold a set, 32 KB, even for a request. `answer` and `run`
+//!   move no set for a request, and allocate memory for the set of each discovery that is collected.
 //! - `close`, and the reply after it, look at the clients' oldest requests once for each request that they finish.
-//! - `join_client` adds up the queue depths of the clients, 16 at most, and reserves the memory of the client's rings.
-//!   No later call allocates, except for the joined data of a request, and for what `answer` and `run` return.
+//! - `join_client` adds up the queue depths of the clients, 16 at most, and reserves the memory of the client's rings
+//!   and sets. No later call allocates, except for the joined data of a request, and for what `answer` and `run`
+//!   return.
 //! - `is_idle`, and a [`Session`]'s test before a call whether its log is full, add up what each client has.
 //! - The other calls take constant time. So does each entry of a [`Log`], whose memory is reserved when it is made.
 //! - A log's opening contains a set of devices, of 32 KB. It is filled when a log is made or cleared, when a session
@@ -32,6 +33,7 @@ mod queue;
 mod run;
 mod session;
 mod set_ring;
+mod takes_devices;
 
 pub use controller::Controller;
 pub use oldest::Oldest;
@@ -44,3 +46,4 @@ pub use rdm_log::{
     Page, Setup, SubmitFault, Work, WorkFault, laws,
 };
 pub use session::Session;
+pub use takes_devices::TakesDevices;

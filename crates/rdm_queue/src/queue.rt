@@ -9,6 +9,7 @@ mod ending;
 use crate::client::{Client, Waiting};
 use crate::oldest::Oldest;
 use crate::pending::{Asked, Awaited, Running};
+use crate::takes_devices::TakesDevices;
 use arrayvec::ArrayVec;
 use rdm_agent::{Agent, Kind, Op, Search};
 use rdm_join::{Joiner, Sent};
@@ -396,14 +397,14 @@ impl Queue {
             .collect_request()
     }
 
-    /// Takes a client's oldest outcome out, if that is a discovery's, and writes its set into `set`.
-    pub(crate) fn next_discovery(
+    /// Takes a client's oldest outcome out, if that is a discovery's. `set` takes its devices.
+    pub(crate) fn next_discovery<T: TakesDevices>(
         &mut self,
         client: ClientId,
-        set: &mut DeviceSet,
+        set: &mut T,
     ) -> Option<DiscoveryEnd>
         ensures removed { IfSome result (λ end. CollectsOldest self.old client.0
-            (outcome_value (discovery_outcome end set.new)) self.new) }
+            (outcome_value (discovery_outcome end (T.devices set.new))) self.new) }
         ensures none { IfNone result (first_kind client.0 self.old ≢ Some kinds.Discovery) }
         ensures unchanged { IfNone result ((self.new ≡ self.old) × (set.new ≡ set.old)) }
     {

@@ -84,8 +84,8 @@ impl Session {
         Some(BoxedOutcome::Request { number, done })
     }
 
-    // Collects a client's oldest outcome, which is a discovery's. The memory for its set is allocated first. This isn't
-    // inlined, since a set is made in its frame.
+    // Collects a client's oldest outcome, which is a discovery's. A box, which is allocated first, is exchanged for the
+    // one with its set. This isn't inlined, since a set is made in its frame.
     // Err: there is no memory for it; nothing has changed.
     #[inline(never)]
     fn collect_discovery(

@@ -5,6 +5,7 @@ ghost use Rattle.rdm_queue.specs.body.SessionInvariant.{SessionAmid, FinishesDue
 
 use crate::controller::Controller;
 use crate::oldest::Oldest;
+use crate::takes_devices::TakesDevices;
 use arrayvec::ArrayVec;
 use rdm_agent::Kind;
 use rdm_join::LineEvent;
@@ -278,12 +279,17 @@ impl Session {
     }
 
     /// Collects a client's oldest outcome if that is a discovery's, as [`Controller::next_discovery`] does, with an
-    /// entry, which always fits into the log. The devices that its run found replace those in `set`.
+    /// entry, which always fits into the log. `set` takes the devices that its run found, in place of its own. A
+    /// [`DeviceSet`] gets a copy of them. A box with one is exchanged for the one that has them.
     /// None: there is no outcome, it is a request's, or there is no such client; nothing has changed, and `set` is
     /// unchanged.
-    pub fn next_discovery(&mut self, client: ClientId, set: &mut DeviceSet) -> Option<DiscoveryEnd>
-        ensures adds { IfSome result (λ end. GrowsBy self.old
-            (CollectAdds self.old.opening self.old.entries client (Some (discovery_outcome end set.new))) self.new) }
+    pub fn next_discovery<T: TakesDevices>(
+        &mut self,
+        client: ClientId,
+        set: &mut T,
+    ) -> Option<DiscoveryEnd>
+        ensures adds { IfSome result (λ end. GrowsBy self.old (CollectAdds self.old.opening self.old.entries client
+            (Some (discovery_outcome end (T.devices set.new)))) self.new) }
         ensures none { IfNone result (oldest_kind self.old.opening self.old.entries client.0 ≢ Some kinds.Discovery) }
         ensures unchanged { IfNone result ((self.new ≡ self.old) × (set.new ≡ set.old)) }
         ensures legal { Legal self.new.opening self.new.entries }

@@ -64,8 +64,8 @@ fn move_completion(session: &mut Session, client: ClientId, lane: &mut Lane) -> 
     true
 }
 
-// Moves a discovery's outcome. Its set goes into a box, which is allocated first. It isn't inlined, so that a turn
-// without a discovery has no set in its frame.
+// Moves a discovery's outcome. A box, which is allocated first, is exchanged for the one with its set. It isn't
+// inlined, so that a turn without a discovery has no set in its frame.
 #[inline(never)]
 #[tactic(auto, using(crate::proofs::MovingLemmas::moves_nothing))]
 fn move_discovery(alloc: Global, session: &mut Session, client: ClientId, lane: &mut Lane) -> bool

@@ -103,9 +103,10 @@ fn closed(rt: &impl Abort, alloc: Global) -> Controller {
     controller
 }
 
-// Another client has no outcome, so its set isn't written. The first client gets the set of its discovery.
-fn gives_to_one(rt: &impl Abort, controller: &mut Controller) {
-    let mut set = DeviceSet::new();
+// Another client has no outcome, so its box isn't exchanged. The first client gets the box of its discovery's set.
+fn gives_to_one(rt: &impl Abort, alloc: Global, controller: &mut Controller) {
+    let made = Box::new(alloc, DeviceSet::new());
+    let mut set = made.ok().expect(rt, "the memory of a set");
     check(rt, set.insert(other_device()).is_ok());
     check(rt, controller.oldest(ClientId(1)).is_none());
     check_eq(rt, controller.next_discovery(ClientId(1), &mut set), None);
@@ -122,7 +123,7 @@ fn gives_to_one(rt: &impl Abort, controller: &mut Controller) {
 #[test]
 fn a_controller_gives_each_kind_in_turn(rt: HostRuntime) {
     let mut controller = closed(&rt, rt.alloc());
-    gives_to_one(&rt, &mut controller);
+    gives_to_one(&rt, rt.alloc(), &mut controller);
     check(
         &rt,
         matches!(controller.oldest(CLIENT), Some(Oldest::Request { .. })),

@@ -8,7 +8,7 @@ use Rattle.rdm_lanes.proofs.worker.moving.move_discovery.Goals as goal
 pub overflow_sub-lane : goal.overflow_sub-lane
 overflow_sub-lane c =
     has_ask c.args.session.now c.next_discovery.new.self c.args.client c.in-Some.end.number
-    (record { run = c.in-Some.end.run; fault = c.in-Some.end.fault; set = c.next_discovery.new.set })
+    (record { run = c.in-Some.end.run; fault = c.in-Some.end.fault; set = c.next_discovery.new.set.value })
     c.args.lane.now c.in-Some.ensures.adds c.in-Some.ensures.legal c.requires.may.fits
 
 pub returns : goal.returns
@@ -16,14 +16,15 @@ returns c =
     let old = c.args.session.now in
     let new = c.next_discovery.new.self in
     let end = c.in-Some.end in
-    let outcome = discovery_outcome end c.next_discovery.new.set in
+    let outcome = discovery_outcome end c.next_discovery.new.set.value in
     let adds = c.in-Some.ensures.adds in
     let legal = c.in-Some.ensures.legal in
     let step = collect_step old new c.args.client outcome adds legal in
     record {
       moves = record {
         fits = fits_discovery old new c.args.client end.number
-            (record { run = end.run; fault = end.fault; set = c.next_discovery.new.set }) _ c.args.lane.now _ adds legal
+            (record { run = end.run; fault = end.fault; set = c.next_discovery.new.set.value }) _ c.args.lane.now _
+            adds legal
             (ap (λ (done : AskCompletion). outcome_value (outcomes.Discovery (Some end.number) done))
             c.new-done.ensures)
             c.requires.may.fits
