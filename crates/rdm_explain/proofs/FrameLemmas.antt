@@ -2,7 +2,6 @@
 use Rattle.std.proofs.Common.{◌≡◌, ℕ, ◌++◌, ◌<◌, ◌≤◌, Bool, true, false, cond, List, [], ◌∷◌, Option, Some, None}
 use Rattle.std.proofs.Common.{refl, sym, ap, ◌∙◌}
 use Rattle.std.proofs.Common.{length, arith, bytes_eq}
-use Rattle.std.specs.Prelude.{slice_index}
 use Rattle.std.proofs.lemmas.Slice.Eq.{bytes_eq-Decides}
 use Rattle.rdm_wire.specs.BranchText.{BranchText}
 use Rattle.rdm_wire.specs.Reading.{text_read}
@@ -44,15 +43,6 @@ short_asks_nothing b short =
   where
     few : {n : ℕ} → length b ≡ n → 26 ≤ n → ⊥
     few same many = omega (arith, same, many, short)
-
-pub no_branch_by_length : (b : List ℕ) (lo hi s tn : ℕ) → (length b ≡ 38 → ⊥)
-    → bytes_eq b (branch_frame lo hi s tn) ≡ false
-no_branch_by_length b lo hi s tn other = other_bytes b (branch_frame lo hi s tn) (λ e. other (ap length e))
-
-pub no_branch_by_size : (b : List ℕ) (lo hi s tn : ℕ) → (slice_index b 23 ≡ 12 → ⊥)
-    → bytes_eq b (branch_frame lo hi s tn) ≡ false
-no_branch_by_size b lo hi s tn other =
-    other_bytes b (branch_frame lo hi s tn) (λ e. other (ap (λ l. slice_index l 23) e))
 
 -- bytes that are the text of no UID
 pub no_text : (b : List ℕ) → ((u : ℕ) → BranchText b u → ⊥) → Noise ≡ one_or_noise (text_read b)

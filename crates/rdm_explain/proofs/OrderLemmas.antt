@@ -69,19 +69,3 @@ missing_here xs at e within read few before other = record {
     here all = other (sym (asked_at xs at e within read)
         ∙ here_is at (asks xs) (seen_of e).asked (let long = long_as xs in omega (arith, long, within))
         (subst (λ k. Begins k (asks xs)) (next_is at) all))
-
-pub unmutes_more : (xs : List Exchange) (at : ℕ) (e : Exchange) → at < length xs → e ≡ get_or xs at e
-    → BeginsByUnmutes at (seen_all xs) → (seen_of e).asked ≡ Unmute → BeginsByUnmutes (at + 1) (seen_all xs)
-unmutes_more xs at e within read before is =
-    subst (λ k. Begins k (asks xs)) (sym (next_is at))
-    (one_more at (asks xs) (seen_of e).asked (let long = long_as xs in omega (arith, long, within))
-    (asked_at xs at e within read ∙ is) before)
-
-pub missing_end : (xs : List Exchange) (at : ℕ) → at ≡ length xs → at < UNMUTES → BeginsByUnmutes at (seen_all xs)
-    → IsFirstMissing (seen_all xs) at
-missing_end xs at end few before = record {
-  few = few;
-  before = before;
-  here = too_short (at + 1) (asks xs) (let long = long_as xs in omega (arith, long, end));
-  never = too_short 3 (asks xs) (let long = long_as xs in omega (arith, long, end, few));
-}

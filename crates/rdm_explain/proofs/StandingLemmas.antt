@@ -1,10 +1,7 @@
 -- What is known of a device's state decides whether the line was honest to it.
 use Rattle.std.proofs.Common.{◌≡◌, ℕ, ◌+◌, ◌<◌, ◌≤◌, Bool, true, false, ◌&&◌, ◌||◌, not, List, [], ◌∷◌, cond, refl}
-use Rattle.std.proofs.Common.{sym, ap, ◌∙◌, subst, inl, inr, true≢false, arith, length, take, drop, get_or}
+use Rattle.std.proofs.Common.{sym, ap, ◌∙◌, subst, inl, inr, true≢false, arith}
 use Rattle.std.specs.Prelude.{◌⊎◌, ◌≢◌, ◌==◌, nat_le, fold, MatchBool, if◌then◌else◌}
-use Rattle.std.proofs.lemmas.List.{map-append, take-append-drop}
-use Rattle.std.proofs.lemmas.List.Sums.{fold_more, fold-append}
-use Rattle.std.proofs.lemmas.List.Folds.{fold-map}
 use Rattle.std.proofs.lemmas.Bool.{cases_Bool, or_cases, and_parts, and_from, leb-true, leb-false, le-leb}
 use Rattle.rdm_wire.specs.Uid.{is_within}
 use Rattle.rdm_wire.specs.Honest.{Asked, Heard, Seen, LineState, HonestToStep, HonestTo, Chain, Counts, due_in}
@@ -12,8 +9,6 @@ use Rattle.rdm_wire.specs.Honest.{lost_after, KeepsMuted, MuteMoves, UnmuteMoves
 use Rattle.rdm_wire.specs.Honest.Asked.{Unmute, Branch, Mute, Other}
 use Rattle.rdm_wire.specs.Honest.Heard.{Failed, Silent, One, Acked, Noise}
 use Rattle.rdm_explain.specs.body.Standings.{Standing}
-use Rattle.rdm_explain.specs.declared.exchange.Exchange.{Exchange}
-use Rattle.rdm_explain.specs.Exchanges.{seen_of, seen_all}
 use Rattle.rdm_explain.specs.body.Standings.{is_alive, with_counts, after_branch, after_mute, after_unmute, after_asked}
 use Rattle.rdm_explain.specs.body.Standings.{stopped_at, after_heard, after_either, after, at_start, standing}
 
@@ -572,21 +567,3 @@ alive_before u p e = by_stopped p.stopped
 pub alive_through : (u : ℕ) (p : Standing) (x : List Seen) → is_alive (fold (after u) p x) ≡ true → is_alive p ≡ true
 alive_through u p [] alive = alive
 alive_through u p (e ∷ x) alive = alive_before u p e (alive_through u (after u p e) x alive)
-
--- what is known after one more exchange
-pub standing_more : (u : ℕ) (xs : List Exchange) (i : ℕ) (d : Exchange) → i < length xs
-    → standing u (seen_all (take (i + 1) xs)) ≡ after u (standing u (seen_all (take i xs))) (seen_of (get_or xs i d))
-standing_more u xs i d within =
-    fold-map (after u) seen_of at_start (take (i + 1) xs)
-    ∙ fold_more (λ p x. after u p (seen_of x)) at_start xs i d within
-    ∙ ap (λ p. after u p (seen_of (get_or xs i d))) (sym (fold-map (after u) seen_of at_start (take i xs)))
-
--- what is possible of all was possible before
-pub standing_front : (u : ℕ) (xs : List Exchange) (n : ℕ) → is_alive (standing u (seen_all xs)) ≡ true
-    → is_alive (standing u (seen_all (take n xs))) ≡ true
-standing_front u xs n alive =
-    alive_through u (standing u (seen_all (take n xs))) (seen_all (drop n xs))
-    (sym (ap is_alive (fold-append (after u) at_start (seen_all (take n xs)) (seen_all (drop n xs))))
-    ∙ ap (λ y. is_alive (standing u y)) (sym (map-append seen_of (take n xs) (drop n xs)))
-    ∙ ap (λ y. is_alive (standing u (seen_all y))) (take-append-drop n xs)
-    ∙ alive)

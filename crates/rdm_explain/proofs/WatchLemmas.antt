@@ -12,7 +12,7 @@ use Rattle.rdm_wire.specs.Honest.{Seen, HonestTo}
 use Rattle.rdm_explain.specs.declared.exchange.Exchange.{Exchange}
 use Rattle.rdm_explain.specs.declared.rule.Breach.{Breach}
 use Rattle.rdm_explain.specs.Exchanges.{seen_of, seen_all}
-use Rattle.rdm_explain.specs.Rules.{FirstBreach, IsFirstBreach, EndsBy, AreFirstBreaches, uids_of_findings}
+use Rattle.rdm_explain.specs.Rules.{FirstBreach, IsFirstBreach, EndsBy, AreFirstBreaches}
 use Rattle.rdm_explain.specs.body.Standings.{Standing, is_alive, after, at_start, standing}
 use Rattle.rdm_explain.specs.body.Watching.{Watched, uids_watched, watched_with, with_flags, heard_by, watch_of}
 use Rattle.rdm_explain.specs.body.Watching.{finding_of}
@@ -177,10 +177,6 @@ same_uids l at e (w ∷ ws) =
 pub start_uids : (us : List ℕ) → uids_watched (map watch_of us) ≡ us
 start_uids [] = refl
 start_uids (u ∷ us) = ap (λ l. u ∷ l) (start_uids us)
-
-pub finding_uids : (ws : List Watched) → uids_of_findings (map finding_of ws) ≡ uids_watched ws
-finding_uids [] = refl
-finding_uids (w ∷ ws) = ap (λ l. w.uid ∷ l) (finding_uids ws)
 
 -- what is found is what is known
 found : (xs : List Exchange) (l : Ends) (w : Watched) (o : Option Breach) → Known xs l w o → FirstBreach w.uid xs o

@@ -1,6 +1,6 @@
 -- Five consecutive numbers among ascending ones.
 use Rattle.std.proofs.Common.{◌≡◌, ℕ, zero, suc, ◌+◌, ◌<◌, ◌≤◌, Bool, true, false, List, length, get_or, Option, Some}
-use Rattle.std.proofs.Common.{None, Result, Ok, Err, refl, ap, sym, subst, ◌∙◌, arith}
+use Rattle.std.proofs.Common.{None, Result, Ok, Err, refl, sym, subst, ◌∙◌, arith}
 use Rattle.std.specs.Prelude.{◌==◌, ◌&&◌, is_ok, nat_lt, IfSome, IfNone}
 use Rattle.std.specs.Cmp.Derive.{both_true}
 use Rattle.std.specs.Ordering.{nat_cmp}
@@ -77,16 +77,6 @@ test-from_five xs first all =
 -- no five end before this index
 abbrev pub NoneEnd : List ℕ → ℕ → Type 0
 NoneEnd xs i = (k : ℕ) → k < i → (first : ℕ) → first + 4 ≡ get_or xs k 0 → has_five xs first ≡ false
-
-pub none_end-next : (xs : List ℕ) (i : ℕ) → NoneEnd xs i
-    → ((first : ℕ) → first + 4 ≡ get_or xs i 0 → has_five xs first ≡ false) → NoneEnd xs (i + 1)
-none_end-next xs i before here k lt first is = by_index (nat_lt k i) refl
-  where
-    by_index : (b : Bool) → nat_lt k i ≡ b → has_five xs first ≡ false
-    by_index true earlier = before k (ltb-true k i earlier) first is
-    by_index false later =
-        let last : k ≡ i = omega (arith, ltb-false k i later) in
-        here first (is ∙ ap (λ n. get_or xs n 0) last)
 
 -- so there are none, where none end at all
 pub none-at_all : (xs : List ℕ) → NoneEnd xs (length xs) → NoFiveSuccessive xs

@@ -85,11 +85,6 @@ pub list_many : {A : Type 0} (P : Data → A → Type 0) (least most : ℕ) (d :
     → Some (items_view vs) ≡ as_array d → (xs : List A) → IsListOf A P least most d xs → length xs ≡ length vs
 list_many P least most d vs is xs list = each_many P vs xs (listed_items P least most d vs xs is list)
 
--- what is no list says nothing
-pub not_a_list : {A : Type 0} (P : Data → A → Type 0) (least most : ℕ) (d : Data) → as_array d ≡ None → (xs : List A)
-    → IsListOf A P least most d xs → ⊥
-not_a_list P least most d none xs list = let never = sym none ∙ list.is_list in cc
-
 -- a text that spells no UID
 pub no_uid : (d : Data) (text : List ℕ) → Some text ≡ as_str d → ((u : ℕ) → UidText text u → ⊥) → (u : ℕ) → IsUid d u
     → ⊥

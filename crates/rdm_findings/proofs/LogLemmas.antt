@@ -14,7 +14,7 @@ use Rattle.rdm_findings.specs.Explained.{IsExplained}
 use Rattle.rdm_findings.specs.Lines.{line_text, lines_text}
 use Rattle.rdm_findings.specs.Runs.{RunRead, ReadState, nothing_read, begins, ended, after_line, read_on, read_all}
 use Rattle.rdm_findings.specs.Runs.{runs_of}
-use Rattle.rdm_findings.specs.Logs.{IsRunText, AreExplained, IsLogText, EndsLog, IsRefusedAt}
+use Rattle.rdm_findings.specs.Logs.{IsRunText, AreExplained, IsLogText, EndsLog}
 
 or_assoc : (a b c : Bool) → (a || b) || c ≡ a || (b || c)
 or_assoc true b c = refl
@@ -196,18 +196,6 @@ log_end present passing left now held writes more reading any broken breaks eith
           f.some f.explained (subst (λ s. EndsLog present passing any (ended s) own breaks) f.reads said)),
       Appends-trans held writes more f.text own f.wrote written,
     )
-
--- where the next line isn't a log's
-pub line_refused : (present passing : List ℕ) (left now later held writes : Option (List ℕ)) (reading : ReadState)
-    (any broken : Bool) (many n : ℕ) (bytes : List ℕ)
-    → IsSoFar present passing left now held writes reading any broken many → Consumes now later bytes → n ≡ many + 1
-    → IsRefusedAt left later n
-line_refused present passing left now later held writes reading any broken many n bytes f read is = record {
-  lines = f.lines;
-  other = bytes;
-  read = more_consumed left now later (lines_text f.lines) bytes f.consumed read;
-  number = ap (λ k. k + 1) f.count ∙ sym is;
-}
 
 -- one was broken, or it is as the other
 pub either_broke : (a b c : Bool) → a ≡ true → c ≡ a → c ≡ a || b

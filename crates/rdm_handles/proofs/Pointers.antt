@@ -1,6 +1,6 @@
 -- The machine values of a `Loose`: a pointer and its allocator. Assumes `Logic`.
 use Rattle.std.proofs.Common.{◌≡◌, ℕ, List, [], ◌∷◌, ◌++◌, refl, ap, ◌∙◌}
-use mathlib.Core.Bool.{Bool, true, false, ◌&&◌}
+use mathlib.Core.Bool.{true, ◌&&◌}
 use lib.Dec.{T}
 use seplogic.Ra.Ura.{Ura}
 use mir.Syntax.{impl, tnil, dnil}
@@ -32,11 +32,6 @@ two v w = vstruct (vcons v (vcons w vnil))
 -- the same, of lists that have one value each
 abbrev pub laid : List Val → List Val → List Val
 laid vs ws = vstruct (of_list (vs ++ (ws ++ []))) ∷ []
-
-pub two_fit : (x y : Bool) → T x → T y → T (x && (y && true))
-two_fit true true p q = tt
-two_fit true false p q = absurd q
-two_fit false y p q = absurd p
 
 module _ (R Z : RattleType) (L : Laws Z) (g : Ghosts Z.Denot) where
   abbrev pub Row : RattleType

@@ -1,6 +1,6 @@
 -- A log whose entries were handed out says what it said.
 use Rattle.rdm_lanes.proofs.Common.{◌≡◌, List, LogState, OperatorCall, Lane}
-use Rattle.rdm_lanes.proofs.Common.{IsBetweenTurns, Fits, AllFit, IsOperated, Publishing, Publishes}
+use Rattle.rdm_lanes.proofs.Common.{IsBetweenTurns, Fits, AllFit, IsOperated}
 
 -- the same opening and the same entries
 pub record SameHistory (old new : LogState) : Type 0 where
@@ -39,11 +39,4 @@ operated_on old new same calls is = record {
   not_paused = rw same.opening is.not_paused;
   not_closed = rw same.opening is.not_closed;
   switched = rw same.entries is.switched;
-}
-
-pub publishes_on : (old new : LogState) → SameHistory old new → (p : Publishing) → Publishes old p → Publishes new p
-publishes_on old new same p is = record {
-  no_run = rw same.opening is.no_run;
-  no_devices = rw same.opening is.no_devices;
-  showing = rw same.entries is.showing;
 }

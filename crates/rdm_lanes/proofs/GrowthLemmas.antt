@@ -1,19 +1,18 @@
 -- What a log says of one client, as it grows by a block of entries.
-use Rattle.rdm_lanes.proofs.Common.{◌≡◌, ℕ, ◌-◌, ◌<◌, Bool, true, false, List, [], ◌∷◌, ◌++◌, map, length, Option, Some}
-use Rattle.rdm_lanes.proofs.Common.{None, refl, ap, ◌∙◌, slice_get, append-nil, arith, filter, filter_map, ◌||◌, ◌&&◌}
-use Rattle.rdm_lanes.proofs.Common.{◌==◌, AllByRecursion, slice_get_within, map-append, filter-append}
+use Rattle.rdm_lanes.proofs.Common.{◌≡◌, ℕ, ◌-◌, Bool, true, false, List, [], ◌∷◌, ◌++◌, map, length, Option, Some}
+use Rattle.rdm_lanes.proofs.Common.{None, refl, ap, ◌∙◌, slice_get, append-nil, filter, filter_map, ◌||◌, ◌&&◌}
+use Rattle.rdm_lanes.proofs.Common.{◌==◌, AllByRecursion, map-append, filter-append}
 use Rattle.rdm_lanes.proofs.Common.{filter_map-append, EachAfter, Opening, Entry, Refuse, Accept, Ask, Finish, Answer}
-use Rattle.rdm_lanes.proofs.Common.{Collect, AskedDiscovery, collector_of, accepts, asks, finishes, collectors}
+use Rattle.rdm_lanes.proofs.Common.{Collect, AskedDiscovery, collector_of, accepts, asks, collectors}
 use Rattle.rdm_lanes.proofs.Common.{accepts_by, asks_by, is_answer_to, answers_to, collects_by, collected, uncollected}
 use Rattle.rdm_lanes.proofs.Common.{outstanding_requests, outstanding_discoveries, MayFollow, OutcomeValue, outcome_of}
 use Rattle.rdm_lanes.proofs.Common.{told, is_client, is_closed_refusal, closed_number, front, legal_facts, ask_facts}
 use Rattle.rdm_lanes.proofs.Common.{client_facts, filter_has, call_by, calls_by, told_values, uncollected_values}
 use Rattle.std.proofs.lemmas.List.{drop-append-le, take-append-le}
-use Rattle.rdm_log.specs.log.Entries.{Accepted, finished_of}
+use Rattle.rdm_log.specs.log.Entries.{Accepted}
 use Rattle.rdm_log.specs.log.Clients.{is_client_of}
-use Rattle.rdm_log.proofs.LogLemmas.Indices.{filter_map_has, filter_agree_on}
-use Rattle.rdm_log.proofs.LogLemmas.LegalFacts.{LogFacts}
-use Rattle.rdm_log.proofs.LogLemmas.ClientLemmas.{client_stays, asker_stays, answer_asked}
+use Rattle.rdm_log.proofs.LogLemmas.Indices.{filter_agree_on}
+use Rattle.rdm_log.proofs.LogLemmas.ClientLemmas.{client_stays, asker_stays, answer_asked, finish_accepted}
 use Rattle.rdm_log.proofs.LogLemmas.PushLemmas.{accepts-append, asks-append}
 use Rattle.rdm_log.proofs.PromiseLemmas.OwnDiscoveries.{outcome_stays}
 use Rattle.rdm_log.proofs.PromiseLemmas.StableOutcomes.{outcome_stays as uncollected_stays}
@@ -33,23 +32,6 @@ touches c _ = false
 
 abbrev pub Untouched : ℕ → List Entry → Type 0
 Untouched c block = AllByRecursion (λ e. touches c e ≡ false) block
-
-finish_accepted : (o : Opening) (h : List Entry) → LogFacts o h → (i n : ℕ) (status : _) (len : ℕ)
-    → slice_get h i ≡ Some (Finish n status len) → n - o.next_request < length (accepts h)
-unfolding finishes
-finish_accepted o h facts i n status len at =
-    by_index (filter_map_has finished_of h i (Finish n status len)
-    (record { number = n; status = status; len = len }) at refl)
-  where
-    by_index : (j : ℕ) × (slice_get (finishes h) j ≡ Some (record { number = n; status = status; len = len }))
-        → n - o.next_request < length (accepts h)
-    by_index found =
-        omega (
-          arith,
-          facts.finish_numbers found.0 _ found.1,
-          slice_get_within (finishes h) found.0 _ found.1,
-          facts.finished_within,
-        )
 
 -- whom an entry answers stays as it is
 pub answer_stays : (o : Opening) (h more : List Entry) → EachAfter (MayFollow o) (h ++ more) → (c i : ℕ) (x : Entry)

@@ -1,7 +1,7 @@
 -- For whoever drives clients by hand: their rings stay the worker's, so that `ViewWorker::end` may compare them. A
 -- client's calls say that it is the same client, the worker's work that its lanes are the same, and `RingClient::end`
 -- that its rings are. `pairs_kept_on` joins these, for clients and for what is left of them.
-use Rattle.rdm_lanes.proofs.Common.{◌≡◌, ℕ, zero, suc, List, [], ◌∷◌, map, get_or, Some, refl, sym, ap, ◌∙◌}
+use Rattle.rdm_lanes.proofs.Common.{◌≡◌, ℕ, List, map, get_or, Some, refl, sym, ◌∙◌}
 use Rattle.rdm_lanes.proofs.Common.{slice_get, inl, inr, arith, slice_set, length-map, length-set, slice_get_within}
 use Rattle.rdm_lanes.proofs.Common.{slice_get-get_or, get_or_from_slice_get, SameConsumer, Ghosts, Lane, RingClient}
 use Rattle.rdm_lanes.proofs.Common.{ClientEnd, SameClient, SameLane, SameLanes, end_rings, PairUp, Rings, ArePair}
@@ -53,12 +53,6 @@ same_rings all = record {
   long = refl;
   each = λ i a b e f. rw (same_at all i a b e f) (((refl, refl, refl, refl), refl), ((refl, refl, refl, refl), refl));
 }
-
-map-set : {X Y : Type 0} (f : X → Y) (xs : List X) (at : ℕ) (x : X)
-    → map f (slice_set xs at x) ≡ slice_set (map f xs) at (f x)
-map-set f [] at x = refl
-map-set f (y ∷ xs) zero x = refl
-map-set f (y ∷ xs) (suc at) x = ap (λ ys. f y ∷ ys) (map-set f xs at x)
 
 module _ {J : Type 0} {h : Ghosts J} {C A : Type 0} where
   -- one client made a call

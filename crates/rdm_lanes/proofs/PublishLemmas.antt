@@ -1,5 +1,5 @@
 -- What is put up for publication.
-use Rattle.rdm_lanes.proofs.Common.{◌≡◌, ◌≢◌, ◌<◌, List, [], ◌∷◌, ◌++◌, length, fold, ap, ◌∙◌, arith, length-append}
+use Rattle.rdm_lanes.proofs.Common.{◌≡◌, ◌<◌, List, [], ◌∷◌, ◌++◌, length, fold, arith, length-append}
 use Rattle.rdm_lanes.proofs.Common.{DeviceView}
 use Rattle.rdm_lanes.specs.body.Showing.{AreAll}
 
@@ -17,9 +17,3 @@ pub last_put : (before added : List DeviceView) (pending : List (List DeviceView
 last_put before added [] some all = absurd (omega (arith, some))
 last_put before added (views ∷ []) some all = all.0
 last_put before added (views ∷ more ∷ pending) some all = last_put views added (more ∷ pending) (omega arith) all.1
-
--- where a view was added, what was published lacks it
-pub one_lacks : (shown before after : List DeviceView) (v : DeviceView) → shown ≡ before → after ≡ before ++ v ∷ []
-    → shown ≢ after
-one_lacks shown before after v same more whole =
-    omega (arith, ap length same, ap length whole, ap length more ∙ length-append before (v ∷ []))

@@ -206,8 +206,3 @@ lacks_view k p q run is run_is less same whole = by_added (added_or_one (all_vie
           ap length whole,
           ap length same,
         )
-
--- nor is what waits for its publication
-pub lacks_last : (k : LogState) (p q : Publishing) → p.added ≡ all_views k.entries → q.added ≡ p.added
-    → q.shown ≢ q.added → q.shown ≢ all_views k.entries
-lacks_last k p q all added apart whole = apart (whole ∙ sym all ∙ sym added)

@@ -1,11 +1,11 @@
 -- Pages, and the record that is compared with them.
-use Rattle.std.proofs.Common.{◌≡◌, ℕ, ◌+◌, ◌≤◌, List, [], ◌∷◌, ◌++◌, length, map, drop, take, refl, ap, sym, ◌∙◌}
+use Rattle.std.proofs.Common.{◌≡◌, ℕ, ◌+◌, List, [], ◌∷◌, ◌++◌, length, map, drop, take, refl, ap, sym, ◌∙◌}
 use Rattle.std.proofs.Common.{None, Some, arith, get_or, ◌<◌, ◌≢◌, inl, inr}
 use Rattle.std.specs.Prelude.{Option, is_some, false, ◌⊎◌}
 use Rattle.std.proofs.lemmas.Bool.{false≢true}
 use Rattle.std.specs.Option.{ForSome}
 use Rattle.std.proofs.lemmas.List.{append_assoc, append-nil, map-append}
-use Rattle.std.proofs.lemmas.List.{take_more, take_all, take-append-drop, length-append}
+use Rattle.std.proofs.lemmas.List.{take_more, take-append-drop, length-append}
 use Rattle.std.proofs.lemmas.List.Elements.{filter_map-append}
 use Rattle.std.proofs.lemmas.Grind.{flat_map-append}
 use Rattle.std.proofs.Math.Seq.{drop-append_seam, take-append_seam, take-length}
@@ -92,23 +92,6 @@ walk_on a b c h i e xs ys left later within is before one rest =
       whole = before.whole ∙ ap (λ zs. before.done ++ zs) rest ∙ sym (append_assoc before.done ys later);
       matches = matches_on a b c (take i h) (e ∷ []) before.done ys before.matches one;
     })
-
-pub left_fits : (a b : Option (ArrayVec ℕ)) (h : List Entry) (xs left : List Exchange) → Walked a h xs left b
-    → length left ≤ length xs
-left_fits a b h xs left w = omega (arith, ap length w.whole, length-append w.done left)
-
-pub walk_ends : (a b : Option (ArrayVec ℕ)) (h : List Entry) (i : ℕ) (xs left : List Exchange) (n : ℕ)
-    → length h ≤ i → Walked a (take i h) xs left b → n + length left ≡ length xs → Finds a h xs n b
-walk_ends a b h i xs left n past walked count = record {
-  left = left;
-  walked = rw (take_all i h past) at walked;
-  counted = count;
-}
-
--- the first of the exchanges are those that were found
-pub found_fits : (a b : Option (ArrayVec ℕ)) (h : List Entry) (xs : List Exchange) (n : ℕ) → Finds a h xs n b
-    → n ≤ length xs
-found_fits a b h xs n found = omega (arith, found.counted)
 
 pub found_matches : (a b : Option (ArrayVec ℕ)) (h : List Entry) (xs : List Exchange) (n : ℕ) → Finds a h xs n b
     → Matches a h (take n xs) b
@@ -250,17 +233,6 @@ pub nothing_compared : (pages : List Page) (past : List Exchange) → pages ≡ 
     → Matches None (entries_of pages) past None
 unfolding sends cames
 nothing_compared pages past none empty = rw (none, empty) (record { frames = refl; events = refl })
-
--- exchanges one after another
-pub past_more : (past now : List Exchange) (xs : List Exchange) (i : ℕ) (x : Exchange) → i < length xs
-    → x ≡ get_or xs i x → now ≡ past ++ take i xs → now ++ x ∷ [] ≡ past ++ take (i + 1) xs
-past_more past now xs i x within is before =
-    ap (λ zs. zs ++ x ∷ []) before ∙ append_assoc past (take i xs) (x ∷ [])
-    ∙ ap (λ zs. past ++ zs) (ap (λ y. take i xs ++ y ∷ []) is ∙ sym (take_more xs i x within))
-
-pub past_whole : (past now : List Exchange) (xs : List Exchange) (i : ℕ) → length xs ≤ i → now ≡ past ++ take i xs
-    → now ≡ past ++ xs
-past_whole past now xs i end before = before ∙ ap (λ zs. past ++ zs) (take_all i xs end)
 
 -- a frame that is sent, and what came for it
 pub sent_on : (a : Option (ArrayVec ℕ)) (e : Entry) (owner : Owner) (frame : ArrayVec ℕ) → is_some a ≡ false

@@ -3,7 +3,7 @@ use Rattle.std.proofs.Common.{◌≡◌, ◌⊎◌, inl, inr, ℕ, Bool, true, f
 use Rattle.std.proofs.Common.{sym, ap, subst, ◌∙◌}
 use Rattle.std.specs.Prelude.{IfOk, IfErr, OnErr}
 use Rattle.std.specs.Io.KnownBytes.{Keeps}
-use Rattle.std.proofs.KnownBytes.{Appends-nil, Keeps-refl, Keeps-trans}
+use Rattle.std.proofs.KnownBytes.{Appends-nil, Keeps-trans}
 use Rattle.rdm_reports.specs.Report.{line_of}
 use Rattle.rdm_reports.specs.Writing.{IsWritten, LogState, LogsFrom, Logs}
 use Rattle.rdm_reports.proofs.WritingLemmas.{kept_appends}
@@ -44,11 +44,6 @@ nothing_logged false old new sound kept = (sound, kept)
 nothing_logged true old new sound kept =
     subst (λ f. IsWritten f old.contents new.contents []) (sym sound)
     (kept_appends old.contents new.contents new.contents [] kept (Appends-nil new.contents))
-
--- an unchanged one
-pub same_logged : (wanted : Bool) (old new : LogState) → old.is_failed ≡ false → new ≡ old → HasLogged wanted old new []
-same_logged wanted old new sound same =
-    subst (λ l. HasLogged wanted old l []) (sym same) (nothing_logged wanted old old sound (Keeps-refl old.contents))
 
 -- one that was opened only
 pub only_opened : (wanted : Bool) (old new : LogState) → IsOpened wanted old new → HasLogged wanted old new []
@@ -107,21 +102,6 @@ printed_after (Err e) Done Failed With wanted old new was is result _ failed (lo
   settled_log wanted old new logged (fault_status e.0) has,
   printed,
 )
-
--- an answer without a log
-pub done_unlogged : {E : Type 0} (r : Result Answered (Fault × E)) (Done : List ℕ → List ℕ → ℕ → Type 0)
-    (wanted : Bool) (log : LogState)
-    → log.is_failed ≡ false → IfOk r (λ a. Done (answer_bytes a.text) [] a.status)
-    → IfOk r (λ a. (logged : List ℕ) × Done (answer_bytes a.text) logged a.status × HasLogged wanted log log logged)
-done_unlogged (Err e) Done wanted log sound done = tt
-done_unlogged (Ok a) Done wanted log sound done = ([], done, same_logged wanted log log sound refl)
-
--- a fault without a log
-pub fault_unlogged : {E : Type 0} (r : Result Answered (Fault × E)) (wanted : Bool) (log : LogState)
-    → log.is_failed ≡ false
-    → IfErr r (λ e. (logged : List ℕ) × (logged ≡ []) × HasLogged wanted log log logged)
-fault_unlogged (Err e) wanted log sound = ([], refl, same_logged wanted log log sound refl)
-fault_unlogged (Ok a) wanted log sound = tt
 
 -- a fault after which nothing was logged
 pub fault_logged_none : {E : Type 0} (r : Result Answered (Fault × E)) (wanted : Bool) (old new : LogState)

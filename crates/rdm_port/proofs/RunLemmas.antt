@@ -1,16 +1,9 @@
 -- What is said of a session that was read, and of one that was served.
-use Rattle.std.proofs.Common.{◌≡◌, ℕ, ◌≤◌, Bool, true, false, List, Option, Some, None, Result, Ok, Err}
-use Rattle.std.proofs.Common.{refl, ap, arith}
-use Rattle.std.specs.Prelude.{IfOk, IfSome, OnOk, MatchOption, codes, is_some}
+use Rattle.std.proofs.Common.{◌≡◌, ℕ, Bool, List, Option, Result, Ok, Err}
+use Rattle.std.proofs.Common.{ap}
+use Rattle.std.specs.Prelude.{IfOk, IfSome, OnOk, is_some}
 use Rattle.clap.specs.Words.{Text}
-use Rattle.serde_json.specs.Data.{Data}
-use Rattle.serde_json.specs.Find.{get}
-use Rattle.rdm_wire.specs.Uid.{IsDevice}
 use Rattle.rdm_agent.specs.declared.search.Search.{Search}
-use Rattle.rdm_line.specs.declared.scene.Scene.{Scene}
-use Rattle.rdm_files.specs.Forms.{IsOwnUid, IsWhole}
-use Rattle.rdm_files.specs.SceneFiles.{IsSceneFile}
-use Rattle.rdm_files.specs.SessionFiles.{IsSessionLine}
 use Rattle.rdm_files.specs.declared.session.file.SessionFile.{SessionFile}
 use Rattle.rdm_reports.specs.OpeningText.{session_log}
 use Rattle.rdm_reports.specs.SessionReport.{session_text}
@@ -30,35 +23,6 @@ use Rattle.rdm_port.specs.body.Texts.{answer_bytes}
 use Rattle.rdm_port.specs.declared.answer.Answered.{Answered}
 use Rattle.rdm_port.specs.declared.fault.Fault.{Fault}
 use Rattle.rdm_port.proofs.LoggedLemmas.{opened_then}
-
--- a UID and a budget under a key
-own_device : (o : Option Data) (u : ℕ) → MatchOption o ⊥ (λ v. IsOwnUid v u) → IsDevice u
-own_device None u none = absurd none
-own_device (Some v) u own = record { in_range = own.uid.spells.in_range; own = own.own }
-
-some_frames : (o : Option Data) (n : ℕ) → MatchOption o (n ≡ 384008) (λ v. IsWhole 1 1000000000 v n) → 1 ≤ n
-some_frames None n is = omega (arith, is)
-some_frames (Some v) n whole = whole.at_least
-
--- the line of a session that was read
-pub line_in_range : (own_line : Bool) (d : Data) (scene : Option Scene) (source budget : ℕ)
-    → IsSessionLine own_line d scene source budget
-    → (own_line ≡ false → is_some scene ≡ true) × IsDevice source × (1 ≤ budget)
-line_in_range false d scene source budget line = by_scene (get (codes "scene") d) line.reads
-  where
-    by_scene : (o : Option Data) → MatchOption o ⊥ (λ v. IsSceneFile v line.file)
-        → (false ≡ false → is_some scene ≡ true) × IsDevice source × (1 ≤ budget)
-    by_scene None none = absurd none
-    by_scene (Some v) says = (
-      λ simulated. ap is_some line.scene,
-      rw line.source (own_device (get (codes "source") v) line.file.scene.source says.source),
-      rw line.budget (some_frames (get (codes "budget") v) line.file.budget says.budget),
-    )
-line_in_range true d scene source budget line = (
-  λ simulated. cc,
-  own_device (get (codes "source") d) source line.source,
-  some_frames (get (codes "budget") d) budget line.budget,
-)
 
 -- why a session that was read isn't answered
 pub served_fault : (own_line : Bool) (known : Option (List ℕ)) (file : SessionFile)

@@ -29,18 +29,6 @@ drives_more L step source n k a b c old line new [] is d e =
 drives_more L step source n k a b c old line new (x ∷ xs) is d e =
     (d.0, d.1, d.2, d.3, drives_more L step source (n + 1) k d.0 b c d.1 line new xs (omega arith) d.4 e)
 
--- before the first exchange
-pub none_driven : (L : Type 0) (step : L → Exchange → L → Type 0) (source : ℕ) (search : Search) (kind : Kind)
-    (known : List ℕ) (budget : ℕ) (old : L) (a : AgentState) → a ≡ start_by search kind known budget
-    → HasRunBy search kind known budget false [] a
-    → HasDriven L step source search kind known budget old 0 a old
-none_driven L step source search kind known budget old a is run = record {
-  exchanges = [];
-  many = refl;
-  drives = (is, refl);
-  run = run;
-}
-
 -- after one more
 pub one_driven : (L : Type 0) (step : L → Exchange → L → Type 0) (source : ℕ) (search : Search) (kind : Kind)
     (known : List ℕ) (budget n : ℕ) (old line new : L) (a b : AgentState)

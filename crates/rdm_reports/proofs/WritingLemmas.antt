@@ -51,10 +51,6 @@ whole_then_cut a b c s t wrote (front, rest, is, some, more) = (
   Appends-trans a b c s front wrote more,
 )
 
--- nothing of a text
-pub none_written : (a : Option (List ℕ)) (s : List ℕ) → s ≢ [] → IsCutShort a a s
-none_written a s some = ([], s, refl, some, Appends-nil a)
-
 -- two texts, the second after the first
 logs_from_more : (was_open was_failed failed still_failed : Bool) (a b c : Option (List ℕ)) (s t : List ℕ)
     → LogsFrom was_open was_failed failed a b s → LogsFrom was_open failed still_failed b c t

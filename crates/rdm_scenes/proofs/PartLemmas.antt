@@ -250,9 +250,6 @@ sends_parts o h each =
 abbrev of_run : ℕ → List Traded → List Traded
 of_run r ts = filter (λ (t : Traded). is_run r t.owner) ts
 
-trades : List Sending → List LineEvent → List Traded
-trades ss es = map traded_of (zip ss es)
-
 -- of frames that are all the run's, and of frames that none is
 all_own : (r : ℕ) (ss : List Sending) (es : List LineEvent) → AllOf r ss
     → of_run r (map traded_of (zip ss es)) ≡ map traded_of (zip ss es)

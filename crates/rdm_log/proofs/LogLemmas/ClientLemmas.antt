@@ -128,7 +128,7 @@ answers_answer_other o c h n r fault d client other =
     answers-push o c h (Answer n r fault) refl ∙ rw (client, other) (append-nil (answers_to o c h))
 
 -- each Finish of the log is of a request that was accepted, and each Answer of a discovery that was asked for
-finish_accepted : (o : Opening) (h : List Entry) → LogFacts o h → (i n : ℕ) (status : Status) (len : ℕ)
+pub finish_accepted : (o : Opening) (h : List Entry) → LogFacts o h → (i n : ℕ) (status : Status) (len : ℕ)
     → slice_get h i ≡ Some (Finish n status len) → n - o.next_request < length (accepts h)
 unfolding finishes
 finish_accepted o h facts i n status len at =

@@ -2,7 +2,7 @@
 use Rattle.rdm_log.proofs.Common.{◌≡◌, ℕ, suc, ◌+◌, ◌≤◌, ◌<◌, Bool, true, false, List, [], ◌∷◌, ◌++◌, length, Option}
 use Rattle.rdm_log.proofs.Common.{Some, None, slice_get, refl, sym, ap, ◌∙◌, inl, inr, arith, if◌then◌else◌, ◌⊎◌, ◌≢◌}
 use Rattle.rdm_log.proofs.Common.{◌||◌, ◌==◌, AllByRecursion, list_any, cases_Bool, false≢true, eqb-true, eq-eqb}
-use Rattle.rdm_log.proofs.Common.{none-some, same_Some, ArrayVec, EachAfter, Seen, Failed, LineEvent, AgentFault, Owner}
+use Rattle.rdm_log.proofs.Common.{none-some, same_Some, ArrayVec, EachAfter, Seen, Failed, LineEvent, AgentFault}
 use Rattle.rdm_log.proofs.Common.{Opening, Entry, Send, Came, Answer, Sending, Answered, sending_of, came_of}
 use Rattle.rdm_log.proofs.Common.{answered_of, sends, cames, traded, answers, is_run, awaits_after, awaited, has_begun}
 use Rattle.rdm_log.proofs.Common.{last_run, is_answered, unless_answered, open_run, served, run_exchanges, GoesOn}
@@ -94,11 +94,6 @@ facts_other o h e send came answer same facts = record {
 
     last : last_run k ≡ last_run h
     last = last_run_same h k (sends_same h e send)
-
--- a request's frame
-own_run : (r : ℕ) (owner : Owner) → is_run r owner ≡ true → owner ≡ owners.Run r
-own_run r (owners.Request n) own = absurd (false≢true own)
-own_run r (owners.Run q) own = rw (eqb-true r q own) refl
 
 last_of : (xs ys : List Sending) (x y : Sending) → xs ++ x ∷ [] ≡ ys ++ y ∷ [] → x ≡ y
 last_of [] [] x y e = cc

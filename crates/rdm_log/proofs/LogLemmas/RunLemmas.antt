@@ -73,10 +73,6 @@ pub entries_before_run_stays : (r : ℕ) (h k : List Entry) → has_begun r h �
 unfolding has_begun entries_before_run
 entries_before_run_stays r h k begun = before_first-stays (sends_run r) h k begun
 
--- the run that began last has begun
-any_cons : {X : Type 0} (p : X → Bool) (x : X) (xs : List X) → list_any p (x ∷ xs) ≡ (p x || list_any p xs)
-any_cons p x xs = refl
-
 pub sent_begins : (r : ℕ) (h : List Entry)
     → list_any (λ (s : Sending). is_run r s.owner) (filter_map sending_of h) ≡ list_any (sends_run r) h
 sent_begins r [] = refl

@@ -1,11 +1,10 @@
 -- A log stays in bound, whatever calls are made.
 use Rattle.rdm_log.proofs.Common.{◌≡◌, List, [], ◌∷◌, ◌++◌, Some, None, sym, subst, append-nil, append_assoc, ◌∙◌}
-use Rattle.rdm_log.proofs.Common.{EachAfter, EachAfter-push, Entry, Event, LogState, grown, with_entries}
-use Rattle.rdm_log.proofs.Common.{FaultNeedsClose, AnswersInBound, IsAnswered, Legal}
+use Rattle.rdm_log.proofs.Common.{EachAfter, EachAfter-push, Entry, LogState, grown, with_entries}
+use Rattle.rdm_log.proofs.Common.{FaultNeedsClose, AnswersInBound, Legal}
 use Rattle.rdm_log.specs.declared.entry.Entry.TheVariants as entries
 use Rattle.rdm_log.specs.declared.event.Answer.{Answer}
 use Rattle.rdm_log.specs.promises.LogInBound.{InBound}
-use Rattle.rdm_log.proofs.PromiseLemmas.EventsInBound.{event_in_bound}
 use Rattle.rdm_log.proofs.PromiseLemmas.Promises.{promised}
 use Rattle.rdm_log.specs.promises.Promised.{Promised}
 
@@ -58,13 +57,6 @@ empty_in_bound k empty = record {
 -- so is a log that grew by a block whose Answers are
 pub in_bound_grows : (k : LogState) (block : List Entry) → InBound k → AnswersInBound k block → InBound (grown k block)
 in_bound_grows k block is all = of_each (grown k block) (each_block k block (each_of k is) all)
-
--- and a log after any call
-pub call_in_bound : (old : LogState) (e : Event) (r : Answer) (new : LogState) → InBound old → IsAnswered old e r new
-    → InBound new
-call_in_bound old e r new is answered =
-    subst InBound (sym answered.grows)
-    (in_bound_grows old answered.block is (event_in_bound old e r answered.block answered.adds))
 
 -- all that is promised of the log of a session
 pub promised_in_bound : (k : LogState) → Legal k.opening k.entries → InBound k → Promised k

@@ -5,10 +5,6 @@ use Rattle.rdm_reports.specs.Writing.{LogState, IsWritten}
 use Rattle.rdm_port.specs.body.Texts.{answer_bytes}
 use Rattle.rdm_port.specs.declared.answer.Answered.{Answered}
 
--- a log to which nothing was written, and which isn't open
-abbrev pub IsClosedLog : LogState → Type 0
-IsClosedLog log = (log.is_open ≡ false) × (log.is_failed ≡ false)
-
 -- a log that was closed is open now, if it is wanted, and nothing else has changed
 pub record IsOpened (wanted : Bool) (old new : LogState) : Type 0 where
   pub is_open : new.is_open ≡ wanted

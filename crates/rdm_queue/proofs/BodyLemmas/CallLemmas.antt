@@ -1,5 +1,5 @@
 -- What a queue's calls say for each log that it stands after.
-use Rattle.rdm_queue.proofs.Common.{◌≡◌, ℕ, ◌∙◌, ◌<◌, Bool, true, false, List, [], ◌∷◌, ◌++◌, length, Option, Some}
+use Rattle.rdm_queue.proofs.Common.{◌≡◌, ℕ, ◌∙◌, ◌<◌, true, false, List, [], ◌∷◌, ◌++◌, length, Option, Some}
 use Rattle.rdm_queue.proofs.Common.{None, Result, Ok, Err, refl, sym, ap, append-nil, append_assoc, ◌≢◌, IfOk, IfErr}
 use Rattle.rdm_queue.proofs.Common.{IfSome, IfNone, OnErr, OnSome, option_map, slice_get, ArrayVec, LogState}
 use Rattle.rdm_queue.proofs.Common.{grown, ClientId, Owner, Entry, Join, Send, Collect, Close, is_closed}
@@ -15,7 +15,7 @@ use Rattle.rdm_queue.proofs.Common.{NoSend, IsGiven, to_send, false≢true, is_s
 use Rattle.rdm_log.specs.declared.outcome.OutcomeKind.{OutcomeKind}
 use Rattle.rdm_log.specs.declared.outcome.DiscoveryEnd.{DiscoveryEnd}
 use Rattle.rdm_log.specs.declared.work.Work.TheVariants.{Submit, Discover}
-use Rattle.rdm_log.specs.promises.Blocks.{JoinAdds, SwitchAdds, CollectAdds, IsOldest}
+use Rattle.rdm_log.specs.promises.Blocks.{JoinAdds, CollectAdds, IsOldest}
 use Rattle.rdm_queue.specs.declared.oldest.Oldest.{Oldest}
 use Rattle.rdm_queue.specs.declared.oldest.Oldest.TheVariants as shown
 use Rattle.rdm_queue.specs.promises.Oldest.{outcome_shown, kind_shown}
@@ -107,13 +107,6 @@ pub none_each : (r : Option (Owner × ArrayVec ℕ)) (s new : QueueState) → If
     → IfNone r (ForEachLog s (λ o h. NoSend o h) × (new ≡ s))
 none_each (Some g) s new none = tt
 none_each None s new none = ((λ o h after. none_after o h s none.0 after), none.1)
-
--- a switch
-pub switch_adds : (k : LogState) (e : Entry) (b : Bool) (s new : QueueState)
-    → (b ≡ true → StandsAfter k.opening (k.entries ++ e ∷ []) new) → (b ≡ false → StandsAfter k.opening k.entries new)
-    → StandsWith k (SwitchAdds b e) new
-switch_adds k e true s new turned stays = record { block = e ∷ []; adds = refl; after = turned refl }
-switch_adds k e false s new turned stays = adds_nothing k (SwitchAdds false e) new refl (stays refl)
 
 -- a collect
 pub collecting_adds : (s new : QueueState) (c : ClientId) (outcome : Outcome)

@@ -37,18 +37,6 @@ heard_done vs status s done step at completes = by_result (result_of vs) step at
         of_done : Done status ≡ Done j.status → status ≡ j.status
         of_done h = cc
 
--- still open
-pub heard_more : (vs : List Judged) (s : JoinerStanding) → More ≡ step_of (result_of vs) → StandsAt vs s
-    → IsStanding vs None s
-heard_more vs s step at = by_result (result_of vs) refl step
-  where
-    by_result : (o : Option Joined) → result_of vs ≡ o → More ≡ step_of o → StandingAt o vs None s
-    by_result None is h = (refl, at)
-    by_result (Some j) is h = absurd (no h)
-      where
-        no : More ≡ Done j.status → ⊥
-        no h = cc
-
 -- the oldest request, finished with its end, which was removed
 pub finished_so : (s removed new : QueueState) (done : Joined) (entry : Entry) → end_of_oldest s ≡ Some done
     → removed ≡ record s { decided = None } → (a : Accepted) × (slice_get removed.waiting 0 ≡ Some a)

@@ -9,7 +9,7 @@ use Rattle.rdm_queue.proofs.Common.{Request, Joined, Kind, JoinFault, Accepted, 
 use Rattle.rdm_queue.proofs.Common.{OutcomeValue, StateInvariant, served_by, QueueState, RunState, outstanding}
 use Rattle.rdm_queue.proofs.Common.{outstanding_asks, owes, is_discovery, owed_for, finishes_oldest, accepts_request}
 use Rattle.rdm_queue.proofs.Common.{accepted_as, asks_discovery, joins_client, collects_oldest, first_join_fault}
-use Rattle.rdm_queue.proofs.Common.{first_submit_fault, first_ask_fault, begun, slice_get_first}
+use Rattle.rdm_queue.proofs.Common.{first_submit_fault, first_ask_fault, slice_get_first}
 use Rattle.std.proofs.lemmas.Bool.{leb-false}
 use Rattle.std.proofs.lemmas.List.{get_or_append_left}
 use Rattle.rdm_agent.specs.declared.kind.Kind.TheVariants.{Full}
@@ -246,30 +246,6 @@ room_to_ask s c held passes =
 -- a run begins for all discoveries that wait
 none_begun : (s : QueueState) → StateInvariant s → s.run ≡ None → s.next_run + (length s.asked - 0) ≤ s.next_ask + 1
 none_begun s held none = rw none at held.runs_numbered
-
-pub held-begun : (s : QueueState) → StateInvariant s → s.run ≡ None → 0 < length s.asked → StateInvariant (begun s)
-held-begun s held none some = record {
-  source = held.source;
-  greatest = held.greatest;
-  budget = held.budget;
-  few_places = held.few_places;
-  few_clients = held.few_clients;
-  owed_for_each = held.owed_for_each;
-  few = held.few;
-  few_asks = held.few_asks;
-  rising = held.rising;
-  open_ = held.open_;
-  asks_numbered = held.asks_numbered;
-  served = omega arith;
-  serves = some;
-  runs_numbered = let numbered = none_begun s held none in omega arith;
-}
-
--- and its number is below the greatest
-pub run_number : (s : QueueState) → StateInvariant s → s.run ≡ None → 0 < length s.asked
-    → s.next_run + 1 < 18446744073709551616
-run_number s held none some =
-    let numbered = none_begun s held none in let most = held.asks_numbered in omega arith
 
 -- one outcome fewer
 fewer_left : (p : OutcomeValue → Bool) (ds : List OutcomeValue) → length (filter p (drop 1 ds)) ≤ length (filter p ds)

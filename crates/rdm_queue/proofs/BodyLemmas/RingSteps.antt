@@ -1,7 +1,7 @@
 -- How one client's call changes all clients' rings.
 use Rattle.rdm_queue.proofs.Common.{◌≡◌, ℕ, zero, suc, ◌+◌, ◌-◌, ◌<◌, ◌≤◌, false, List, [], ◌∷◌, ◌++◌, length, drop}
 use Rattle.rdm_queue.proofs.Common.{set, get_or, Option, Some, None, slice_get, refl, sym, ap, ◌∙◌, subst, filter, map}
-use Rattle.rdm_queue.proofs.Common.{arith, ◌==◌, option_map, is_some, OnSome, IfNone, IfSome, AllByRecursion, deque_len}
+use Rattle.rdm_queue.proofs.Common.{arith, ◌==◌, option_map, is_some, IfNone, IfSome, AllByRecursion, deque_len}
 use Rattle.rdm_queue.proofs.Common.{deque_capacity, eq-eqb, false≢true, map-append, length-map, Request, Device}
 use Rattle.rdm_queue.proofs.Common.{AgentFault, Client, Waiting, Entry, Completion, Accepted, AskedDiscovery}
 use Rattle.rdm_queue.proofs.Common.{OutcomeValue, completion_value, AreShares, HasRings, HasSets, IsNewClient}
@@ -325,10 +325,6 @@ pub first_at : (s : QueueState) (clients : List Client) (c : ℕ) (k : Client) �
     → slice_get clients c ≡ Some k → slice_get (owed_to c s) 0 ≡ slice_get (owed_values k) 0
 first_at s clients c k owed at =
     ap (λ lists. slice_get (get_or lists c []) 0) owed ∙ ap (λ ds. slice_get ds 0) (values_at clients c k at)
-
-pub on_some : {X : Type 0} {P Q : Type 0} (r : Option X) → (P → Q) → OnSome r P → OnSome r Q
-on_some (Some x) so p = so p
-on_some None so p = tt
 
 pub if_none : {X : Type 0} {P Q : Type 0} (r : Option X) → (P → Q) → IfNone r P → IfNone r Q
 if_none (Some x) so p = tt
