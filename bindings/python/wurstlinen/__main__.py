@@ -6,6 +6,7 @@ import sys
 from types import FrameType
 from typing import Optional
 
+from ._standard_streams import mend
 from .commands import main
 
 
@@ -15,6 +16,7 @@ def interrupt(number: int, frame: Optional[FrameType]) -> None:
 
 
 if __name__ == "__main__":
+    mend()
     # A shell makes background jobs ignore SIGINT.
     for ending in (signal.SIGINT, signal.SIGTERM):
         signal.signal(ending, interrupt)

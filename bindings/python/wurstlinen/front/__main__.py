@@ -6,6 +6,7 @@ import sys
 from types import FrameType
 from typing import Optional
 
+from .._standard_streams import mend
 from .main import main
 
 
@@ -15,6 +16,7 @@ def interrupt(number: int, frame: Optional[FrameType]) -> None:
 
 
 if __name__ == "__main__":
+    mend()
     for ending in (signal.SIGINT, signal.SIGTERM):
         signal.signal(ending, interrupt)
     sys.exit(main())

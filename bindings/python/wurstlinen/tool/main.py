@@ -9,6 +9,7 @@ from types import FrameType
 from typing import Iterator, List, Optional, Sequence, Tuple
 
 from .. import commands
+from .._standard_streams import mend
 from ..front import main as front
 from ..front.main import run as run_chosen
 from ..front.output import BAD_ARGUMENTS, DONE, FAILED, INTERRUPTED, Failure, Output
@@ -32,6 +33,7 @@ IGNORED = (signal.SIGPIPE, signal.SIGXFSZ)
 
 def run() -> int:
     """The command with the arguments of this process."""
+    mend()
     # A shell makes background jobs ignore SIGINT.
     signal.signal(signal.SIGINT, signal.default_int_handler)
     for ending in (signal.SIGTERM, signal.SIGHUP):

@@ -1,0 +1,28 @@
+"""The standard streams of a command, whatever the caller has made of them."""
+from __future__ import annotations
+
+import io
+import os
+import sys
+
+# What stands for a closed stream. Results that can't be printed mustn't be lost without a word, so writing them fails.
+INSTEAD = {"stdin": ("r", os.O_RDONLY), "stdout": ("w", os.O_RDONLY), "stderr": ("w", os.O_WRONLY)}
+
+
+def mend() -> None:
+    """Opens those that are closed, so that no other file is taken for one; no character ends a command."""
+    for number, (name, (mode, flags)) in enumerate(INSTEAD.items()):
+        if getattr(sys, name) is None:
+            opened = os.open(os.devnull, flags)
+            # It has this number already, unless something else was opened before.
+            if opened != number:
+                os.dup2(opened, number)
+                os.close(opened)
+            # A program that is started here has them too.
+            os.set_inheritable(number, True)
+            # Without a buffer, nothing is left to write at the end.
+            raw = io.FileIO(number, mode, closefd=False)
+            setattr(sys, name, io.TextIOWrapper(raw, encoding="utf-8", write_through=True))
+        stream = getattr(sys, name)
+        if isinstance(stream, io.TextIOWrapper) and stream.errors == "strict":
+            stream.reconfigure(errors="backslashreplace")
