@@ -18,6 +18,6 @@ def interrupt(number: int, frame: Optional[FrameType]) -> None:
 if __name__ == "__main__":
     mend()
     # A shell makes background jobs ignore SIGINT.
-    for ending in (signal.SIGINT, signal.SIGTERM):
+    for ending in (signal.SIGINT, signal.SIGTERM, signal.SIGHUP):
         signal.signal(ending, interrupt)
     sys.exit(main())

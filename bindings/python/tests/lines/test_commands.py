@@ -162,7 +162,7 @@ class Rigs(TestCase):
 
     def test_a_rig_is_an_adapter_on_a_pseudo_terminal(self) -> None:
         for arguments in ([str(FIVE)], ["--line", f"rig:{FIVE}", "--firmware", "4.15"]):
-            for end in (signal.SIGINT, signal.SIGTERM):
+            for end in (signal.SIGINT, signal.SIGTERM, signal.SIGHUP):
                 with folder() as locks, self.start(*arguments) as rig:
                     assert rig.stdout is not None
                     kind, _, path = rig.stdout.readline().strip().partition(":")
