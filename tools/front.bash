@@ -25,7 +25,15 @@ asks_for_help() {
 call_front() {
     export PYTHONPATH="$root/bindings/python${PYTHONPATH:+:$PYTHONPATH}" PYTHONDONTWRITEBYTECODE=1
     export WURSTLINEN_PROGRAM="$program"
-    exec python3 -m wurstlinen.tool "$@"
+    # The caller's folder may have files with the names of modules, and isn't searched. While the package is loaded, an
+    # interrupt ends it without a word.
+    exec python3 -c '
+import sys
+sys.path[:] = filter(None, sys.path)
+import signal
+signal.signal(signal.SIGINT, signal.SIG_DFL)
+from wurstlinen.tool import run
+sys.exit(run())' "$@"
 }
 
 # Sets `costs` to what the doctor also says: what the next steps in the repository cost.

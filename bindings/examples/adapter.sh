@@ -57,7 +57,12 @@ trap 'exit 143' TERM
 mkfifo "$folder/frames" "$folder/replies" || exit
 # Both run in the background, so that a signal needn't wait for them, and each in a session, which can be ended as a
 # whole.
-PYTHONPATH="$package${PYTHONPATH:+:$PYTHONPATH}" setsid python3 -m wurstlinen bridge --line "$line" \
+# The caller's folder may have files with the names of modules, and isn't searched.
+PYTHONPATH="$package${PYTHONPATH:+:$PYTHONPATH}" setsid python3 -c '
+import sys
+sys.path[:] = filter(None, sys.path)
+import runpy
+runpy.run_module("wurstlinen", run_name="__main__", alter_sys=True)' bridge --line "$line" \
     < "$folder/frames" > "$folder/replies" &
 bridge=$!
 setsid "$program" "$@" --line "$folder/frames" --replies "$folder/replies" <&0 &

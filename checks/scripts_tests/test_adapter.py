@@ -93,6 +93,13 @@ class Adapter(unittest.TestCase):
         wanted = f"adapter.sh: there is no program {self.environment['WURSTLINEN']}: name it by WURSTLINEN\n"
         self.assertEqual((done.returncode, done.stderr), (127, wanted))
 
+    def test_the_callers_folder_has_no_modules(self) -> None:
+        self.put_program(f"{OPENS}exit 0\n")
+        (self.clone.folder / "queue.py").write_text("raise SystemExit('another queue')\n")
+        done = subprocess.run(["clone/bindings/examples/adapter.sh", self.line, "run"], input="", text=True,
+                              cwd=self.clone.folder, env=self.environment, capture_output=True, check=False)
+        self.assertEqual((done.returncode, done.stderr), (0, ""))
+
     def test_a_full_disk(self) -> None:
         """Without the FIFOs nothing is started."""
         self.put_program(f"#!/bin/sh\necho started > {self.note}\n")

@@ -397,6 +397,11 @@ class Repository(unittest.TestCase):
         self.assertEqual(self.clone.rt_calls(), [])
         self.assertEqual(list(self.clone.root.rglob("__pycache__")), [])
 
+    def test_the_callers_folder_has_no_modules(self) -> None:
+        (self.clone.folder / "queue.py").write_text("raise SystemExit('another queue')\n")
+        done = self.clone.run("clone/wurstlinen", "pids", "device_label", cwd=self.clone.folder)
+        self.assertEqual((done.returncode, done.stderr), (0, ""))
+
     def test_wrong_words_build_nothing(self) -> None:
         rig, uid = f"--line=rig:{FIXTURES}", "1234:00000001"
         for words, status, reason in (
