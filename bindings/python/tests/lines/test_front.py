@@ -17,7 +17,7 @@ from unittest import mock
 from common import PACKAGE, ROOT, TestCase, folder, needs_library
 from fronts import FIVE, LEFT, SLOW, OneRig, called
 from wurstlinen import Session, Uid, commands, entries
-from wurstlinen.front import frames, naming, pids, work
+from wurstlinen.front import files, frames, naming, pids, work
 from wurstlinen.front.output import Output
 from wurstlinen.lines import open_line
 from wurstlinen.lines.numbers import ResponseType
@@ -451,6 +451,20 @@ class Frames(TestCase):
                              (2, "", "wurstlinen: -: line 1 isn't an entry of a log\n"), text)
         self.assertEqual(called("trace", "/nowhere.log"),
                          (2, "", "wurstlinen: /nowhere.log: No such file or directory\n"))
+
+
+class Files(TestCase):
+    def test_an_interrupt_of_the_last_step(self) -> None:
+        replaced = os.replace
+
+        def replace_late(made: str, path: str) -> None:
+            replaced(made, path)
+            raise KeyboardInterrupt
+
+        with folder() as place, mock.patch("os.replace", replace_late):
+            with self.assertRaises(KeyboardInterrupt), files.file_of(str(place / "rig.csv")) as file:
+                file.write("whole")
+            self.assertEqual([(each.name, each.read_text()) for each in place.iterdir()], [("rig.csv", "whole")])
 
 
 class Processes(TestCase):

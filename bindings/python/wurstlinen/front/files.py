@@ -46,7 +46,9 @@ def file_of(name: str) -> Iterator[NewFile]:
             yield NewFile(file, old is not None)
         os.replace(made, path)
     except BaseException:
-        os.unlink(made)
+        # An interrupt may come when it has its name already.
+        with contextlib.suppress(FileNotFoundError):
+            os.unlink(made)
         raise
 
 
