@@ -173,6 +173,18 @@ class Rigs(TestCase):
                     rig.send_signal(end)
                     self.assertEqual(rig.wait(), 0)
 
+    def test_a_hangup_that_is_ignored(self) -> None:
+        """A rig under nohup outlives its terminal."""
+        ignored = mock.patch.dict(globals(), COMMAND=["nohup", *COMMAND])
+        with folder() as locks, ignored, self.start(str(FIVE)) as rig:
+            assert rig.stdout is not None
+            path = rig.stdout.readline().strip().partition(":")[2]
+            rig.send_signal(signal.SIGHUP)
+            with EnttecPro(path, locks) as driver:
+                self.assertEqual(len(discover(driver)), 5)
+            rig.send_signal(signal.SIGINT)
+            self.assertEqual(rig.wait(), 0)
+
     def test_a_line_that_raises_anything_ends_the_rig(self) -> None:
         broken = mock.patch("wurstlinen.lines.rig.Rig.exchange", side_effect=ZeroDivisionError("broken"))
         with folder() as locks, broken:

@@ -9,6 +9,7 @@ from types import FrameType
 from typing import Iterator, List, Optional, Sequence, Tuple
 
 from .. import commands
+from .._endings import end_by
 from .._standard_streams import mend
 from ..front import main as front
 from ..front.main import run as run_chosen
@@ -36,8 +37,7 @@ def run() -> int:
     mend()
     # A shell makes background jobs ignore SIGINT.
     signal.signal(signal.SIGINT, signal.default_int_handler)
-    for ending in (signal.SIGTERM, signal.SIGHUP):
-        signal.signal(ending, end)
+    end_by(end, signal.SIGTERM, signal.SIGHUP)
     places.name_library()
     try:
         return main(sys.argv[1:])
