@@ -9,8 +9,9 @@ from __future__ import annotations
 import argparse
 import json
 import os
+import re
 import sys
-from typing import TYPE_CHECKING, List, Optional, Sequence, TextIO, Tuple
+from typing import TYPE_CHECKING, Optional, Sequence, TextIO, Tuple
 
 from .line import Line, LineFailed
 from .lines import OpenLine, open_line, serve_text
@@ -30,6 +31,7 @@ DEFAULT_BUDGET = 384_008
 MOST_BUDGET = 1_000_000_000
 MOST_SECONDS = 86_400
 MOST_DATA_BYTES = 231
+VERSION = re.compile("([0-9]{1,3})[.]([0-9]{1,3})")
 ALL_SUB_DEVICES = 0xFFFF
 # The faults of a run, by their numbers.
 RUN_FAULTS = {
@@ -320,7 +322,7 @@ def number_to(text: str, least: int, most: int) -> int:
 
 def version(text: str) -> Tuple[int, int]:
     """An argument that is a firmware's version."""
-    numbers: List[int] = [int(each) for each in text.split(".") if each.isascii() and each.isdigit()]
-    if len(numbers) != 2 or max(numbers) > 255:
+    found = VERSION.fullmatch(text)
+    if not found or max(map(int, found.groups())) > 255:
         raise argparse.ArgumentTypeError(f"'{text}' isn't a version such as 2.4")
-    return numbers[0], numbers[1]
+    return int(found[1]), int(found[2])

@@ -80,7 +80,8 @@ class Arguments(TestCase):
                           ["get", UIDS[0], "0060", "--sub", "65536", "--line", line],
                           ["discover", "--source", "1234:ffffffff", "--line", line],
                           ["discover", "--budget", "0", "--line", line], ["bridge"], ["rig", "a", "--line", line],
-                          ["rig", str(FIVE), "--firmware", "2"], ["bridge", "--seconds", "0", "--line", line],
+                          ["rig", str(FIVE), "--firmware", "2"], ["rig", str(FIVE), "--firmware", "2.4.x"],
+                          ["rig", str(FIVE), "--firmware", "2.256"], ["bridge", "--seconds", "0", "--line", line],
                           ["rig", str(FIVE), "--seconds", "86401"]):
             self.assertEqual(called(*arguments)[:2], (2, ""), arguments)
             self.assertIn("usage:", called(*arguments)[2])

@@ -449,6 +449,10 @@ class Frames(TestCase):
                      '{"frame":"0"}\n', '{"frame":7}\n', '{"frame":"00","reply":[]}\n', "\n"):
             self.assertEqual(called("trace", "-", text=text),
                              (2, "", "wurstlinen: -: line 1 isn't an entry of a log\n"), text)
+        self.assertEqual(called("trace", "-", text="{}".ljust(262_142) + "\n"), (0, "", ""))
+        for name, text in (("-", "{}".ljust(262_143) + "\n"), ("/dev/zero", "")):
+            self.assertEqual(called("trace", name, text=text),
+                             (2, "", f"wurstlinen: {name}: line 1 isn't an entry of a log\n"))
         self.assertEqual(called("trace", "/nowhere.log"),
                          (2, "", "wurstlinen: /nowhere.log: No such file or directory\n"))
 

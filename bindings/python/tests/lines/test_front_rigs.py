@@ -392,6 +392,11 @@ uid,label,address,personality
         self.assertEqual(self.frames, [])
         self.assertEqual(self.run_command("apply", "/nowhere.csv"),
                          (2, "", "wurstlinen: /nowhere.csv: No such file or directory\n"))
+        longest = "uid\n" + f"{LEFT}\n".ljust(999_996, "\n")
+        self.assertEqual(self.run_command("apply", "-", text=longest)[:2], (0, "0 changes\n"))
+        for name, text in (("-", longest + "\n"), ("/dev/zero", "")):
+            self.assertEqual(self.run_command("apply", name, text=text),
+                             (2, "", f"wurstlinen: {name} is longer than 1000000 bytes\n"))
 
     def test_a_device_that_does_not_keep_a_value(self) -> None:
         self.scene({"uid": LEFT, "params": [{"pid": "00f0", "parts": ["0001"]}]})

@@ -213,7 +213,7 @@ class Logs(TestCase):
                      '{"operation":"branch","number":0,"frame":5,"reply":""}',
                      '{"operation":"branch","number":0,"frame":"cc","reply":null}',
                      '{"operation":"branch","number":0,"frame":"cc"}', "[" * 100_000, "{" * 200,
-                     '{"number":' + "1" * 5_000 + "}", '{"entry":"' + "x" * page_log.MOST_LINE_BYTES):
+                     '{"number":' + "1" * 5_000 + "}", '{"entry":"' + "x" * page_log.MOST_LINE):
             with self.assertRaisesRegex(page_log.NoLog, "line 2 isn't an entry of a log"):
                 page_log.read_log(io.BytesIO(f"{good}{line}\n{good}".encode()))
         for data in (b"\xff\n", b"\x00\n", bytes(range(256)), b'{"entry":"pause"}\x80\n', "{}".encode("utf-16")):

@@ -5,8 +5,8 @@ import argparse
 import csv
 import io
 import sys
+from collections import Counter
 from dataclasses import dataclass
-from pathlib import Path
 from typing import Dict, List, Mapping, Optional, Sequence, Tuple
 
 from .. import Uid
@@ -17,6 +17,8 @@ from .output import BAD_ARGUMENTS, DONE, FAILED, REFUSED, Failure, Output
 from .work import Work, open_work
 
 STANDARD_STREAM = "-"
+# A line has at most some 100 bytes, and a rig at most 1,024 devices.
+MOST_BYTES = 1_000_000
 UID = "uid"
 LABEL = "label"
 MISFIT = "misfit"
@@ -160,9 +162,11 @@ def show(change: Change, output: Output) -> None:
 def read(name: str) -> List[Tuple[Uid, Dict[str, str]]]:
     """The devices of a file, with the values that they are to have. Raises Failure."""
     try:
-        data = standard_input() if name == STANDARD_STREAM else Path(name).read_bytes()
+        data = standard_input() if name == STANDARD_STREAM else bytes_of(name)
     except OSError as fault:
         raise wrong(f"{name}: {fault.strerror}") from None
+    if len(data) > MOST_BYTES:
+        raise wrong(f"{name} is longer than {MOST_BYTES} bytes")
     text = data.decode("utf-8-sig", "replace")
     reader = csv.DictReader(io.StringIO(text), strict=True)
     rows: List[Tuple[Uid, Dict[str, str]]] = []
@@ -173,16 +177,22 @@ def read(name: str) -> List[Tuple[Uid, Dict[str, str]]]:
             rows.append(checked(row, f"{name}: line {reader.line_num}"))
     except csv.Error as fault:
         raise wrong(f"{name}: {fault}") from None
-    uids = [uid for uid, _ in rows]
-    for uid in uids:
-        if uids.count(uid) > 1:
+    counts = Counter(uid for uid, _ in rows)
+    for uid in counts:
+        if counts[uid] > 1:
             raise wrong(f"{name}: {uid} is there more than once")
     return rows
 
 
 def standard_input() -> bytes:
-    """All of standard input; nothing if it is closed."""
-    return b"" if sys.stdin is None else sys.stdin.buffer.read()
+    """All of standard input, or a byte more than a file may have; nothing if it is closed."""
+    return b"" if sys.stdin is None else sys.stdin.buffer.read(MOST_BYTES + 1)
+
+
+def bytes_of(name: str) -> bytes:
+    """The same of a file. Raises OSError."""
+    with open(name, "rb") as file:
+        return file.read(MOST_BYTES + 1)
 
 
 def wrong(text: str) -> Failure:

@@ -1,4 +1,4 @@
-"""Files that are written as a whole, or not at all."""
+"""Files that are written as a whole, or not at all, and how long the lines of a log may be."""
 from __future__ import annotations
 
 import contextlib
@@ -7,6 +7,9 @@ import os
 import stat
 import tempfile
 from typing import Iterator, Optional, TextIO
+
+# A little more than the longest line of a log, in bytes or characters.
+MOST_LINE = 1 << 18
 
 
 class NewFile:

@@ -12,11 +12,10 @@ from collections import Counter
 from dataclasses import dataclass, field
 from typing import Any, BinaryIO, Callable, Dict, Iterator, List, Optional, Set, Tuple
 
+from .files import MOST_LINE
 from .page_details import Details
 from .page_frames import NO_UID, Came, answer_to, command_in
 
-# A little more than the longest line of a log.
-MOST_LINE_BYTES = 1 << 18
 MOST_CLIENTS = 16
 MOST_EXCHANGES = 10_000_000
 NO_RUN = "discovery"
@@ -261,11 +260,11 @@ def lines_of(file: BinaryIO) -> Iterator[bytes]:
     """The lines of a log. Raises NoLog for one that is too long."""
     number = 0
     while True:
-        line = file.readline(MOST_LINE_BYTES)
+        line = file.readline(MOST_LINE)
         if not line:
             return
         number += 1
-        if len(line) == MOST_LINE_BYTES:
+        if len(line) == MOST_LINE:
             raise NoLog(number)
         yield line
 

@@ -5,8 +5,9 @@ import argparse
 import io
 import json
 import sys
-from typing import Any, Dict, Iterable, Iterator, Optional, TextIO, Tuple
+from typing import Any, Dict, Iterator, Optional, TextIO, Tuple
 
+from .files import MOST_LINE
 from .frames import answer_keys, command_of, exchange_text
 from .output import BAD_ARGUMENTS, DONE, Failure, Output
 
@@ -37,12 +38,12 @@ def trace(name: str, file: TextIO, output: Output) -> int:
     return DONE
 
 
-def exchanges(name: str, lines: Iterable[str]) -> Iterator[Exchange]:
+def exchanges(name: str, file: TextIO) -> Iterator[Exchange]:
     """The exchanges of a session's log, or of a discovery's. A frame without a reply at the end is left out."""
     frame: Optional[bytes] = None
-    for number, line in enumerate(lines, 1):
+    for number, line in enumerate(iter(lambda: file.readline(MOST_LINE), ""), 1):
         try:
-            entry = json.loads(line)
+            entry = entry_of(line)
             if "frame" in entry:
                 frame = bytes.fromhex(entry["frame"])
             if frame is not None and ("reply" in entry or "failed" in entry):
@@ -50,3 +51,10 @@ def exchanges(name: str, lines: Iterable[str]) -> Iterator[Exchange]:
                 frame = None
         except (ValueError, TypeError, RecursionError):
             raise Failure(BAD_ARGUMENTS, f"{name}: line {number} isn't an entry of a log", reason="file") from None
+
+
+def entry_of(line: str) -> Any:
+    """The entry of a line. Raises ValueError and RecursionError, also for a line that is longer than any entry's."""
+    if len(line) == MOST_LINE:
+        raise ValueError("too long")
+    return json.loads(line)
