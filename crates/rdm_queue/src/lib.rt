@@ -13,6 +13,8 @@
 //!   the caller's. `next_outcome` returns a value that could hold a set, 32 KB, even for a request. `answer` and `run`
 //!   move no set for a request, and allocate memory for the set of each discovery that is collected.
 //! - `close`, and the reply after it, look at the clients' oldest requests once for each request that they finish.
+//! - When a run ends, its set is copied for each discovery that it answers. Without a fault it is also copied once for
+//!   `devices`.
 //! - `join_client` adds up the queue depths of the clients, 16 at most, and reserves the memory of the client's rings
 //!   and sets. No later call allocates, except for the joined data of a request, and for what `answer` and `run`
 //!   return.

@@ -7,6 +7,7 @@ use Rattle.rdm_queue.proofs.Common.{Asked, Inside, AskedDiscovery, HasSets, Clie
 use Rattle.rdm_queue.proofs.Common.{QueueInvariant, served_by, QueueState, RunState, answer_value, answers_oldest}
 use Rattle.rdm_queue.proofs.Common.{one_less, all_at}
 use Rattle.std.proofs.lemmas.List.{drop-map}
+use Rattle.rdm_queue.specs.body.QueueInvariant.{IsKept}
 use Rattle.rdm_queue.proofs.BodyLemmas.FieldLemmas.{read_at}
 use Rattle.rdm_queue.proofs.BodyLemmas.RingFields.{AreClientsOf, are_clients}
 use Rattle.rdm_queue.proofs.BodyLemmas.InvariantLemmas.{asked_joined, first_counts, held-answers}
@@ -76,12 +77,14 @@ can_answer s clients ys a i d are oldest same_index read = record {
     one : 1 ≤ length (filter (λ (b : AskedDiscovery). a.client == b.client) s.asked)
     one = first_counts (λ (b : AskedDiscovery). b.client) s.asked a oldest
 
--- a run that serves one fewer, and no run
+-- the same run that serves one fewer, and no run
 pub record ServesLess (s : QueueState) (run : Option RunState) : Type 0 where
   pub serves : MatchOption run (Unit {0}) (λ q. 1 ≤ q.left)
   pub less : served_by s.run ≤ served_by run + 1
   pub most : served_by run ≤ served_by s.run
   pub within : served_by run + 1 ≤ length s.asked
+  pub begun : MatchOption run (Unit {0}) (λ q. q.number < s.next_run)
+  pub kept : MatchOption run (Unit {0}) (λ q. s.devices_run ≡ q.number → IsKept s)
 
 pub serves_less : (s : QueueState) (clients : List Client) (r : RunState) → QueueInvariant s clients → s.run ≡ Some r
     → ServesLess s (one_less r)
@@ -93,6 +96,12 @@ serves_less s clients r held is = by_left _ refl
     within : r.left ≤ length s.asked
     within = rw is at held.state.served
 
+    begun : r.number < s.next_run
+    begun = rw is at held.state.run_begun
+
+    kept : s.devices_run ≡ r.number → IsKept s
+    kept = rw is at held.state.kept
+
     more : nat_lt 1 r.left ≡ true → 1 < r.left
     more t = ltb-true 1 r.left t
 
@@ -103,10 +112,24 @@ serves_less s clients r held is = by_left _ refl
         → ServesLess s (if b then Some (record { number = r.number; left = r.left - 1 }) else None)
     by_left true t =
         let some = more t in let left = serves in let all = within in
-        rw is (record { serves = omega arith; less = omega arith; most = omega arith; within = omega arith })
+        rw is (record {
+          serves = omega arith;
+          less = omega arith;
+          most = omega arith;
+          within = omega arith;
+          begun = begun;
+          kept = kept;
+        })
     by_left false t =
         let last = most t in let left = serves in let all = within in
-        rw is (record { serves = tt; less = omega arith; most = omega arith; within = omega arith })
+        rw is (record {
+          serves = tt;
+          less = omega arith;
+          most = omega arith;
+          within = omega arith;
+          begun = tt;
+          kept = tt;
+        })
 
 pub serves_none : (s : QueueState) (a : AskedDiscovery) → s.run ≡ None → slice_get s.asked 0 ≡ Some a
     → ServesLess s None
@@ -115,6 +138,8 @@ serves_none s a none oldest = rw none (record {
   less = omega arith;
   most = omega arith;
   within = some s.asked oldest;
+  begun = tt;
+  kept = tt;
 })
   where
     some : (xs : List AskedDiscovery) → slice_get xs 0 ≡ Some a → 1 ≤ length xs
@@ -137,6 +162,6 @@ clients-answer s clients i k l a r f found run are can less same_index answers =
     kept : QueueInvariant new (set clients a.client l)
     kept = record {
       state = held-answers s a (answer_value a r f found) run are.kept.state can.oldest refl less.serves less.less
-          less.most less.within new refl;
+          less.most less.within less.begun less.kept;
       rings = rings-answer s new clients a.client k l a.number r f found refl are.kept.rings can.at answers;
     }

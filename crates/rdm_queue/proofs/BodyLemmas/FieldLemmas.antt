@@ -43,6 +43,9 @@ first_kept setup is = record {
     served = omega arith;
     serves = tt;
     runs_numbered = omega arith;
+    run_begun = tt;
+    devices_begun = omega arith;
+    kept = tt;
   };
   rings = record { waiting = λ c. refl; sizes = tt; sets = tt };
 }

@@ -1,5 +1,5 @@
 -- A queue's calls keep its invariant.
-use Rattle.rdm_queue.proofs.Common.{◌≡◌, ℕ, zero, suc, ◌+◌, ◌-◌, ◌≤◌, ◌<◌, Bool, true, false, cond, not, List, [], ◌∷◌}
+use Rattle.rdm_queue.proofs.Common.{◌≡◌, ℕ, zero, suc, ◌+◌, ◌≤◌, ◌<◌, Bool, true, false, cond, not, List, [], ◌∷◌}
 use Rattle.rdm_queue.proofs.Common.{◌++◌, length, drop, get_or, filter, map, sum, Option, Some, None, slice_get, refl}
 use Rattle.rdm_queue.proofs.Common.{sym, ap, ◌∙◌, subst, inl, inr, length-append, arith, AllByRecursion, ◌⊎◌, ◌==◌}
 use Rattle.rdm_queue.proofs.Common.{nat_le, nat_lt, slice_index, if◌then◌else◌, MatchOption, eqb-true, eq-eqb}
@@ -9,12 +9,13 @@ use Rattle.rdm_queue.proofs.Common.{Request, Joined, Kind, JoinFault, Accepted, 
 use Rattle.rdm_queue.proofs.Common.{OutcomeValue, StateInvariant, served_by, QueueState, RunState, outstanding}
 use Rattle.rdm_queue.proofs.Common.{outstanding_asks, owes, is_discovery, owed_for, finishes_oldest, accepts_request}
 use Rattle.rdm_queue.proofs.Common.{accepted_as, asks_discovery, joins_client, collects_oldest, first_join_fault}
-use Rattle.rdm_queue.proofs.Common.{first_submit_fault, first_ask_fault, slice_get_first}
+use Rattle.rdm_queue.proofs.Common.{first_submit_fault, first_ask_fault, slice_get_first, AgentState, next_op, End}
+use Rattle.rdm_queue.proofs.Common.{Client, QueueInvariant}
 use Rattle.std.proofs.lemmas.Bool.{leb-false}
 use Rattle.std.proofs.lemmas.List.{get_or_append_left}
 use Rattle.rdm_agent.specs.declared.kind.Kind.TheVariants.{Full}
 use Rattle.rdm_log.specs.declared.fault.JoinFault.TheVariants as join_faults
-use Rattle.rdm_queue.specs.body.QueueInvariant.{numbers}
+use Rattle.rdm_queue.specs.body.QueueInvariant.{numbers, IsKept}
 use Rattle.rdm_queue.specs.body.State.{asked_as}
 use Rattle.rdm_log.proofs.LogLemmas.RefusalLemmas.{none_stands, none_at}
 use Rattle.rdm_queue.proofs.BodyLemmas.OutstandingLemmas.{removed_at, owes-count, without_first, one_more, four}
@@ -101,6 +102,9 @@ held-finishes s j a held at = record {
   served = held.served;
   serves = held.serves;
   runs_numbered = held.runs_numbered;
+  run_begun = held.run_begun;
+  devices_begun = held.devices_begun;
+  kept = held.kept;
 }
   where
     within : a.client < length s.owed
@@ -110,16 +114,10 @@ held-finishes s j a held at = record {
 pub held-answers : (s : QueueState) (a : AskedDiscovery) (d : OutcomeValue) (run : Option RunState) → StateInvariant s
     → slice_get s.asked 0 ≡ Some a → is_discovery d ≡ true → MatchOption run (Unit {0}) (λ r. 1 ≤ r.left)
     → served_by s.run ≤ served_by run + 1 → served_by run ≤ served_by s.run → served_by run + 1 ≤ length s.asked
-    → (new : QueueState)
-    → new ≡ record s {
-      asked = drop 1 s.asked;
-      owed = owes a.client d s;
-      run = run;
-      agent = new.agent;
-      devices = new.devices;
-      devices_run = new.devices_run;
-    } → StateInvariant new
-held-answers s a d run held at discovery serves less most within new is = rw is (record {
+    → MatchOption run (Unit {0}) (λ r. r.number < s.next_run)
+    → MatchOption run (Unit {0}) (λ r. s.devices_run ≡ r.number → IsKept s)
+    → StateInvariant (record s { asked = drop 1 s.asked; owed = owes a.client d s; run = run })
+held-answers s a d run held at discovery serves less most within begun kept = record {
   source = held.source;
   greatest = held.greatest;
   budget = held.budget;
@@ -136,8 +134,11 @@ held-answers s a d run held at discovery serves less most within new is = rw is 
   served = let long = length-drop 1 s.asked in omega arith;
   serves = serves;
   runs_numbered =
-      let long = length-drop 1 s.asked in let numbered = held.runs_numbered in let kept = held.served in omega arith;
-})
+      let long = length-drop 1 s.asked in let numbered = held.runs_numbered in let all = held.served in omega arith;
+  run_begun = begun;
+  devices_begun = held.devices_begun;
+  kept = kept;
+}
   where
     inside : a.client < length s.owed
     inside = let joined = asked_joined s a held at in let same = held.owed_for_each in omega arith
@@ -196,6 +197,9 @@ held-accepts s c request held passes = record {
   served = held.served;
   serves = held.serves;
   runs_numbered = held.runs_numbered;
+  run_begun = held.run_begun;
+  devices_begun = held.devices_begun;
+  kept = held.kept;
 }
 
 -- one more discovery, of a client that has joined and has fewer than four
@@ -231,6 +235,9 @@ held-asks s c kind held passes = record {
   runs_numbered =
       let long = length-append s.asked (asked_as s c kind ∷ []) in let kept = held.served in
       let numbered = held.runs_numbered in omega arith;
+  run_begun = held.run_begun;
+  devices_begun = held.devices_begun;
+  kept = held.kept;
 }
   where
     has : HasAsk s c
@@ -243,9 +250,39 @@ room_to_ask s c held passes =
     let few = held.few_clients in
     omega arith
 
--- a run begins for all discoveries that wait
-none_begun : (s : QueueState) → StateInvariant s → s.run ≡ None → s.next_run + (length s.asked - 0) ≤ s.next_ask + 1
-none_begun s held none = rw none at held.runs_numbered
+-- an agent that hasn't ended changes: no set of its run is kept yet
+pub kept-goes_on : (s : QueueState) (clients : List Client) (agent : AgentState) → QueueInvariant s clients
+    → (next_op s.agent ≡ End → ⊥) → QueueInvariant (record s { agent = agent }) clients
+kept-goes_on s clients agent held goes_on = record {
+  state = record {
+    source = held.state.source;
+    greatest = held.state.greatest;
+    budget = held.state.budget;
+    few_places = held.state.few_places;
+    few_clients = held.state.few_clients;
+    owed_for_each = held.state.owed_for_each;
+    few = held.state.few;
+    few_asks = held.state.few_asks;
+    rising = held.state.rising;
+    open_ = held.state.open_;
+    asks_numbered = held.state.asks_numbered;
+    served = held.state.served;
+    serves = held.state.serves;
+    runs_numbered = held.state.runs_numbered;
+    run_begun = held.state.run_begun;
+    devices_begun = held.state.devices_begun;
+    kept = by_run s.run held.state.kept;
+  };
+  rings = record { waiting = held.rings.waiting; sizes = held.rings.sizes; sets = held.rings.sets };
+}
+  where
+    new : QueueState
+    new = record s { agent = agent }
+
+    by_run : (run : Option RunState) → MatchOption run (Unit {0}) (λ r. s.devices_run ≡ r.number → IsKept s)
+        → MatchOption run (Unit {0}) (λ r. s.devices_run ≡ r.number → IsKept new)
+    by_run None kept = tt
+    by_run (Some r) kept = λ same. absurd (goes_on (kept same).0)
 
 -- one outcome fewer
 fewer_left : (p : OutcomeValue → Bool) (ds : List OutcomeValue) → length (filter p (drop 1 ds)) ≤ length (filter p ds)
@@ -291,6 +328,9 @@ held-collects s c held = record {
   served = held.served;
   serves = held.serves;
   runs_numbered = held.runs_numbered;
+  run_begun = held.run_begun;
+  devices_begun = held.devices_begun;
+  kept = held.kept;
 }
 
 -- one client more, without requests
@@ -330,6 +370,9 @@ held-joins s places held few fits = record {
   served = held.served;
   serves = held.serves;
   runs_numbered = held.runs_numbered;
+  run_begun = held.run_begun;
+  devices_begun = held.devices_begun;
+  kept = held.kept;
 }
   where
     more : (n m t : ℕ) → n ≡ m + (0 + places) → m + places ≤ t → n ≤ t

@@ -120,14 +120,17 @@ impl Queue {
         }
     }
 
-    // The known devices are those that this run has found, unless it has a fault.
+    // The known devices are those that the open run, which has ended, has found, unless it has a fault. They are copied
+    // once for the run: by its first answer.
     fn keep_devices(&mut self, run: u64, fault: Option<AgentFault>)
+        requires open_ { option_map (λ r. r.number) self.old.run ≡ Some run }
+        requires ended { next_op self.old.agent ≡ End }
         ensures { self.new ≡ record self.old {
           devices = devices_after fault self.old.agent.found self.old.devices;
           devices_run = devices_run_after fault run self.old.devices_run;
         } }
     {
-        if fault.is_none() {
+        if fault.is_none() && self.devices_run != run {
             self.devices.copy_from(self.agent.found());
             self.devices_run = run;
         }
