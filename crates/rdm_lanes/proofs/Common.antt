@@ -90,13 +90,13 @@ pub use Rattle.rdm_lanes.specs.Views.{all_views, last_view_run, opening_view, vi
 pub use Rattle.rdm_lanes.specs.Views.{found_after, is_last, last_number, view_of, with_found, with_run}
 unfoldable pub use Rattle.rdm_lanes.specs.Views.{last_view, last_found, runs_found}
 pub use Rattle.rdm_lanes.specs.body.Counts.{IsCounted}
-pub use Rattle.rdm_lanes.specs.body.Doing.{AreMoved, AreServed, MovesAt, MovesFor, ServesAt}
+pub use Rattle.rdm_lanes.specs.body.Doing.{AreDone, DoesAt, IsMoved, IsServed, MovesFor, StepsAlone}
 pub use Rattle.rdm_lanes.specs.body.Gains.{GainOneAtMost}
 pub use Rattle.rdm_lanes.specs.body.Holding.{HoldsForRequest, HoldsForDiscovery}
 pub use Rattle.rdm_lanes.specs.body.Opening.{AreNewWith, HoldNothing}
 pub use Rattle.rdm_lanes.specs.body.Operated.{IsOperated}
 pub use Rattle.rdm_lanes.specs.body.Quiet.{NoExchange, OnlyCollects}
-pub use Rattle.rdm_lanes.specs.body.Serving.{IsOnlyTold, MayMake, HasRefusalSlot}
+pub use Rattle.rdm_lanes.specs.body.Serving.{IsOnlyTold, MayMake, HasRefusalSlot, StepsFor}
 pub use Rattle.rdm_lanes.specs.body.Showing.{Publishes, Publishing, NoneLater, AreShownFirst}
 pub use Rattle.rdm_lanes.specs.declared.call.ClientCall.{ClientCall}
 pub use Rattle.rdm_lanes.specs.declared.call.ClientCall.TheVariants.{Discover, Submit, Leave}

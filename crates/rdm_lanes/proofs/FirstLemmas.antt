@@ -7,9 +7,11 @@ use Rattle.rdm_lanes.proofs.Common.{OutcomeValue, Discovered, never_begun, Disco
 use Rattle.rdm_lanes.proofs.Common.{answered-append, answered_more, Ghosts, RingClient, ClientEnd, Lane, RingOutcome}
 use Rattle.rdm_lanes.proofs.Common.{values_in, uncollected_values, AllFit, end_got, AllAgree, AreNewWith, last_view_run}
 use Rattle.rdm_lanes.proofs.Common.{last_number, is_last, with_run, with_found, runs_found, view_of, all_views}
-use Rattle.rdm_lanes.proofs.Common.{NoneLater, AreShownFirst}
+use Rattle.rdm_lanes.proofs.Common.{NoneLater, AreShownFirst, NoExchange, Publishing, Publishes, Worker}
 use Rattle.rtrb.specs.Ring.{sent as pushed}
 use Rattle.rdm_lanes.specs.ViewsRead.{AllShownFirst}
+use Rattle.rdm_lanes.specs.body.Showing.{AllPublished}
+use Rattle.rdm_lanes.proofs.ShowingLemmas.{publishes_same, all_published_same}
 use Rattle.rdm_lanes.proofs.EndLemmas.{get_map, within_get}
 use Rattle.rdm_lanes.proofs.FoundLemmas.{is_last_true, adds_found}
 use Rattle.rdm_lanes.proofs.ToldLemmas.{IsToldBy, IsAnswered, IsRefusedByClose, told_in, discovery_of}
@@ -125,6 +127,23 @@ first_shown k lanes shown none fit all = record { each = each }
             let few = run_shown k.entries told.front told.back a.n a.run none whole in
             omega (arith, few, a.run_is, ap last_view_run all)
         by_kind (inr a) = absurd (aborted (sym fault ∙ ap (λ (d : Discovered). d.fault) a.never))
+
+-- so it stays without an exchange, while all views are published
+pub record StillShown (w : Worker) (p : Publishing) : Type 0 where
+  pub publishes : Publishes w.session p
+  pub published : AllPublished w.session p
+  pub shown_first : AreShownFirst p.shown w.lanes.items
+
+pub still_shown : (a b : Worker) (p : Publishing) → NoExchange a.session b.session → AllPublished a.session p
+    → Publishes a.session p → StillShown b p
+still_shown a b p line all is =
+    let publishes = publishes_same a.session b.session p line is in
+    let published = all_published_same a.session b.session p line all in
+    record {
+      publishes = publishes;
+      published = published;
+      shown_first = first_shown b.session b.lanes.items p.shown publishes.showing.none_later b.fits published.shown;
+    }
 
 -- so is it with what the clients got
 cancel_back : {X : Type 0} (xs ys zs : List X) → xs ++ zs ≡ ys ++ zs → xs ≡ ys

@@ -1,5 +1,5 @@
 -- What a log says of one client, as it grows by a block of entries.
-use Rattle.rdm_lanes.proofs.Common.{◌≡◌, ℕ, ◌-◌, Bool, true, false, List, [], ◌∷◌, ◌++◌, map, length, Option, Some}
+use Rattle.rdm_lanes.proofs.Common.{◌≡◌, ℕ, Bool, true, false, List, [], ◌∷◌, ◌++◌, map, length, Option, Some}
 use Rattle.rdm_lanes.proofs.Common.{None, refl, ap, ◌∙◌, slice_get, append-nil, filter, filter_map, ◌||◌, ◌&&◌}
 use Rattle.rdm_lanes.proofs.Common.{◌==◌, AllByRecursion, map-append, filter-append}
 use Rattle.rdm_lanes.proofs.Common.{filter_map-append, EachAfter, Opening, Entry, Refuse, Accept, Ask, Finish, Answer}

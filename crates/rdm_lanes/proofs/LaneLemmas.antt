@@ -4,8 +4,9 @@ use Rattle.rdm_lanes.proofs.Common.{None, refl, sym, ap, ◌∙◌, subst, slice
 use Rattle.rdm_lanes.proofs.Common.{arith, filter, ◌⊎◌, slice_set, length-set, slice_get_within, get_or_from_slice_get}
 use Rattle.rdm_lanes.proofs.Common.{slice_get-get_or, EachAfter, Opening, Entry, joins, places, LogState, grown, Legal}
 use Rattle.rdm_lanes.proofs.Common.{MayFollow, is_answer_to, OutcomeValue, outcome_of, ClientCall, Lane, told_values}
-use Rattle.rdm_lanes.proofs.Common.{uncollected_values, values_in, FitsBut, Fits, AllFit, SameLane, SameLanes}
-use Rattle.rdm_lanes.proofs.Common.{lane_places, NoExchange, IsOnlyTold}
+use Rattle.rdm_lanes.proofs.Common.{uncollected_values, values_in, FitsBut, AllFit, SameLane, SameLanes}
+use Rattle.rdm_lanes.proofs.Common.{lane_places, NoExchange, IsOnlyTold, StepsFor, Worker, ◌<◌, slice_get_read}
+use Rattle.std.specs.Prelude.{vec_len}
 use Rattle.rtrb.specs.Ring.{sent as pushed}
 use Rattle.rdm_lanes.proofs.GrowthLemmas.{Untouched, calls_untouched, told_grows, uncollected_grows, requests_untouched}
 use Rattle.rdm_lanes.proofs.GrowthLemmas.{asks_untouched, tells_untouched, no_collects}
@@ -112,21 +113,24 @@ places_set (l ∷ lanes) zero a b here same =
     ap (λ (n : ℕ). n ∷ map lane_places lanes) (same ∙ ap lane_places (sym is))
 places_set (l ∷ lanes) (suc at) a b here same = ap (λ (ns : List ℕ). l.places ∷ ns) (places_set lanes at a b here same)
 
--- one lane was served, and the other clients waited
+-- a step for one client, whose lane was written
+pub lane_here : (w : Worker) (at : ℕ) (lane : Lane) → at < vec_len w.lanes → lane ≡ get_or w.lanes.items at lane
+    → slice_get w.lanes.items at ≡ Some lane
+lane_here w at lane within is =
+    slice_get_read w.lanes.items (length w.lanes.items) at lane refl (omega (arith, within, w.lanes.ok.0)) is
+
 pub all_set : (at : ℕ) (old new : LogState) (lanes : List Lane) (mine lane : Lane) → AllFit old lanes
-    → slice_get lanes at ≡ Some mine → SameLane mine lane → Fits at new lane
-    → places new.opening new.entries ≡ places old.opening old.entries
-    → ((c : ℕ) → c ≢ at → IsOnlyTold c old new) → AllFit new (slice_set lanes at lane)
-all_set at old new lanes mine lane all here rings own same others = record {
+    → slice_get lanes at ≡ Some mine → StepsFor at old mine new lane → AllFit new (slice_set lanes at lane)
+all_set at old new lanes mine lane all here s = record {
   each = λ i m found.
       elim (get-set lanes at i lane m found) [
-        | inl e ↦ rw (e.0, sym e.1) own
-        | inr e ↦ fits_waits [] i old new m (all.each i m e.1) (others i e.0)
+        | inl e ↦ rw (e.0, sym e.1) s.fits
+        | inr e ↦ fits_waits [] i old new m (all.each i m e.1) (s.others i e.0)
       ];
-  clients_are = same ∙ all.clients_are ∙ sym (places_set lanes at mine lane here rings.2);
+  clients_are = places_stay old new s.line ∙ all.clients_are ∙ sym (places_set lanes at mine lane here s.rings.2);
   nobody_else = λ c out.
       let beyond : length lanes ≤ c = omega (arith, out, length-set lanes at lane) in
-      (others c (λ e. omega (arith, e, beyond, slice_get_within lanes at mine here))).calls_are
+      (s.others c (λ e. omega (arith, e, beyond, slice_get_within lanes at mine here))).calls_are
       ∙ all.nobody_else c beyond;
 }
 

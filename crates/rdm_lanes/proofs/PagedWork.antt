@@ -12,14 +12,19 @@ use Rattle.rdm_log.specs.log.MaySend.{NoSend}
 use Rattle.rdm_lanes.specs.declared.pages.Pages.{Pages}
 use Rattle.rdm_lanes.specs.declared.pages.Spare.{Spare}
 use Rattle.rdm_lanes.specs.declared.pages.Spare.TheVariants.{Memory, Refused, Nothing}
+use Rattle.rdm_lanes.proofs.Common.{DeviceView, Ghosts}
+use Rattle.left_right.specs.declared.Absorb.{Ghosts as Absorbs}
+use Rattle.rdm_lanes.specs.declared.views.publishing.Shown.{Shown}
 use Rattle.rdm_lanes.specs.declared.worker.Worker.{Worker}
+use Rattle.rdm_lanes.specs.declared.worker.view_worker.ViewWorker.{ViewWorker}
 use Rattle.rdm_lanes.specs.Lines.{Exchanged, exchange_count}
 use Rattle.rdm_lanes.specs.Views.{all_views}
 use Rattle.rdm_lanes.specs.Pages.{HandsOut, HasMemory, pages_out, refused_in, emptied, IsHalfUsed, IsDue}
 use Rattle.rdm_lanes.specs.Pages.{spare_capacity}
 use Rattle.rdm_lanes.specs.body.Paging.{HandsPages, WorksInPages}
 use Rattle.rdm_lanes.specs.body.Showing.{Publishing, Publishes, AllPublished}
-use Rattle.rdm_lanes.specs.body.Steps.{SameOperator, Steps, Stops, StopsAs}
+use Rattle.rdm_lanes.specs.body.Doing.{SameOperator}
+use Rattle.rdm_lanes.specs.body.Steps.{Steps, Stops, StopsAs}
 use Rattle.rdm_lanes.proofs.ExchangeLemmas.{exchanged_none}
 use Rattle.rdm_lanes.proofs.LineLemmas.{line_same}
 use Rattle.rdm_lanes.proofs.PageLemmas.{hands_out_none, hands_out_join, hands_out_grown, same_memory}
@@ -132,16 +137,18 @@ stops_as FullLog b d full lanes operator held was = ap is_full_log (full refl) �
 stops_as Turns b d full lanes operator held was = was
 
 -- why the worker stops, if it does, is why its turn ended
-pub stops_still : (turn end : Option WorkerEnd) (b d : Worker) (p q : Publishing)
-    → ((e : WorkerEnd) → end ≡ Some e → turn ≡ Some e) → (end ≡ Some FullLog → d.session ≡ b.session)
-    → d.lanes.items ≡ b.lanes.items → SameOperator b d → kept b.session d.session ≡ b.session → q.shown ≡ p.shown
-    → Publishes d.session q
-    → IfSome turn (λ e. Stops e b p) → IfSome end (λ e. Stops e d q)
-stops_still turn None b d p q same full lanes operator held shown views stops = tt
-stops_still turn (Some end) b d p q same full lanes operator held shown views stops =
+pub stops_still : {J T R : Type 0} {h : Ghosts J} {v : Absorbs T (Shown J) (List DeviceView)}
+    (turn end : Option WorkerEnd) (b d : ViewWorker J T R h v)
+    → ((e : WorkerEnd) → end ≡ Some e → turn ≡ Some e) → (end ≡ Some FullLog → d.server.session ≡ b.server.session)
+    → d.server.lanes.items ≡ b.server.lanes.items → SameOperator b.server d.server
+    → kept b.server.session d.server.session ≡ b.server.session → d.views.shown ≡ b.views.shown
+    → IfSome turn (λ e. Stops e b) → IfSome end (λ e. Stops e d)
+stops_still turn None b d same full lanes operator held shown stops = tt
+stops_still turn (Some end) b d same full lanes operator held shown stops =
     let was = rw (same end refl) at stops in (
-      published_all d.session q views (shown ∙ was.0.shown ∙ ap (λ (k : LogState). all_views k.entries) (sym held)),
-      stops_as end b d (λ is. full (ap (λ x. Some x) is)) lanes operator held was.1,
+      published_all d.server.session d.views d.publishes
+          (shown ∙ was.0.shown ∙ ap (λ (k : LogState). all_views k.entries) (sym held)),
+      stops_as end b.server d.server (λ is. full (ap (λ x. Some x) is)) lanes operator held was.1,
     )
 
 -- no page was refused while there is memory

@@ -3,10 +3,10 @@ use Rattle.rdm_lanes.proofs.Common.{◌≡◌, ℕ, Bool, true, false, List, [],
 use Rattle.rdm_lanes.proofs.Common.{subst, MatchOption, append-nil, length, length-append, arith, ⊤, ◌||◌, list_any}
 use Rattle.rdm_lanes.proofs.Common.{Global, AnyItems, Consumer, SameConsumer, LogState, ClientCall, Submit, Discover}
 use Rattle.rdm_lanes.proofs.Common.{Leave, Lane, is_work, work_in, FitsBut, Fits, SameLane, is_leave, IsBetweenTurns}
-use Rattle.rdm_lanes.proofs.Common.{Work}
+use Rattle.rdm_lanes.proofs.Common.{IsServed, Work}
 use Rattle.rtrb.specs.Ring.{sent as pushed, received as popped, ConsumerLooked}
 use Rattle.rdm_log.specs.declared.work.Work.TheVariants as works
-use Rattle.rdm_lanes.specs.body.Serving.{LooksForSlot, ServesClient, bringing}
+use Rattle.rdm_lanes.specs.body.Serving.{LooksForSlot, StepsFor, bringing}
 use Rattle.rdm_lanes.proofs.Counting.{work_more, leave_more}
 use Rattle.rdm_lanes.proofs.LaneLemmas.{waits_same, same_lane_join}
 use Rattle.rdm_lanes.proofs.LineLemmas.{line_same, switches_same}
@@ -20,9 +20,11 @@ pub brings_work : (work : Work) → is_work (bringing work) ≡ true
 brings_work (works.Submit request) = refl
 brings_work (works.Discover kind) = refl
 
--- an item that was popped shows
-pub popped_more : (xs ys : List ClientCall) (x : ClientCall) → ys ≡ xs ++ x ∷ [] → ys ≡ xs → ⊥
-popped_more xs ys x more same = omega (arith, ap length more ∙ length-append xs (x ∷ []), ap length same)
+-- a client was served if a call was popped
+pub popped_served : (c : ℕ) (k : LogState) (lane mid next : Lane) (x : ClientCall)
+    → popped mid.calls ≡ popped lane.calls → popped next.calls ≡ popped mid.calls ++ x ∷ [] → IsServed c k lane next
+popped_served c k lane mid next x before more same =
+    absurd (omega (arith, ap length more ∙ length-append (popped mid.calls) (x ∷ []), ap length before, ap length same))
 
 -- the first item, once it is popped
 pub at_first : {X : Type 0} (P : X → Type 0) (known rest : List X) (x : X) → known ≡ x ∷ rest
@@ -97,6 +99,7 @@ fits_slot c k lane next f look =
 pub record IsLookedAt (c : ℕ) (k : LogState) (old new : Lane) : Type 0 where
   pub fits : Fits c k new
   pub rings : SameLane old new
+  pub received : popped new.calls ≡ popped old.calls
 
 pub looked_at : (c : ℕ) (k : LogState) (lane next : Lane) (calls : Calls) → Fits c k lane
     → ConsumerLooked lane.calls calls → LooksForSlot (record lane { calls = calls }) next → IsLookedAt c k lane next
@@ -108,15 +111,16 @@ looked_at c k lane next calls f look slot = record {
     slot.looked.0,
     ap (λ (l : Lane). l.places) slot.rest,
   );
+  received = ap (λ (l : Lane). popped l.calls) slot.rest ∙ look.1;
 }
   where
     mid : Lane
     mid = record lane { calls = calls }
 
 -- no call was made, or it is made with a lane that has the same rings
-pub serves_none : (c : ℕ) (k : LogState) (lane next : Lane) → Fits c k next → IsBetweenTurns k → SameLane lane next
-    → ServesClient c k lane k next
-serves_none c k lane next f s rings = record {
+pub steps_for_none : (c : ℕ) (k : LogState) (lane next : Lane) → Fits c k next → IsBetweenTurns k → SameLane lane next
+    → StepsFor c k lane k next
+steps_for_none c k lane next f s rings = record {
   fits = f;
   served = s;
   others = λ d apart. waits_same d k;
@@ -125,9 +129,9 @@ serves_none c k lane next f s rings = record {
   rings = rings;
 }
 
-pub serves_after : (c : ℕ) (old new : LogState) (lane mid next : Lane) → SameLane lane mid
-    → ServesClient c old mid new next → ServesClient c old lane new next
-serves_after c old new lane mid next rings s = record {
+pub steps_for_after : (c : ℕ) (old new : LogState) (lane mid next : Lane) → SameLane lane mid
+    → StepsFor c old mid new next → StepsFor c old lane new next
+steps_for_after c old new lane mid next rings s = record {
   fits = s.fits;
   served = s.served;
   others = s.others;

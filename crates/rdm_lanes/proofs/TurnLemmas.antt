@@ -1,93 +1,66 @@
 -- What a worker has done for each client, and in all its turns.
 use Rattle.rdm_lanes.proofs.Common.{◌≡◌, ◌≤◌, ℕ, ◌+◌, List, length, sym, subst, ◌∙◌, Some, slice_get, inl, inr, arith}
 use Rattle.rdm_lanes.proofs.Common.{same_Some, slice_get_within, suc, IsPrefix, DeviceView, LogState, Lane, IsTurn}
-use Rattle.rdm_lanes.proofs.Common.{AreTurns, NoExchange, OnlyCollects, ServesAt, AreServed, MovesAt, AreMoved}
-use Rattle.rdm_lanes.proofs.CollectLemmas.{collects_none, collects_join}
-use Rattle.rdm_lanes.proofs.LaneLemmas.{get-set}
-use Rattle.rdm_lanes.proofs.LineLemmas.{line_same, line_join}
+use Rattle.rdm_lanes.proofs.Common.{AreTurns, AreDone, DoesAt, Worker}
+use Rattle.rdm_lanes.proofs.LaneLemmas.{get-set, same_lanes_set}
+use Rattle.rdm_lanes.proofs.WorkLemmas.{alone_none, alone_join}
 
-pub served_none : (k : LogState) (lanes : List Lane) → AreServed 0 k lanes k lanes
-served_none k lanes = record {
-  each = λ i lane next below was is. absurd (omega (arith, below));
-  rest = λ i lane from is. is;
-}
+module _ (Grows : LogState → LogState → Type 0) (Done : ℕ → LogState → Lane → Lane → Type 0)
+    (none : (k : LogState) → Grows k k) (join : (a b d : LogState) → Grows a b → Grows b d → Grows a d) where
+  pub done_none : (w : Worker) → AreDone Grows Done 0 w w
+  done_none w = record {
+    each = λ i lane next below was is. absurd (omega (arith, below));
+    rest = λ i lane from is. is;
+    grows = none w.session;
+    steps = alone_none w;
+  }
 
-pub served_more : (n : ℕ) (a b d : LogState) (xs ys zs : List Lane) → AreServed n a xs b ys → NoExchange a b
-    → NoExchange b d → ServesAt n ys d zs → AreServed (n + 1) a xs d zs
-served_more n a b d xs ys zs all line more one = record {
-  each = λ i lane next below was is.
-      elim (get-set ys n i one.next next (subst (λ (ls : List Lane). slice_get ls i ≡ Some next) one.set is)) [
-        | inl e ↦ let mine = same_Some one.lane lane
-            (sym (all.rest n one.lane (omega arith) one.was)
-            ∙ subst (λ (m : ℕ). slice_get xs m ≡ Some lane) e.0 was) in
-            record {
-              moment = d;
-              before = line_join a b d line more;
-              after = line_same d;
-              served = rw (e.0, sym mine, sym e.1) one.served;
-            }
-        | inr e ↦ let before = all.each i lane next (omega (arith, below, e.0)) was e.1 in
-            record {
-              moment = before.moment;
-              before = before.before;
-              after = line_join before.moment b d before.after more;
-              served = before.served;
-            }
-      ];
-  rest = λ i lane from is.
-      elim (get-set ys n i one.next lane (subst (λ (ls : List Lane). slice_get ls i ≡ Some lane) one.set is)) [
-        | inl e ↦ absurd (omega (arith, from, e.0))
-        | inr e ↦ all.rest i lane (omega (arith, from)) e.1
-      ];
-}
+  pub done_more : (n : ℕ) (a b d : Worker) → AreDone Grows Done n a b → DoesAt Grows Done n b d
+      → AreDone Grows Done (n + 1) a d
+  done_more n a b d all one = record {
+    each = λ i lane next below was is.
+        elim (get-set b.lanes.items n i one.next next
+        (subst (λ (ls : List Lane). slice_get ls i ≡ Some next) one.set is)) [
+          | inl e ↦ let mine = same_Some one.lane lane
+              (sym (all.rest n one.lane (omega arith) one.was)
+              ∙ subst (λ (m : ℕ). slice_get a.lanes.items m ≡ Some lane) e.0 was) in
+              record {
+                moment = d.session;
+                before = join a.session b.session d.session all.grows one.does.grows;
+                after = none d.session;
+                done = rw (e.0, sym mine, sym e.1) one.does.done;
+              }
+          | inr e ↦ let before = all.each i lane next (omega (arith, below, e.0)) was e.1 in
+              record {
+                moment = before.moment;
+                before = before.before;
+                after = join before.moment b.session d.session before.after one.does.grows;
+                done = before.done;
+              }
+        ];
+    rest = λ i lane from is.
+        elim (get-set b.lanes.items n i one.next lane
+        (subst (λ (ls : List Lane). slice_get ls i ≡ Some lane) one.set is)) [
+          | inl e ↦ absurd (omega (arith, from, e.0))
+          | inr e ↦ all.rest i lane (omega (arith, from)) e.1
+        ];
+    grows = join a.session b.session d.session all.grows one.does.grows;
+    steps = alone_join a b d all.steps (record {
+      lanes = rw one.set (same_lanes_set b.lanes.items n one.lane one.next one.was one.does.step.rings);
+      operator = one.operator;
+      switches = one.does.step.switches;
+    });
+  }
 
-pub served_all : (n m : ℕ) (a b : LogState) (xs ys : List Lane) → m ≤ n → length ys ≤ m → AreServed n a xs b ys
-    → AreServed m a xs b ys
-served_all n m a b xs ys past long all = record {
-  each = λ i lane next below was is. all.each i lane next (omega (arith, below, past)) was is;
-  rest = λ i lane from is. absurd (omega (arith, from, long, slice_get_within ys i lane is));
-}
-
-pub served_later : (n : ℕ) (a b d : LogState) (xs ys : List Lane) → AreServed n a xs b ys → NoExchange b d
-    → AreServed n a xs d ys
-served_later n a b d xs ys all more = record {
-  each = λ i lane next below was is.
-      let one = all.each i lane next below was is in
-      record {
-        moment = one.moment;
-        before = one.before;
-        after = line_join one.moment b d one.after more;
-        served = one.served;
-      };
-  rest = all.rest;
-}
-
-pub moved_none : (k : LogState) (lanes : List Lane) → AreMoved 0 k k lanes
-moved_none k lanes = record { each = λ i lane below is. absurd (omega (arith, below)) }
-
-pub moved_more : (n : ℕ) (a b d : LogState) (ys zs : List Lane) → AreMoved n a b ys → OnlyCollects a b
-    → OnlyCollects b d → MovesAt n ys d zs → AreMoved (n + 1) a d zs
-moved_more n a b d ys zs all collects more one = record {
-  each = λ i lane below is.
-      elim (get-set ys n i one.next lane (subst (λ (ls : List Lane). slice_get ls i ≡ Some lane) one.set is)) [
-        | inl e ↦ record {
-          moment = d;
-          before = collects_join a b d collects more;
-          after = collects_none d;
-          moved = rw (e.0, sym e.1) one.moved;
-        }
-        | inr e ↦ let before = all.each i lane (omega (arith, below, e.0)) e.1 in
-            record {
-              moment = before.moment;
-              before = before.before;
-              after = collects_join before.moment b d before.after more;
-              moved = before.moved;
-            }
-      ];
-}
-
-pub moved_all : (n m : ℕ) (a b : LogState) (ys : List Lane) → m ≤ n → AreMoved n a b ys → AreMoved m a b ys
-moved_all n m a b ys past all = record { each = λ i lane below is. all.each i lane (omega (arith, below, past)) is }
+  pub done_all : (n : ℕ) (a b : Worker) → length a.lanes.items ≤ n → AreDone Grows Done n a b
+      → AreDone Grows Done (length a.lanes.items) a b
+  done_all n a b past all = record {
+    each = λ i lane next below was is. all.each i lane next (omega (arith, below, past)) was is;
+    rest = λ i lane from is.
+        absurd (omega (arith, from, all.steps.lanes.long, slice_get_within b.lanes.items i lane is));
+    grows = all.grows;
+    steps = all.steps;
+  }
 
 pub turns_more : (n : ℕ) (a b d : LogState) (x y z : List DeviceView) → AreTurns n a x b y → IsTurn b d z
     → IsPrefix y z → AreTurns (n + 1) a x d z

@@ -1,19 +1,21 @@
 -- What the steps of a worker leave, one after the other.
-use Rattle.rdm_lanes.proofs.Common.{◌≡◌, ◌≢◌, ◌≤◌, ◌+◌, ℕ, refl, ◌∙◌, ap, LogState, Option, None, Some}
-use Rattle.rdm_lanes.proofs.Common.{arith, IfNone, IsPrefix, Consumer, SameConsumer, Exchange, Worker, NoExchange}
-use Rattle.rdm_lanes.proofs.Common.{OnlyCollects, SameSwitches, Exchanged, exchange_count, Legal, all_views}
-use Rattle.rdm_lanes.proofs.Common.{AreTurns, Publishing}
+use Rattle.rdm_lanes.proofs.Common.{◌≡◌, ◌≤◌, ◌+◌, ℕ, Bool, false, List, refl, ◌∙◌, ap, subst, LogState}
+use Rattle.rdm_lanes.proofs.Common.{Option, None, Some, arith, IfNone, IsPrefix, Consumer, SameConsumer, Exchange}
+use Rattle.rdm_lanes.proofs.Common.{Worker, NoExchange, OnlyCollects, SameSwitches, Exchanged, exchange_count, Legal}
+use Rattle.rdm_lanes.proofs.Common.{AreTurns, DeviceView, Ghosts, Publishing, StepsAlone}
+use Rattle.left_right.specs.declared.Absorb.{Ghosts as Absorbs}
+use Rattle.rdm_lanes.specs.declared.views.publishing.Shown.{Shown}
+use Rattle.rdm_lanes.specs.declared.worker.view_worker.ViewWorker.{ViewWorker}
 use Rattle.rdm_lanes.specs.declared.worker.working.Attempt.{Attempt}
 use Rattle.rdm_lanes.specs.declared.worker.working.Attempt.TheVariants.{Exchanged as MadeOne, NothingToSend}
 use Rattle.rdm_lanes.specs.declared.worker.working.Attempt.TheVariants.{LogFull as NoRoom}
-use Rattle.rdm_lanes.specs.body.Showing.{AllPublished}
-use Rattle.rdm_lanes.specs.body.Steps.{Attempted, Did, SameEnds, SameOperator, Steps, StepsAlone}
-use Rattle.rdm_lanes.specs.body.Steps.{Turned, ViewSteps}
+use Rattle.rdm_lanes.specs.body.Doing.{SameOperator}
+use Rattle.rdm_lanes.specs.body.Steps.{CallsAndAttempts, Did, MovesAll, PublishesNext, Steps, Turned, ViewSteps}
 use Rattle.rdm_lanes.proofs.LaneLemmas.{same_lanes, same_lanes_join}
-use Rattle.rdm_lanes.proofs.LineLemmas.{switches_same, switches_join, line_same}
+use Rattle.rdm_lanes.proofs.LineLemmas.{switches_same, switches_join, line_same, line_join}
 use Rattle.rdm_lanes.proofs.CollectLemmas.{collects_line, no_send_stays, full_stays}
 use Rattle.rdm_lanes.proofs.ExchangeLemmas.{exchanged_none, exchanged_join, no_more}
-use Rattle.rdm_lanes.proofs.Fronts.{prefix_self, prefix_trans}
+use Rattle.rdm_lanes.proofs.Fronts.{prefix_trans}
 
 -- the operator's ring is the same one
 ring_join : {T A P : Type 0} (a b c : Consumer T A P) → SameConsumer a b → SameConsumer b c → SameConsumer a c
@@ -69,93 +71,115 @@ pub goes_on : {E : Type 0} {P : Type 0} (end : Option E) → ((e : E) → end �
 goes_on None other is = is
 goes_on (Some e) other is = absurd (other e refl)
 
--- the same with views
-pub view_steps_none : (a : Worker) (p : Publishing) → ViewSteps a p a p
-view_steps_none a p = record { server = steps_none a; shown = prefix_self p.shown }
+-- what an attempt came to, after calls, and before outcomes are moved
+did_since : (attempt : Attempt) (k m n : LogState) → NoExchange k m → Did attempt m n → Did attempt k n
+did_since MadeOne k m n line did = did ∙ ap (λ (i : ℕ). i + 1) (no_more k m line)
+did_since NothingToSend k m n line did = did
+did_since NoRoom k m n line did = did
 
-pub view_steps_join : (a b d : Worker) (p q r : Publishing) → ViewSteps a p b q → ViewSteps b q d r → ViewSteps a p d r
-view_steps_join a b d p q r s t = record {
-  server = steps_join a b d s.server t.server;
-  shown = prefix_trans p.shown q.shown r.shown s.shown t.shown;
-}
+did_still : (attempt : Attempt) (k m n : LogState) → OnlyCollects m n → Legal n.opening n.entries → Did attempt k m
+    → Did attempt k n
+did_still MadeOne k m n collects legal did = no_more m n (collects_line m n collects) ∙ did
+did_still NothingToSend k m n collects legal did = no_send_stays m n collects did
+did_still NoRoom k m n collects legal did = full_stays m n collects legal ∙ did
 
-module _ {L : Type 0} (step : L → Exchange → L → Type 0) where
-  -- an exchange was attempted, after views were published and calls were made
-  pub record Attempts (x : L) (a : Worker) (p : Publishing) (y : L) (b : Worker) (q : Publishing) (attempt : Attempt)
-      : Type 0 where
-    pub exchanged : Exchanged step x a.session y b.session
-    pub one : exchange_count b.session ≤ exchange_count a.session + 1
-    pub did : Did attempt a.session b.session
-    pub steps : ViewSteps a p b q
-
-  did_since : (attempt : Attempt) (k m n : LogState) → NoExchange k m → Did attempt m n → Did attempt k n
-  did_since MadeOne k m n line did = did ∙ ap (λ (i : ℕ). i + 1) (no_more k m line)
-  did_since NothingToSend k m n line did = did
-  did_since NoRoom k m n line did = did
-
-  pub attempts : (x y : L) (a b d : Worker) (p q : Publishing) (attempt : Attempt) → IsPrefix p.shown q.shown
-      → NoExchange a.session b.session → Steps a b → Attempted step x b.session y d.session attempt → SameEnds b d
-      → Attempts x a p y d q attempt
-  attempts x y a b d p q attempt shown line calls made ends = record {
-    exchanged = exchanged_join step x x y a.session b.session d.session
-        (exchanged_none step x a.session b.session line) made.exchanged;
-    one = omega (arith, made.one, no_more a.session b.session line);
-    did = did_since attempt a.session b.session d.session line made.did;
-    steps = record {
-      server = steps_join a b d calls (steps_within b d (ap (λ v. v.items) ends.0) ends.1 made.switches);
-      shown = shown;
-    };
+module _ {J T R : Type 0} {h : Ghosts J} {v : Absorbs T (Shown J) (List DeviceView)} where
+  -- the same with views
+  pub view_steps_join : (a b d : ViewWorker J T R h v) → ViewSteps a b → ViewSteps b d → ViewSteps a d
+  view_steps_join a b d s t = record {
+    server = steps_join a.server b.server d.server s.server t.server;
+    shown = prefix_trans a.views.shown b.views.shown d.views.shown s.shown t.shown;
   }
 
+  shown_since : (a b d e : ViewWorker J T R h v) → IsPrefix a.views.shown b.views.shown → d.views ≡ b.views
+      → IsPrefix d.views.shown e.views.shown → IsPrefix a.views.shown e.views.shown
+  shown_since a b d e first same later =
+      prefix_trans a.views.shown b.views.shown e.views.shown first
+      (subst (λ (p : Publishing). IsPrefix p.shown e.views.shown) same later)
+
+module _ {L : Type 0} (step : L → Exchange → L → Type 0) where
+  -- calls were made and an exchange was attempted, between two publications
+  record Attempts (x : L) (a : Worker) (y : L) (b : Worker) (attempt : Attempt) : Type 0 where
+    exchanged : Exchanged step x a.session y b.session
+    one : exchange_count b.session ≤ exchange_count a.session + 1
+    did : Did attempt a.session b.session
+    steps : Steps a b
+
+module _ {L J T R : Type 0} {h : Ghosts J} {v : Absorbs T (Shown J) (List DeviceView)}
+    (step : L → Exchange → L → Type 0) where
+  attempts : (x y : L) (a b d e : ViewWorker J T R h v) (i j : Bool) (attempt : Attempt) → PublishesNext a i b
+      → CallsAndAttempts step x b y d attempt → PublishesNext d j e
+      → Attempts step x a.server y e.server attempt
+  attempts x y a b d e i j attempt p c q =
+      let old = b.server.session in
+      let called = c.called.session in
+      let line = line_join old c.served.session called c.clients.grows c.operator.line in
+      rw (q.server, ← p.server) (record {
+        exchanged = exchanged_join step x x y old called d.server.session (exchanged_none step x old called line)
+            c.attempted.exchanged;
+        one = omega (arith, c.attempted.one, no_more old called line);
+        did = did_since attempt old called d.server.session line c.attempted.did;
+        steps = steps_join b.server c.called d.server
+            (steps_join b.server c.served c.called (steps_alone b.server c.served c.clients.steps) c.operator.steps)
+            (steps_within c.called d.server (ap (λ v. v.items) c.ends.0) c.ends.1 c.attempted.switches);
+      })
+
   -- the first publication failed
-  pub turned_not : (x : L) (a b : Worker) (p q : Publishing) → b ≡ a → IsPrefix p.shown q.shown
-      → q.shown ≢ all_views b.session.entries → Turned step x a p x b q None
-  turned_not x a b p q same shown refused = record {
-    exchanged = exchanged_none step x a.session b.session (rw same (line_same a.session));
-    one = omega (arith, ap (λ (w : Worker). exchange_count w.session) same);
-    steps = record { server = rw same (steps_none a); shown = shown };
+  pub turned_not : (x : L) (a b : ViewWorker J T R h v) (i : Bool) → PublishesNext a i b → i ≡ false
+      → Turned step x a x b None
+  turned_not x a b i p refused = record {
+    exchanged = exchanged_none step x a.server.session b.server.session (rw p.server (line_same a.server.session));
+    one = omega (arith, ap (λ (w : Worker). exchange_count w.session) p.server);
+    steps = record { server = rw p.server (steps_none a.server); shown = p.views };
     did = tt;
-    refused = refused;
+    refused = p.refused refused;
+    count = p.count;
   }
 
   -- the second one failed
-  pub turned_unpublished : (x y : L) (a b d : Worker) (p q r : Publishing) (attempt : Attempt)
-      → Attempts x a p y b q attempt → d ≡ b → IsPrefix q.shown r.shown → r.shown ≢ all_views d.session.entries
-      → Turned step x a p y d r None
-  turned_unpublished x y a b d p q r attempt made same shown refused = record {
-    exchanged = rw same made.exchanged;
-    one = rw same made.one;
-    steps = view_steps_join a b d p q r made.steps (record { server = rw same (steps_none b); shown = shown });
-    did = tt;
-    refused = refused;
-  }
-
-  did_still : (attempt : Attempt) (k m n : LogState) → OnlyCollects m n → Legal n.opening n.entries → Did attempt k m
-      → Did attempt k n
-  did_still MadeOne k m n collects legal did = no_more m n (collects_line m n collects) ∙ did
-  did_still NothingToSend k m n collects legal did = no_send_stays m n collects did
-  did_still NoRoom k m n collects legal did = full_stays m n collects legal ∙ did
+  pub turned_unpublished : (x y : L) (a b d e : ViewWorker J T R h v) (i j : Bool) (attempt : Attempt)
+      → PublishesNext a i b → CallsAndAttempts step x b y d attempt → PublishesNext d j e → j ≡ false
+      → Turned step x a y e None
+  turned_unpublished x y a b d e i j attempt p c q refused =
+      let made = attempts x y a b d e i j attempt p c q in
+      record {
+        exchanged = made.exchanged;
+        one = made.one;
+        steps = record {
+          server = made.steps;
+          shown = shown_since a b d e p.views c.views.0 q.views;
+        };
+        did = tt;
+        refused = q.refused refused;
+        count = q.count ∙ c.views.1 ∙ p.count;
+      }
 
   -- outcomes were moved
-  pub turned : (x y : L) (a b d : Worker) (p q r : Publishing) (attempt : Attempt) → Attempts x a p y b q attempt
-      → IsPrefix q.shown r.shown → OnlyCollects b.session d.session → AllPublished d.session r → StepsAlone b d
-      → Legal d.session.opening d.session.entries → Turned step x a p y d r (Some attempt)
-  turned x y a b d p q r attempt made shown collects published alone legal =
-      let line = collects_line b.session d.session collects in
+  pub turned : (x y : L) (a b d e f : ViewWorker J T R h v) (i j : Bool) (attempt : Attempt) → PublishesNext a i b
+      → CallsAndAttempts step x b y d attempt → PublishesNext d j e → MovesAll e f
+      → Legal f.server.session.opening f.server.session.entries → Turned step x a y f (Some attempt)
+  turned x y a b d e f i j attempt p c q m legal =
+      let made = attempts x y a b d e i j attempt p c q in
+      let mid = e.server.session in
+      let new = f.server.session in
+      let line = collects_line mid new m.moved.grows in
       record {
-        exchanged = exchanged_join step x y y a.session b.session d.session made.exchanged
-            (exchanged_none step y b.session d.session line);
-        one = omega (arith, made.one, no_more b.session d.session line);
-        steps = view_steps_join a b d p q r made.steps (record { server = steps_alone b d alone; shown = shown });
-        did = (published, did_still attempt a.session b.session d.session collects legal made.did);
+        exchanged = exchanged_join step x y y a.server.session mid new made.exchanged
+            (exchanged_none step y mid new line);
+        one = omega (arith, made.one, no_more mid new line);
+        steps = record {
+          server = steps_join a.server e.server f.server made.steps (steps_alone e.server f.server m.moved.steps);
+          shown = rw m.views.0 (shown_since a b d e p.views c.views.0 q.views);
+        };
+        did = (m.published, did_still attempt a.server.session mid new m.moved.grows legal made.did);
         refused = tt;
+        count = m.views.1 ∙ q.count ∙ c.views.1 ∙ p.count;
       }
 
   -- the worker made this many turns, as it counted
-  pub record Worked (turns : ℕ) (x : L) (a : Worker) (p : Publishing) (y : L) (b : Worker) (q : Publishing) (made : ℕ)
-      : Type 0 where
-    pub exchanged : Exchanged step x a.session y b.session
-    pub turns_are : AreTurns turns a.session p.shown b.session q.shown
-    pub few : exchange_count b.session ≤ exchange_count a.session + turns
-    pub count : made ≡ turns
-    pub steps : ViewSteps a p b q
+  pub record Worked (turns : ℕ) (x : L) (a : ViewWorker J T R h v) (y : L) (b : ViewWorker J T R h v) : Type 0 where
+    pub exchanged : Exchanged step x a.server.session y b.server.session
+    pub turns_are : AreTurns turns a.server.session a.views.shown b.server.session b.views.shown
+    pub few : exchange_count b.server.session ≤ exchange_count a.server.session + turns
+    pub count : b.turns_made ≡ turns
+    pub steps : ViewSteps a b

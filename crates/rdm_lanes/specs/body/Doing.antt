@@ -1,23 +1,31 @@
--- How a worker moves a client's outcomes, what it leaves undone for the client, and why.
-use Rattle.std.specs.Prelude.{◌≡◌, ◌≢◌, ◌⊎◌, ⊤, ℕ, ◌+◌, ◌<◌, ◌≤◌, Bool, true, false, List, [], Some, MatchOption}
+-- How a worker serves its clients and moves their outcomes, what it leaves undone for a client, and why.
+use Rattle.std.specs.Prelude.{◌≡◌, ◌≢◌, ◌⊎◌, ⊤, ℕ, ◌+◌, ◌<◌, ◌≤◌, Bool, true, false, [], Some, MatchOption}
 use Rattle.std.specs.Prelude.{slice_get, slice_set}
 use Rattle.rtrb.specs.Ring.{received as popped, known_free, known_items}
 use Rattle.rdm_log.specs.declared.outcome.OutcomeKind.TheVariants as kinds
 use Rattle.rdm_log.specs.log.LogState.{LogState, is_full_log}
 use Rattle.rdm_log.specs.promises.Outcomes.{oldest_kind}
+use Rattle.rdm_lanes.specs.declared.worker.Worker.{Worker}
 use Rattle.rdm_lanes.specs.declared.worker.lane.Lane.{Lane}
-use Rattle.rdm_lanes.specs.Lanes.{Fits, SameLane}
-use Rattle.rdm_lanes.specs.Lines.{IsBetweenTurns}
+use Rattle.rdm_lanes.specs.Lanes.{Fits, SameLanes}
+use Rattle.rdm_lanes.specs.Lines.{IsBetweenTurns, SameSwitches}
 use Rattle.rdm_lanes.specs.body.Quiet.{NoExchange, OnlyCollects}
-use Rattle.rdm_lanes.specs.body.Serving.{IsOnlyTold, MayMake}
+use Rattle.rdm_lanes.specs.body.Serving.{MayMake, StepsFor}
 
--- Only outcomes of client c were collected from old to new. Its lane, which was `lane` and is `next`, fits the log.
+-- nothing was received from the operator
+abbrev pub SameOperator : Worker → Worker → Type 0
+SameOperator old new = (new.operator ≡ old.operator) × (new.operator_left ≡ old.operator_left)
+
+-- what a step keeps that makes no call of the operator
+pub record StepsAlone (old new : Worker) : Type 0 where
+  pub lanes : SameLanes old.lanes.items new.lanes.items
+  pub operator : SameOperator old new
+  pub switches : SameSwitches old.session new.session
+
+-- only outcomes of client c were collected from old to new
 pub record MovesFor (c : ℕ) (old : LogState) (lane : Lane) (new : LogState) (next : Lane) : Type 0 where
-  pub fits : Fits c new next
-  pub served : IsBetweenTurns new
-  pub others : (d : ℕ) → d ≢ c → IsOnlyTold d old new
+  pub step : StepsFor c old lane new next
   pub collects : OnlyCollects old new
-  pub rings : SameLane lane next
 
 -- an outcome of client c may be moved to its ring: a slot is free
 pub record MayMoveOne (c : ℕ) (k : LogState) (lane : Lane) : Type 0 where
@@ -35,8 +43,9 @@ pub record MovesOne (c : ℕ) (old : LogState) (lane : Lane) (done : Bool) (new 
 
 -- No request's outcome of client c can be moved to its ring now: no slot is known to be free, or its oldest outcome, if
 -- it has one, is a discovery's. That one may be left, since an allocation for its set can fail.
-abbrev pub IsMoved : ℕ → LogState → Lane → Type 0
-IsMoved c k lane = (known_free lane.replies ≡ 0) ⊎ (oldest_kind k.opening k.entries c ≢ Some kinds.Request)
+abbrev pub IsMoved : ℕ → LogState → Lane → Lane → Type 0
+IsMoved c k old new =
+    (known_free new.replies ≡ 0) ⊎ (oldest_kind k.opening k.entries c ≢ Some kinds.Request)
 
 -- the next call in the ring of client c may not be made now; there may be none
 abbrev pub MayNotMakeNext : ℕ → LogState → Lane → Type 0
@@ -47,42 +56,43 @@ abbrev pub IsServed : ℕ → LogState → Lane → Lane → Type 0
 IsServed c k old new = popped new.calls ≡ popped old.calls
     → (known_items new.calls ≡ []) ⊎ ((is_full_log k ≡ true) ⊎ MayNotMakeNext c k new)
 
--- The lane of client c, which was `lane`, is `next`. The others are the same. Client c was served.
-pub record ServesAt (c : ℕ) (lanes : List Lane) (k : LogState) (nexts : List Lane) : Type 0 where
-  pub lane : Lane
-  pub next : Lane
-  pub was : slice_get lanes c ≡ Some lane
-  pub set : nexts ≡ slice_set lanes c next
-  pub served : IsServed c k lane next
+-- What a worker does for each client in turn: `Done` says what it leaves, and `Grows` what the log may get meanwhile.
+module _ (Grows : LogState → LogState → Type 0) (Done : ℕ → LogState → Lane → Lane → Type 0) where
+  -- it did this for client c, whose lane was `lane` and is `next`
+  pub record DoesFor (c : ℕ) (old : LogState) (lane : Lane) (new : LogState) (next : Lane) : Type 0 where
+    pub step : StepsFor c old lane new next
+    pub grows : Grows old new
+    pub done : Done c new lane next
 
--- At some point from old to new, client c was served, or couldn't be. Its lane is `lane` before, and `next` after.
-pub record WasServed (c : ℕ) (old : LogState) (lane : Lane) (new : LogState) (next : Lane) : Type 0 where
-  pub moment : LogState
-  pub before : NoExchange old moment
-  pub after : NoExchange moment new
-  pub served : IsServed c moment lane next
+  -- the same in a worker, whose other lanes are unchanged
+  pub record DoesAt (c : ℕ) (old new : Worker) : Type 0 where
+    pub lane : Lane
+    pub next : Lane
+    pub was : slice_get old.lanes.items c ≡ Some lane
+    pub set : new.lanes.items ≡ slice_set old.lanes.items c next
+    pub does : DoesFor c old.session lane new.session next
+    pub operator : SameOperator old new
 
--- each of the first n clients was served from old to new, and the lanes of the others are the same
-pub record AreServed (n : ℕ) (old : LogState) (lanes : List Lane) (new : LogState) (nexts : List Lane) : Type 0 where
-  pub each : (i : ℕ) (lane next : Lane) → i < n → slice_get lanes i ≡ Some lane → slice_get nexts i ≡ Some next
-      → WasServed i old lane new next
-  pub rest : (i : ℕ) (lane : Lane) → n ≤ i → slice_get nexts i ≡ Some lane → slice_get lanes i ≡ Some lane
+  -- at some point from old to new it was done for client c, whose lane is `lane` before, and `next` after
+  pub record WasDone (c : ℕ) (old : LogState) (lane : Lane) (new : LogState) (next : Lane) : Type 0 where
+    pub moment : LogState
+    pub before : Grows old moment
+    pub after : Grows moment new
+    pub done : Done c moment lane next
 
--- The lane of client c is `next`, and the others are the same. No request's outcome is left that is known to fit its
--- ring.
-pub record MovesAt (c : ℕ) (lanes : List Lane) (k : LogState) (nexts : List Lane) : Type 0 where
-  pub next : Lane
-  pub set : nexts ≡ slice_set lanes c next
-  pub moved : IsMoved c k next
+  -- it was done for each of the first n clients, and the lanes of the others are the same
+  pub record AreDone (n : ℕ) (old new : Worker) : Type 0 where
+    pub each : (i : ℕ) (lane next : Lane) → i < n → slice_get old.lanes.items i ≡ Some lane
+        → slice_get new.lanes.items i ≡ Some next → WasDone i old.session lane new.session next
+    pub rest : (i : ℕ) (lane : Lane) → n ≤ i → slice_get new.lanes.items i ≡ Some lane
+        → slice_get old.lanes.items i ≡ Some lane
+    pub grows : Grows old.session new.session
+    pub steps : StepsAlone old new
 
--- At some point from old to new, no request's outcome of client c was left that was known to fit its ring. Its lane is
--- this one.
-pub record WasMoved (c : ℕ) (old new : LogState) (lane : Lane) : Type 0 where
-  pub moment : LogState
-  pub before : OnlyCollects old moment
-  pub after : OnlyCollects moment new
-  pub moved : IsMoved c moment lane
+-- at most one call of each of the first n clients was made
+abbrev pub AreServed : ℕ → Worker → Worker → Type 0
+AreServed n old new = AreDone NoExchange IsServed n old new
 
--- the same for each of the first n clients
-pub record AreMoved (n : ℕ) (old new : LogState) (lanes : List Lane) : Type 0 where
-  pub each : (i : ℕ) (lane : Lane) → i < n → slice_get lanes i ≡ Some lane → WasMoved i old new lane
+-- the outcomes of each of them were moved, as far as that is known to be possible
+abbrev pub AreMoved : ℕ → Worker → Worker → Type 0
+AreMoved n old new = AreDone OnlyCollects IsMoved n old new

@@ -34,8 +34,8 @@ pub record IsOnlyTold (c : ℕ) (old new : LogState) : Type 0 where
   pub requests_are : outstanding_requests new.opening c new.entries ≡ outstanding_requests old.opening c old.entries
   pub asks_are : outstanding_discoveries new.opening c new.entries ≡ outstanding_discoveries old.opening c old.entries
 
--- Only calls of client c were made from old to new. Its lane, which was `lane` and is `next`, fits the log.
-pub record ServesClient (c : ℕ) (old : LogState) (lane : Lane) (new : LogState) (next : Lane) : Type 0 where
+-- Only client c called or collected anything from old to new. Its lane, which was `lane` and is `next`, fits the log.
+pub record StepsFor (c : ℕ) (old : LogState) (lane : Lane) (new : LogState) (next : Lane) : Type 0 where
   pub fits : Fits c new next
   pub served : IsBetweenTurns new
   pub others : (d : ℕ) → d ≢ c → IsOnlyTold d old new

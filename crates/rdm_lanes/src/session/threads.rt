@@ -73,7 +73,7 @@ pub fn all_in_threads<
     ensures steps { Steps worker.server result.0.server }
     ensures turns { (result.0.turns_made ≤ turns) × (turns ≡ 0 → result.3 ≡ Turns) }
     ensures all_turns { result.3 ≡ Turns → result.0.turns_made ≡ turns }
-    ensures stops { result.3 ≢ Turns → Stops result.3 result.0.server result.0.views }
+    ensures stops { result.3 ≢ Turns → Stops result.3 result.0 }
 {
     let mut worker = worker;
     let mut seats = seats;

@@ -4,7 +4,8 @@ ghost use Rattle.rdm_log.specs.declared.outcome.OutcomeKind.TheVariants as kinds
 ghost use Rattle.rdm_log.specs.promises.Outcomes.{oldest_kind};
 ghost use Rattle.rdm_lanes.specs.Lines.{IsBetweenTurns};
 ghost use Rattle.rdm_lanes.specs.Lanes.{Fits};
-ghost use Rattle.rdm_lanes.specs.body.Doing.{IsMoved, MayMoveOne, MovesFor, MovesOne};
+ghost use Rattle.rdm_lanes.specs.body.Doing.{DoesFor, IsMoved, MayMoveOne, MovesOne};
+ghost use Rattle.rdm_lanes.specs.body.Quiet.{OnlyCollects};
 
 use crate::ring_outcome::RingOutcome;
 use crate::worker::lane::Lane;
@@ -20,8 +21,7 @@ use std::alloc::Global;
 pub fn move_outcomes(alloc: Global, session: &mut Session, client: ClientId, lane: &mut Lane)
     requires fits { Fits client.0 session.old lane.old }
     requires served { IsBetweenTurns session.old }
-    ensures moves { MovesFor client.0 session.old lane.old session.new lane.new }
-    ensures all { IsMoved client.0 session.new lane.new }
+    ensures { DoesFor OnlyCollects IsMoved client.0 session.old lane.old session.new lane.new }
 {
     if session.oldest(client).is_none() {
         return;

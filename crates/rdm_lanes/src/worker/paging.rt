@@ -4,7 +4,8 @@ ghost use Rattle.std.specs.Prelude.{Some, None, IfSome};
 ghost use Rattle.rdm_log.specs.log.LogState.{stored};
 ghost use Rattle.rdm_lanes.specs.Pages.{IsHalfUsed, IsDue, pages_out, spare_capacity, with_memory};
 ghost use Rattle.rdm_lanes.specs.body.Paging.{HandsPages, WorksInPages};
-ghost use Rattle.rdm_lanes.specs.body.Steps.{SameOperator, Steps, Stops};
+ghost use Rattle.rdm_lanes.specs.body.Doing.{SameOperator};
+ghost use Rattle.rdm_lanes.specs.body.Steps.{Steps, Stops};
 ghost use Rattle.rdm_client.specs.declared.worker_end.WorkerEnd.TheVariants.{Turns, LogFull as FullLog};
 ghost use Rattle.rdm_client.specs.declared.worker_end.WorkerEnd.{WorkerEnd};
 
@@ -32,7 +33,7 @@ impl<J: ViewHistory, R: Wait + Drop> ViewWorker<J, Shown<J>, R> {
         ensures steps { Steps self.old.server self.new.server }
         ensures turns { (self.new.turns_made ≤ turns) × (turns ≡ 0 → result ≡ Turns) }
         ensures all_turns { result ≡ Turns → self.new.turns_made ≡ turns }
-        ensures stops { result ≢ Turns → Stops result self.new.server self.new.views }
+        ensures stops { result ≢ Turns → Stops result self.new }
     {
         self.turns_made = 0;
         for _turn in 0..turns {
@@ -55,7 +56,7 @@ impl<J: ViewHistory, R: Wait + Drop> ViewWorker<J, Shown<J>, R> {
         ensures worked { WorksInPages X.step S.taken 1 line.old self.old.server.session pages.old line.new
             self.new.server.session pages.new }
         ensures steps { Steps self.old.server self.new.server }
-        ensures stops { IfSome result (λ end. Stops end self.new.server self.new.views) }
+        ensures stops { IfSome result (λ end. Stops end self.new) }
     {
         // Only for the proof: no more entries were handed out than there are.
         self.server.session.log().gone();

@@ -3,12 +3,12 @@ ghost use Rattle.std.specs.Prelude.{◌≡◌, MatchOption, slice_get, ⊤, true
 ghost use Rattle.rdm_lanes.specs.declared.call.ClientCall.TheVariants.{Leave};
 ghost use Rattle.rtrb.specs.Ring.{known_items};
 ghost use Rattle.rdm_log.specs.log.History.{places};
-ghost use Rattle.rdm_lanes.specs.body.Doing.{IsServed, MayNotMakeNext};
+ghost use Rattle.rdm_lanes.specs.body.Doing.{DoesFor, IsServed, MayNotMakeNext};
+ghost use Rattle.rdm_lanes.specs.body.Quiet.{NoExchange};
 ghost use Rattle.rdm_lanes.specs.Lines.{IsBetweenTurns};
 ghost use Rattle.rdm_lanes.specs.Lanes.{Fits, SameLane};
-ghost use Rattle.rdm_lanes.specs.body.Serving.{IsReadyFor, ServesClient, HasRefusalSlot, MayMake, LooksForSlot};
-ghost use Rattle.rdm_lanes.specs.body.Serving.{AfterAnswer, FitsAnswer, HasCapacityFor, bringing, counted};
-ghost use Rattle.rdm_lanes.specs.body.Serving.{kind_of_work, refused_value};
+ghost use Rattle.rdm_lanes.specs.body.Serving.{IsReadyFor, StepsFor, HasRefusalSlot, MayMake, LooksForSlot};
+ghost use Rattle.rdm_lanes.specs.body.Serving.{AfterAnswer, FitsAnswer, bringing, kind_of_work, refused_value};
 ghost use Rattle.rdm_lanes.specs.Told.{value_in};
 
 use crate::call::ClientCall;
@@ -27,8 +27,7 @@ pub fn serve_call(alloc: Global, session: &mut Session, client: ClientId, lane: 
     requires known { slice_get (places session.old.opening session.old.entries) client.0 ≡ Some lane.old.places }
     requires fits { Fits client.0 session.old lane.old }
     requires served { IsBetweenTurns session.old }
-    ensures serves { ServesClient client.0 session.old lane.old session.new lane.new }
-    ensures made { IsServed client.0 session.new lane.old lane.new }
+    ensures { DoesFor NoExchange IsServed client.0 session.old lane.old session.new lane.new }
 {
     if lane.calls.slots() == 0 || session.free() < LEAST_FREE {
         return;
@@ -96,7 +95,7 @@ fn work_of(call: ClientCall) -> Option<Work>
 // Makes the call that brings this work. If a close refuses it, its outcome is put on the ring at once.
 fn make_work(alloc: Global, session: &mut Session, client: ClientId, lane: &mut Lane, work: Work)
     requires { IsReadyFor (bringing work) client.0 session.old lane.old }
-    ensures serves { ServesClient client.0 session.old lane.old session.new lane.new }
+    ensures step { StepsFor client.0 session.old lane.old session.new lane.new }
     ensures calls { lane.new.calls ≡ lane.old.calls }
 {
     let kind = kind_of(&work);
@@ -127,22 +126,12 @@ fn apply_answer(
     ensures calls { lane.new.calls ≡ lane.old.calls }
 {
     match answer {
-        Ok(_) => count(lane, kind),
+        Ok(_) => match kind {
+            OutcomeKind::Request => lane.requests += 1,
+            OutcomeKind::Discovery => lane.asks += 1,
+        },
         Err((WorkFault::Closed, _)) => lane.replies.push_reserved(refused(alloc, kind)),
         Err(_) => {}
-    }
-}
-
-// Counts accepted work.
-fn count(lane: &mut Lane, kind: OutcomeKind)
-    requires { HasCapacityFor kind lane.old }
-    ensures counted { lane.new ≡ counted kind lane.old }
-    ensures lane { SameLane lane.old lane.new }
-    ensures calls { lane.new.calls ≡ lane.old.calls }
-{
-    match kind {
-        OutcomeKind::Request => lane.requests += 1,
-        OutcomeKind::Discovery => lane.asks += 1,
     }
 }
 

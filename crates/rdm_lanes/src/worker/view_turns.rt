@@ -6,8 +6,6 @@ ghost use Rattle.rtrb.specs.Ring.{SameConsumer};
 ghost use Rattle.rdm_log.specs.log.LogState.{is_full_log};
 ghost use Rattle.rdm_log.specs.log.MaySend.{NoSend};
 ghost use Rattle.rdm_lanes.specs.Lines.{Exchanged, SameSwitches, exchange_count};
-ghost use Rattle.rdm_lanes.specs.body.Quiet.{NoExchange, OnlyCollects};
-ghost use Rattle.rdm_lanes.specs.body.Doing.{AreServed, AreMoved};
 ghost use Rattle.rdm_lanes.specs.Lanes.{SameLanes, AllHaveLeft};
 ghost use Rattle.rdm_lanes.specs.Views.{all_views};
 ghost use Rattle.rdm_lanes.specs.body.Showing.{Publishes, AllPublished};
@@ -15,7 +13,7 @@ ghost use Rattle.rdm_lanes.specs.Operators.{switches, effective};
 ghost use Rattle.rdm_lanes.specs.Workers.{session_of, lanes_of, operator_has_left, published_by, HasPublishedAll};
 ghost use Rattle.rdm_lanes.specs.Workers.{operator_ring, received_by, turns_made_of};
 ghost use Rattle.rdm_lanes.specs.Turns.{AreTurns};
-ghost use Rattle.rdm_lanes.specs.body.Steps.{Attempted, EndsTurn, SameEnds, SameViews, Steps, StepsAlone, Turned};
+ghost use Rattle.rdm_lanes.specs.body.Steps.{CallsAndAttempts, EndsTurn, MovesAll, PublishesNext, Turned};
 ghost use Rattle.rdm_client.specs.declared.worker_end.WorkerEnd.TheVariants.{AllLeft, Turns, LogFull as FullLog};
 
 use crate::views::history::ViewHistory;
@@ -86,9 +84,7 @@ impl<J: ViewHistory, R: Wait + Drop> ViewWorker<J, Shown<J>, R> {
     // One turn, which is counted first. Some: the worker stops.
     pub(crate) fn turn<X: Line>(&mut self, alloc: Global, line: &mut X) -> Option<WorkerEnd>
         requires few { self.old.turns_made < 2 ^ 64 - 1 }
-        ensures counted { self.new.turns_made ≡ self.old.turns_made + 1 }
-        ensures turn { EndsTurn X.step line.old self.old.server self.old.views line.new self.new.server self.new.views
-            result }
+        ensures { EndsTurn X.step line.old self.old line.new self.new result }
     {
         self.turns_made += 1;
         match self.serve_all(alloc, line) {
@@ -104,15 +100,12 @@ impl<J: ViewHistory, R: Wait + Drop> ViewWorker<J, Shown<J>, R> {
     // was done after that. A view whose publication failed before comes first. A call that is taken after a close puts
     // its outcome on the ring at once.
     fn serve_all<X: Line>(&mut self, alloc: Global, line: &mut X) -> Option<Attempt>
-        ensures turn { Turned X.step line.old self.old.server self.old.views line.new self.new.server self.new.views
-            result }
-        ensures count { self.new.turns_made ≡ self.old.turns_made }
+        ensures { Turned X.step line.old self.old line.new self.new result }
     {
         if !self.publish(alloc) {
             return None;
         }
-        self.serve_calls(alloc);
-        let attempt = self.exchange(alloc, line);
+        let attempt = self.serve_and_exchange(alloc, line);
         if !self.publish(alloc) {
             return None;
         }
@@ -121,51 +114,29 @@ impl<J: ViewHistory, R: Wait + Drop> ViewWorker<J, Shown<J>, R> {
         Some(attempt)
     }
 
-    // Makes at most one call of each client and of the operator.
-    fn serve_calls(&mut self, alloc: Global)
-        requires { AllPublished self.old.server.session self.old.views }
-        ensures published { AllPublished self.new.server.session self.new.views }
-        ensures served { AreServed (length self.old.server.lanes.items) self.old.server.session
-            self.old.server.lanes.items self.new.server.session self.new.server.lanes.items }
-        ensures line { NoExchange self.old.server.session self.new.server.session }
-        ensures steps { Steps self.old.server self.new.server }
-        ensures views { SameViews self.old self.new }
-    {
-        self.server.serve_clients(alloc);
-        self.server.serve_operator();
-    }
-
     // Publishes what isn't published yet, and returns whether all is published.
     fn publish(&mut self, alloc: Global) -> bool
-        ensures made { result ≡ true → AllPublished self.new.server.session self.new.views }
-        ensures refused { result ≡ false → self.new.views.shown ≢ all_views self.new.server.session.entries }
-        ensures views { IsPrefix self.old.views.shown self.new.views.shown }
-        ensures server { self.new.server ≡ self.old.server }
-        ensures count { self.new.turns_made ≡ self.old.turns_made }
+        ensures { PublishesNext self.old result self.new }
     {
         let ViewWorker { server, views, .. } = self;
         publish_next(alloc, &server.session, views)
     }
 
-    // Makes an exchange with the line, if there is a frame to send. What it found isn't published yet.
-    fn exchange<X: Line>(&mut self, alloc: Global, line: &mut X) -> Attempt
+    // Makes at most one call of each client and of the operator. Then it makes an exchange with the line, if there is a
+    // frame to send. What that found isn't published yet.
+    fn serve_and_exchange<X: Line>(&mut self, alloc: Global, line: &mut X) -> Attempt
         requires { AllPublished self.old.server.session self.old.views }
-        ensures attempted { Attempted X.step line.old self.old.server.session line.new self.new.server.session result }
-        ensures ends { SameEnds self.old.server self.new.server }
-        ensures views { SameViews self.old self.new }
+        ensures { CallsAndAttempts X.step line.old self.old line.new self.new result }
     {
+        self.server.serve_clients(alloc);
+        self.server.serve_operator();
         self.server.exchange(alloc, line)
     }
 
     // Moves the outcomes of each client, once all views are published.
     fn move_all(&mut self, alloc: Global)
         requires { AllPublished self.old.server.session self.old.views }
-        ensures moved { AreMoved (length self.old.server.lanes.items) self.old.server.session self.new.server.session
-            self.new.server.lanes.items }
-        ensures collects { OnlyCollects self.old.server.session self.new.server.session }
-        ensures published { AllPublished self.new.server.session self.new.views }
-        ensures steps { StepsAlone self.old.server self.new.server }
-        ensures views { SameViews self.old self.new }
+        ensures { MovesAll self.old self.new }
     {
         self.server.move_all(alloc);
     }

@@ -2,9 +2,9 @@
 ghost use Rattle.std.specs.Prelude.{◌≡◌, ◌<◌, true, length, vec_len};
 ghost use Rattle.rdm_lanes.specs.Lanes.{AllHaveLeft};
 ghost use Rattle.rdm_lanes.specs.Lines.{IsBetweenTurns};
-ghost use Rattle.rdm_lanes.specs.body.Doing.{ServesAt, AreServed, MovesAt, AreMoved};
+ghost use Rattle.rdm_lanes.specs.body.Doing.{DoesAt, AreServed, AreMoved, IsServed, IsMoved};
 ghost use Rattle.rdm_lanes.specs.body.Quiet.{NoExchange, OnlyCollects};
-ghost use Rattle.rdm_lanes.specs.body.Steps.{Attempted, SameEnds, Steps, StepsAlone};
+ghost use Rattle.rdm_lanes.specs.body.Steps.{Attempted, SameEnds, ServesOperator};
 
 use crate::call::OperatorCall;
 use crate::worker::Worker;
@@ -31,10 +31,7 @@ pub enum Attempt {
 impl Worker {
     // Makes at most one call of each client.
     pub(crate) fn serve_clients(&mut self, alloc: Global)
-        ensures served { AreServed (length self.old.lanes.items) self.old.session self.old.lanes.items self.new.session
-            self.new.lanes.items }
-        ensures line { NoExchange self.old.session self.new.session }
-        ensures steps { StepsAlone self.old self.new }
+        ensures { AreServed (length self.old.lanes.items) self.old self.new }
     {
         for at in 0..self.lanes.len() {
             self.serve_client(alloc, at);
@@ -44,9 +41,7 @@ impl Worker {
     // Makes at most one call of the client.
     fn serve_client(&mut self, alloc: Global, at: usize)
         requires { at < vec_len self.old.lanes }
-        ensures served { ServesAt at self.old.lanes.items self.new.session self.new.lanes.items }
-        ensures line { NoExchange self.old.session self.new.session }
-        ensures steps { StepsAlone self.old self.new }
+        ensures { DoesAt NoExchange IsServed at self.old self.new }
     {
         let Worker { session, lanes, .. } = self;
         serve_call(alloc, session, ClientId(at as u8), &mut lanes[at]);
@@ -54,9 +49,7 @@ impl Worker {
 
     // Moves the outcomes of each client.
     pub(crate) fn move_all(&mut self, alloc: Global)
-        ensures moved { AreMoved (length self.old.lanes.items) self.old.session self.new.session self.new.lanes.items }
-        ensures collects { OnlyCollects self.old.session self.new.session }
-        ensures steps { StepsAlone self.old self.new }
+        ensures { AreMoved (length self.old.lanes.items) self.old self.new }
     {
         for at in 0..self.lanes.len() {
             self.move_for(alloc, at);
@@ -66,9 +59,7 @@ impl Worker {
     // Moves the outcomes of the client.
     fn move_for(&mut self, alloc: Global, at: usize)
         requires { at < vec_len self.old.lanes }
-        ensures moved { MovesAt at self.old.lanes.items self.new.session self.new.lanes.items }
-        ensures collects { OnlyCollects self.old.session self.new.session }
-        ensures steps { StepsAlone self.old self.new }
+        ensures { DoesAt OnlyCollects IsMoved at self.old self.new }
     {
         let Worker { session, lanes, .. } = self;
         move_outcomes(alloc, session, ClientId(at as u8), &mut lanes[at]);
@@ -77,9 +68,7 @@ impl Worker {
     // Makes at most one call of the operator.
     #[tactic(auto, using(crate::proofs::LineLemmas::line_same, crate::proofs::WorkLemmas::steps_none, crate::proofs::LaneLemmas::same_lanes))]
     pub(crate) fn serve_operator(&mut self)
-        ensures line { NoExchange self.old.session self.new.session }
-        ensures lanes { self.new.lanes ≡ self.old.lanes }
-        ensures steps { Steps self.old self.new }
+        ensures { ServesOperator self.old self.new }
     {
         if self.operator_left || self.session.free() < LEAST_FREE || self.operator.slots() == 0 {
             return;

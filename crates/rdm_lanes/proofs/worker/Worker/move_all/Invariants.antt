@@ -1,9 +1,5 @@
 use Rattle.rdm_lanes.specs.body.Doing.{AreMoved}
-use Rattle.rdm_lanes.specs.body.Quiet.{OnlyCollects}
-use Rattle.rdm_lanes.specs.body.Steps.{StepsAlone}
 use Rattle.rdm_lanes.proofs.worker.Worker.move_all.Given as goal
 
 abbrev pub invariant-loop-at : goal.invariant-loop-at
-invariant-loop-at l =
-    AreMoved l.at l.fn.self.session l.self.session l.self.lanes.items
-    × OnlyCollects l.fn.self.session l.self.session × StepsAlone l.fn.self l.self
+invariant-loop-at l = AreMoved l.at l.fn.self l.self

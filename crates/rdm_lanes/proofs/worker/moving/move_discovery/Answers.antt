@@ -1,8 +1,8 @@
-use Rattle.rdm_lanes.proofs.Common.{refl, true≢false, ap, Some, AskCompletion, outcome_value}
+use Rattle.rdm_lanes.proofs.Common.{refl, ap, Some, AskCompletion, outcome_value}
 use Rattle.rdm_log.specs.declared.outcome.Outcome.TheVariants as outcomes
 use Rattle.rdm_log.specs.promises.Outcomes.{discovery_outcome}
 use Rattle.rdm_lanes.proofs.CollectedLemmas.{has_ask, fits_discovery}
-use Rattle.rdm_lanes.proofs.StepLemmas.{collects, collect_step}
+use Rattle.rdm_lanes.proofs.MovingLemmas.{moves_one}
 use Rattle.rdm_lanes.proofs.worker.moving.move_discovery.Goals as goal
 
 pub overflow_sub-lane : goal.overflow_sub-lane
@@ -16,26 +16,13 @@ returns c =
     let old = c.args.session.now in
     let new = c.next_discovery.new.self in
     let end = c.in-Some.end in
-    let outcome = discovery_outcome end c.next_discovery.new.set.value in
+    let set = c.next_discovery.new.set.value in
     let adds = c.in-Some.ensures.adds in
     let legal = c.in-Some.ensures.legal in
-    let step = collect_step old new c.args.client outcome adds legal in
-    record {
-      moves = record {
-        fits = fits_discovery old new c.args.client end.number
-            (record { run = end.run; fault = end.fault; set = c.next_discovery.new.set.value }) _ c.args.lane.now _
-            adds legal
-            (ap (λ (done : AskCompletion). outcome_value (outcomes.Discovery (Some end.number) done))
-            c.new-done.ensures)
-            c.requires.may.fits
-            (record { calls_are = refl; requests_are = refl; asks_are = refl; left_is = refl })
-            c.push_reserved.ensures.sent.0;
-        served = step.served c.requires.may.served;
-        others = step.wait;
-        collects = collects old new c.args.client outcome adds;
-        rings = (((refl, refl, refl, refl), refl), c.push_reserved.ensures.ring, refl);
-      };
-      moved = λ is. c.push_reserved.ensures.sent.1;
-      kept = λ is. absurd (true≢false is);
-      none = λ is. absurd (true≢false is);
-    }
+    moves_one old new c.args.client (discovery_outcome end set) c.args.lane.now _ adds legal c.requires.may.served
+    (fits_discovery old new c.args.client end.number (record { run = end.run; fault = end.fault; set = set }) _
+    c.args.lane.now _ adds legal
+    (ap (λ (done : AskCompletion). outcome_value (outcomes.Discovery (Some end.number) done)) c.new-done.ensures)
+    c.requires.may.fits (record { calls_are = refl; requests_are = refl; asks_are = refl; left_is = refl })
+    c.push_reserved.ensures.sent.0)
+    (((refl, refl, refl, refl), refl), c.push_reserved.ensures.ring, refl) c.push_reserved.ensures.sent.1

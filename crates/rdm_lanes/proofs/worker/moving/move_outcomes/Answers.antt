@@ -1,4 +1,4 @@
-use Rattle.std.proofs.Common.{refl}
+use Rattle.rdm_lanes.proofs.Common.{refl, inr, rules}
 use Rattle.rdm_lanes.proofs.MovingLemmas.{moves_none, moves_more}
 use Rattle.rdm_lanes.proofs.ServeLemmas.{fits_looked}
 use Rattle.rdm_lanes.proofs.worker.moving.move_outcomes.Goals as goal
@@ -18,7 +18,12 @@ loop-alloc-init c =
     }) refl)
     c.requires.served (((refl, refl, refl, refl), refl), c.slots.ensures.looked.0, refl)
 
-pub returns-then-not-move_outcome-clause-moves : goal.returns-then-not-move_outcome-clause-moves
-returns-then-not-move_outcome-clause-moves c =
-    moves_more c.args.client.0 c.args.session.now c.loop-alloc.session c.move_outcome.new.session c.args.lane.now
-    c.loop-alloc.lane c.move_outcome.new.lane c.loop-alloc.invariant c.move_outcome.ensures.moves
+pub returns-then-not-move_outcome : goal.returns-then-not-move_outcome
+returns-then-not-move_outcome c =
+    let moves = moves_more c.args.client.0 c.args.session.now c.loop-alloc.session c.move_outcome.new.session
+    c.args.lane.now c.loop-alloc.lane c.move_outcome.new.lane c.loop-alloc.invariant c.move_outcome.ensures.moves in
+    record {
+      step = moves.step;
+      grows = moves.collects;
+      done = inr (c.move_outcome.ensures.none (search rules));
+    }

@@ -10,8 +10,8 @@ apply_answer-requires c =
     (fits_answer c.args.session.now c.accept-answer.new.self c.args.client c.args.work c.args.lane.now
     c.accept-answer.result c.accept-answer.ensures.adds c.requires.free c.requires.may)
 
-pub returns-clause-serves : goal.returns-clause-serves
-returns-clause-serves c =
+pub returns-clause-step : goal.returns-clause-step
+returns-clause-step c =
     let old = c.args.session.now in
     let new = c.accept-answer.new.self in
     let lane = c.args.lane.now in

@@ -1,4 +1,5 @@
-use Rattle.rdm_lanes.proofs.Common.{◌≡◌, true, false, inl, inr, ◌⊎◌, cases_Bool, IsPrefix, all_views, AreShownFirst}
+use Rattle.rdm_lanes.proofs.Common.{◌≡◌, refl, true, false, inl, inr, ◌⊎◌, cases_Bool, IsPrefix, all_views}
+use Rattle.rdm_lanes.proofs.Common.{AreShownFirst}
 use Rattle.rdm_lanes.proofs.FirstLemmas.{first_shown}
 use Rattle.rdm_lanes.proofs.Fronts.{prefix_self}
 use Rattle.rdm_lanes.proofs.ReadLemmas.{take_prefix}
@@ -18,8 +19,14 @@ invariant_of-self g c = record {
         me.publishes.showing.none_later me.server.fits (c.publish_next.ensures.made made).shown
     by_result (inr refused) = rw (c.publish_next.ensures.refused refused) c.args.self.now.shown_first
 
-pub returns-clause-views : goal.returns-clause-views
-returns-clause-views g c = by_result (cases_Bool c.publish_next.result)
+pub returns : goal.returns
+returns g c = record {
+  made = c.publish_next.ensures.made;
+  refused = c.publish_next.ensures.lacks;
+  views = by_result (cases_Bool c.publish_next.result);
+  server = refl;
+  count = refl;
+}
   where
     by_result : (c.publish_next.result ≡ true) ⊎ (c.publish_next.result ≡ false)
         → IsPrefix c.args.self.now.views.shown c.publish_next.new.views.shown

@@ -2,7 +2,8 @@ use Rattle.rdm_lanes.proofs.Common.{ℕ, refl, subst, arith, AreTurns}
 use Rattle.rdm_lanes.proofs.LineLemmas.{line_same}
 use Rattle.rdm_lanes.proofs.ExchangeLemmas.{exchanged_none, exchanged_join}
 use Rattle.rdm_lanes.proofs.TurnLemmas.{turns_more}
-use Rattle.rdm_lanes.proofs.WorkLemmas.{goes_on, view_steps_none, view_steps_join}
+use Rattle.rdm_lanes.proofs.Fronts.{prefix_self}
+use Rattle.rdm_lanes.proofs.WorkLemmas.{goes_on, steps_none, view_steps_join}
 use Rattle.rdm_lanes.proofs.worker.view_turns.ViewWorker+J+Shown+J+R.work.Goals as goal
 
 pub loop-turn-init : goal.loop-turn-init
@@ -14,7 +15,7 @@ loop-turn-init g c =
       turns_are = (refl, refl);
       few = omega arith;
       count = refl;
-      steps = view_steps_none me.server me.views;
+      steps = record { server = steps_none me.server; shown = prefix_self me.views.shown };
     }
 
 pub loop-turn-preserved : goal.loop-turn-preserved
@@ -23,7 +24,7 @@ loop-turn-preserved g c =
     let old = c.loop-turn.self in
     let new = c.turn.new.self in
     let before = c.loop-turn.invariant in
-    let turn = c.turn.ensures.turn in
+    let turn = c.turn.ensures in
     record {
       exchanged = exchanged_join g.X.Line.step c.args.line.now c.loop-turn.line c.turn.new.line me.server.session
           old.server.session new.server.session before.exchanged turn.exchanged;
@@ -31,8 +32,8 @@ loop-turn-preserved g c =
           old.views.shown new.views.shown before.turns_are
           (goes_on c.turn.result c.in_default.not-Some turn.went_on) turn.steps.shown;
       few = omega (arith, before.few, turn.one);
-      count = omega (arith, before.count, c.turn.ensures.counted);
-      steps = view_steps_join me.server old.server new.server me.views old.views new.views before.steps turn.steps;
+      count = omega (arith, before.count, turn.counted);
+      steps = view_steps_join me old new before.steps turn.steps;
     }
 
 pub returns-clause-worked : goal.returns-clause-worked
@@ -44,5 +45,5 @@ returns-clause-worked g c is =
 
 pub returns-in-Some-clause-lanes : goal.returns-in-Some-clause-lanes
 returns-in-Some-clause-lanes g c =
-    (view_steps_join c.args.self.now.server c.loop-turn.self.server c.turn.new.self.server c.args.self.now.views
-    c.loop-turn.self.views c.turn.new.self.views c.loop-turn.invariant.steps c.turn.ensures.turn.steps).server.lanes
+    (view_steps_join c.args.self.now c.loop-turn.self c.turn.new.self c.loop-turn.invariant.steps
+    c.turn.ensures.steps).server.lanes

@@ -2,6 +2,4 @@ use Rattle.rdm_lanes.proofs.WorkLemmas.{Worked}
 use Rattle.rdm_lanes.proofs.worker.view_turns.ViewWorker+J+Shown+J+R.work.Given as goal
 
 abbrev pub invariant-loop-turn : goal.invariant-loop-turn
-invariant-loop-turn g l =
-    Worked g.X.Line.step l._turn l.fn.line l.fn.self.server l.fn.self.views l.line l.self.server l.self.views
-    l.self.turns_made
+invariant-loop-turn g l = Worked g.X.Line.step l._turn l.fn.line l.fn.self l.line l.self
