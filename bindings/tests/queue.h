@@ -75,7 +75,11 @@ static void TEST(serves_a_request)(void) {
     CHECK(CALL(deliver)(&queue, reply, answer(frame, 0, (const uint8_t *)"four", 4, reply)) == WURST_DONE);
     CHECK(CALL(deliver)(&queue, reply, 0) == WURST_NOT_ASKED);
     CHECK(CALL(oldest)(&queue, client, &kind) == WURST_DONE && kind == WURST_REQUEST_OUTCOME);
-    CHECK(CALL(next_discovery)(&queue, client, &end, devices, 0) == WURST_OTHER_OUTCOME);
+    end.number = 99;
+    devices[0].uid = 88;
+    CHECK(CALL(next_discovery)(&queue, client, &end, devices, 1) == WURST_OTHER_OUTCOME);
+    CHECK(CALL(next_discovery)(&queue, 1, &end, devices, 1) == WURST_UNKNOWN_CLIENT);
+    CHECK(end.number == 99 && devices[0].uid == 88);
     done.len = 0;
     done.number = 99;
     buffer[0] = 88;
@@ -152,6 +156,7 @@ static void TEST(refuses)(void) {
         CHECK(CALL(join)(&queue, 0, &client) == WURST_DONE && client == i);
     }
     CHECK(CALL(join)(&queue, 0, &client) == WURST_TOO_MANY_CLIENTS);
+    CHECK(CALL(join)(&queue, 1, &client) == WURST_TOO_MANY_CLIENTS);
     CALL(dispose)(&queue);
 }
 

@@ -1,20 +1,7 @@
-//! What the proofs don't cover: whole exchanges with bytes and statuses from outside, and that calls succeed.
+//! What the C library doesn't show: the texts of faults, answers to events, and logs that change hands.
 
 mod checks;
-mod closed_runs;
-mod closing;
-mod collecting;
-mod controller;
-mod discoveries;
-mod draining;
+mod events;
 mod faults;
-mod limits;
-mod lines;
-mod packets;
-mod parts;
-mod places;
-mod rotating;
-mod run_ends;
-mod running;
-mod searching;
-mod summary;
+mod logs;
+mod sessions;

@@ -1,13 +1,13 @@
 //! The texts of the faults.
 use super::checks::check_eq;
-use rdm_log::{JoinFault, LogFull, NotAsked, WorkFault};
+use rdm_log::{JoinFault, LogFull, NotAsked, NotIdle, WorkFault};
 use rdm_wire::NoMemory;
 use std::alloc::Global;
 use std::fmt::Display;
 use std::process::Abort;
 
-/// The fault has this text.
-pub fn says<F: Display>(rt: &impl Abort, alloc: Global, fault: &F, text: &str) {
+// The fault has this text.
+fn says<F: Display>(rt: &impl Abort, alloc: Global, fault: &F, text: &str) {
     let made = format!(in alloc; "{fault}");
     let said = made.ok().expect(rt, "the memory of a text");
     check_eq(rt, said.as_str(), text);
@@ -49,4 +49,5 @@ fn tells_the_other_faults(rt: HostRuntime) {
     says(&rt, rt.alloc(), &NoMemory, "out of memory");
     says(&rt, rt.alloc(), &LogFull, "the log is full");
     says(&rt, rt.alloc(), &NotAsked, "no reply is awaited");
+    says(&rt, rt.alloc(), &NotIdle, "the session isn't idle");
 }
