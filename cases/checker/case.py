@@ -54,11 +54,13 @@ class Streams(enum.Enum):
 
 @dataclass(frozen=True)
 class FarEnd:
-    """The far end of a line: it writes a script of replies, or else those of fixtures."""
+    """The far end of a line: it writes a script of replies, or else those of fixtures or of another rig."""
 
     streams: Streams
     replies: Optional[Tuple[bytes, ...]] = None
     fixtures: Tuple[int, ...] = ()
+    # Makes a rig, which returns the reply to each frame.
+    rig: Optional[Callable[[], Callable[[bytes], bytes]]] = None
     # It answers so many frames, and then goes away.
     most: int = sys.maxsize
 

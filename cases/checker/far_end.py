@@ -74,8 +74,8 @@ def answers_of(far_end: FarEnd) -> Callable[[bytes], bytes]:
     if far_end.replies is not None:
         script = iter(far_end.replies)
         return lambda _: next(script, b"failed") + b"\n"
-    fixtures = Fixtures(set(far_end.fixtures))
-    return lambda line: fixtures.reply(bytes.fromhex(line.decode())).hex().encode() + b"\n"
+    reply = far_end.rig() if far_end.rig else Fixtures(set(far_end.fixtures)).reply
+    return lambda line: reply(bytes.fromhex(line.decode())).hex().encode() + b"\n"
 
 
 @contextmanager

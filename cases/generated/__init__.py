@@ -9,12 +9,12 @@ from typing import List
 
 from ..checker.case import Subject
 from . import (
-    arguments, damage, damaged_logs, encodings, explained_logs, explained_runs, keys, lies, limits, log_lines, logs,
-    neighbours, nesting, ports, remarks, soaks,
+    answers, arguments, damage, damaged_logs, encodings, explained_logs, explained_runs, keys, lies, limits, log_lines,
+    logs, neighbours, nesting, ports, remarks, scenes, searches, soaks,
 )
 
 MODULES = (damage, arguments, keys, limits, encodings, nesting, remarks, neighbours, ports, logs, log_lines,
-           explained_runs, explained_logs, lies, damaged_logs, soaks)
+           explained_runs, explained_logs, lies, damaged_logs, soaks, answers, searches, scenes)
 
 
 def subjects() -> List[Subject]:

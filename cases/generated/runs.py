@@ -15,7 +15,7 @@ from ..checker.tables import ROOT
 sys.path += [str(ROOT / "bindings/python"), str(ROOT / "bindings/python/tests/lines")]
 from search import PORT, SOURCE  # noqa: E402
 from wurstlinen.lines.numbers import CommandClass, Pid, ResponseType  # noqa: E402
-from wurstlinen.lines.packets import ALL_DEVICES, Packet, encode_branch_reply, uid_text  # noqa: E402
+from wurstlinen.lines.packets import ALL_DEVICES, Packet, decode_packet, encode_branch_reply, uid_text  # noqa: E402
 
 UIDS: Dict[str, int] = {
     "found": 0x123400000001,
@@ -83,9 +83,14 @@ def range_of(words: Sequence[str]) -> Tuple[int, int]:
 
 
 def reply_of(heard: str, command: Packet) -> Optional[bytes]:
-    """What came after a packet: silence, noise, an acknowledgement or the text of a UID; nothing if it failed."""
+    """What came after a packet: silence, noise, an acknowledgement, bytes as in `x00ff`, or the text of a UID.
+
+    Nothing if it failed.
+    """
     if heard in REPLIES:
         return REPLIES[heard]
+    if heard.startswith("x"):
+        return bytes.fromhex(heard[1:])
     if heard in ACKNOWLEDGED:
         data = bytes.fromhex(ACKNOWLEDGED[heard])
         return command.answer(command.destination, ResponseType.ACK, data).encode()

@@ -1,5 +1,5 @@
-//! Tests of `rdm_agent` and `rdm_line`: whole discovery runs and simulated lines, with values from outside. The crate
-//! has only tests, so the libraries aren't proved a second time with them.
+//! Tests of `rdm_wire`, `rdm_join`, `rdm_agent` and `rdm_line` that need values, such as streams that fail. This crate
+//! has only tests, so the libraries aren't proved a second time with them. The folder `cases` shows the rest.
 #![tactic(auto)]
 
 #[cfg(test)]

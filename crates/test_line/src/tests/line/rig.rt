@@ -2,17 +2,16 @@
 use crate::tests::checks::{bytes_of, check, frame_of};
 use rdm_join::{LineFault, LineReply};
 use rdm_line::{
-    AddFault, Collision, CollisionBytes, Line, Parameter, ParameterPart, Parameters, Scene,
-    SceneDevice, SceneDevices, SimLine,
+    Collision, CollisionBytes, Line, Parameter, ParameterPart, Parameters, Scene, SceneDevice,
+    SceneDevices, SimLine,
 };
 use rdm_wire::{
     Device, Frame, ReqClass, Request, Uid, UidRange, encode_branch, encode_mute, encode_request,
-    encode_unmute,
 };
 use std::alloc::Global;
 use std::process::Abort;
 
-pub fn controller() -> Uid {
+fn controller() -> Uid {
     Uid::new(0x7a70, 0x100)
 }
 
@@ -20,11 +19,11 @@ pub fn first() -> Uid {
     Uid::new(0x1234, 1)
 }
 
-pub fn second() -> Uid {
+fn second() -> Uid {
     Uid::new(0x9abc, 2)
 }
 
-pub fn plain(uid: Uid) -> Device {
+fn plain(uid: Uid) -> Device {
     Device {
         uid,
         control: 0,
@@ -32,104 +31,48 @@ pub fn plain(uid: Uid) -> Device {
     }
 }
 
-/// The preamble bytes of a device in a scene, and when it is there.
-#[derive(Clone, Copy)]
-pub struct Placing {
-    pub preamble: u8,
-    pub from: u64,
-    pub until: Option<u64>,
-}
-
-/// A device that has no preamble bytes and is always on the line.
-pub const ALWAYS: Placing = Placing {
-    preamble: 0,
-    from: 0,
-    until: None,
-};
-
-/// Adds a device. Its UID mustn't be broadcast, and its number of preamble bytes and its arrival have to be in range.
-pub fn add(
-    rt: &impl Abort,
-    devices: &mut SceneDevices,
-    device: Device,
-    params: Parameters,
-    placing: Placing,
-) -> Result<(), AddFault> {
+// Adds a device without preamble bytes.
+fn add(rt: &impl Abort, devices: &mut SceneDevices, device: Device, params: Parameters) {
     check(rt, !device.uid.is_broadcast());
-    check(rt, placing.preamble <= 7 && placing.from <= 1_000_000_000);
-    devices.add(SceneDevice {
+    let added = devices.add(SceneDevice {
         device,
-        preamble: placing.preamble,
+        preamble: 0,
         params,
-        from: placing.from,
-        until: placing.until,
-    })
-}
-
-/// Adds a device without parameters, which has to succeed.
-pub fn put(
-    rt: &impl Abort,
-    alloc: Global,
-    devices: &mut SceneDevices,
-    device: Device,
-    placing: Placing,
-) {
-    let added = add(rt, devices, device, no_params(alloc), placing);
+        from: 0,
+        until: None,
+    });
     check(rt, added.is_ok());
 }
 
-pub fn no_params(alloc: Global) -> Parameters {
-    Parameters::new(Vec::new(alloc))
-}
-
-/// A scene's devices: only this one, without parameters.
-pub fn one_device(
-    rt: &impl Abort,
-    alloc: Global,
-    device: Device,
-    placing: Placing,
-) -> SceneDevices {
+/// A scene's devices: both, without parameters.
+pub fn two_devices(rt: &impl Abort, alloc: Global) -> SceneDevices {
     let mut devices = SceneDevices::new(alloc);
-    put(rt, alloc, &mut devices, device, placing);
+    for uid in [first(), second()] {
+        let params = Parameters::new(Vec::new(alloc));
+        add(rt, &mut devices, plain(uid), params);
+    }
     devices
 }
 
-/// A scene's devices: these two, without parameters. The first one has this many preamble bytes.
-pub fn two_devices(
-    rt: &impl Abort,
-    alloc: Global,
-    preamble: u8,
-    one: Uid,
-    other: Uid,
-) -> SceneDevices {
-    let longer = Placing { preamble, ..ALWAYS };
-    let mut devices = one_device(rt, alloc, plain(one), longer);
-    put(rt, alloc, &mut devices, plain(other), ALWAYS);
-    devices
-}
-
-/// A part of a parameter, with these bytes.
-pub fn part(rt: &impl Abort, bytes: &[u8]) -> ParameterPart {
+// A part of a parameter, with these bytes.
+fn part(rt: &impl Abort, bytes: &[u8]) -> ParameterPart {
     let mut part = ParameterPart::new();
     check(rt, part.try_extend_from_slice(bytes).is_ok());
     part
 }
 
-/// The parameter `0060` in these parts.
-pub fn params_of(rt: &impl Abort, alloc: Global, parts: Vec<ParameterPart>) -> Parameters {
+// The parameter `0060` in these parts.
+fn params_of(rt: &impl Abort, alloc: Global, parts: Vec<ParameterPart>) -> Parameters {
     check(rt, !parts.is_empty());
     let mut params = Vec::new(alloc);
     check(rt, params.push(Parameter::new(0x0060, parts)).is_ok());
     Parameters::new(params)
 }
 
-/// A scene's devices: only the first device, with these parameters.
-pub fn device_with(rt: &impl Abort, alloc: Global, params: Parameters) -> SceneDevices {
+// A scene's devices: only the first device, with these parameters.
+fn device_with(rt: &impl Abort, alloc: Global, params: Parameters) -> SceneDevices {
     let mut devices = SceneDevices::new(alloc);
-    check(
-        rt,
-        add(rt, &mut devices, plain(first()), params, ALWAYS).is_ok(),
-    );
+    add(rt, &mut devices, plain(first()), params);
     devices
 }
 
@@ -165,41 +108,25 @@ pub fn collisions(
     collisions
 }
 
-/// A line with these devices and collisions. It loses the replies of the exchanges in `losses`, and fails at those in
-/// `fails`.
+/// A line with these devices and collisions. It fails at the exchanges in `fails`.
 pub fn line_of(
     rt: &impl Abort,
     alloc: Global,
     devices: SceneDevices,
     collisions: Vec<Collision>,
-    losses: &[u64],
     fails: &[u64],
 ) -> SimLine {
     let scene = Scene {
         source: controller(),
         devices,
         collisions,
-        losses: numbers(rt, alloc, losses),
+        losses: Vec::new(alloc),
         fails: numbers(rt, alloc, fails),
     };
     match SimLine::new(alloc, scene) {
         Ok(line) => line,
         Err(_) => panic!(rt; "memory"),
     }
-}
-
-/// A line with these devices, without losses and failures. Colliding replies are the bitwise OR.
-pub fn quiet_line(rt: &impl Abort, alloc: Global, devices: SceneDevices) -> SimLine {
-    line_of(rt, alloc, devices, Vec::new(alloc), &[], &[])
-}
-
-/// The target of a request: one of the two devices, all devices of a manufacturer, or all devices.
-#[derive(Clone, Copy)]
-pub enum Who {
-    First,
-    Second,
-    Maker,
-    All,
 }
 
 /// A frame that is sent to a line.
@@ -209,19 +136,11 @@ pub enum Ask {
     Branch(u8),
     /// A mute of the first device with this number.
     Mute(u8),
-    /// An unmute of all devices with this number.
-    Unmute(u8),
-    /// A request with number 0 and no data: its target, its class, its PID and its sub-device.
-    Request(Who, ReqClass, u16, u16),
+    /// The GET of the first device's parameter `0060` with number 0.
+    Get,
     /// A frame with these bytes, in hexadecimal.
     Bytes(&'static str),
 }
-
-/// The GET of the parameter `0060` of the first device.
-pub const GET: Ask = Ask::Request(Who::First, ReqClass::Get, 0x0060, 0);
-
-/// The SET of that parameter.
-pub const SET: Ask = Ask::Request(Who::First, ReqClass::Set, 0x0060, 0);
 
 /// A frame, and the bytes that come after it in hexadecimal. None: the line fails.
 pub type Row<'a> = (Ask, Option<&'a str>);
@@ -254,25 +173,17 @@ fn frame_for(rt: &impl Abort, alloc: Global, ask: Ask) -> Frame {
             check(rt, !uid.is_broadcast());
             encode_mute(uid, controller(), tn)
         }
-        Ask::Unmute(tn) => encode_unmute(controller(), tn),
-        Ask::Request(who, class, pid, sub_device) => asks(who, class, pid, sub_device),
+        Ask::Get => get(),
         Ask::Bytes(text) => frame_of(rt, alloc, text),
     }
 }
 
-/// A request without data, as a frame with number 0.
-pub fn asks(who: Who, class: ReqClass, pid: u16, sub_device: u16) -> Frame {
-    let target = match who {
-        Who::First => first(),
-        Who::Second => second(),
-        Who::Maker => Uid::new(0x1234, 0xffff_ffff),
-        Who::All => Uid::ALL,
-    };
+fn get() -> Frame {
     let request = Request {
-        target,
-        sub_device,
-        class,
-        pid,
+        target: first(),
+        sub_device: 0,
+        class: ReqClass::Get,
+        pid: 0x0060,
         param: ParameterPart::new(),
     };
     encode_request(&request, controller(), 0)

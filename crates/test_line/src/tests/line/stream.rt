@@ -1,8 +1,7 @@
-//! A line over streams of text: what each line means, and what an exchange reads when it fails.
+//! A line over streams of text that fail: what an exchange then reads.
 use super::rig::meets;
 use crate::tests::checks::check;
 use rdm_line::{Line, StreamLine};
-use std::alloc::Global;
 use std::io;
 use std::io::{ErrorKind, Read, Write};
 use std::process::Abort;
@@ -22,65 +21,6 @@ fn ends<L: Line>(rt: &impl Abort, line: &mut L, wanted: &[Option<&[u8]>], failur
     }
     meets(rt, line, None);
     check(rt, line.failures() == failures);
-}
-
-// Exchanges with this text as their answers have these replies, or fail. At the end the line has failed this many
-// times.
-fn meets_each(
-    rt: &impl Abort,
-    alloc: Global,
-    text: &[u8],
-    wanted: &[Option<&[u8]>],
-    failures: u64,
-) {
-    let mut line = StreamLine::new(text, Vec::new(alloc));
-    ends(rt, &mut line, wanted, failures);
-    let (left, written) = line.into_parts();
-    check(rt, left.is_empty());
-    let length = wanted.len().saturating_add(1).saturating_mul(5);
-    check(
-        rt,
-        written.len() == length && written.starts_with(b"cc01\ncc01\n"),
-    );
-}
-
-// Lines that answer, and their replies.
-const TEXT: &[u8] = b"\n\r\nFE01\r\nfe01\nf\nf\r\nfailed\nfailed\r\n0g\n 01\n01\r\r\n01\n02";
-
-const WANTED: [Option<&[u8]>; 13] = [
-    Some(&[]),
-    Some(&[]),
-    Some(&[0xfe, 0x01]),
-    Some(&[0xfe, 0x01]),
-    None,
-    None,
-    None,
-    None,
-    None,
-    None,
-    None,
-    Some(&[0x01]),
-    None,
-];
-
-#[test]
-fn each_line_answers_one_exchange(rt: HostRuntime) {
-    meets_each(&rt, rt.alloc(), TEXT, &WANTED, 9);
-}
-
-// The longest reply, with either end of line, and two that are too long.
-#[test]
-fn a_line_has_a_reply_of_257_bytes_at_most(rt: HostRuntime) {
-    let alloc = rt.alloc();
-    let mut text = Vec::new(alloc);
-    add_digits(&rt, &mut text, 514, "\n");
-    add_digits(&rt, &mut text, 514, "\r\n");
-    add_digits(&rt, &mut text, 516, "\n");
-    add_digits(&rt, &mut text, 2000, "\r\n");
-    add_digits(&rt, &mut text, 2, "\n");
-    let most = [0xaa; 257];
-    let wanted: [Option<&[u8]>; 5] = [Some(&most), Some(&most), None, None, Some(&[0xaa])];
-    meets_each(&rt, alloc, &text, &wanted, 3);
 }
 
 // Returns a byte at each read; `!` means an error, and `?` an interrupted call.
@@ -105,17 +45,6 @@ impl Read for Faulty<'_> {
             }
         }
     }
-}
-
-// A line that is too long is read to its end, which is here the end of the input.
-#[test]
-fn a_line_too_long_may_have_no_end(rt: HostRuntime) {
-    let alloc = rt.alloc();
-    let mut text = Vec::new(alloc);
-    add_digits(&rt, &mut text, 2, "\n");
-    add_digits(&rt, &mut text, 600, "");
-    let wanted: [Option<&[u8]>; 1] = [Some(&[0xaa])];
-    meets_each(&rt, alloc, &text, &wanted, 1);
 }
 
 const WANTED_OF_FAULTY: [Option<&[u8]>; 7] = [

@@ -2,7 +2,7 @@
 ghost use Rattle.std.specs.Prelude.{◌≡◌, false};
 ghost use Rattle.rdm_wire.specs.Uid.{is_broadcast};
 
-use super::rig::check;
+use super::checks::check;
 use rdm_wire::{Device, DeviceSet, SetFull, Uid, UidRange, UidSet};
 use std::process::Abort;
 
