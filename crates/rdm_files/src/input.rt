@@ -9,7 +9,7 @@ use std::io::{ErrorKind, Read};
 pub const MOST_BYTES: usize = 1_048_576;
 
 /// Why a file isn't read.
-#[derive(Debug, Drop)]
+#[derive(Drop)]
 pub enum FileFault {
     /// It has more than [`MOST_BYTES`] bytes.
     TooLong,

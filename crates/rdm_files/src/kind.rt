@@ -7,7 +7,7 @@ use serde_json::Value;
 use std::fmt;
 
 /// What a file is.
-#[derive(Clone, Copy, Debug, PartialEq, Eq)]
+#[derive(Clone, Copy, PartialEq, Eq)]
 pub enum FileKind {
     /// A scene, which `discover` reads.
     Scene,
@@ -40,14 +40,11 @@ pub fn looks_like(file: &Value) -> Option<FileKind>
 impl fmt::Display for FileKind {
     fn fmt<W: fmt::Write>(&self, f: &mut fmt::Formatter<W>) -> fmt::Result {
         match self {
-            FileKind::Scene => write!(f, "a scene file; try ./wurstlinen discover FILE"),
-            FileKind::Session => write!(f, "a session file; try ./wurstlinen run FILE"),
-            FileKind::LineSession => {
-                write!(
-                    f,
-                    "a session file without a scene; try ./wurstlinen run FILE --line OUT"
-                )
-            }
+            FileKind::Scene => f.write_str("a scene file; try ./wurstlinen discover FILE"),
+            FileKind::Session => f.write_str("a session file; try ./wurstlinen run FILE"),
+            FileKind::LineSession => f.write_str(
+                "a session file without a scene; try ./wurstlinen run FILE --line OUT",
+            ),
         }
     }
 }

@@ -3,7 +3,7 @@ use crate::scene::UnknownKey;
 use std::fmt;
 
 /// What people should know about a file that is read anyway.
-#[derive(Debug, Drop)]
+#[derive(Drop)]
 pub enum Remark {
     /// A key isn't known, and is ignored.
     UnknownKey(UnknownKey),

@@ -8,7 +8,7 @@ use serde_json::Value;
 use std::{fmt, str};
 
 /// Why a scene file isn't read.
-#[derive(Debug, Drop)]
+#[derive(Drop)]
 pub enum SceneFault {
     /// A value isn't what is expected at its path.
     Mismatch(Mismatch),
@@ -17,7 +17,7 @@ pub enum SceneFault {
 }
 
 /// A path in a file, what was found there, and what was expected.
-#[derive(Debug, Drop)]
+#[derive(Drop)]
 pub struct Mismatch {
     path: Path,
     found: Found,
@@ -26,7 +26,7 @@ pub struct Mismatch {
 }
 
 /// What was found at a path.
-#[derive(Debug, Drop)]
+#[derive(Drop)]
 pub enum Found {
     /// Nothing, since the key is missing.
     Nothing,
@@ -171,11 +171,11 @@ impl Found {
 
 impl fmt::Display for Mismatch {
     fn fmt<W: fmt::Write>(&self, f: &mut fmt::Formatter<W>) -> fmt::Result {
-        write!(f, "{}: ", self.path)?;
+        let (path, expected) = (&self.path, self.expected);
         match &self.found {
-            Found::Nothing => write!(f, "this key is missing; expected {}", self.expected),
-            Found::Unwanted => write!(f, "{}", self.expected),
-            found => write!(f, "expected {}, found {found}", self.expected),
+            Found::Nothing => write!(f, "{path}: this key is missing; expected {expected}"),
+            Found::Unwanted => write!(f, "{path}: {expected}"),
+            found => write!(f, "{path}: expected {expected}, found {found}"),
         }
     }
 }
@@ -183,20 +183,20 @@ impl fmt::Display for Mismatch {
 impl fmt::Display for Found {
     fn fmt<W: fmt::Write>(&self, f: &mut fmt::Formatter<W>) -> fmt::Result {
         match self {
-            Found::Nothing => write!(f, "nothing"),
-            Found::Null => write!(f, "null"),
+            Found::Nothing => f.write_str("nothing"),
+            Found::Null => f.write_str("null"),
             Found::Boolean(truth) => write!(f, "{truth}"),
             Found::Whole(number) => write!(f, "{number}"),
-            Found::Number => write!(f, "a number that is negative, not whole or too large"),
+            Found::Number => f.write_str("a number that is negative, not whole or too large"),
             Found::Text(excerpt) => match str::from_utf8(excerpt) {
                 Ok(text) => write!(f, "{text:?}"),
-                Err(_) => write!(f, "a text"),
+                Err(_) => f.write_str("a text"),
             },
             Found::LongText(len) => write!(f, "a text of {len} bytes"),
             Found::List(len) => write!(f, "a list of {len}"),
-            Found::Object => write!(f, "an object"),
+            Found::Object => f.write_str("an object"),
             Found::Keys(keys) => write!(f, "an object with {keys}"),
-            Found::Unwanted => write!(f, "a key"),
+            Found::Unwanted => f.write_str("a key"),
         }
     }
 }

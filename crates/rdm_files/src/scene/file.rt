@@ -16,7 +16,7 @@ use serde_json::Value;
 use std::alloc::Global;
 
 /// The contents of a scene file.
-#[derive(Debug, Drop)]
+#[derive(Drop)]
 pub struct SceneFile {
     /// The line to be simulated.
     pub scene: Scene,

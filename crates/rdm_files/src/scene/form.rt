@@ -26,7 +26,7 @@ pub(crate) trait Form {
 }
 
 /// A list of values of a form, `least` to `most` of them.
-#[derive(Clone, Copy, Drop)]
+#[derive(Drop)]
 pub(crate) struct ListOf<F> {
     pub(crate) form: F,
     pub(crate) least: usize,

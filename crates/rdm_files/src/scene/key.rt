@@ -5,7 +5,7 @@ use serde_json::Value;
 use std::{fmt, str};
 
 /// A key that isn't known: the path of its object, the key, and the keys that are known there.
-#[derive(Debug, Drop)]
+#[derive(Drop)]
 pub struct UnknownKey {
     path: Path,
     // Empty if the key is long.

@@ -3,7 +3,7 @@ use arrayvec::ArrayVec;
 use std::fmt;
 
 /// The path of a value in a file: the keys and items that lead to it.
-#[derive(Debug, Drop)]
+#[derive(Drop)]
 pub struct Path {
     // The steps to the value, the last one first.
     steps: ArrayVec<Step, MOST_STEPS>,
@@ -12,7 +12,7 @@ pub struct Path {
 }
 
 /// A key, and an index in the list under it.
-#[derive(Clone, Copy, Debug, Default, Drop)]
+#[derive(Clone, Copy, Default, Drop)]
 pub struct Step {
     key: &'static str,
     item: Option<usize>,
@@ -55,18 +55,19 @@ impl Path {
 
 impl fmt::Display for Path {
     fn fmt<W: fmt::Write>(&self, f: &mut fmt::Formatter<W>) -> fmt::Result {
-        for (i, step) in self.steps.iter().rev().enumerate() {
-            if i > 0 {
-                write!(f, ".")?;
-            }
-            write!(f, "{}", step.key)?;
-            if let Some(item) = step.item {
-                write!(f, "[{item}]")?;
-            }
-        }
         if self.is_whole() {
-            write!(f, "the file")?;
+            return f.write_str("the file");
+        }
+        for (i, step) in self.steps.iter().rev().enumerate() {
+            write_step(f, if i > 0 { "." } else { "" }, step)?;
         }
         Ok(())
+    }
+}
+
+fn write_step<W: fmt::Write>(f: &mut fmt::Formatter<W>, before: &str, step: &Step) -> fmt::Result {
+    match step.item {
+        Some(item) => write!(f, "{before}{}[{item}]", step.key),
+        None => write!(f, "{before}{}", step.key),
     }
 }

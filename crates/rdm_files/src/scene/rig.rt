@@ -15,7 +15,7 @@ use serde_json::Value;
 use std::alloc::{AllocError, Global};
 
 /// The UIDs of a scene file's devices, in the order of the file.
-#[derive(Debug, Drop)]
+#[derive(Drop)]
 pub struct RigFile {
     /// Those that are on the line from the start, and never leave.
     pub staying: Vec<Uid>,

@@ -16,7 +16,7 @@ use serde_json::Value;
 use std::alloc::Global;
 
 /// A call that a client makes.
-#[derive(Debug, Drop)]
+#[derive(Drop)]
 pub enum ClientCall {
     /// It submits a request.
     Submit(Request),

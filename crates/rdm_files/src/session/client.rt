@@ -9,7 +9,7 @@ use serde_json::Value;
 use std::alloc::Global;
 
 /// A client: its queue depth, and the calls that it makes, in order.
-#[derive(Debug, Drop)]
+#[derive(Drop)]
 pub struct ClientFile {
     /// How many requests it may have outstanding: 1 to 255.
     pub places: u8,

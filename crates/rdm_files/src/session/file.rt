@@ -17,7 +17,7 @@ use serde_json::Value;
 use std::alloc::Global;
 
 /// The contents of a session file.
-#[derive(Debug, Drop)]
+#[derive(Drop)]
 pub struct SessionFile {
     /// The line to be simulated; none if the line is the caller's own.
     pub scene: Option<Scene>,
