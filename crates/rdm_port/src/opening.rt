@@ -19,7 +19,7 @@ pub trait Opens<L> {
 }
 
 /// Why a line can't be opened.
-#[derive(Clone, Copy, PartialEq, Eq)]
+#[derive(Clone, Copy)]
 pub enum Unopened<'a> {
     /// The stream at this path can't be opened.
     Stream(&'a str, ErrorKind),

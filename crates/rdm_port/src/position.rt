@@ -2,7 +2,7 @@
 use std::fmt;
 
 /// A position in a text: the line and the column of a character, both from 1.
-#[derive(Clone, Copy, Debug, PartialEq, Eq)]
+#[derive(Clone, Copy)]
 pub struct Position {
     /// The line.
     pub line: usize,

@@ -41,7 +41,7 @@ use std::sync::ledger::{Blank, Ledger};
 use std::thread::Threads;
 
 /// Why not all calls of a session are settled.
-#[derive(Clone, Copy, Debug, PartialEq, Eq)]
+#[derive(Clone, Copy, PartialEq, Eq)]
 pub enum ServeFault {
     /// There was no memory.
     Memory,

@@ -9,7 +9,6 @@ use rdm_log::Completion;
 use std::alloc::Global;
 
 /// The callback of a request: the index of its call among the client's calls, from 0. It isn't [`Drop`].
-#[derive(Debug)]
 pub struct RequestTicket(pub u64);
 
 impl Tells for RequestTicket {
@@ -32,7 +31,6 @@ impl Tells for RequestTicket {
 }
 
 /// The callback of a discovery: the index of its call among the client's calls, from 0. It isn't [`Drop`].
-#[derive(Debug)]
 pub struct AskTicket(pub u64);
 
 impl TellsAsk for AskTicket {
