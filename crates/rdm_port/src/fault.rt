@@ -3,7 +3,7 @@ ghost use Rattle.std.specs.Prelude.{◌≡◌};
 ghost use Rattle.rdm_port.specs.Fault.{fault_line, fault_status};
 
 /// Why a command has no answer.
-#[derive(Clone, Copy)]
+#[derive(Clone, Copy, Debug, PartialEq, Eq)]
 pub enum Fault {
     /// The arguments fit no command.
     CommandLine,

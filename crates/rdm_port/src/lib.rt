@@ -2,11 +2,12 @@
 //! tree. It discovers devices, and runs sessions of clients, on a simulated line or on one that another program serves.
 //! It explains their logs. All of it is the profile of this project.
 //!
-//! [`perform`] prints the answer to the [`Job`](rdm_arguments::Job) that arguments give. [`carry_out`] also keeps its
-//! log, and opens its line. For people there are these:
+//! [`parse_words`] finds the [`Job`] that arguments give, and [`perform`] prints its answer. [`carry_out`] also keeps
+//! its log, and opens its line. A session file is read by [`read_session`] and served by [`serve`]. [`session_text`]
+//! returns what is printed for it. For people there are these:
 //! - a [`Reason`] says why something isn't done;
-//! - [`Progressing`] prints what they should know about a file before its work begins, and then how far it is;
-//! - [`print_usage`] prints what is wrong with arguments that fit no command.
+//! - a [`Remark`] says what they should know about a file before its work begins;
+//! - a [`Complaint`] says what is wrong with arguments that fit no command.
 #![tactic(auto)]
 
 mod answer;
@@ -15,6 +16,7 @@ mod discovering;
 mod explaining;
 mod fault;
 mod input;
+pub mod laws;
 mod line_values;
 mod logging;
 mod opening;
@@ -30,5 +32,19 @@ pub use line_values::LineValues;
 pub use opening::{NoLine, Opens, Unopened};
 pub use performing::{Silent, carry_out, perform};
 pub use position::Position;
+pub use rdm_arguments::{
+    Complaint, DiscoverJob, DiscoveryLine, ExplainJob, Job, LineDiscovery, PortKind, RunJob,
+    Streams, Usage, VERSION, WordsFault, complaint_of, parse_words,
+};
+pub use rdm_files::{
+    ClientCall, ClientFile, FileFault, FileKind, Found, MOST_BYTES, Mismatch, Path, Remark,
+    SceneFault, SceneFile, SessionFile, Step, UnknownKey, discovery_command, five_losses,
+    looks_like, read_file, read_scene, read_session,
+};
+pub use rdm_reports::{
+    Discovered, Discovery, LogOutput, OpensLog, Outcomes, Progress, discover, discover_in, report,
+    session_text,
+};
+pub use rdm_serving::{ServeFault, Served, serve};
 pub use reason::Reason;
 pub use standard_error::{Progressing, print_reason, print_usage};
