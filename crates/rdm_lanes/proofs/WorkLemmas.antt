@@ -112,16 +112,17 @@ module _ {L J T R : Type 0} {h : Ghosts J} {v : Absorbs T (Shown J) (List Device
       → Attempts step x a.server y e.server attempt
   attempts x y a b d e i j attempt p c q =
       let old = b.server.session in
-      let called = c.called.session in
-      let line = line_join old c.served.session called c.clients.grows c.operator.line in
+      let called = c.after_operator.session in
+      let line = line_join old c.after_clients.session called c.clients.grows c.operator.line in
       rw (q.server, ← p.server) (record {
         exchanged = exchanged_join step x x y old called d.server.session (exchanged_none step x old called line)
             c.attempted.exchanged;
         one = omega (arith, c.attempted.one, no_more old called line);
         did = did_since attempt old called d.server.session line c.attempted.did;
-        steps = steps_join b.server c.called d.server
-            (steps_join b.server c.served c.called (steps_alone b.server c.served c.clients.steps) c.operator.steps)
-            (steps_within c.called d.server (ap (λ v. v.items) c.ends.0) c.ends.1 c.attempted.switches);
+        steps = steps_join b.server c.after_operator d.server
+            (steps_join b.server c.after_clients c.after_operator
+            (steps_alone b.server c.after_clients c.clients.steps) c.operator.steps)
+            (steps_within c.after_operator d.server (ap (λ v. v.items) c.ends.0) c.ends.1 c.attempted.switches);
       })
 
   -- the first publication failed

@@ -89,10 +89,10 @@ module _ (Grows : LogState → LogState → Type 0) (Done : ℕ → LogState →
     pub grows : Grows old.session new.session
     pub steps : StepsAlone old new
 
--- at most one call of each of the first n clients was made
+-- each of the first n clients was served: a call of it was received, or none could be
 abbrev pub AreServed : ℕ → Worker → Worker → Type 0
 AreServed n old new = AreDone NoExchange IsServed n old new
 
--- the outcomes of each of them were moved, as far as that is known to be possible
+-- the outcomes of each of the first n clients were moved, as far as that is known to be possible
 abbrev pub AreMoved : ℕ → Worker → Worker → Type 0
 AreMoved n old new = AreDone OnlyCollects IsMoved n old new

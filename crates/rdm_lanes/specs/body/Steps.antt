@@ -38,7 +38,7 @@ pub record Steps (old new : Worker) : Type 0 where
 abbrev pub SameEnds : Worker → Worker → Type 0
 SameEnds old new = (new.lanes ≡ old.lanes) × SameOperator old new
 
--- at most one call of the operator was made
+-- calls of the operator may have been made
 pub record ServesOperator (old new : Worker) : Type 0 where
   pub line : NoExchange old.session new.session
   pub lanes : new.lanes ≡ old.lanes
@@ -99,15 +99,15 @@ module _ {J T R : Type 0} {h : Ghosts J} {v : Absorbs T (Shown J) (List DeviceVi
 
 module _ {L J T R : Type 0} {h : Ghosts J} {v : Absorbs T (Shown J) (List DeviceView)}
     (step : L → Exchange → L → Type 0) where
-  -- at most one call of each client was made, then at most one of the operator, and then an exchange was attempted
+  -- each client was served, then calls of the operator may have been made, and then an exchange was attempted
   pub record CallsAndAttempts (before : L) (old : ViewWorker J T R h v) (after : L) (new : ViewWorker J T R h v)
       (attempt : Attempt) : Type 0 where
-    pub served : Worker
-    pub called : Worker
-    pub clients : AreServed (length (lanes_of old)) old.server served
-    pub operator : ServesOperator served called
-    pub attempted : Attempted step before called.session after (session_of new) attempt
-    pub ends : SameEnds called new.server
+    pub after_clients : Worker
+    pub after_operator : Worker
+    pub clients : AreServed (length (lanes_of old)) old.server after_clients
+    pub operator : ServesOperator after_clients after_operator
+    pub attempted : Attempted step before after_operator.session after (session_of new) attempt
+    pub ends : SameEnds after_operator new.server
     pub views : SameViews old new
 
   -- A turn was made, and its attempt at an exchange came to this. None: a publication failed.

@@ -1,6 +1,6 @@
 //! What the worker does in its turns. After each exchange that ends a run without fault it publishes a view of the
 //! devices. Only then does it move that run's outcomes to the clients' rings.
-ghost use Rattle.std.specs.Prelude.{◌≡◌, ◌≢◌, ◌<◌, ◌≤◌, ◌+◌, ◌-◌, ◌^◌, true, false, length};
+ghost use Rattle.std.specs.Prelude.{◌≡◌, ◌≢◌, ◌<◌, ◌≤◌, ◌+◌, ◌-◌, ◌^◌, true, false};
 ghost use mathlib.Core.List.{IsPrefix};
 ghost use Rattle.rtrb.specs.Ring.{SameConsumer};
 ghost use Rattle.rdm_log.specs.log.LogState.{is_full_log};

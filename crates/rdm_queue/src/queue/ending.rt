@@ -120,8 +120,8 @@ impl Queue {
         }
     }
 
-    // The known devices are those that the open run, which has ended, has found, unless it has a fault. They are copied
-    // once for the run: by its first answer.
+    // If the agent of the open run has ended without a fault, the known devices are those that it has found. They are
+    // copied once for the run: by its first answer.
     fn keep_devices(&mut self, run: u64, fault: Option<AgentFault>)
         requires open_ { option_map (λ r. r.number) self.old.run ≡ Some run }
         requires ended { next_op self.old.agent ≡ End }

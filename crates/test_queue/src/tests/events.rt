@@ -1,4 +1,4 @@
-//! A list of events, and its answers. `test_memory` has those to discoveries, and to hundreds of events.
+//! A list of events, and its answers. `test_memory` has answers to discoveries, and to hundreds of events.
 use super::checks::{check, check_eq};
 use super::sessions::{CLIENT, get, reply, session_without_clients};
 use rdm_join::Status;

@@ -20,8 +20,8 @@ invariant_of-self g c =
 
 pub returns : goal.returns
 returns g c = record {
-  served = c.serve_clients.new.self;
-  called = c.serve_operator.new.self;
+  after_clients = c.serve_clients.new.self;
+  after_operator = c.serve_operator.new.self;
   clients = c.serve_clients.ensures;
   operator = c.serve_operator.ensures;
   attempted = c.exchange.ensures.attempted;
