@@ -14,8 +14,8 @@ const FIRST_PART: &str = "cc011a7a7000000100123400000001000300000021006002010202
 
 const LAST_PART: &str = "cc01197a700000010012340000000100000000002100600103029d";
 
-// The line with the first device and its parameter `0060` answers like this. It loses and fails the exchanges with
-// these numbers.
+// The line with the first device and its parameter `0060` answers like this. It fails at the exchanges with these
+// numbers.
 fn first_plays(rt: &impl Abort, alloc: Global, fails: &[u64], rows: &[Row<'_>]) {
     let devices = two_parts(rt, alloc);
     let line = line_of(rt, alloc, devices, Vec::new(alloc), fails);
@@ -56,7 +56,17 @@ fn a_failed_branch_takes_no_collision(rt: HostRuntime) {
     both_play(&rt, rt.alloc(), &[0], &rows);
 }
 
-// A Ask::Get, a mute and a branch of all UIDs, each with a wrong checksum; a byte, and none.
+// A GET and a SET of the parameter `0060`, to the second device, to all devices, and to all of a manufacturer.
+static OTHERS: [Ask; 6] = [
+    Ask::Bytes("cc01189abc000000027a700000010000010000002000600003a9"),
+    Ask::Bytes("cc01189abc000000027a700000010000010000003000600003b9"),
+    Ask::Bytes("cc0118ffffffffffff7a7000000100000100000020006000084b"),
+    Ask::Bytes("cc0118ffffffffffff7a7000000100000100000030006000085b"),
+    Ask::Bytes("cc01181234ffffffff7a70000001000001000000200060000693"),
+    Ask::Bytes("cc01181234ffffffff7a700000010000010000003000600006a3"),
+];
+
+// A GET, a mute and a branch of all UIDs, each with a wrong checksum; a byte, and none.
 static NO_COMMANDS: [Ask; 5] = [
     Ask::Bytes("cc01181234000000017a70000001000001000000200060000299"),
     Ask::Bytes("cc01181234000000017a7000000100040100000010000200022f"),
@@ -74,6 +84,11 @@ fn answers_none(rt: &impl Abort, alloc: Global, unanswered: &[Ask]) {
     check(rt, rows.push((Ask::Get, Some(FIRST_PART))).is_ok());
     check(rt, rows.push((Ask::Branch(0), Some(TEXT))).is_ok());
     first_plays(rt, alloc, &[], &rows);
+}
+
+#[test]
+fn nobody_answers_for_others(rt: HostRuntime) {
+    answers_none(&rt, rt.alloc(), &OTHERS);
 }
 
 #[test]
