@@ -77,6 +77,10 @@ static void reads_and_writes_uids(void) {
     CHECK(wurst_uid_read((const uint8_t *)"7a70:000000\xff\xff", 13, &uid) == WURST_NOT_TEXT);
     CHECK(uid == UINT64_C(0x7a700000000a));
     CHECK(wurst_uid_write(uid, text, sizeof text) == WURST_DONE && memcmp(text, "7a70:0000000a", 13) == 0);
+    CHECK(wurst_uid_write(UINT64_C(0x7a70000000ab), text, 13) == WURST_DONE && memcmp(text, "7a70:000000ab", 13) == 0);
+    CHECK(wurst_uid_write((UINT64_C(1) << 48) - 1, text, 13) == WURST_DONE && memcmp(text, "ffff:ffffffff", 13) == 0);
+    CHECK(wurst_uid_read((const uint8_t *)"ffff:FFFFffff", 13, &uid) == WURST_DONE && uid == WURST_BROADCAST);
+    CHECK(wurst_uid_read((const uint8_t *)"7A70:00000001", 13, &uid) == WURST_DONE && uid == UINT64_C(0x7a7000000001));
     CHECK(wurst_uid_write(uid, text, 12) == WURST_BUFFER_TOO_SMALL);
     CHECK(wurst_uid_write(UINT64_C(0x1000000000000), text, 13) == WURST_BAD_UID);
 }
@@ -91,6 +95,8 @@ static void reads_and_writes_branch_replies(void) {
     CHECK(wurst_branch_reply_read(buffer + 9, len - 9, &kind, &uid) == WURST_DONE && kind == WURST_COLLISION);
     CHECK(wurst_branch_reply_write(uid, 7, reply, 24, &len) == WURST_DONE && is_same(reply, len, text));
     CHECK(wurst_branch_reply_write(uid, 0, reply, 24, &len) == WURST_DONE && is_same(reply, len, text + 15));
+    CHECK(wurst_branch_reply_write(UINT64_C(0x7a70ffffffff), 0, reply, 24, &len) == WURST_DONE);
+    CHECK(is_same(reply, len, "aafa7ffa75ffffffffffffffffaa5feaf5"));
     CHECK(wurst_branch_reply_write(uid, 8, reply, 24, &len) == WURST_BAD_PREAMBLE);
     CHECK(wurst_branch_reply_write(uid, 7, reply, 23, &len) == WURST_BUFFER_TOO_SMALL);
     CHECK(wurst_branch_reply_write(UINT64_C(0x1000000000000), 7, reply, 24, &len) == WURST_BAD_UID);

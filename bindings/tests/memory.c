@@ -143,6 +143,25 @@ static void refuses_each(uint32_t (*scene)(bool *), const char *name) {
     CHECK(allocations > 5);
 }
 
+/* Without memory for its data, a request ends with status 18. */
+static void ends_without_memory(void) {
+    struct wurst_controller queue = {0};
+    struct wurst_completion done = {0};
+    uint8_t client = 0;
+    uint64_t number;
+    CHECK(wurst_controller_open(&queue, &setup) == WURST_DONE);
+    CHECK(wurst_controller_join(&queue, 1, &client) == WURST_DONE);
+    CHECK(wurst_controller_submit(&queue, client, &device_info, no_bytes, 0, &number) == WURST_DONE);
+    CHECK(wurst_controller_take(&queue, frame, sizeof frame, &len) == WURST_DONE);
+    len = answer(frame, 0, (const uint8_t *)"four", 4, reply);
+    left = 0;
+    CHECK(wurst_controller_deliver(&queue, reply, len) == WURST_DONE);
+    left = SIZE_MAX;
+    CHECK(wurst_controller_next_completion(&queue, client, &done, data, sizeof data) == WURST_DONE);
+    CHECK(done.status == 18 && done.len == 0);
+    wurst_controller_dispose(&queue);
+}
+
 static void refuses_an_agent(void) {
     const struct wurst_start start = {setup.source, 1000, WURST_FULL_DISCOVERY, WURST_STEADY, 0};
     struct wurst_agent agent = {0};
@@ -226,6 +245,7 @@ int main(void) {
     refuses_each(one_request, "a controller with one request");
     refuses_each(one_rotation, "a session with one request and a rotation");
     refuses_each(one_drain, "a session with one request and two drains");
+    ends_without_memory();
     refuses_an_agent();
     serves_a_million();
     rotates_a_thousand_times();

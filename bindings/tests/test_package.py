@@ -10,12 +10,14 @@ import unittest
 import wurstlinen
 from packets import Fixtures, branch_reply, packet
 from wurstlinen import (
-    AckType, BranchReply, BranchReplyKind, CommandKind, Completion, Controller, Device, Discovery, DiscoveryAgent,
-    Kind, MuteAck, Operation, OutcomeKind, ReplyHead, Request, RequestClass, Response, ResponseClass,
-    RunFault, RunFaultKind, Search, Session, Status, Uid, entries)
+    DEFAULT_BUDGET, AckType, BranchReply, BranchReplyKind, Command, CommandKind, Completion, Controller, Device,
+    Discovery, DiscoveryAgent, Kind, MuteAck, Operation, OutcomeKind, ReplyHead, Request, RequestClass, Response,
+    ResponseClass, RunFault, RunFaultKind, Search, Session, Status, Uid, entries)
 
 SOURCE = Uid(0x7A70, 1)
 DEVICE = Uid(0x1234, 7)
+# The controller and the device of packets that are written out.
+HOST, FIXTURE = Uid(0x7A70, 0x100), Uid(0x1234, 1)
 
 
 class Uids(unittest.TestCase):
@@ -33,6 +35,8 @@ class Uids(unittest.TestCase):
         self.assertEqual((DEVICE.number, DEVICE.manufacturer, DEVICE.device), (0x123400000007, 0x1234, 7))
         self.assertTrue(Uid.ALL.is_broadcast and not DEVICE.is_broadcast and DEVICE < SOURCE)
         self.assertEqual(len({DEVICE, Uid(0x1234, 7)}), 1)
+        self.assertEqual((Uid.from_number(0x7A7000000001), Uid(0x7A70, 1).number), (Uid(0x7A70, 1), 0x7A7000000001))
+        self.assertEqual(Uid.from_number((1 << 48) - 1), Uid.ALL)
         with self.assertRaises(wurstlinen.BadUid):
             Uid.from_number(1 << 48)
         with self.assertRaises(ValueError):
@@ -62,6 +66,19 @@ class Wire(unittest.TestCase):
         self.assertEqual((read.lo, read.hi), (Uid(0, 0), DEVICE))
         self.assertIsNone(wurstlinen.read_command(b"noise"))
 
+    def test_commands_in_bytes(self) -> None:
+        get, label = Request(FIXTURE, 0x0060), Request(Uid.ALL, 0x1000, b"\1", 0xFFFF, RequestClass.SET)
+        for digits, command in [
+                ("cc0118ffffffffffff7a700000010000010000001000030007de", Command(CommandKind.UNMUTE, HOST, 0)),
+                ("cc0124ffffffffffff7a700000010003010000001000010c000000000000ffffffffffff0df1",
+                 Command(CommandKind.BRANCH, HOST, 3, lo=Uid(0, 0), hi=Uid.ALL)),
+                ("cc01181234000000017a7000000100040100000010000200022e", Command(CommandKind.MUTE, HOST, 4, FIXTURE)),
+                ("cc01181234000000017a70000001000a010000002000600002a2",
+                 Command(CommandKind.REQUEST, HOST, 10, FIXTURE, request=get)),
+                ("cc0119ffffffffffff7a7000000100ff0100ffff30100001010b0b",
+                 Command(CommandKind.REQUEST, HOST, 255, Uid.ALL, request=label))]:
+            self.assertEqual(wurstlinen.read_command(bytes.fromhex(digits)), command)
+
     def test_responses(self) -> None:
         wire = packet(SOURCE, DEVICE, 9, 2, 0x21, 0x0060, b"\0\6", count=4)
         read = wurstlinen.decode_response(wire + b"more")
@@ -76,6 +93,19 @@ class Wire(unittest.TestCase):
             wurstlinen.decode_response(packet(SOURCE, DEVICE, 9, 0, 0x20, 0x0060))
         with self.assertRaises(wurstlinen.InvalidResponseType):
             wurstlinen.decode_response(packet(SOURCE, DEVICE, 9, 4, 0x21, 0x0060))
+
+    def test_responses_in_bytes(self) -> None:
+        for digits, response in [
+                ("cc011a7a7000000100123400000001000300000021006002010202a2",
+                 Response(FIXTURE, HOST, 0, AckType.OVERFLOW, ResponseClass.GET, 0x0060, b"\1\2")),
+                ("cc011a7a700000010012340000000104000000001100020200000232",
+                 Response(FIXTURE, HOST, 4, AckType.ACK, ResponseClass.DISCOVERY, 0x0002, b"\0\0")),
+                ("cc011a7a7000000100123400000001070209123431abcd0200060422",
+                 Response(FIXTURE, HOST, 7, AckType.NACK, ResponseClass.SET, 0xABCD, b"\0\6", 0x1234, 9))]:
+            self.assertEqual(wurstlinen.decode_response(bytes.fromhex(digits)), response)
+            self.assertEqual(wurstlinen.encode_response(response).hex(), digits)
+        with self.assertRaises(wurstlinen.TooShort):
+            wurstlinen.decode_response(b"")
 
     def test_discovery(self) -> None:
         self.assertEqual(wurstlinen.write_branch_reply(DEVICE), branch_reply(DEVICE))
@@ -395,6 +425,25 @@ class Agents(unittest.TestCase):
         with DiscoveryAgent(SOURCE) as agent:
             agent.fail()
             self.assertEqual((agent.next(), agent.fault().kind), (None, RunFaultKind.LINE_FAILED))
+
+    def test_the_first_of_several_faults(self) -> None:
+        # A budget, how many unmutes are sent, whether the next frame fails, and why the run ends. A stop changes no
+        # other fault.
+        exhausted, line_failed, aborted = RunFaultKind.EXHAUSTED, RunFaultKind.LINE_FAILED, RunFaultKind.ABORTED
+        for budget, unmutes, fails, kind in [
+                (0, 0, False, exhausted), (1, 1, False, exhausted), (2, 1, True, line_failed),
+                (DEFAULT_BUDGET, 3, True, line_failed), (DEFAULT_BUDGET, 3, False, aborted)]:
+            with DiscoveryAgent(SOURCE, budget=budget) as agent:
+                for _ in range(unmutes):
+                    agent.hear(b"")
+                if fails:
+                    agent.fail()
+                elif kind == aborted:
+                    agent.stop()
+                for _ in range(2):
+                    self.assertEqual((agent.next(), agent.frames()), (None, unmutes + fails))
+                    self.assertEqual((agent.fault(), agent.devices()), (RunFault(kind), ()))
+                    agent.stop()
 
 
 class Memory(unittest.TestCase):

@@ -5,6 +5,7 @@ The bytes follow E1.20's packet format and docs/FORMATS.md.
 from __future__ import annotations
 
 import json
+import re
 from dataclasses import dataclass
 from typing import Any, Dict, Iterator, Sequence, Tuple
 
@@ -23,6 +24,16 @@ OVER = "aabadfbefdaa55aa55aa55ab57af57fb57"
 LONGER = "febaffffffffffffffffffffffffffffff55"
 TEXT = "aafa7ffa75aa55aa55aa55ab55ae57eff5"
 WITH_PREAMBLE = "fe" * 7 + TEXT
+# A single request, and the first bytes that come after it: a part, an acknowledgement and refusals, which repeat the
+# sub-device.
+IN_512, OTHER = {"sub": 512}, {"pid": "0070"}
+FIRST_REPLIES: Sequence[Tuple[Call, str]] = (
+    ({**GET, **IN_512}, "cc011a7a7000000100123400000001000300020021006002010202a4"),
+    (SET, "cc01187a700000010012340000000100000000003100600002a8"),
+    ({**GET, **OTHER}, "cc011a7a7000000100123400000001000200000021007002000002ae"),
+    ({**SET, **OTHER}, "cc011a7a7000000100123400000001000200000031007002000002be"),
+    ({**SET, **OTHER, **IN_512}, "cc011a7a7000000100123400000001000200020031007002000002c0"),
+)
 
 
 @dataclass(frozen=True)
@@ -37,6 +48,13 @@ class Logs:
     @property
     def __name__(self) -> str:
         return f"a log with the exchanges {self.lines}"
+
+
+class Came(Logs):
+    """Whether this is the first line of a session's log that says what came."""
+
+    def __call__(self, log: bytes) -> bool:
+        return re.findall(rb'.*"entry":"came".*\n', log)[:1] == [self.lines.encode()]
 
 
 def scene(devices: Sequence[Dict[str, Any]], **keys: Any) -> Dict[str, Any]:
@@ -58,18 +76,30 @@ def logged(name: str, run: str, devices: Sequence[Dict[str, Any]], **keys: Any) 
 
 def asked(name: str, answers: Sequence[Tuple[Call, str]], scene_of: Dict[str, Any]) -> Case:
     """A client makes these calls, one after the other, with these outcomes."""
-    calls = [call for call, _ in answers]
-    text = json.dumps({"scene": scene_of, "clients": [{"places": 1, "calls": calls}]})
+    text = session_text(scene_of, [call for call, _ in answers])
     return file_case(name, BOTH, text, results([outcome for _, outcome in answers]))
+
+
+def replied(call: Call, reply: str, scene_of: Dict[str, Any]) -> Case:
+    """The first reply to a call, as the log of either port has it."""
+    commands = tuple((*command, *arguments_of("--log", LOG_NAME)) for command in BOTH)
+    expected = Expected(log_form=Came(f'{{"entry":"came","reply":"{reply}"}}\n'))
+    return file_case(f"the first reply to {call}", commands, session_text(scene_of, [call]), expected)
+
+
+def session_text(scene_of: Dict[str, Any], calls: Sequence[Call]) -> str:
+    """The file of a session in which a client makes these calls."""
+    return json.dumps({"scene": scene_of, "clients": [{"places": 1, "calls": calls}]})
 
 
 def cases() -> Iterator[Case]:
     """All scenes."""
-    both = [device(NEAR), device(FAR)]
+    both, longer = [device(NEAR), device(FAR)], [device(NEAR, preamble=1), device(NEXT)]
     for name, keys in (("no collisions", {}), ("or", {"collisions": ["or"]})):
-        yield logged(f"two replies, {name}", f"3 unmute; all > x{OVER}", both, **keys)
-    yield logged("two replies, one of them with a preamble byte", f"3 unmute; all > x{LONGER}",
-                 [device(NEAR, preamble=1), device(NEXT)])
+        for time, run, lost in (("once", "3 unmute; all > x", []), ("again", "3 unmute; all; all > x", [3])):
+            yield logged(f"two replies, {name}, {time}", run + OVER, both, losses=lost, **keys)
+            yield logged(f"two replies, one of them with a preamble byte, {name}, {time}", run + LONGER, longer,
+                         losses=lost, **keys)
     yield logged("one reply", f"3 unmute; all > x{TEXT}", [device("7a70:00000001")])
     yield logged("collisions in order, the last of which stays", f"3 unmute; 2 all; all > x{WITH_PREAMBLE}", both,
                  collisions=[NOISE, SPELT], losses=[3, 4])
@@ -82,15 +112,15 @@ def cases() -> Iterator[Case]:
 def requests() -> Iterator[Case]:
     """Requests of a device with a parameter in two parts."""
     one = [device(NEAR, params=PARTS)]
-    in_512, other = {**GET, "sub": 512}, {"pid": "0070"}
+    yield from (replied(call, reply, scene(one)) for call, reply in FIRST_REPLIES)
     whole, acknowledged, unknown, silence = "0 00 010203", "0 00 -", "0 02 0000", "3"
-    calls = ((in_512, whole), (SET, acknowledged), (GET, whole), ({**SET, **other}, unknown),
-             ({**SET, **other, "sub": 512}, unknown), ({**GET, **other}, unknown), (GET, whole))
+    calls = (({**GET, **IN_512}, whole), (SET, acknowledged), (GET, whole), ({**SET, **OTHER}, unknown),
+             ({**SET, **OTHER, **IN_512}, unknown), ({**GET, **OTHER}, unknown), (GET, whole))
     yield asked("parts, sub-devices and unknown parameters", calls, scene(one))
     calls = ((GET, silence), (SET, acknowledged), (GET, "0 00 03"), (GET, whole))
     yield asked("a lost part isn't sent again, and a SET changes no part", calls, scene(one, losses=[0]))
     yield asked("a part that fails is sent again", ((GET, "2"), (GET, whole)), scene(one, fails=[0]))
-    lost = (({**GET, **other}, unknown), (GET, silence), (GET, silence), (GET, "2"), ({**GET, **other}, unknown))
+    lost = (({**GET, **OTHER}, unknown), (GET, silence), (GET, silence), (GET, "2"), ({**GET, **OTHER}, unknown))
     yield asked("losses and a failure", lost, scene([device(NEAR)], losses=[2, 1], fails=[3]))
     placed = [device(NEAR, **{"from": 1, "until": 2})]
     yield asked("a device that comes and leaves", ((GET, silence), (GET, unknown), (GET, silence)), scene(placed))

@@ -1,7 +1,7 @@
-//! Which replies fit an operation.
+//! Which replies fit an operation, and how many ranges are open.
 use super::checks::check;
-use rdm_agent::{Op, OpReply};
-use rdm_wire::{BranchReply, Uid, UidRange};
+use rdm_agent::{Agent, DEFAULT_BUDGET, Kind, Op, OpReply};
+use rdm_wire::{BranchReply, Uid, UidRange, UidSet};
 use std::process::Abort;
 
 // Whether the reply fits an unmute, a mute, a branch, and the end of a run.
@@ -19,4 +19,20 @@ fn a_reply_fits_its_own_operation(rt: HostRuntime) {
     fits_each(&rt, OpReply::Mute(None), [false, true, false, false]);
     fits_each(&rt, silent, [false, false, true, false]);
     fits_each(&rt, OpReply::Failed, [true, true, true, false]);
+}
+
+// Each branch collides. The last split leaves one range at each depth, and one more at the deepest.
+#[test]
+fn a_line_that_always_collides(rt: HostRuntime) {
+    let mut agent = Agent::start(Kind::Full, &UidSet::new(), DEFAULT_BUDGET);
+    for at in 0..51 {
+        let reply = if at < 3 {
+            OpReply::Done
+        } else {
+            OpReply::Branch(BranchReply::Collision)
+        };
+        check(&rt, reply.fits(&agent.next()));
+        agent.hear(reply);
+    }
+    check(&rt, agent.open_ranges() == 49);
 }

@@ -56,6 +56,16 @@ fn a_failed_branch_takes_no_collision(rt: HostRuntime) {
     both_play(&rt, rt.alloc(), &[0], &rows);
 }
 
+// A GET and a SET of the parameter `0060`, to the second device, to all devices, and to all of a manufacturer.
+static OTHERS: [Ask; 6] = [
+    Ask::Bytes("cc01189abc000000027a700000010000010000002000600003a9"),
+    Ask::Bytes("cc01189abc000000027a700000010000010000003000600003b9"),
+    Ask::Bytes("cc0118ffffffffffff7a7000000100000100000020006000084b"),
+    Ask::Bytes("cc0118ffffffffffff7a7000000100000100000030006000085b"),
+    Ask::Bytes("cc01181234ffffffff7a70000001000001000000200060000693"),
+    Ask::Bytes("cc01181234ffffffff7a700000010000010000003000600006a3"),
+];
+
 // A GET, a mute and a branch of all UIDs, each with a wrong checksum; a byte, and none.
 static NO_COMMANDS: [Ask; 5] = [
     Ask::Bytes("cc01181234000000017a70000001000001000000200060000299"),
@@ -74,6 +84,11 @@ fn answers_none(rt: &impl Abort, alloc: Global, unanswered: &[Ask]) {
     check(rt, rows.push((Ask::Get, Some(FIRST_PART))).is_ok());
     check(rt, rows.push((Ask::Branch(0), Some(TEXT))).is_ok());
     first_plays(rt, alloc, &[], &rows);
+}
+
+#[test]
+fn nobody_answers_for_others(rt: HostRuntime) {
+    answers_none(&rt, rt.alloc(), &OTHERS);
 }
 
 #[test]
