@@ -142,7 +142,7 @@ def too_many() -> Case:
         replies += [it.hex().encode() for it in (encode_branch_reply(uid), packet.encode())]
         lines.append(f"\n{uid_text(uid)}")
     err = f"{TOO_MANY}; found until then:{''.join(lines[:-1])}\n"
-    expected = Expected(1, b"fault 2\nframes 2053\n", err_has=err.encode())
+    expected = Expected(1, b"fault 2\nframes 2053\n", err_ends=err.encode())
     return Case("a device too many", (LINE,), expected, far_end=FarEnd(Streams.FILES, tuple(replies)))
 
 
@@ -206,7 +206,7 @@ def lied(search: str, apart: bool, lie: str, index: int) -> Case:
     found = [uid for at, uid in enumerate(uids) if (LIES[lie] if at == index else search or at < index)]
     devices = "".join(f"\n{uid_text(uid)}" for uid in found)
     err = f"{CORRUPT}; found until then:{devices}\n" if found else f"{CORRUPT}; {NONE}\n"
-    expected = Expected(1, form=Corrupt(uid_text(bad)), err_has=err.encode())
+    expected = Expected(1, form=Corrupt(uid_text(bad)), err_ends=err.encode())
     name = f"{uid_text(bad)} {lie}{', quick' if search else ''}{', UIDs far apart' if apart else ''}"
     far_end = FarEnd(Streams.PIPES, rig=partial(Liar, tuple(uids), bad, lie))
     return Case(name, (arguments_of(*PIPES, *search.split()),), expected, far_end=far_end)
