@@ -81,6 +81,8 @@ class Expected:
     err: Optional[bytes] = None
     # Standard error has this text somewhere.
     err_has: Optional[bytes] = None
+    # Standard error ends with this text.
+    err_ends: Optional[bytes] = None
     # Standard error is one line, and begins with this text.
     err_begins: Optional[bytes] = None
     form: Optional[Form] = None

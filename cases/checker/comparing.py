@@ -38,11 +38,13 @@ def differences_of_output(expected: Expected, answer: Answer) -> Iterator[str]:
 
 
 def differences_of_error(expected: Expected, answer: Answer) -> Iterator[str]:
-    """Standard error has the text, or contains it, or is one line that begins with it."""
+    """Standard error has the text, or contains it, or ends with it, or is one line that begins with it."""
     if expected.err not in (None, answer.err):
         yield from wanted_and_got("standard error", expected.err, answer.err)
     if expected.err_has is not None and expected.err_has not in answer.err:
         yield f"standard error: wanted a text with {shown(expected.err_has)}, got {shown(answer.err)}"
+    if expected.err_ends is not None and not answer.err.endswith(expected.err_ends):
+        yield f"standard error: wanted a text that ends with {shown(expected.err_ends)}, got {shown(answer.err)}"
     if expected.err_begins is not None and not is_line(expected.err_begins, answer.err):
         yield f"standard error: wanted one line with {shown(expected.err_begins)} first, got {shown(answer.err)}"
 

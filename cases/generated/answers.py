@@ -6,6 +6,7 @@ from __future__ import annotations
 
 import json
 from dataclasses import dataclass, replace
+from enum import IntEnum
 from typing import Any, Dict, Iterator, Sequence, Tuple
 
 from ..checker.case import FILE_NAME, Case, Expected, FarEnd, File, Streams, arguments_of
@@ -29,39 +30,85 @@ BROADCAST: Call = {**GET, "get": "ffff:ffffffff"}
 PART = Packet(SOURCE, DEVICE, 0, ResponseType.ACK_OVERFLOW, 0, 0, CommandClass.GET_RESPONSE, 0x0060, b"\1\2")
 # What is joined of it and of the second one.
 JOINED = "0 00 01020102"
-# Offsets of some of its fields.
-START, SUB_START, LENGTH, DEST_LOW, SOURCE_LOW, NUMBER, TYPE, SUB_LOW, CLASS, PID_LOW, DATA_LENGTH = (
-    0, 1, 2, 8, 14, 15, 16, 19, 20, 22, 23)
-Changes = Tuple[Tuple[int, int], ...]
-TO_SET = ((CLASS, CommandClass.SET_RESPONSE),)
-WHOLE = ((TYPE, ResponseType.ACK),)
-# A request, the bytes of the part that are changed, with the right sum, and the outcome.
-JUDGED: Sequence[Tuple[Call, Changes, str]] = (
-    (GET, (), JOINED), (GET, WHOLE, "0 00 0102"), (GET, ((TYPE, 4),), "12"), (GET, ((DATA_LENGTH, 1),), "9"),
-    (GET, ((CLASS, 0x10),), "11"), (GET, ((NUMBER, 1),), "13"), (GET, ((SUB_LOW, 1),), "14"),
-    (GET, ((SOURCE_LOW, 2),), "15"), (GET, ((DEST_LOW, 1),), "16"), (GET, TO_SET, "17"), (GET, ((PID_LOW, 0x61),), "4"),
-    (GET, ((SOURCE_LOW, 2), *TO_SET), "15"), (GET, ((CLASS, 0x10), (TYPE, 4)), "11"), (GET, ((START, 0xCD),), "6"),
-    (GET, ((SUB_START, 2),), "7"), (GET, ((START, 0xCD), (SUB_START, 2)), "6"), (GET, ((LENGTH, 23),), "8"),
-    (GET, ((LENGTH, 255),), "8"), (GET, ((CLASS, CommandClass.DISCOVERY_RESPONSE), *WHOLE), "17"),
-    (ALL, ((SUB_LOW, 1),), JOINED), (QUEUED, ((SUB_LOW, 1),), JOINED), (QUEUED, (), JOINED),
-    (QUEUED, TO_SET + WHOLE, "0 00 0102"), (QUEUED, TO_SET, "4"),
-    (SET, TO_SET + WHOLE, "0 00 0102"), (SET, TO_SET, "4"), (SET, (), "17"), ({**SET, "pid": "0020"}, (), "17"),
+
+
+class Offset(IntEnum):
+    """Where some of the bytes of a packet are."""
+
+    START_CODE = 0
+    SUB_START_CODE = 1
+    LENGTH = 2
+    DESTINATION_LOW = 8
+    SOURCE_LOW = 14
+    NUMBER = 15
+    TYPE = 16
+    SUB_DEVICE_LOW = 19
+    CLASS = 20
+    PID_LOW = 22
+    DATA_LENGTH = 23
+
+
+Changes = Dict[Offset, int]
+TO_SET: Changes = {Offset.CLASS: CommandClass.SET_RESPONSE}
+WHOLE: Changes = {Offset.TYPE: ResponseType.ACK}
+# A name, a request, the bytes of the part that are changed, with the right sum, and the outcome.
+JUDGED: Sequence[Tuple[str, Call, Changes, str]] = (
+    ("two parts", GET, {}, JOINED),
+    ("a whole answer", GET, WHOLE, "0 00 0102"),
+    ("an unknown response type", GET, {Offset.TYPE: 4}, "12"),
+    ("a data length that is too small", GET, {Offset.DATA_LENGTH: 1}, "9"),
+    ("the class of a command", GET, {Offset.CLASS: CommandClass.DISCOVERY}, "11"),
+    ("another transaction number", GET, {Offset.NUMBER: 1}, "13"),
+    ("another sub-device", GET, {Offset.SUB_DEVICE_LOW: 1}, "14"),
+    ("another source", GET, {Offset.SOURCE_LOW: 2}, "15"),
+    ("another destination", GET, {Offset.DESTINATION_LOW: 1}, "16"),
+    ("the class of a SET's response to a GET", GET, TO_SET, "17"),
+    ("another PID", GET, {Offset.PID_LOW: 0x61}, "4"),
+    ("another source and another class", GET, {Offset.SOURCE_LOW: 2, **TO_SET}, "15"),
+    ("the class of a command, and an unknown response type", GET,
+     {Offset.CLASS: CommandClass.DISCOVERY, Offset.TYPE: 4}, "11"),
+    ("another start code", GET, {Offset.START_CODE: 0xCD}, "6"),
+    ("another sub-start code", GET, {Offset.SUB_START_CODE: 2}, "7"),
+    ("another start code and another sub-start code", GET, {Offset.START_CODE: 0xCD, Offset.SUB_START_CODE: 2}, "6"),
+    ("a length below the least", GET, {Offset.LENGTH: 23}, "8"),
+    ("a length beyond the last byte", GET, {Offset.LENGTH: 255}, "8"),
+    ("the class of a discovery's response", GET, {Offset.CLASS: CommandClass.DISCOVERY_RESPONSE, **WHOLE}, "17"),
+    ("one sub-device of all", ALL, {Offset.SUB_DEVICE_LOW: 1}, JOINED),
+    ("a queued message of another sub-device", QUEUED, {Offset.SUB_DEVICE_LOW: 1}, JOINED),
+    ("a queued message with another PID", QUEUED, {}, JOINED),
+    ("a queued message of a SET", QUEUED, {**TO_SET, **WHOLE}, "0 00 0102"),
+    ("a part of a queued message of a SET", QUEUED, TO_SET, "4"),
+    ("a whole answer to a SET", SET, {**TO_SET, **WHOLE}, "0 00 0102"),
+    ("a part of an answer to a SET", SET, TO_SET, "4"),
+    ("the class of a GET's response to a SET", SET, {}, "17"),
+    ("the class of a GET's response to a SET of QUEUED_MESSAGE", {**SET, "pid": "0020"}, {}, "17"),
 )
 # What is joined of an answer whose data are two zeros, or as many as fit.
 ZEROS, LONGEST = "0 00 0000", "0 00 " + "00" * MOST_DATA
-# A request, all bytes that come, and the outcome.
-BYTES: Sequence[Tuple[Call, bytes, str]] = (
-    (GET, b"", "3"), (GET, b"\xcc", "5"), (GET, PART.encode()[:25], "5"), (GET, PART.encode()[:26], "8"),
-    (GET, PART.encode()[:27], "8"), (GET, PART.encode()[:-1] + b"\xa3", "10"),
-    (GET, replace(PART, port_or_type=0).encode() + b"\xff", "0 00 0102"),
-    (GET, bytes.fromhex("cc01ff7a70000001001234000000010000000000210060e7") + bytes(MOST_DATA) + b"\4\x66", LONGEST),
-    (GET, bytes.fromhex("cc01ff7a70000001001234000000010000000000210060e8") + bytes(MOST_DATA) + b"\4\x67", "9"),
-    (BROADCAST, b"", "1"), (BROADCAST, b"\xcc", "1"),
+# A name, a request, all bytes that come or a failure, and the outcome.
+BYTES: Sequence[Tuple[str, Call, bytes, str]] = (
+    ("no bytes", GET, b"", "3"),
+    ("a byte", GET, b"\xcc", "5"),
+    ("25 bytes of a part", GET, PART.encode()[:25], "5"),
+    ("26 bytes of a part", GET, PART.encode()[:26], "8"),
+    ("all bytes of a part except the last", GET, PART.encode()[:27], "8"),
+    ("a wrong sum", GET, PART.encode()[:-1] + b"\xa3", "10"),
+    ("a whole answer and a byte", GET, replace(PART, port_or_type=0).encode() + b"\xff", "0 00 0102"),
+    ("the longest answer", GET,
+     bytes.fromhex("cc01ff7a70000001001234000000010000000000210060e7") + bytes(MOST_DATA) + b"\4\x66", LONGEST),
+    ("a data length that is too large", GET,
+     bytes.fromhex("cc01ff7a70000001001234000000010000000000210060e8") + bytes(MOST_DATA) + b"\4\x67", "9"),
+    ("a failure", GET, FAILED, "2"),
+    ("no bytes after a broadcast", BROADCAST, b"", "1"),
+    ("a byte after a broadcast", BROADCAST, b"\xcc", "1"),
+    ("a failure after a broadcast", BROADCAST, FAILED, "2"),
 )
-# After a part, whole answers to GET or QUEUED_MESSAGE that don't go on with it.
-OTHERS: Sequence[Tuple[Call, Dict[str, int]]] = (
-    (GET, {"port_or_type": ResponseType.NACK_REASON}), (QUEUED, {"pid": 0x0061}), (QUEUED, {"sub_device": 1}),
-    (QUEUED, {"command_class": CommandClass.SET_RESPONSE}),
+# A name, a request, and a whole answer that doesn't go on with the part before it.
+OTHERS: Sequence[Tuple[str, Call, Dict[str, int]]] = (
+    ("a refusal", GET, {"port_or_type": ResponseType.NACK_REASON}),
+    ("another PID", QUEUED, {"pid": 0x0061}),
+    ("another sub-device", QUEUED, {"sub_device": 1}),
+    ("another class", QUEUED, {"command_class": CommandClass.SET_RESPONSE}),
 )
 # How many bytes are joined: of parts with 231 bytes, and of the rest in a whole answer.
 LENGTHS = (0, 1, 231, 233, 464, 4096, MOST_JOINED)
@@ -79,7 +126,7 @@ class Heard:
 def changed(packet: Packet, changes: Changes) -> bytes:
     """The packet's bytes with these changed, and the sum of them."""
     data = bytearray(packet.encode()[:-2])
-    for at, byte in changes:
+    for at, byte in changes.items():
         data[at] = byte
     return bytes(data) + (sum(data) % 0x10000).to_bytes(2, "big")
 
@@ -139,14 +186,12 @@ def cases() -> Iterator[Case]:
 
 def judged() -> Iterator[Case]:
     """Single replies. A part is followed by a second one."""
-    for at, (call, changes, outcome) in enumerate(JUDGED):
-        last = ((NUMBER, 1), (TYPE, ResponseType.ACK))
-        replies = [changed(PART, changes)] + [changed(PART, changes + last)] * (outcome == JOINED)
-        yield heard(f"reply {at} to {call}: {dict(changes)}", Heard(call, tuple(replies), outcome))
-    for at, (call, reply, outcome) in enumerate(BYTES):
-        yield heard(f"bytes {at} after {call}", Heard(call, (reply,), outcome))
-    for call in (GET, BROADCAST):
-        yield heard(f"a failure after {call}", Heard(call, (FAILED,), "2"))
+    last = {Offset.NUMBER: 1, **WHOLE}
+    for name, call, changes, outcome in JUDGED:
+        replies = [changed(PART, changes)] + [changed(PART, {**changes, **last})] * (outcome == JOINED)
+        yield heard(name, Heard(call, tuple(replies), outcome))
+    for name, call, reply, outcome in BYTES:
+        yield heard(name, Heard(call, (reply,), outcome))
     refused = bytes.fromhex("cc011a7a7000000100123400000001070209123431abcd0200060422")
     silent = [Heard(GET, (b"",), "3")] * 7
     call = {**SET, "pid": "abcd", "sub": 0x1234}
@@ -163,10 +208,9 @@ def in_parts() -> Iterator[Case]:
     empty = [0] * MOST_PARTS
     yield heard("as many parts as an answer has", Heard(GET, parts(empty), joined(empty)))
     yield heard("a part too many", Heard(GET, parts(empty, last=ResponseType.ACK_OVERFLOW), "4"))
-    begun = parts([2, 0])[0]
-    for at, (call, fields) in enumerate(OTHERS):
-        other = replace(PART, transaction=1, port_or_type=ResponseType.ACK)
-        yield heard(f"another answer {at} after a part", Heard(call, (begun, replace(other, **fields).encode()), "4"))
+    begun, other = PART.encode(), replace(PART, transaction=1, port_or_type=ResponseType.ACK)
+    for name, call, fields in OTHERS:
+        yield heard(f"{name} after a part", Heard(call, (begun, replace(other, **fields).encode()), "4"))
     nack = replace(PART, port_or_type=ResponseType.NACK_REASON, transaction=2, data=b"\0\6").encode()
     yield heard(
         "an answer after one that was cut off, and after a whole one",

@@ -117,16 +117,19 @@ def requests() -> Iterator[Case]:
     calls = (({**GET, **IN_512}, whole), (SET, acknowledged), (GET, whole), ({**SET, **OTHER}, unknown),
              ({**SET, **OTHER, **IN_512}, unknown), ({**GET, **OTHER}, unknown), (GET, whole))
     yield asked("parts, sub-devices and unknown parameters", calls, scene(one))
-    calls = ((GET, silence), (SET, acknowledged), (GET, "0 00 03"), (GET, whole))
-    yield asked("a lost part isn't sent again, and a SET changes no part", calls, scene(one, losses=[0]))
+    calls = (({**GET, "sub": 512}, silence), (SET, acknowledged), (GET, "0 00 03"), (GET, whole))
+    name = "a lost part isn't sent again, whatever the sub-device, and a SET changes no part"
+    yield asked(name, calls, scene(one, losses=[0]))
     yield asked("a part that fails is sent again", ((GET, "2"), (GET, whole)), scene(one, fails=[0]))
     lost = (({**GET, **OTHER}, unknown), (GET, silence), (GET, silence), (GET, "2"), ({**GET, **OTHER}, unknown))
     yield asked("losses and a failure", lost, scene([device(NEAR)], losses=[2, 1], fails=[3]))
     placed = [device(NEAR, **{"from": 1, "until": 2})]
     yield asked("a device that comes and leaves", ((GET, silence), (GET, unknown), (GET, silence)), scene(placed))
     targets = ((FAR, silence), ("ffff:ffffffff", "1"), ("1234:ffffffff", "1"))
-    for_others = [({kind: uid, "pid": "0060"}, outcome) for uid, outcome in targets for kind in ("get", "set")]
-    yield asked("requests for others", (*for_others, (GET, whole)), scene(one))
+    # The GET after each would have only the second part if the device had sent the first one.
+    for_others = [call for uid, outcome in targets for kind in ("get", "set")
+                  for call in (({kind: uid, "pid": "0060"}, outcome), (GET, whole))]
+    yield asked("requests for others", for_others, scene(one))
 
 
 def largest() -> Iterator[Case]:

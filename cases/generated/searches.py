@@ -9,18 +9,18 @@ from typing import Dict, FrozenSet, Iterator, NamedTuple, Sequence, Tuple
 from ..checker.case import Case, Expected, FarEnd, File, Streams, arguments_of
 from .commands import QUICK
 from .runs import (
-    ALL_DEVICES, PORT, SOURCE, CommandClass, Packet, Pid, ResponseType, decode_packet, encode_branch_reply, exchanges,
-    uid_text,
+    ALL_DEVICES, PORT, SOURCE, CommandClass, Packet, Pid, ResponseType, encode_branch_reply, exchanges, uid_text,
 )
+from wurstlinen.lines.packets import decode_packet
 
-LINE = arguments_of("discover", "--line", "out", "--replies", "replies", "--source", uid_text(SOURCE))
+LINE = ("discover", "--line", "out", "--replies", "replies", "--source", uid_text(SOURCE))
 PIPES = ("discover", "--line", "/dev/fd/100", "--replies", "/dev/fd/101", "--source", uid_text(SOURCE))
 NEAR, FAR = "1234:00000001", "9abc:00000002"
 BOTH_HALVES = "lower > found; mute found > ack; 5 lower; upper > new; mute new > ack; 5 upper"
 NONE, EXHAUSTED = "no device was found until then", "the frames that were allowed are used up"
 
 
-class Search(NamedTuple):
+class Run(NamedTuple):
     """A run with these options, and all that it prints."""
 
     name: str
@@ -33,28 +33,31 @@ class Search(NamedTuple):
 
 # A UID that no device has is muted five times, and then the range is split; a broadcast UID isn't muted. The first mute
 # of a known device is lost. A fault that a reply shows comes before a budget that is used up.
-SEARCHES = (
-    Search("a UID that no device has", "", f"3 unmute; all > absent; 5 mute absent; {BOTH_HALVES}",
-           f"{NEAR}\n{FAR}\nframes 23\n"),
-    Search("a broadcast UID", "", f"3 unmute; all > nobody; {BOTH_HALVES}", f"{NEAR}\n{FAR}\nframes 18\n"),
-    Search("known devices", f"--incremental --known {NEAR} --known 5678:00000009",
-           "3 unmute; mute found; mute found > ack; 5 mute absent; all > new; mute new > ack; 5 all",
-           f"{NEAR}\n{FAR}\nframes 17\n"),
-    Search("bytes after unmutes", "", "3 unmute > noise; 5 all", "frames 8\n"),
-    Search("a failure at the last frame that is allowed", "--budget 2", "unmute; unmute > failed",
-           "fault 4\nframes 2\n", f"the line failed; {NONE}", 1),
-    Search("a mute that fails", "", "3 unmute; all > found; mute found > failed", "fault 4\nframes 5\n",
-           f"the line failed; {NONE}", 1),
+RUNS = (
+    Run("a UID that no device has", "", f"3 unmute; all > absent; 5 mute absent; {BOTH_HALVES}",
+        f"{NEAR}\n{FAR}\nframes 23\n"),
+    Run("a broadcast UID", "", f"3 unmute; all > nobody; {BOTH_HALVES}", f"{NEAR}\n{FAR}\nframes 18\n"),
+    Run("known devices", f"--incremental --known {NEAR} --known 5678:00000009",
+        "3 unmute; mute found; mute found > ack; 5 mute absent; all > new; mute new > ack; 5 all",
+        f"{NEAR}\n{FAR}\nframes 17\n"),
+    Run("bytes after unmutes", "", "3 unmute > noise; 5 all", "frames 8\n"),
+    Run("a failure at the last frame that is allowed", "--budget 2", "unmute; unmute > failed",
+        "fault 4\nframes 2\n", f"the line failed; {NONE}", 1),
+    Run("a mute that fails", "", "3 unmute; all > found; mute found > failed", "fault 4\nframes 5\n",
+        f"the line failed; {NONE}", 1),
 )
 
-# The packets that come after the mute of 1234:00000001 with the number 4, and the control field and binding UID that
-# each acknowledges; else they are no acknowledgement of it.
-ACKNOWLEDGEMENTS = (
-    ("cc011a7a700000010012340000000104000000001100020200000232", ""),
-    ("cc011a7a700000010012340000000104000000001100020200000232ff", ""),
-    ("cc01207a700000010012340000000104000000001100020800031234000000020289", " 0003 1234:00000002"),
-    ("cc01207a70000001001234000000010400000000110002080002123400000005028b", " 0002 1234:00000005"),
-)
+# Packets that come after the mute of 1234:00000001 with the number 4 and acknowledge it, and what is printed of the
+# control field and the binding UID in each.
+ACKNOWLEDGEMENTS: Dict[str, Tuple[str, str]] = {
+    "without data beyond the control field": ("cc011a7a700000010012340000000104000000001100020200000232", ""),
+    "with a byte after it": ("cc011a7a700000010012340000000104000000001100020200000232ff", ""),
+    "with control field 3 and a binding UID": (
+        "cc01207a700000010012340000000104000000001100020800031234000000020289", " 0003 1234:00000002"),
+    "with control field 2 and another": (
+        "cc01207a70000001001234000000010400000000110002080002123400000005028b", " 0002 1234:00000005"),
+}
+# What comes after that mute and doesn't acknowledge it.
 OTHERS: Dict[str, str] = {
     "three bytes": "cc011b7a70000001001234000000010400000000110002030000000234",
     "of a GET": "cc011a7a700000010012340000000104000000002100020200000242",
@@ -79,10 +82,10 @@ FIXTURES, BAD = 11, (0, 5, 10)
 
 def cases() -> Iterator[Case]:
     """All discoveries."""
-    yield from (searched(it) for it in SEARCHES)
+    yield from (searched(it) for it in RUNS)
     err = f"{EXHAUSTED}; found until then:\n{NEAR}"
-    for reply, said in ACKNOWLEDGEMENTS:
-        yield acknowledged(f"an acknowledgement that says '{said}'", reply, f"{err}{said}")
+    for name, (reply, said) in ACKNOWLEDGEMENTS.items():
+        yield acknowledged(f"an acknowledgement {name}", reply, f"{err}{said}")
     for name, reply in OTHERS.items():
         yield acknowledged(f"no acknowledgement: {name}", reply, f"{EXHAUSTED}; {NONE}")
     yield always_colliding()
@@ -93,7 +96,7 @@ def cases() -> Iterator[Case]:
             yield from (lied(search, apart, lie, bad) for lie in LIES for bad in BAD)
 
 
-def searched(it: Search) -> Case:
+def searched(it: Run) -> Case:
     """A discovery with these replies, which sends all frames of the run and no more."""
     run = list(exchanges(it.run))
     replies = tuple(b"failed" if one.reply is None else one.reply.hex().encode() for one in run)
@@ -101,18 +104,18 @@ def searched(it: Search) -> Case:
     return scripted(it, replies, sent)
 
 
-def scripted(it: Search, replies: Sequence[bytes], sent: Sequence[bytes]) -> Case:
+def scripted(it: Run, replies: Sequence[bytes], sent: Sequence[bytes]) -> Case:
     """A discovery with these replies and frames."""
     err = f"wurstlinen: {it.err}\n".encode() if it.err else None
     expected = Expected(it.status, it.out.encode(), err, sent=tuple(sent))
-    command = (*LINE, *arguments_of(*it.options.split()))
+    command = arguments_of(*LINE, *it.options.split())
     return Case(it.name, (command,), expected, far_end=FarEnd(Streams.FILES, tuple(replies)))
 
 
 def acknowledged(name: str, reply: str, err: str) -> Case:
     """A mute with this reply, the last frame that is allowed."""
     run = f"3 unmute; all > found; mute found > x{reply}"
-    return searched(Search(name, "--budget 5", run, "fault 3\nframes 5\n", err, 1))
+    return searched(Run(name, "--budget 5", run, "fault 3\nframes 5\n", err, 1))
 
 
 def always_colliding() -> Case:
@@ -122,7 +125,7 @@ def always_colliding() -> Case:
     sent = [branch(at, high) for at, high in enumerate(highest, len(unmutes))]
     replies = [b""] * len(unmutes) + [b"ff"] * (DEPTH + 10)
     out = "fault 1 0000:00000000\nframes 52\n"
-    return scripted(Search("noise after each branch", "", "", out, f"{CORRUPT}; {NONE}", 1), replies, unmutes + sent)
+    return scripted(Run("noise after each branch", "", "", out, f"{CORRUPT}; {NONE}", 1), replies, unmutes + sent)
 
 
 def branch(number: int, high: int) -> bytes:
@@ -142,8 +145,8 @@ def too_many() -> Case:
         replies += [it.hex().encode() for it in (encode_branch_reply(uid), packet.encode())]
         lines.append(f"\n{uid_text(uid)}")
     err = f"{TOO_MANY}; found until then:{''.join(lines[:-1])}\n"
-    expected = Expected(1, b"fault 2\nframes 2053\n", err_has=err.encode())
-    return Case("a device too many", (LINE,), expected, far_end=FarEnd(Streams.FILES, tuple(replies)))
+    expected = Expected(1, b"fault 2\nframes 2053\n", err_ends=err.encode())
+    return Case("a device too many", (arguments_of(*LINE),), expected, far_end=FarEnd(Streams.FILES, tuple(replies)))
 
 
 def lost_replies() -> Iterator[Case]:
@@ -206,7 +209,7 @@ def lied(search: str, apart: bool, lie: str, index: int) -> Case:
     found = [uid for at, uid in enumerate(uids) if (LIES[lie] if at == index else search or at < index)]
     devices = "".join(f"\n{uid_text(uid)}" for uid in found)
     err = f"{CORRUPT}; found until then:{devices}\n" if found else f"{CORRUPT}; {NONE}\n"
-    expected = Expected(1, form=Corrupt(uid_text(bad)), err_has=err.encode())
+    expected = Expected(1, form=Corrupt(uid_text(bad)), err_ends=err.encode())
     name = f"{uid_text(bad)} {lie}{', quick' if search else ''}{', UIDs far apart' if apart else ''}"
     far_end = FarEnd(Streams.PIPES, rig=partial(Liar, tuple(uids), bad, lie))
     return Case(name, (arguments_of(*PIPES, *search.split()),), expected, far_end=far_end)
