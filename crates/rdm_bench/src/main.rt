@@ -133,6 +133,18 @@ fn measure_each<R: Times + Prints + Threads + Wait + Sync>(
     size: usize,
     rounds: usize,
 ) -> Option<()> {
+    for subject in subjects.split(' ') {
+        measure(rt, subject, within(size, most(subject))?, rounds)?;
+    }
+    Some(())
+}
+
+fn measure<R: Times + Prints + Threads + Wait + Sync>(
+    rt: &R,
+    subject: &str,
+    size: usize,
+    rounds: usize,
+) -> Option<()> {
     let alloc = rt.alloc();
     let bench = &Bench {
         rt,
@@ -140,15 +152,11 @@ fn measure_each<R: Times + Prints + Threads + Wait + Sync>(
         size,
         rounds,
     };
-    for subject in subjects.split(' ') {
-        within(size, most(subject))?;
-        if is_soak(subject) {
-            print_soak(bench, subject)?;
-        } else {
-            time(bench, subject)?;
-        }
+    if is_soak(subject) {
+        print_soak(bench, subject)
+    } else {
+        time(bench, subject)
     }
-    Some(())
 }
 
 // Whether its size is a number of requests.
