@@ -3,42 +3,38 @@ ghost use Rattle.std.specs.Prelude.{◌≡◌, ℕ};
 ghost use Rattle.rdm_wire.specs.Uid.{IsDevice};
 ghost use Rattle.rdm_agent.specs.Calls.{next_op};
 
-use crate::bench::{Bench, Sample, holds};
+use crate::bench::{Bench, Sample, Times, holds};
 use crate::lines::{Spread, Taped, TestLine, Wrong, devices};
 use crate::packets::TRANSACTION_NUMBER;
 use rdm_agent::{Agent, DEFAULT_BUDGET, Kind, Op, OpReply, Search};
 use rdm_wire::UidSet;
 use std::alloc::Global;
-use std::time::CpuClock;
 use test_rig::controller;
 
-/// Times runs over this many devices: a start and an end alone; and all frames of a run, with branch replies read from
-/// their bytes or not, and with each frame written too or not.
-pub fn time<R: CpuClock + Print + Eprint>(bench: &Bench<'_, R>, count: usize) -> Option<()> {
-    let known = devices(count, Spread::Random, (count as u64).wrapping_add(42))?;
-    let tape = tape(bench.alloc, &known)?;
-    let heard = heard_of(bench.alloc, tape.as_slice())?;
+/// Times runs: a start and an end alone; and all frames of a run, with branch replies read from their bytes or not, and
+/// with each frame written too or not.
+pub fn time<R: Times>(bench: &Bench<R>) -> Option<()> {
+    let known = devices(
+        bench.size,
+        Spread::Random,
+        (bench.size as u64).wrapping_add(42),
+    )?;
     let mut runs = Runs {
         known: &known,
         budget: 0,
         heard: Vec::new(bench.alloc),
-        tape,
+        tape: tape(bench.alloc, &known)?,
         reads: false,
         writes: false,
     };
-    bench.time("agent", "StartAndEnd", &mut runs)?;
+    bench.time("agent, StartAndEnd", &mut runs)?;
     runs.budget = DEFAULT_BUDGET;
-    runs.heard = heard;
-    for (work, reads, writes) in [
-        ("Step", false, false),
-        ("ReadAndStep", true, false),
-        ("WriteAndReadAndStep", true, true),
-    ] {
-        runs.reads = reads;
-        runs.writes = writes;
-        bench.time("agent", work, &mut runs)?;
-    }
-    Some(())
+    runs.heard = heard_of(bench.alloc, runs.tape.as_slice())?;
+    bench.time("agent, Step", &mut runs)?;
+    runs.reads = true;
+    bench.time("agent, ReadAndStep", &mut runs)?;
+    runs.writes = true;
+    bench.time("agent, WriteAndReadAndStep", &mut runs)
 }
 
 /// What comes in a steady run on a line with these devices that loses nothing.

@@ -1,6 +1,6 @@
 //! How a piece of work is timed, and how that is reported.
 use std::alloc::Global;
-use std::fmt;
+use std::rt::Files;
 use std::time::CpuClock;
 
 // How many samples are timed. It is odd, so one is in the middle.
@@ -12,13 +12,25 @@ pub trait Sample {
     fn perform(&mut self) -> Option<u64>;
 }
 
-/// How each piece of work is timed.
+/// What times work, and prints lines.
+pub trait Times: CpuClock + Print + Eprint {}
+
+impl<R: CpuClock + Print + Eprint> Times for R {}
+
+/// What prints lines, and reads how much memory the process holds.
+pub trait Prints: Files + AllocGlobal + Print + Eprint {}
+
+impl<R: Files + AllocGlobal + Print + Eprint> Prints for R {}
+
+/// What is measured, and how each piece of work is timed.
 #[derive(Drop)]
 pub struct Bench<'a, R> {
     /// The clock, and where lines are printed.
     pub rt: &'a R,
     /// Where memory comes from.
     pub alloc: Global,
+    /// The size of the subject.
+    pub size: usize,
     /// How often a sample repeats its work.
     pub rounds: usize,
 }
@@ -33,62 +45,35 @@ impl<R> Bench<'_, R> {
     pub fn repeats(&self) -> usize {
         self.rounds.wrapping_mul(SAMPLES)
     }
-
-    // The work of a sample, and how many steps that were.
-    fn repeat<S: Sample>(&self, sample: &mut S) -> Option<u64> {
-        let mut steps: u64 = 0;
-        for _ in 0..self.rounds {
-            steps = steps.wrapping_add(sample.perform()?);
-        }
-        Some(steps)
-    }
 }
 
-impl<R: CpuClock + Print + Eprint> Bench<'_, R> {
-    /// Times this work of a subject. How many steps a sample has goes to standard output. The processor time of a step
-    /// goes to standard error, in picoseconds: that of the sample in the middle, and that of the fastest one.
-    pub fn time<W: fmt::Display + Copy, S: Sample>(
-        &self,
-        subject: &str,
-        work: W,
-        sample: &mut S,
-    ) -> Option<()> {
+impl<R: Times> Bench<'_, R> {
+    /// Times this work. How many steps a sample has goes to standard output. The processor time of a step goes to
+    /// standard error, in picoseconds: that of the sample in the middle, and that of the fastest one.
+    pub fn time<S: Sample>(&self, work: &str, sample: &mut S) -> Option<()> {
         let mut times = [0; SAMPLES];
-        let steps = self.sample_all(sample, &mut times)?;
-        times.sort_unstable();
-        self.print(subject, work, steps, times[SAMPLES / 2], times[0])
-    }
-
-    // Takes a sample for each of these times, and writes its time there. Returns how many steps the last one has.
-    fn sample_all<S: Sample>(&self, sample: &mut S, times: &mut [u64]) -> Option<u64> {
         let mut steps: u64 = 0;
         for time in times.iter_mut() {
             let (each, count) = self.sample(sample)?;
             *time = each;
             steps = count;
         }
-        Some(steps)
+        times.sort_unstable();
+        let (rt, middle, least) = (self.rt, times[SAMPLES / 2], times[0]);
+        println!(rt; "{work}: {steps}").ok()?;
+        eprintln!(rt; "{work}: {middle} ps each, {least} at least").ok()
     }
 
     // The processor time of a sample's step in picoseconds, and how many steps it has.
     fn sample<S: Sample>(&self, sample: &mut S) -> Option<(u64, u64)> {
         let began = self.now()?;
-        let steps = self.repeat(sample)?.max(1);
+        let mut steps: u64 = 0;
+        for _ in 0..self.rounds {
+            steps = steps.wrapping_add(sample.perform()?);
+        }
         let time = self.now()?.saturating_sub(began);
+        let steps = steps.max(1);
         Some((time.saturating_mul(1_000) / steps, steps))
-    }
-
-    fn print<W: fmt::Display + Copy>(
-        &self,
-        subject: &str,
-        work: W,
-        steps: u64,
-        middle: u64,
-        least: u64,
-    ) -> Option<()> {
-        let rt = self.rt;
-        println!(rt; "{subject}, {work}: {steps}").ok()?;
-        eprintln!(rt; "{subject}, {work}: {middle} ps each, {least} at least").ok()
     }
 
     // The processor time of this process so far, in nanoseconds.

@@ -1,12 +1,11 @@
 //! What is checked of a session: what its clients are told, its pages, and the memory of the process.
 use crate::bench::holds;
 use crate::served::PLACES;
-use rdm_client::Told;
 use rdm_join::Status;
-use rdm_log::{Entry, Log, Page};
+use rdm_log::{Entry, Log};
 use std::alloc::Global;
 use std::collections::VecDeque;
-use test_rig::{Heard, completion_told};
+use test_rig::{Ending, Found, Heard};
 
 // After how many requests the memory that the process holds has to be settled.
 const SETTLED_AFTER: u64 = 1_000_000;
@@ -14,11 +13,61 @@ const SETTLED_AFTER: u64 = 1_000_000;
 // How many kilobytes more it may hold from then on.
 const MOST_GROWTH: u64 = 64;
 
+/// The calls of clients, and what was reported to them.
+#[derive(Clone, Copy, Default)]
+pub struct Tally {
+    pub submitted: u64,
+    pub asked: u64,
+    pub completed: u64,
+    pub timeouts: u64,
+    pub failed: u64,
+    pub discovered: u64,
+    pub aborted: u64,
+}
+
+impl Tally {
+    /// Whether each call was reported.
+    pub fn is_whole(&self) -> bool {
+        let requests = self.completed.wrapping_add(self.timeouts);
+        requests.wrapping_add(self.failed) == self.submitted
+            && self.discovered.wrapping_add(self.aborted) == self.asked
+    }
+
+    /// Adds those of another one.
+    pub fn add(&mut self, other: &Tally) {
+        self.submitted = self.submitted.wrapping_add(other.submitted);
+        self.asked = self.asked.wrapping_add(other.asked);
+        self.completed = self.completed.wrapping_add(other.completed);
+        self.timeouts = self.timeouts.wrapping_add(other.timeouts);
+        self.failed = self.failed.wrapping_add(other.failed);
+        self.discovered = self.discovered.wrapping_add(other.discovered);
+        self.aborted = self.aborted.wrapping_add(other.aborted);
+    }
+
+    // A call has ended like this. A discovery finds both devices, or ends as the line fails. None: it can't end like
+    // this on this line.
+    fn count(&mut self, heard: Heard) -> Option<()> {
+        let count = match heard {
+            Heard::Answered(_, 1, 2) | Heard::Data(_, 231 | 462 | 693) => &mut self.completed,
+            Heard::Request(_, Status::Timeout) => &mut self.timeouts,
+            Heard::Request(_, Status::FailedToSend) => &mut self.failed,
+            Heard::Discovery(_, _, Ending::Faultless, Found::FirstAndSecond) => {
+                &mut self.discovered
+            }
+            Heard::Discovery(_, _, Ending::Faultless, _) => return None,
+            Heard::Discovery(_, _, _, _) => &mut self.aborted,
+            _ => return None,
+        };
+        *count = count.wrapping_add(1);
+        Some(())
+    }
+}
+
 /// The tags of the calls that a client waits for, oldest first. Nothing else of a call is kept.
 #[derive(Drop)]
 pub struct Waiting {
-    pub requests: VecDeque<u64>,
-    pub discoveries: VecDeque<u64>,
+    requests: VecDeque<u64>,
+    discoveries: VecDeque<u64>,
 }
 
 impl Waiting {
@@ -31,84 +80,43 @@ impl Waiting {
         })
     }
 
-    /// It waits for the request with this tag. None: out of memory.
-    pub fn wait_for_request(&mut self, tag: u64) -> Option<()> {
+    /// Its queue has accepted the request with this tag. None: out of memory.
+    pub fn wait_for_request(&mut self, tag: u64, told: &mut Tally) -> Option<()> {
+        told.submitted = told.submitted.wrapping_add(1);
         self.requests.push_back(tag).ok()
     }
 
-    /// It waits for the discovery with this tag. None: out of memory.
-    pub fn wait_for_discovery(&mut self, tag: u64) -> Option<()> {
+    /// Its queue has accepted the next discovery, whose tag is the number of those before. None: out of memory.
+    pub fn wait_for_discovery(&mut self, told: &mut Tally) -> Option<()> {
+        let tag = told.asked;
+        told.asked = tag.wrapping_add(1);
         self.discoveries.push_back(tag).ok()
     }
-}
 
-/// What was reported to clients.
-#[derive(Clone, Copy, Debug, Default, Drop)]
-pub struct Tally {
-    pub completed: u64,
-    pub timeouts: u64,
-    pub failed: u64,
-    pub discovered: u64,
-    pub aborted: u64,
-}
-
-impl Tally {
-    /// A request has ended like this. None: it can't on this line.
-    pub fn count(&mut self, told: Told) -> Option<()> {
-        let count = match completion_told(&Some((told.tag, told.done))) {
-            Heard::Answered(_, 1, 2) | Heard::Data(_, 231 | 462 | 693) => &mut self.completed,
-            Heard::Request(_, Status::Timeout) => &mut self.timeouts,
-            Heard::Request(_, Status::FailedToSend) => &mut self.failed,
+    /// It has collected this. An outcome has to be that of its oldest call of this kind.
+    pub fn hear(&mut self, heard: Heard, told: &mut Tally) -> Option<()> {
+        let (oldest, tag) = match heard {
+            Heard::Nothing => return Some(()),
+            Heard::Discovery(tag, _, _, _) => (self.discoveries.pop_front(), tag),
+            Heard::Answered(tag, _, _) | Heard::Data(tag, _) | Heard::Request(tag, _) => {
+                (self.requests.pop_front(), tag)
+            }
             _ => return None,
         };
-        *count = count.wrapping_add(1);
-        Some(())
-    }
-
-    /// A discovery has ended with this many devices. It finds both, or ends as the line fails.
-    pub fn count_discovery(&mut self, devices: Option<usize>) -> Option<()> {
-        let count = match devices {
-            Some(2) => &mut self.discovered,
-            None => &mut self.aborted,
-            Some(_) => return None,
-        };
-        *count = count.wrapping_add(1);
-        Some(())
-    }
-
-    /// How many requests have ended.
-    pub fn requests(&self) -> u64 {
-        self.completed
-            .wrapping_add(self.timeouts)
-            .wrapping_add(self.failed)
-    }
-
-    /// How many discoveries have ended.
-    pub fn discoveries(&self) -> u64 {
-        self.discovered.wrapping_add(self.aborted)
-    }
-
-    /// Both together.
-    pub fn and(&self, other: &Tally) -> Tally {
-        Tally {
-            completed: self.completed.wrapping_add(other.completed),
-            timeouts: self.timeouts.wrapping_add(other.timeouts),
-            failed: self.failed.wrapping_add(other.failed),
-            discovered: self.discovered.wrapping_add(other.discovered),
-            aborted: self.aborted.wrapping_add(other.aborted),
-        }
+        holds(oldest == Some(tag))?;
+        told.count(heard)
     }
 }
 
 /// The history that the pages so far have.
-#[derive(Clone, Copy, Default, Drop)]
+#[derive(Clone, Copy, Default)]
 pub struct History {
     pub entries: u64,
-    pub accepts: u64,
-    pub asks: u64,
     /// How many pages end between a frame and its reply.
     pub awaited: u64,
+    accepts: u64,
     finishes: u64,
+    asks: u64,
     answers: u64,
     collects: u64,
     // Whether a frame was sent whose reply hasn't come.
@@ -116,55 +124,43 @@ pub struct History {
 }
 
 impl History {
-    /// The page has to follow those before it.
-    pub fn follow(&mut self, page: &Page) -> Option<()> {
-        self.go_on(page.first, page.entries.as_slice())?;
+    /// These entries have to follow the pages before, and the first of them has this number.
+    pub fn follow(&mut self, first: u64, entries: &[Entry]) -> Option<()> {
+        holds(first == self.entries)?;
+        for entry in entries {
+            self.entries = self.entries.wrapping_add(1);
+            match entry {
+                Entry::Accept { number, .. } => follows(&mut self.accepts, *number)?,
+                Entry::Finish { number, .. } => follows(&mut self.finishes, *number)?,
+                Entry::Ask { number, .. } => follows(&mut self.asks, *number)?,
+                Entry::Answer { number, .. } => follows(&mut self.answers, *number)?,
+                Entry::Collect { .. } => self.collects = self.collects.wrapping_add(1),
+                Entry::Send { .. } => switches(&mut self.awaits, true)?,
+                Entry::Came { .. } => switches(&mut self.awaits, false)?,
+                _ => {}
+            }
+        }
         if self.awaits {
             self.awaited = self.awaited.wrapping_add(1);
         }
         Some(())
     }
 
-    /// What the log stores has to follow the pages, and to end with its last entry. All together have to have so many
-    /// requests and discoveries, each once.
-    pub fn end(&mut self, log: &Log, requests: u64, discoveries: u64) -> Option<()> {
-        self.go_on(log.gone(), log.entries())?;
-        holds(self.entries == log.len_in_all() && !self.awaits)?;
-        self.holds_all(requests, discoveries)
+    /// What the log stores has to follow the pages, and to end with its last entry. All together have to have these
+    /// calls, each once.
+    pub fn end(&mut self, log: &Log, told: &Tally) -> Option<()> {
+        self.follow(log.gone(), log.entries())?;
+        holds(self.entries == log.len_in_all() && !self.awaits && self.has_all(told))
     }
 
-    /// The pages have to have so many requests and discoveries, each once.
-    pub fn holds_all(&self, requests: u64, discoveries: u64) -> Option<()> {
-        holds(self.accepts == requests && self.finishes == requests)?;
-        holds(self.asks == discoveries && self.answers == discoveries)?;
-        holds(self.collects == requests.wrapping_add(discoveries))
-    }
-
-    // The entries have to follow those before them, of which the first has this number.
-    fn go_on(&mut self, first: u64, entries: &[Entry]) -> Option<()> {
-        holds(first == self.entries)?;
-        for entry in entries {
-            self.add(entry)?;
-        }
-        Some(())
-    }
-
-    // This entry comes next. None: it doesn't follow.
-    fn add(&mut self, entry: &Entry) -> Option<()> {
-        self.entries = self.entries.wrapping_add(1);
-        match entry {
-            Entry::Accept { number, .. } => follows(&mut self.accepts, *number),
-            Entry::Finish { number, .. } => follows(&mut self.finishes, *number),
-            Entry::Ask { number, .. } => follows(&mut self.asks, *number),
-            Entry::Answer { number, .. } => follows(&mut self.answers, *number),
-            Entry::Collect { .. } => {
-                self.collects = self.collects.wrapping_add(1);
-                Some(())
-            }
-            Entry::Send { .. } => switches(&mut self.awaits, true),
-            Entry::Came { .. } => switches(&mut self.awaits, false),
-            _ => Some(()),
-        }
+    /// Whether the pages have these calls, each once.
+    pub fn has_all(&self, told: &Tally) -> bool {
+        let (requests, discoveries) = (told.submitted, told.asked);
+        self.accepts == requests
+            && self.finishes == requests
+            && self.asks == discoveries
+            && self.answers == discoveries
+            && self.collects == requests.wrapping_add(discoveries)
     }
 }
 
@@ -183,7 +179,7 @@ fn switches(it: &mut bool, to: bool) -> Option<()> {
 }
 
 /// How much memory the process held after the first million requests.
-#[derive(Clone, Copy, Default, Drop)]
+#[derive(Default, Drop)]
 pub struct Held {
     settled: Option<u64>,
 }

@@ -326,18 +326,8 @@ const DISHONEST: [Wrong; 5] = [
     Wrong::Noise(10),
 ];
 
-// Lines with a device that breaks the rules. It has the first UID, one in the middle, or the last.
-const ODD: [Wrong; 9] = [
-    Wrong::Odd(Odd::NeverMutes, 0),
-    Wrong::Odd(Odd::TenBytes, 0),
-    Wrong::Odd(Odd::GoesOn, 0),
-    Wrong::Odd(Odd::NeverMutes, 0x7fff_ffff_fffe),
-    Wrong::Odd(Odd::TenBytes, 0x7fff_ffff_fffe),
-    Wrong::Odd(Odd::GoesOn, 0x7fff_ffff_fffe),
-    Wrong::Odd(Odd::NeverMutes, 0xffff_ffff_fffe),
-    Wrong::Odd(Odd::TenBytes, 0xffff_ffff_fffe),
-    Wrong::Odd(Odd::GoesOn, 0xffff_ffff_fffe),
-];
+// A device that breaks the rules has the first UID, one in the middle, or the last.
+const ODD: [u64; 3] = [0, 0x7fff_ffff_fffe, 0xffff_ffff_fffe];
 
 // How runs ended: without fault, with all devices that keep to the rules, or with one missing; with the fault Corrupt,
 // after all of them were found, or before.
@@ -386,68 +376,46 @@ fn found_of(found: &DeviceSet, good: &UidSet, odd: Option<Uid>) -> Option<usize>
     Some(count)
 }
 
-/// Prints the frames of both searches over this many devices, on honest lines. Each run has to find its devices.
-pub fn honest<R: Print>(bench: &Bench<'_, R>, size: usize) -> Option<()> {
+/// Prints the frames of both searches on honest lines. Each run has to find its devices.
+pub fn honest<R: Print>(bench: &Bench<R>) -> Option<()> {
     for spread in SPREADS {
         for wrong in HONEST {
-            holds(print(bench, wrong, spread, size)? == bench.rounds.wrapping_mul(2))?;
+            holds(print(bench, wrong, spread)? == bench.rounds.wrapping_mul(2))?;
         }
     }
     Some(())
 }
 
-/// Prints how runs over this many devices end with either search, on lines that aren't honest.
-pub fn dishonest<R: Print>(bench: &Bench<'_, R>, size: usize) -> Option<()> {
+/// Prints how runs end with either search, on lines that aren't honest.
+pub fn dishonest<R: Print>(bench: &Bench<R>) -> Option<()> {
     for wrong in DISHONEST {
-        print(bench, wrong, Spread::Random, size)?;
+        print(bench, wrong, Spread::Random)?;
     }
-    for wrong in ODD {
-        print(bench, wrong, Spread::Random, size)?;
-        print(bench, wrong, Spread::Close, size)?;
+    for number in ODD {
+        for odd in [Odd::NeverMutes, Odd::TenBytes, Odd::GoesOn] {
+            print(bench, Wrong::Odd(odd, number), Spread::Random)?;
+            print(bench, Wrong::Odd(odd, number), Spread::Close)?;
+        }
     }
     Some(())
 }
 
-// Prints how runs end on lines with this wrong, over one set of devices for each seed. Returns how many were right.
-fn print<R: Print>(
-    bench: &Bench<'_, R>,
-    wrong: Wrong,
-    spread: Spread,
-    size: usize,
-) -> Option<usize> {
-    let steady = print_ends(bench, wrong, spread, size, Search::Steady)?;
-    let quick = print_ends(bench, wrong, spread, size, Search::Quick)?;
-    Some(steady.wrapping_add(quick))
-}
-
-// The same with this search alone.
-fn print_ends<R: Print>(
-    bench: &Bench<'_, R>,
-    wrong: Wrong,
-    spread: Spread,
-    size: usize,
-    search: Search,
-) -> Option<usize> {
+// Prints how runs of both searches end on lines with this wrong, over one set of devices for each seed. Returns how
+// many were right.
+fn print<R: Print>(bench: &Bench<R>, wrong: Wrong, spread: Spread) -> Option<usize> {
     let rt = bench.rt;
-    let ends = ends_of(bench, wrong, spread, size, search)?;
-    println!(rt; "{spread:?}, {wrong:?}, {search:?}: {ends:?}").ok()?;
-    Some(ends.right)
-}
-
-fn ends_of<R>(
-    bench: &Bench<'_, R>,
-    wrong: Wrong,
-    spread: Spread,
-    size: usize,
-    search: Search,
-) -> Option<Ends> {
-    let mut ends = Ends::default();
-    for seed in 1..=bench.rounds as u64 {
-        let good = devices(size, spread, seed)?;
-        let agent = TestLine::new(bench.alloc, wrong, &good, seed)?.searched(search)?;
-        ends.add(&agent, &good, wrong.odd())?;
+    let mut right: usize = 0;
+    for search in [Search::Steady, Search::Quick] {
+        let mut ends = Ends::default();
+        for seed in 1..=bench.rounds as u64 {
+            let good = devices(bench.size, spread, seed)?;
+            let agent = TestLine::new(bench.alloc, wrong, &good, seed)?.searched(search)?;
+            ends.add(&agent, &good, wrong.odd())?;
+        }
+        println!(rt; "{spread:?}, {wrong:?}, {search:?}: {ends:?}").ok()?;
+        right = right.wrapping_add(ends.right);
     }
-    Some(ends)
+    Some(right)
 }
 
 /// How their UIDs are spread.

@@ -5,7 +5,6 @@
 mod agent;
 mod bench;
 mod checked;
-mod events;
 mod lines;
 mod packets;
 mod paged;
@@ -15,15 +14,13 @@ mod served;
 mod soak;
 mod views;
 
-use crate::bench::{Bench, holds};
+use crate::bench::{Bench, Prints, Times, holds};
 use crate::served::CLIENTS;
 use crate::soak::Port;
 use std::env::{self, Env};
 use std::process::ExitCode;
-use std::rt::Files;
 use std::sync::Wait;
 use std::thread::Threads;
-use std::time::CpuClock;
 
 const USAGE: &str = "\
 usage: rdm_bench SUBJECT SIZE ROUNDS
@@ -54,23 +51,16 @@ usage: rdm_bench SUBJECT SIZE ROUNDS
   all             all of these with SIZE, 1 to 8; soaks with a hundred times as many requests
 ROUNDS: 1 to 1000; else how often each of the 21 samples repeats its work";
 
-// What `all` measures. The other subjects are among these.
-const ALL: [&str; 14] = [
-    "agent",
-    "calls",
-    "queue",
-    "answer",
-    "run",
-    "ports",
-    "port_discovery",
-    "ring_discovery",
-    "views",
-    "frames",
-    "scenes",
-    "soak_locked",
-    "soak_rings",
-    "drained",
-];
+// What `all` measures first. The other subjects are among these.
+const ALL: &str =
+    "agent calls queue answer run ports port_discovery ring_discovery views frames scenes";
+
+// What it measures then, with a hundred times as many requests: these, and those of `drained`.
+const SOAKS: &str = "soak_locked soak_rings";
+
+const DRAINED: &str =
+    "drained_session runs_session drained_port runs_port drained_rings runs_rings \
+    drained_threads runs_threads";
 
 fn main(rt: HostRuntime) -> ExitCode {
     match perform(&rt) {
@@ -81,9 +71,7 @@ fn main(rt: HostRuntime) -> ExitCode {
 
 // None: the arguments ask for nothing, a call didn't return what it should, an allocation failed, or a line couldn't be
 // written.
-fn perform<R: Env + Files + AllocGlobal + CpuClock + Print + Eprint + Threads + Wait + Sync>(
-    rt: &R,
-) -> Option<()> {
+fn perform<R: Env + Times + Prints + Threads + Wait + Sync>(rt: &R) -> Option<()> {
     let words = env::args(rt)
         .ok()?
         .skip(1)
@@ -96,39 +84,28 @@ fn perform<R: Env + Files + AllocGlobal + CpuClock + Print + Eprint + Threads + 
     None
 }
 
-fn measure_as_asked<R: Files + AllocGlobal + CpuClock + Print + Eprint + Threads + Wait + Sync>(
+fn measure_as_asked<R: Times + Prints + Threads + Wait + Sync>(
     rt: &R,
     subject: &str,
     size: &str,
     rounds: &str,
 ) -> Option<()> {
     let size = size.parse::<usize>().ok()?;
-    let bench = Bench {
-        rt,
-        alloc: rt.alloc(),
-        rounds: within(rounds.parse::<usize>().ok()?, 1_000)?,
-    };
-    if subject == "all" {
-        measure_all(&bench, within(size, 8)?)
-    } else {
-        measure(&bench, subject, size)
+    let rounds = within(rounds.parse::<usize>().ok()?, 1_000)?;
+    match subject {
+        "all" => {
+            let size = within(size, 8)?;
+            let requests = size.wrapping_mul(100);
+            measure_each(rt, ALL, size, rounds)?;
+            measure_each(rt, SOAKS, requests, rounds)?;
+            measure_each(rt, DRAINED, requests, rounds)
+        }
+        "drained" => measure_each(rt, DRAINED, size, rounds),
+        one => {
+            holds(!one.contains(' '))?;
+            measure_each(rt, one, size, rounds)
+        }
     }
-}
-
-fn measure_all<R: Files + AllocGlobal + CpuClock + Print + Eprint + Threads + Wait + Sync>(
-    bench: &Bench<'_, R>,
-    size: usize,
-) -> Option<()> {
-    for subject in ALL {
-        let requests = if is_soak(subject) { 100 } else { 1 };
-        measure(bench, subject, size.wrapping_mul(requests))?;
-    }
-    Some(())
-}
-
-// Whether its size is a number of requests.
-fn is_soak(subject: &str) -> bool {
-    subject.starts_with("soak") || subject.starts_with("drained") || subject.starts_with("runs")
 }
 
 // The number, if it is from 1 to this one.
@@ -149,73 +126,78 @@ fn most(subject: &str) -> usize {
     }
 }
 
-fn measure<R: Files + AllocGlobal + CpuClock + Print + Eprint + Threads + Wait + Sync>(
-    bench: &Bench<'_, R>,
+// Measures each of these subjects.
+fn measure_each<R: Times + Prints + Threads + Wait + Sync>(
+    rt: &R,
+    subjects: &str,
+    size: usize,
+    rounds: usize,
+) -> Option<()> {
+    for subject in subjects.split(' ') {
+        measure(rt, subject, within(size, most(subject))?, rounds)?;
+    }
+    Some(())
+}
+
+fn measure<R: Times + Prints + Threads + Wait + Sync>(
+    rt: &R,
     subject: &str,
     size: usize,
+    rounds: usize,
 ) -> Option<()> {
-    let size = within(size, most(subject))?;
-    match subject {
-        "agent" => agent::time(bench, size),
-        "calls" => packets::time(bench, size),
-        "queue" => queue::time(bench, size),
-        "controller" => queue::time_requests(bench, false, false, size),
-        "session" => queue::time_requests(bench, true, false, size),
-        "session_drained" => queue::time_drained(bench, size),
-        "answer" => events::time(bench, false, size),
-        "run" => events::time(bench, true, size),
-        "frames" => lines::honest(bench, size),
-        "scenes" => lines::dishonest(bench, size),
-        port => measure_port(bench, port, size),
+    let alloc = rt.alloc();
+    let bench = &Bench {
+        rt,
+        alloc,
+        size,
+        rounds,
+    };
+    if is_soak(subject) {
+        print_soak(bench, subject)
+    } else {
+        time(bench, subject)
     }
 }
 
-fn measure_port<R: Files + AllocGlobal + CpuClock + Print + Eprint + Threads + Wait + Sync>(
-    bench: &Bench<'_, R>,
-    subject: &str,
-    size: usize,
-) -> Option<()> {
-    match subject {
-        "ports" => ports::time(bench, size),
-        "port" => ports::time_requests(bench, true, CLIENTS, size),
-        "rings" => ports::time_requests(bench, false, CLIENTS, size),
-        "port_discovery" => ports::time_discoveries(bench, true, size),
-        "ring_discovery" => ports::time_discoveries(bench, false, size),
-        "views" => views::time(bench, size),
-        soak => print_soak(bench, soak, size as u64),
-    }
+// Whether its size is a number of requests.
+fn is_soak(subject: &str) -> bool {
+    subject.starts_with("soak") || subject.starts_with("drained") || subject.starts_with("runs")
 }
 
-fn print_soak<R: Files + AllocGlobal + Print + Eprint + Threads + Wait + Sync>(
-    bench: &Bench<'_, R>,
-    soak: &str,
-    requests: u64,
-) -> Option<()> {
-    match soak {
-        "soak_locked" => soak::print_ports(bench, Port::Locked, requests),
-        "soak_rings" => soak::print_ports(bench, Port::Rings, requests),
-        "drained" => print_drained(bench, requests),
-        "drained_session" => soak::print_drained(bench, Port::Alone, false, requests),
-        "drained_port" => soak::print_drained(bench, Port::Locked, false, requests),
-        "drained_rings" => soak::print_drained(bench, Port::Rings, false, requests),
-        "drained_threads" => paged::print(bench, false, requests),
-        "runs_session" => soak::print_drained(bench, Port::Alone, true, requests),
-        "runs_port" => soak::print_drained(bench, Port::Locked, true, requests),
-        "runs_rings" => soak::print_drained(bench, Port::Rings, true, requests),
-        "runs_threads" => paged::print(bench, true, requests),
+fn time<R: Times + Wait>(bench: &Bench<R>, subject: &str) -> Option<()> {
+    match subject {
+        "agent" => agent::time(bench),
+        "calls" => packets::time(bench),
+        "queue" => queue::time(bench),
+        "controller" => queue::time_requests(bench, false, false),
+        "session" => queue::time_requests(bench, true, false),
+        "session_drained" => queue::time_drained(bench),
+        "answer" => queue::time_events(bench, false),
+        "run" => queue::time_events(bench, true),
+        "ports" => ports::time(bench),
+        "port" => ports::time_requests(bench, true, CLIENTS),
+        "rings" => ports::time_requests(bench, false, CLIENTS),
+        "port_discovery" => ports::time_discoveries(bench, true),
+        "ring_discovery" => ports::time_discoveries(bench, false),
+        "views" => views::time(bench),
+        "frames" => lines::honest(bench),
+        "scenes" => lines::dishonest(bench),
         _ => None,
     }
 }
 
-// All of those whose log is drained.
-fn print_drained<R: Files + AllocGlobal + Print + Eprint + Threads + Wait + Sync>(
-    bench: &Bench<'_, R>,
-    requests: u64,
-) -> Option<()> {
-    for port in [Port::Alone, Port::Locked, Port::Rings] {
-        soak::print_drained(bench, port, false, requests)?;
-        soak::print_drained(bench, port, true, requests)?;
+fn print_soak<R: Prints + Threads + Wait + Sync>(bench: &Bench<R>, soak: &str) -> Option<()> {
+    match soak {
+        "soak_locked" => soak::print_ports(bench, Port::Locked),
+        "soak_rings" => soak::print_ports(bench, Port::Rings),
+        "drained_session" => soak::print_drained(bench, Port::Alone, false),
+        "drained_port" => soak::print_drained(bench, Port::Locked, false),
+        "drained_rings" => soak::print_drained(bench, Port::Rings, false),
+        "drained_threads" => paged::print(bench, false),
+        "runs_session" => soak::print_drained(bench, Port::Alone, true),
+        "runs_port" => soak::print_drained(bench, Port::Locked, true),
+        "runs_rings" => soak::print_drained(bench, Port::Rings, true),
+        "runs_threads" => paged::print(bench, true),
+        _ => None,
     }
-    paged::print(bench, false, requests)?;
-    paged::print(bench, true, requests)
 }

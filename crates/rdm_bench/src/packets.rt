@@ -1,7 +1,7 @@
 //! Packets: a line that replays stored replies, and single calls that write, read, judge and copy packets.
 ghost use Rattle.std.specs.Prelude.{⊤};
 
-use crate::bench::{Bench, Sample, holds};
+use crate::bench::{Bench, Sample, Times, holds};
 use crate::lines::bytes_of;
 use arrayvec::ArrayVec;
 use rdm_join::{Judged, LineEvent, LineFault, LineReply, Sent, judge};
@@ -12,7 +12,6 @@ use rdm_wire::{
     write_branch_reply,
 };
 use std::alloc::Global;
-use std::time::CpuClock;
 use test_rig::{Who, controller, device_of, request};
 
 /// Where a packet's transaction number is (E1.20, packet format).
@@ -124,37 +123,39 @@ enum Work {
 }
 
 const WORKS: [(&str, Work); 6] = [
-    ("EncodeRequest", Work::EncodeRequest),
-    ("DecodeResponse", Work::DecodeResponse),
-    ("Judge", Work::Judge),
-    ("ReadBranchReply", Work::ReadBranchReply),
-    ("Clone", Work::Clone),
-    ("TryExtendFromSlice", Work::TryExtendFromSlice),
+    ("calls, EncodeRequest", Work::EncodeRequest),
+    ("calls, DecodeResponse", Work::DecodeResponse),
+    ("calls, Judge", Work::Judge),
+    ("calls, ReadBranchReply", Work::ReadBranchReply),
+    ("calls, Clone", Work::Clone),
+    ("calls, TryExtendFromSlice", Work::TryExtendFromSlice),
 ];
 
-/// Times calls on packets with this many bytes of data.
-pub fn time<R: CpuClock + Print + Eprint>(bench: &Bench<'_, R>, count: usize) -> Option<()> {
-    let mut calls = Calls {
-        work: Work::Judge,
-        request: request(TAG),
-        branch: bytes_of(&write_branch_reply(device_of(Who::First).uid, LONGEST_PREAMBLE))?,
-        events: replies(bench.alloc, &reply(count)?)?,
-    };
-    calls.request.param = data(count)?;
+/// Times calls on packets.
+pub fn time<R: Times>(bench: &Bench<R>) -> Option<()> {
+    let mut calls = calls_of(bench.alloc, bench.size)?;
     for (name, work) in WORKS {
         calls.work = work;
-        bench.time("calls", name, &mut calls)?;
+        bench.time(name, &mut calls)?;
     }
     Some(())
 }
 
-// This reply with each transaction number, in order.
-fn replies(alloc: Global, reply: &LineReply) -> Option<Vec<LineEvent>> {
-    let mut events = Vec::new(alloc);
+// Calls on packets with this many bytes of data: the reply with each transaction number, in order.
+fn calls_of(alloc: Global, count: usize) -> Option<Calls> {
+    let mut calls = Calls {
+        work: Work::Judge,
+        request: request(TAG),
+        branch: bytes_of(&write_branch_reply(device_of(Who::First).uid, LONGEST_PREAMBLE))?,
+        events: Vec::new(alloc),
+    };
+    let reply = reply(count)?;
     for tn in 0..=u8::MAX {
-        events.push(LineEvent::Reply(numbered(reply, tn))).ok()?;
+        let event = LineEvent::Reply(numbered(&reply, tn));
+        calls.events.push(event).ok()?;
     }
-    Some(events)
+    calls.request.param = data(count)?;
+    Some(calls)
 }
 
 // A call, what is written, a branch reply, and the replies to the request by transaction numbers.

@@ -5,11 +5,11 @@ ghost use Rattle.std.specs.Prelude.{◌≡◌, []};
 ghost use Rattle.rdm_lanes.specs.Clients.{SameClient};
 ghost use Rattle.rdm_lanes.specs.Workers.{book_of};
 
-use crate::bench::{Bench, holds};
-use crate::checked::{History, Tally};
+use crate::bench::{Bench, Prints, holds};
+use crate::checked::{History, Tally, Waiting};
 use crate::lines::{Drawn, Random, drawn_line};
 use crate::ports::{ask, collect, submit};
-use crate::served::{Answer, CLIENTS, ENTRIES, Ending, PLACES, config};
+use crate::served::{CLIENTS, ENTRIES, PLACES, config, long_if};
 use crate::soak::resident;
 use rdm_agent::Search;
 use rdm_client::WorkerEnd;
@@ -19,36 +19,33 @@ use rdm_lanes::{
     run_session_in_pages,
 };
 use rdm_line::Counted;
-use rdm_log::{Entry, Page, Setup};
+use rdm_log::{Entry, Log, Page, Setup};
 use rdm_past::Past;
 use std::alloc::Global;
 use std::marker::Brand;
-use std::rt::Files;
 use std::sync::Wait;
 use std::sync::atomic::{AtomicU64, Ordering};
 use std::thread::{self, Threads};
-use test_rig::{AskNote, LONG, Note, cancels, log};
+use test_rig::{AskNote, Heard, Note, cancels, log};
 
 // How often in a row a client that can do nothing tries before it gives up.
 const TRIES: u64 = 1_000_000_000;
 
-/// Prints how many calls the clients of one session made and were told of: ROUNDS times this many requests. What they
+/// Prints how many calls the clients of one session made and were told of: ROUNDS times SIZE requests. What they
 /// were told, and how much memory the process holds, goes to standard error. `discovers`: one call in 50 is a
 /// discovery.
-pub fn print<R: Files + AllocGlobal + Print + Eprint + Threads + Wait + Sync>(
-    bench: &Bench<'_, R>,
-    discovers: bool,
-    requests: u64,
-) -> Option<()> {
-    let requests = requests.wrapping_mul(bench.rounds as u64);
+pub fn print<R: Prints + Threads + Wait + Sync>(bench: &Bench<R>, discovers: bool) -> Option<()> {
+    let requests = (bench.size as u64).wrapping_mul(bench.rounds as u64);
     print_over::<Brand, R>(bench, BlankHistory::new(), discovers, requests)
 }
 
 // With the history of the views that this blank begins.
-fn print_over<
-    J: ViewHistory + Send + Sync,
-    R: Files + AllocGlobal + Print + Eprint + Threads + Wait + Sync,
->(bench: &Bench<'_, R>, history: BlankHistory, discovers: bool, requests: u64) -> Option<()>
+fn print_over<J: ViewHistory + Send + Sync, R: Prints + Threads + Wait + Sync>(
+    bench: &Bench<R>,
+    history: BlankHistory,
+    discovers: bool,
+    requests: u64,
+) -> Option<()>
     requires { book_of history ≡ J.book }
 {
     let (rt, alloc) = (bench.rt, bench.alloc);
@@ -88,7 +85,9 @@ fn callers_of(alloc: Global, discovers: bool, requests: u64) -> Option<Vec<Calle
     let mut callers = Vec::with_capacity(alloc, usize::from(CLIENTS)).ok()?;
     for client in 0..u64::from(CLIENTS) {
         let share = requests.wrapping_add(client) / u64::from(CLIENTS);
-        callers.push(Caller::new(client, discovers, share)).ok()?;
+        callers
+            .push(Caller::new(alloc, client, discovers, share)?)
+            .ok()?;
     }
     Some(callers)
 }
@@ -105,13 +104,12 @@ fn pages_of(alloc: Global) -> Option<Pages<Follower>> {
 }
 
 // The session has to end because all have left, each with all outcomes. Its log has to follow the pages.
-fn print_end<J: ViewHistory, R: Files + AllocGlobal + Print + Eprint>(
-    bench: &Bench<'_, R>,
+fn print_end<J: ViewHistory, R: Prints>(
+    bench: &Bench<R>,
     requests: u64,
     end: LanesEnd<J, Caller, Counted<Drawn>, Note, AskNote>,
     pages: Pages<Follower>,
 ) -> Option<()> {
-    let rt = bench.rt;
     let LanesEnd {
         session,
         ends,
@@ -123,15 +121,42 @@ fn print_end<J: ViewHistory, R: Files + AllocGlobal + Print + Eprint>(
         published: _,
     } = end;
     cancel_ends(bench.alloc, ends);
-    holds(matched && worker == WorkerEnd::AllLeft)?;
-    let (told, asked) = sum_of(bodies.as_slice())?;
-    let mut history = pages.sink.history;
-    history.end(session.log(), requests, asked)?;
-    holds(told.requests() == requests && told.discoveries() == asked)?;
+    let told = if matched && worker == WorkerEnd::AllLeft {
+        sum_of(bodies.as_slice())
+    } else {
+        None
+    };
+    print_told(bench, requests, told, pages.sink.history, session.log())
+}
+
+fn print_told<R: Prints>(
+    bench: &Bench<R>,
+    requests: u64,
+    told: Option<Tally>,
+    mut history: History,
+    log: &Log,
+) -> Option<()> {
+    let rt = bench.rt;
+    let told = told?;
+    history.end(log, &told)?;
+    holds(told.is_whole() && told.submitted == requests)?;
+    let Tally {
+        asked,
+        completed,
+        timeouts,
+        failed,
+        discovered,
+        aborted,
+        ..
+    } = told;
     println!(rt; "Drained threads: {requests} requests, {asked} discoveries").ok()?;
     let entries = history.entries;
     let kilobytes = resident(rt).unwrap_or(0);
-    eprintln!(rt; "Drained threads: {told:?}, {entries} entries, {kilobytes} kB").ok()
+    eprintln!(rt;
+        "Drained threads: Tally {{ completed: {completed}, timeouts: {timeouts}, failed: {failed}, \
+        discovered: {discovered}, aborted: {aborted} }}, {entries} entries, {kilobytes} kB"
+    )
+    .ok()
 }
 
 // Cancels the callbacks that are left.
@@ -143,16 +168,14 @@ fn cancel_ends<J: ViewHistory>(alloc: Global, ends: Vec<ClientEnd<J, Note, AskNo
     ends.destroy_empty();
 }
 
-// What all of them were told, and how many discoveries they asked for. None: one of them wasn't told all, or wrongly.
-fn sum_of(callers: &[Caller]) -> Option<(Tally, u64)> {
+// What all of them asked for, and were told. None: one of them wasn't told all, or wrongly.
+fn sum_of(callers: &[Caller]) -> Option<Tally> {
     let mut told = Tally::default();
-    let mut asked: u64 = 0;
     for caller in callers {
         holds(caller.is_right)?;
-        told = told.and(&caller.told);
-        asked = asked.wrapping_add(caller.asked);
+        told.add(&caller.told);
     }
-    Some((told, asked))
+    Some(told)
 }
 
 // Whether the worker has stopped.
@@ -182,7 +205,8 @@ impl PageSink for Follower {
     ghost taken = { λ sink. sink.past.items };
 
     fn take(&mut self, page: Page) -> Result<Vec<Entry>, Page> {
-        if self.history.follow(&page).is_none() || self.history.awaited > 0 {
+        let follows = self.history.follow(page.first, page.entries.as_slice());
+        if follows.is_none() || self.history.awaited > 0 {
             return Err(page);
         }
         self.past = self.past.and(&page);
@@ -197,27 +221,25 @@ struct Caller {
     share: u64,
     discovers: bool,
     random: Random,
-    submitted: u64,
-    asked: u64,
     // Whether its next call is a discovery.
     asks_next: bool,
+    waiting: Waiting,
     told: Tally,
     is_right: bool,
 }
 
 impl Caller {
-    fn new(client: u64, discovers: bool, share: u64) -> Caller {
-        Caller {
+    fn new(alloc: Global, client: u64, discovers: bool, share: u64) -> Option<Caller> {
+        Some(Caller {
             client,
             share,
             discovers,
             random: Random::new(client.wrapping_add(3)),
-            submitted: 0,
-            asked: 0,
             asks_next: false,
+            waiting: Waiting::new(alloc)?,
             told: Tally::default(),
             is_right: false,
-        }
+        })
     }
 
     // Makes its calls, and collects their outcomes. Returns whether it was told of each once, and rightly.
@@ -233,7 +255,7 @@ impl Caller {
             let Some(does) = self.turn(client) else {
                 return false;
             };
-            if self.is_told() {
+            if self.told.submitted == self.share && self.told.is_whole() {
                 return true;
             }
             idle = if does { 0 } else { idle.wrapping_add(1) };
@@ -247,74 +269,41 @@ impl Caller {
         false
     }
 
-    // Whether all its calls were made, and told.
-    fn is_told(&self) -> bool {
-        self.submitted == self.share
-            && self.told.requests() == self.submitted
-            && self.told.discoveries() == self.asked
-    }
-
     // Makes its next call, if there is one, and collects an outcome. Returns whether it did either. None: something was
     // wrong.
     fn turn<J: ViewHistory>(&mut self, client: &mut RingClient<J, Note, AskNote>) -> Option<bool>
         ensures { SameClient client.old client.new }
     {
-        let made = if self.submitted == self.share {
-            Some(Answer::Accepted(false))
+        let made = if self.told.submitted == self.share {
+            Some(false)
         } else if self.asks_next {
-            ask(client, self.asked)
+            ask(client, self.told.asked)
         } else {
-            submit(client, self.tag_of(self.submitted))
+            submit(client, self.tag())
         };
-        let ending = collect(client);
-        self.note(made, ending)
+        let heard = collect(client);
+        self.note(made?, heard)
     }
 
-    // What came of its call, and an outcome. The call after a request is drawn.
-    fn note(&mut self, made: Option<Answer>, ending: Option<Ending>) -> Option<bool> {
-        let Answer::Accepted(made) = made? else {
-            return None;
-        };
+    // Whether its queue has accepted its call, and what it has collected. The call after a request is drawn.
+    fn note(&mut self, made: bool, heard: Heard) -> Option<bool> {
         if made && self.asks_next {
-            self.asked = self.asked.wrapping_add(1);
+            self.waiting.wait_for_discovery(&mut self.told)?;
             self.asks_next = false;
         } else if made {
-            self.submitted = self.submitted.wrapping_add(1);
+            let tag = self.tag();
+            self.waiting.wait_for_request(tag, &mut self.told)?;
             self.asks_next = self.discovers && self.random.below(50) == 0;
         }
-        match ending {
-            None => Some(made),
-            Some(ending) => self.hear(ending),
-        }
+        self.waiting.hear(heard, &mut self.told)?;
+        Some(made || heard != Heard::Nothing)
     }
 
-    // The tag of its request with this number. No other client has it. One in 8 asks for the parameter in three parts.
-    fn tag_of(&self, number: u64) -> u64 {
-        let tag = number
-            .wrapping_mul(u64::from(CLIENTS))
-            .wrapping_add(self.client);
-        if number % 8 == 0 {
-            tag.wrapping_add(LONG)
-        } else {
-            tag
-        }
-    }
-
-    // The outcome has to be that of its oldest call of this kind, of which so many were told before.
-    fn hear(&mut self, ending: Ending) -> Option<bool> {
-        match ending {
-            Ending::Request(told) => {
-                let number = self.told.requests();
-                holds(number < self.submitted && told.tag == self.tag_of(number))?;
-                self.told.count(told)?;
-            }
-            Ending::Discovery(tag, devices) => {
-                let number = self.told.discoveries();
-                holds(number < self.asked && tag == number)?;
-                self.told.count_discovery(devices)?;
-            }
-        }
-        Some(true)
+    // The tag of its next request. No other client has it. One in 8 asks for the parameter in three parts.
+    fn tag(&self) -> u64 {
+        let number = self.told.submitted;
+        let tag = number.wrapping_mul(u64::from(CLIENTS));
+        long_if(tag.wrapping_add(self.client), number % 8 == 0)
     }
 }
 

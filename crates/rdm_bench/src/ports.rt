@@ -4,18 +4,16 @@ ghost use Rattle.rdm_lanes.specs.Clients.{SameClient};
 ghost use Rattle.rdm_lanes.specs.Workers.{book_of};
 ghost use Rattle.rdm_locked.specs.Recorded.{ring_of};
 
-use crate::bench::{Bench, holds};
+use crate::bench::{Bench, Times, holds};
 use crate::packets::Replay;
 use crate::queue::replay_of;
-use crate::served::{
-    Answer, CLIENTS, Call, Ending, FREE, Job, PLACES, Served, Timing, config, written_log,
-};
+use crate::served::{CLIENTS, FREE, Job, PLACES, Served, Timing, config, written_log};
 use left_right::Absorb;
 use rdm_agent::{Kind, Search};
-use rdm_client::{AskTold, Collected, DeviceView, WorkerEnd};
+use rdm_client::{DeviceView, WorkerEnd};
 use rdm_join::{LineEvent, LineFault, LineReply};
 use rdm_lanes::views::{BlankHistory, Shown, ViewHistory};
-use rdm_lanes::{Lanes, RingClient, RingFault, ViewWorker, open_lanes};
+use rdm_lanes::{Lanes, RingClient, RingFault, open_lanes};
 use rdm_line::Line;
 use rdm_locked::{CallShare, Exchange, Left, LockedClient, PageEnds, PageRing, Port, Record};
 use rdm_log::{AskFault, Entry, Log, Page, Setup, SubmitFault};
@@ -24,67 +22,61 @@ use std::alloc::Global;
 use std::marker::Brand;
 use std::sync::Wait;
 use std::sync::ledger::{Blank, Ledger};
-use std::time::CpuClock;
-use test_rig::{AskNote, Note, cancels, log, request};
+use test_rig::{AskNote, Heard, Note, cancels, log, request, told};
 
-/// Times requests of one client and of sixteen while this many wait.
-pub fn time<R: CpuClock + Print + Eprint + Wait>(
-    bench: &Bench<'_, R>,
-    waiting: usize,
-) -> Option<()> {
+/// Times requests of one client and of sixteen.
+pub fn time<R: Times + Wait>(bench: &Bench<R>) -> Option<()> {
     for clients in [1, CLIENTS] {
-        time_requests(bench, true, clients, waiting)?;
-        time_requests(bench, false, clients, waiting)?;
+        time_requests(bench, true, clients)?;
+        time_requests(bench, false, clients)?;
     }
     Some(())
 }
 
-/// Times requests of this many clients with a mutex or with ring buffers, while this many wait.
-pub fn time_requests<R: CpuClock + Print + Eprint + Wait>(
-    bench: &Bench<'_, R>,
+/// Times requests of one client or of sixteen with a mutex or with ring buffers.
+pub fn time_requests<R: Times + Wait>(
+    bench: &Bench<R>,
     with_mutex: bool,
     clients: u8,
-    waiting: usize,
 ) -> Option<()> {
-    let subject = if with_mutex {
-        "port, clients"
-    } else {
-        "rings, clients"
+    let work = match (with_mutex, clients) {
+        (true, 1) => "port, clients, 1",
+        (true, _) => "port, clients, 16",
+        (false, 1) => "rings, clients, 1",
+        (false, _) => "rings, clients, 16",
     };
     let line = Replay::of_two_bytes(bench.alloc)?;
-    let log = written_log(bench, waiting)?;
+    let log = written_log(bench)?;
     let record = written_record(bench.alloc, bench.repeats())?;
-    let mut timing = Timing::new(subject, clients, clients, waiting);
+    let mut timing = Timing::new(work, clients, bench.size);
     on_session(bench, with_mutex, clients, log, record, line, &mut timing)
 }
 
-/// Times discoveries of this many devices with a mutex or with ring buffers. The log has room for 40 of 1,024 devices.
-pub fn time_discoveries<R: CpuClock + Print + Eprint + Wait>(
-    bench: &Bench<'_, R>,
-    with_mutex: bool,
-    devices: usize,
-) -> Option<()> {
-    let subject = if with_mutex { "port" } else { "rings" };
-    let line = replay_of(bench.alloc, devices)?;
+/// Times discoveries with a mutex or with ring buffers. The log has room for 40 of 1,024 devices.
+pub fn time_discoveries<R: Times + Wait>(bench: &Bench<R>, with_mutex: bool) -> Option<()> {
+    let work = if with_mutex {
+        "port, Full"
+    } else {
+        "rings, Full"
+    };
+    let line = replay_of(bench.alloc, bench.size)?;
     let log = log(bench.alloc, FREE).ok()?;
     let record = Vec::with_capacity(bench.alloc, FREE / 2).ok()?;
-    let mut timing = Timing::new(subject, "Full", 1, 0);
-    timing.discovery = Some((line.replies.len() as u64, devices));
+    let mut timing = Timing::new(work, 1, 0);
+    timing.discovery = Some((line.replies.len() as u64, bench.size));
     on_session(bench, with_mutex, 1, log, record, line, &mut timing)
 }
 
-// What a client collected.
-fn ending_of(collected: Collected) -> Ending {
-    match collected {
-        Collected::Request(told) => Ending::Request(told),
-        Collected::Ask(told) => Ending::Discovery(told.tag, count_of(&told)),
+// A record for this many exchanges, whose memory was written before.
+fn written_record(alloc: Global, count: usize) -> Option<Vec<Exchange>> {
+    let mut record = Vec::with_capacity(alloc, count).ok()?;
+    for _ in 0..count {
+        let frame = Frame::new();
+        let event = LineEvent::Failed;
+        record.push(Exchange { frame, event }).ok()?;
     }
-}
-
-// How many devices a discovery found. None: it ended with a fault.
-fn count_of(told: &AskTold) -> Option<usize> {
-    holds(told.done.fault().is_none())?;
-    Some(told.done.devices().len())
+    record.clear();
+    Some(record)
 }
 
 type PortClient<'a, L, J> = LockedClient<'a, L, Note, AskNote, J>;
@@ -94,6 +86,16 @@ type PortClient<'a, L, J> = LockedClient<'a, L, Note, AskNote, J>;
 enum Kept<J: PageRing> {
     Exchanges(Vec<Exchange>),
     Record(Record<J>),
+}
+
+impl<J: PageRing> Kept<J> {
+    // The next page of its port. None: there is none, or its exchanges aren't those of the record.
+    fn next_page(&mut self) -> Option<Page> {
+        match self {
+            Kept::Exchanges(_) => None,
+            Kept::Record(record) => record.next_page().ok()?,
+        }
+    }
 }
 
 // A line that drains the log of a port during an exchange, before it answers. Another thread may do so.
@@ -136,8 +138,33 @@ struct Locked<'a, L: Ledger, J: PageRing, R, X: Drop> {
 }
 
 impl<L: Ledger, J: PageRing, R: Wait, X: Line + Drop> Served for Locked<'_, L, J, R, X> {
-    fn call(&mut self, client: usize, call: Call) -> Option<Answer> {
-        call_locked(self.bench.rt, self.clients.get_mut(client)?, call)
+    fn submit(&mut self, client: usize, tag: u64) -> Option<bool> {
+        let client = self.clients.get_mut(client)?;
+        match client.submit(self.bench.rt, request(tag), Note(tag)) {
+            Ok(_) => Some(true),
+            Err((SubmitFault::Full, _, _)) => Some(false),
+            Err(_) => None,
+        }
+    }
+
+    fn ask(&mut self, client: usize, tag: u64) -> Option<bool> {
+        let client = self.clients.get_mut(client)?;
+        match client.discover(self.bench.rt, Kind::Full, AskNote(tag)) {
+            Ok(_) => Some(true),
+            Err((AskFault::Full, _)) => Some(false),
+            Err(_) => None,
+        }
+    }
+
+    fn collect_bytes(&mut self, client: usize) -> Option<usize> {
+        let client = self.clients.get_mut(client)?;
+        Some(client.collect_request(self.bench.rt)?.done.bytes.len())
+    }
+
+    #[inline(never)]
+    fn collect(&mut self, client: usize) -> Option<Heard> {
+        let client = self.clients.get_mut(client)?;
+        Some(told(&client.collect(self.bench.rt)))
     }
 
     fn work(&mut self, turns: u64) -> Option<()> {
@@ -148,7 +175,12 @@ impl<L: Ledger, J: PageRing, R: Wait, X: Line + Drop> Served for Locked<'_, L, J
             kept,
             ..
         } = self;
-        holds(kept.work(bench, port, line, turns) == WorkerEnd::Turns)
+        let (rt, alloc) = (bench.rt, bench.alloc);
+        let end = match kept {
+            Kept::Exchanges(made) => port.work(rt, alloc, line, turns, made),
+            Kept::Record(record) => port.work_recorded(rt, alloc, line, turns, record),
+        };
+        holds(end == WorkerEnd::Turns)
     }
 
     fn pause(&mut self, pauses: bool) -> Option<()> {
@@ -178,83 +210,10 @@ impl<L: Ledger, J: PageRing, R: Wait, X: Line + Drop> Served for Locked<'_, L, J
     }
 }
 
-// A port's client makes this call.
-fn call_locked<L: Ledger, J: PageRing, R: Wait>(
-    rt: &R,
-    client: &mut PortClient<'_, L, J>,
-    call: Call,
-) -> Option<Answer> {
-    match call {
-        Call::Submit(tag) => submit_locked(rt, client, tag),
-        Call::Ask(tag) => ask_locked(rt, client, tag),
-        Call::CollectRequest => Some(Answer::Told(client.collect_request(rt).map(Ending::Request))),
-        Call::Collect => collect_locked(rt, client),
-    }
-}
-
-// A port's client submits the request with this tag. Returns whether its queue accepted it.
-fn submit_locked<L: Ledger, J: PageRing, R: Wait>(
-    rt: &R,
-    client: &mut PortClient<'_, L, J>,
-    tag: u64,
-) -> Option<Answer> {
-    match client.submit(rt, request(tag), Note(tag)) {
-        Ok(_) => Some(Answer::Accepted(true)),
-        Err((SubmitFault::Full, _, _)) => Some(Answer::Accepted(false)),
-        Err(_) => None,
-    }
-}
-
-// It asks for a full discovery with this tag. Returns whether its queue accepted it.
-fn ask_locked<L: Ledger, J: PageRing, R: Wait>(
-    rt: &R,
-    client: &mut PortClient<'_, L, J>,
-    tag: u64,
-) -> Option<Answer> {
-    match client.discover(rt, Kind::Full, AskNote(tag)) {
-        Ok(_) => Some(Answer::Accepted(true)),
-        Err((AskFault::Full, _)) => Some(Answer::Accepted(false)),
-        Err(_) => None,
-    }
-}
-
-// What it is told next.
-#[inline(never)]
-fn collect_locked<L: Ledger, J: PageRing, R: Wait>(
-    rt: &R,
-    client: &mut PortClient<'_, L, J>,
-) -> Option<Answer> {
-    Some(Answer::Told(client.collect(rt).map(ending_of)))
-}
-
-impl<J: PageRing> Kept<J> {
-    // The port's worker makes this many turns.
-    fn work<L: Ledger, R: Wait, X: Line>(
-        &mut self,
-        bench: &Bench<'_, R>,
-        port: &Port<L, J>,
-        line: &mut X,
-        turns: u64,
-    ) -> WorkerEnd {
-        match self {
-            Kept::Exchanges(made) => port.work(bench.rt, bench.alloc, line, turns, made),
-            Kept::Record(record) => port.work_recorded(bench.rt, bench.alloc, line, turns, record),
-        }
-    }
-
-    // The next page of its port. None: there is none, or its exchanges aren't those of the record.
-    fn next_page(&mut self) -> Option<Page> {
-        match self {
-            Kept::Exchanges(_) => None,
-            Kept::Record(record) => record.next_page().ok()?,
-        }
-    }
-}
-
 /// Opens a port, or ring buffers, for this many clients over this log and this line. Does this, and ends the clients. A
 /// port gets this record, which is empty. It isn't drained.
 pub fn on_session<X: Line + Drop, D: Job<R>, R: Wait>(
-    bench: &Bench<'_, R>,
+    bench: &Bench<R>,
     with_mutex: bool,
     clients: u8,
     log: Log,
@@ -274,7 +233,7 @@ pub fn on_session<X: Line + Drop, D: Job<R>, R: Wait>(
 
 // The port, with the ledger of this blank. It is ended with the record and the clients' shares.
 fn on_port<L: Ledger, X: Line + Drop, D: Job<R>, R: Wait>(
-    bench: &Bench<'_, R>,
+    bench: &Bench<R>,
     blank: Blank,
     count: u8,
     log: Log,
@@ -288,8 +247,7 @@ fn on_port<L: Ledger, X: Line + Drop, D: Job<R>, R: Wait>(
 {
     let port = Port::<L>::new(bench.alloc, blank, config(), log).ok()?;
     let kept = Kept::Exchanges(record);
-    let (shares, kept) = perform(bench, &port, count, line, kept, job);
-    let Kept::Exchanges(record) = kept else {
+    let (shares, Kept::Exchanges(record)) = perform(bench, &port, count, line, kept, job) else {
         return None;
     };
     holds(port.finish(shares?, record.as_slice()).is_ok())
@@ -297,7 +255,7 @@ fn on_port<L: Ledger, X: Line + Drop, D: Job<R>, R: Wait>(
 
 /// The same with a port whose log is drained. Its pages go to a record, which is compared with the log at the end.
 pub fn on_recorded_port<X: Line + Drop, D: Job<R>, R: Wait>(
-    bench: &Bench<'_, R>,
+    bench: &Bench<R>,
     clients: u8,
     log: Log,
     line: X,
@@ -311,7 +269,7 @@ pub fn on_recorded_port<X: Line + Drop, D: Job<R>, R: Wait>(
 
 // The port and its record, with the ledger of this blank and the ring of these ends.
 fn on_record<L: Ledger, J: PageRing, X: Line + Drop, D: Job<R>, R: Wait>(
-    bench: &Bench<'_, R>,
+    bench: &Bench<R>,
     blank: Blank,
     ends: PageEnds,
     count: u8,
@@ -330,8 +288,7 @@ fn on_record<L: Ledger, J: PageRing, X: Line + Drop, D: Job<R>, R: Wait>(
     };
     let (port, record) = Port::<L, J>::new_recorded(bench.alloc, blank, setup, log, ends).ok()?;
     let kept = Kept::Record(record);
-    let (shares, kept) = perform(bench, &port, count, line, kept, job);
-    let Kept::Record(mut record) = kept else {
+    let (shares, Kept::Record(mut record)) = perform(bench, &port, count, line, kept, job) else {
         return None;
     };
     let end = port.finish_recorded(shares?, &mut record).ok()?;
@@ -340,29 +297,27 @@ fn on_record<L: Ledger, J: PageRing, X: Line + Drop, D: Job<R>, R: Wait>(
 
 // Does this with so many clients of a port. Returns their shares, if all of it was done, and what the worker noted.
 fn perform<L: Ledger, J: PageRing, X: Line + Drop, D: Job<R>, R: Wait>(
-    bench: &Bench<'_, R>,
+    bench: &Bench<R>,
     port: &Port<L, J>,
     count: u8,
     line: X,
     kept: Kept<J>,
     job: &mut D,
 ) -> (Option<Vec<CallShare<L>>>, Kept<J>) {
-    let line = DrainingLine {
-        rt: bench.rt,
-        port,
-        line,
-        next: None,
-    };
-    let mut clients = Vec::new(bench.alloc);
-    let joined = join(bench, port, count, &mut clients);
     let mut locked = Locked {
         bench,
         port,
-        clients,
-        line,
+        clients: Vec::new(bench.alloc),
+        line: DrainingLine {
+            rt: bench.rt,
+            port,
+            line,
+            next: None,
+        },
         kept,
     };
-    let done = job.perform(bench, &mut locked);
+    let is_done = join(bench, port, count, &mut locked.clients).is_some()
+        && job.perform(bench, &mut locked).is_some();
     let Locked {
         bench: _,
         port: _,
@@ -370,25 +325,12 @@ fn perform<L: Ledger, J: PageRing, X: Line + Drop, D: Job<R>, R: Wait>(
         line: _line,
         kept,
     } = locked;
-    let shares = leave(bench, clients, joined.is_some() && done.is_some());
-    (shares, kept)
-}
-
-// A record for this many exchanges, whose memory was written before.
-fn written_record(alloc: Global, count: usize) -> Option<Vec<Exchange>> {
-    let mut record = Vec::with_capacity(alloc, count).ok()?;
-    for _ in 0..count {
-        let frame = Frame::new();
-        let event = LineEvent::Failed;
-        record.push(Exchange { frame, event }).ok()?;
-    }
-    record.clear();
-    Some(record)
+    (leave(bench, clients, is_done), kept)
 }
 
 // Lets the clients join.
 fn join<'a, L: Ledger, J: PageRing, R: Wait>(
-    bench: &Bench<'_, R>,
+    bench: &Bench<R>,
     port: &'a Port<L, J>,
     count: u8,
     clients: &mut Vec<PortClient<'a, L, J>>,
@@ -406,7 +348,7 @@ fn join<'a, L: Ledger, J: PageRing, R: Wait>(
 // Lets the clients leave. Returns their shares, if the job is done and memory didn't run out. The callbacks of requests
 // that were never told are cancelled.
 fn leave<L: Ledger, J: PageRing, R: Wait>(
-    bench: &Bench<'_, R>,
+    bench: &Bench<R>,
     mut clients: Vec<PortClient<'_, L, J>>,
     is_done: bool,
 ) -> Option<Vec<CallShare<L>>> {
@@ -434,12 +376,26 @@ struct Rings<
 }
 
 impl<J: ViewHistory, W: Wait + Drop, X: Line> Served for Rings<J, Shown<J>, W, X> {
-    fn call(&mut self, client: usize, call: Call) -> Option<Answer> {
-        call_rings(self.lanes.clients.get_mut(client)?, call)
+    fn submit(&mut self, client: usize, tag: u64) -> Option<bool> {
+        submit(self.lanes.clients.get_mut(client)?, tag)
+    }
+
+    fn ask(&mut self, client: usize, tag: u64) -> Option<bool> {
+        ask(self.lanes.clients.get_mut(client)?, tag)
+    }
+
+    fn collect_bytes(&mut self, client: usize) -> Option<usize> {
+        let client = self.lanes.clients.get_mut(client)?;
+        Some(client.collect_request()?.done.bytes.len())
+    }
+
+    fn collect(&mut self, client: usize) -> Option<Heard> {
+        Some(collect(self.lanes.clients.get_mut(client)?))
     }
 
     fn work(&mut self, turns: u64) -> Option<()> {
-        holds(works(&mut self.lanes.worker, self.alloc, &mut self.line, turns))
+        let Rings { alloc, lanes, line } = self;
+        holds(lanes.worker.work(*alloc, line, turns) == WorkerEnd::Turns)
     }
 
     fn pause(&mut self, pauses: bool) -> Option<()> {
@@ -453,66 +409,47 @@ impl<J: ViewHistory, W: Wait + Drop, X: Line> Served for Rings<J, Shown<J>, W, X
     fn drain(&mut self, next: Vec<Entry>) -> Option<Page> {
         self.lanes.worker.drain(next).ok()
     }
-}
 
-// The worker makes this many turns. Returns whether it made all of them.
-fn works<J: ViewHistory, W: Wait + Drop, X: Line>(
-    worker: &mut ViewWorker<J, Shown<J>, W>,
-    alloc: Global,
-    line: &mut X,
-    turns: u64,
-) -> bool {
-    worker.work(alloc, line, turns) == WorkerEnd::Turns
-}
-
-// A client with ring buffers makes this call.
-fn call_rings<J: ViewHistory>(
-    client: &mut RingClient<J, Note, AskNote>,
-    call: Call,
-) -> Option<Answer> {
-    match call {
-        Call::Submit(tag) => submit(client, tag),
-        Call::Ask(tag) => ask(client, tag),
-        Call::CollectRequest => {
-            Some(Answer::Told(client.collect_request().map(Ending::Request)))
-        }
-        Call::Collect => Some(Answer::Told(collect(client))),
+    // The worker can't be stopped between a frame and its reply.
+    fn work_drained(&mut self, next: Vec<Entry>) -> Option<Page> {
+        self.work(1)?;
+        self.drain(next)
     }
 }
 
 /// A client with ring buffers submits the request with this tag. Returns whether its queue accepted it.
-pub fn submit<J: ViewHistory>(client: &mut RingClient<J, Note, AskNote>, tag: u64) -> Option<Answer>
+pub fn submit<J: ViewHistory>(client: &mut RingClient<J, Note, AskNote>, tag: u64) -> Option<bool>
     ensures { SameClient client.old client.new }
 {
     match client.submit(request(tag), Note(tag)) {
-        Ok(()) => Some(Answer::Accepted(true)),
-        Err((RingFault::Full | RingFault::RingFull, _, _)) => Some(Answer::Accepted(false)),
+        Ok(()) => Some(true),
+        Err((RingFault::Full | RingFault::RingFull, _, _)) => Some(false),
         Err(_) => None,
     }
 }
 
 /// It asks for a full discovery with this tag. Returns whether its queue accepted it.
-pub fn ask<J: ViewHistory>(client: &mut RingClient<J, Note, AskNote>, tag: u64) -> Option<Answer>
+pub fn ask<J: ViewHistory>(client: &mut RingClient<J, Note, AskNote>, tag: u64) -> Option<bool>
     ensures { SameClient client.old client.new }
 {
     match client.discover(Kind::Full, AskNote(tag)) {
-        Ok(()) => Some(Answer::Accepted(true)),
-        Err((RingFault::Full | RingFault::RingFull, _)) => Some(Answer::Accepted(false)),
+        Ok(()) => Some(true),
+        Err((RingFault::Full | RingFault::RingFull, _)) => Some(false),
         Err(_) => None,
     }
 }
 
-/// What it is told next. None: it is told nothing.
+/// What it collects.
 #[inline(never)]
-pub fn collect<J: ViewHistory>(client: &mut RingClient<J, Note, AskNote>) -> Option<Ending>
+pub fn collect<J: ViewHistory>(client: &mut RingClient<J, Note, AskNote>) -> Heard
     ensures { SameClient client.old client.new }
 {
-    client.collect().map(ending_of)
+    told(&client.collect())
 }
 
 // The ring buffers, with the history of the views that this blank begins.
 fn on_rings<J: ViewHistory, X: Line + Drop, D: Job<R>, R, W: Wait + Drop>(
-    bench: &Bench<'_, R>,
+    bench: &Bench<R>,
     rt: W,
     history: BlankHistory,
     count: u8,
@@ -532,7 +469,7 @@ fn on_rings<J: ViewHistory, X: Line + Drop, D: Job<R>, R, W: Wait + Drop>(
 
 // Does this with these clients, and ends them.
 fn perform_on_rings<J: ViewHistory, X: Line + Drop, D: Job<R>, R, W: Wait + Drop>(
-    bench: &Bench<'_, R>,
+    bench: &Bench<R>,
     lanes: Lanes<J, Shown<J>, W, Note, AskNote>,
     line: X,
     job: &mut D,

@@ -1,24 +1,23 @@
-//! The queue of requests in one thread, with a log and without, and its discoveries.
+//! The queue of requests in one thread, with a log and without, and its discoveries. Requests of a session also by
+//! `answer` and by `run`, which are given their calls as events.
 ghost use Rattle.std.specs.Prelude.{◌≡◌, []};
 
 use crate::agent::tape;
-use crate::bench::{Bench, holds};
+use crate::bench::{Bench, Sample, Times, holds};
 use crate::lines::{Spread, bytes_of, devices};
-use crate::packets::Replay;
-use crate::served::{
-    Answer, CLIENTS, Call, Ending, Job, PLACES, Served, Timing, config, page_room, tag_of,
-    written_log,
-};
+use crate::packets::{Replay, TAG, numbered, reply};
+use crate::served::{CLIENTS, Job, PLACES, Served, Timing, config, page_room, tag_of, written_log};
 use rdm_agent::Kind;
-use rdm_client::Told;
-use rdm_join::LineEvent;
+use rdm_join::{LineEvent, LineReply};
 use rdm_line::Line;
-use rdm_log::{AskFault, ClientId, DiscoveryEnd, Entry, Log, Outcome, Page, SubmitFault};
+use rdm_log::{
+    Answer, AskFault, BoxedOutcome, ClientId, Completion, Entry, Event, Log, Outcome, Page,
+    SubmitFault,
+};
 use rdm_queue::{Controller, Session};
 use rdm_wire::{DeviceSet, Frame};
 use std::alloc::Global;
-use std::time::CpuClock;
-use test_rig::{log, request};
+use test_rig::{Heard, completion_told, ending_by, found_in, log, request};
 
 // How many devices are on the line of discoveries.
 const DEVICES: usize = 16;
@@ -30,31 +29,17 @@ enum Queue {
     Logged(Session),
 }
 
+// The same call of either.
+macro_rules! either {
+    ($of:expr, $queue:ident, $call:expr) => {
+        match $of {
+            Queue::Plain($queue) => $call,
+            Queue::Logged($queue) => $call,
+        }
+    };
+}
+
 impl Queue {
-    fn submit(&mut self, client: ClientId, tag: u64) -> Option<Answer> {
-        let made = match self {
-            Queue::Plain(queue) => queue.submit(client, request(tag)),
-            Queue::Logged(queue) => queue.submit(client, request(tag)),
-        };
-        match made {
-            Ok(_) => Some(Answer::Accepted(true)),
-            Err((SubmitFault::Full, _)) => Some(Answer::Accepted(false)),
-            Err(_) => None,
-        }
-    }
-
-    fn ask(&mut self, client: ClientId) -> Option<Answer> {
-        let made = match self {
-            Queue::Plain(queue) => queue.discover(client, Kind::Full),
-            Queue::Logged(queue) => queue.discover(client, Kind::Full),
-        };
-        match made {
-            Ok(_) => Some(Answer::Accepted(true)),
-            Err(AskFault::Full) => Some(Answer::Accepted(false)),
-            Err(_) => None,
-        }
-    }
-
     // None: the log is full.
     fn take(&mut self) -> Option<Option<Frame>> {
         match self {
@@ -63,51 +48,18 @@ impl Queue {
         }
     }
 
-    fn deliver(&mut self, alloc: Global, event: LineEvent) -> Option<()> {
-        holds(match self {
-            Queue::Plain(queue) => queue.deliver(alloc, event).is_ok(),
-            Queue::Logged(queue) => queue.deliver(alloc, event).is_ok(),
-        })
+    fn next_completion(&mut self, client: ClientId) -> Option<(u64, Completion)> {
+        either!(self, queue, queue.next_completion(client))
     }
 
-    fn next_completion(&mut self, client: ClientId) -> Option<Told> {
-        let (number, done) = match self {
-            Queue::Plain(queue) => queue.next_completion(client)?,
-            Queue::Logged(queue) => queue.next_completion(client)?,
-        };
-        let tag = tag_of(number);
-        Some(Told { tag, done })
-    }
-
-    fn next_discovery(&mut self, client: ClientId, set: &mut DeviceSet) -> Option<DiscoveryEnd> {
-        match self {
-            Queue::Plain(queue) => queue.next_discovery(client, set),
-            Queue::Logged(queue) => queue.next_discovery(client, set),
-        }
-    }
-
-    // It is a function of its own, since a function that has an outcome among its locals takes longer.
+    // How many bytes the next outcome has, if it is a request's. It is a function of its own, since a function that has
+    // an outcome among its locals takes longer.
     #[inline(never)]
-    fn next_outcome(&mut self, client: ClientId) -> Option<Told> {
-        let outcome = match self {
-            Queue::Plain(queue) => queue.next_outcome(client),
-            Queue::Logged(queue) => queue.next_outcome(client),
-        };
-        match outcome {
-            Some(Outcome::Request { number, done }) => Some(Told { tag: number?, done }),
+    fn next_outcome(&mut self, client: ClientId) -> Option<usize> {
+        match either!(self, queue, queue.next_outcome(client)) {
+            Some(Outcome::Request { done, .. }) => Some(done.bytes.len()),
             _ => None,
         }
-    }
-
-    fn drain(&mut self, next: Vec<Entry>) -> Option<Page>
-        requires { next.items ≡ [] }
-    {
-        let Queue::Logged(queue) = self else {
-            return None;
-        };
-        let first = queue.log().gone();
-        let entries = queue.drain(next).ok()?;
-        Some(Page { first, entries })
     }
 }
 
@@ -125,44 +77,55 @@ struct Clients<X: Drop> {
 impl<X: Line + Drop> Clients<X> {
     fn answer(&mut self, frame: &Frame) -> Option<()> {
         let event = self.line.exchange(frame).into();
-        self.queue.deliver(self.alloc, event)
-    }
-
-    // What a client is told of a request.
-    fn told(&mut self, client: ClientId) -> Option<Ending> {
-        let told = if self.by_outcome {
-            self.queue.next_outcome(client)?
-        } else {
-            self.queue.next_completion(client)?
-        };
-        Some(Ending::Request(told))
-    }
-
-    // What it is told next.
-    #[inline(never)]
-    fn collect(&mut self, client: ClientId) -> Option<Ending> {
-        if let Some(told) = self.queue.next_completion(client) {
-            return Some(Ending::Request(told));
-        }
-        let end = self.queue.next_discovery(client, &mut self.found)?;
-        let devices = if end.fault.is_none() {
-            Some(self.found.len())
-        } else {
-            None
-        };
-        Some(Ending::Discovery(end.number, devices))
+        holds(either!(
+            &mut self.queue,
+            queue,
+            queue.deliver(self.alloc, event).is_ok()
+        ))
     }
 }
 
 impl<X: Line + Drop> Served for Clients<X> {
-    fn call(&mut self, client: usize, call: Call) -> Option<Answer> {
+    fn submit(&mut self, client: usize, tag: u64) -> Option<bool> {
         let client = id_of(client);
-        match call {
-            Call::Submit(tag) => self.queue.submit(client, tag),
-            Call::Ask(_) => self.queue.ask(client),
-            Call::CollectRequest => Some(Answer::Told(self.told(client))),
-            Call::Collect => Some(Answer::Told(self.collect(client))),
+        match either!(&mut self.queue, queue, queue.submit(client, request(tag))) {
+            Ok(_) => Some(true),
+            Err((SubmitFault::Full, _)) => Some(false),
+            Err(_) => None,
         }
+    }
+
+    // Its number is the tag.
+    fn ask(&mut self, client: usize, _tag: u64) -> Option<bool> {
+        let client = id_of(client);
+        match either!(&mut self.queue, queue, queue.discover(client, Kind::Full)) {
+            Ok(_) => Some(true),
+            Err(AskFault::Full) => Some(false),
+            Err(_) => None,
+        }
+    }
+
+    fn collect_bytes(&mut self, client: usize) -> Option<usize> {
+        if self.by_outcome {
+            return self.queue.next_outcome(id_of(client));
+        }
+        let (_, done) = self.queue.next_completion(id_of(client))?;
+        Some(done.bytes.len())
+    }
+
+    #[inline(never)]
+    fn collect(&mut self, client: usize) -> Option<Heard> {
+        let client = id_of(client);
+        if let Some((number, done)) = self.queue.next_completion(client) {
+            return Some(completion_told(&Some((tag_of(number), done))));
+        }
+        let set = &mut self.found;
+        let end = either!(&mut self.queue, queue, queue.next_discovery(client, set));
+        let Some(end) = end else {
+            return Some(Heard::Nothing);
+        };
+        let found = found_in(&self.found);
+        Some(Heard::Discovery(end.number, end.run, ending_by(end.fault), found))
     }
 
     fn work(&mut self, turns: u64) -> Option<()> {
@@ -183,12 +146,17 @@ impl<X: Line + Drop> Served for Clients<X> {
     }
 
     fn drain(&mut self, next: Vec<Entry>) -> Option<Page> {
-        self.queue.drain(next)
+        let Queue::Logged(queue) = &mut self.queue else {
+            return None;
+        };
+        let first = queue.log().gone();
+        let entries = queue.drain(next).ok()?;
+        Some(Page { first, entries })
     }
 
     fn work_drained(&mut self, next: Vec<Entry>) -> Option<Page> {
         let frame = self.queue.take()?;
-        let page = self.queue.drain(next)?;
+        let page = self.drain(next)?;
         if let Some(frame) = frame {
             self.answer(&frame)?;
         }
@@ -196,20 +164,20 @@ impl<X: Line + Drop> Served for Clients<X> {
     }
 }
 
-/// The client with this number, below 256.
-pub fn id_of(client: usize) -> ClientId {
+// The client with this number, below 256.
+fn id_of(client: usize) -> ClientId {
     ClientId((client % 256) as u8)
 }
 
-/// Times requests and discoveries while this many requests wait.
-pub fn time<R: CpuClock + Print + Eprint>(bench: &Bench<'_, R>, waiting: usize) -> Option<()> {
+/// Times requests and discoveries, while requests wait.
+pub fn time<R: Times>(bench: &Bench<R>) -> Option<()> {
     for by_outcome in [false, true] {
-        time_requests(bench, false, by_outcome, waiting)?;
-        time_requests(bench, true, by_outcome, waiting)?;
+        time_requests(bench, false, by_outcome)?;
+        time_requests(bench, true, by_outcome)?;
     }
-    time_drained(bench, waiting)?;
+    time_drained(bench)?;
     let line = replay_of(bench.alloc, DEVICES)?;
-    let mut timing = Timing::new("queue without log", "Full", CLIENTS, waiting);
+    let mut timing = Timing::new("queue without log, Full", CLIENTS, bench.size);
     timing.discovery = Some((line.replies.len() as u64, DEVICES));
     let queue = plain(bench.alloc)?;
     timing.perform(bench, &mut clients_of(bench.alloc, queue, line, false))
@@ -217,41 +185,33 @@ pub fn time<R: CpuClock + Print + Eprint>(bench: &Bench<'_, R>, waiting: usize) 
 
 /// Times requests of a queue with or without a log. Outcomes are collected by the call for either kind, or by the one
 /// for requests.
-pub fn time_requests<R: CpuClock + Print + Eprint>(
-    bench: &Bench<'_, R>,
-    with_log: bool,
-    by_outcome: bool,
-    waiting: usize,
-) -> Option<()> {
-    let subject = if with_log {
-        "queue with log"
-    } else {
-        "queue without log"
-    };
-    let work = if by_outcome {
-        "NextOutcome"
-    } else {
-        "NextCompletion"
+pub fn time_requests<R: Times>(bench: &Bench<R>, with_log: bool, by_outcome: bool) -> Option<()> {
+    let work = match (with_log, by_outcome) {
+        (false, false) => "queue without log, NextCompletion",
+        (false, true) => "queue without log, NextOutcome",
+        (true, false) => "queue with log, NextCompletion",
+        (true, true) => "queue with log, NextOutcome",
     };
     let line = Replay::of_two_bytes(bench.alloc)?;
     let queue = if with_log {
-        Queue::Logged(session(bench, waiting)?)
+        Queue::Logged(session(bench)?)
     } else {
         plain(bench.alloc)?
     };
-    let mut timing = Timing::new(subject, work, CLIENTS, waiting);
+    let mut timing = Timing::new(work, CLIENTS, bench.size);
     timing.perform(bench, &mut clients_of(bench.alloc, queue, line, by_outcome))
 }
 
 /// Times requests of a queue with a log that is drained after every hundredth.
-pub fn time_drained<R: CpuClock + Print + Eprint>(
-    bench: &Bench<'_, R>,
-    waiting: usize,
-) -> Option<()> {
-    let mut timing = Timing::new("queue with drained log", "NextCompletion", CLIENTS, waiting);
+pub fn time_drained<R: Times>(bench: &Bench<R>) -> Option<()> {
+    let mut timing = Timing::new(
+        "queue with drained log, NextCompletion",
+        CLIENTS,
+        bench.size,
+    );
     timing.drained_after = 100;
     let line = Replay::of_two_bytes(bench.alloc)?;
-    let log = log(bench.alloc, page_room(100, waiting)).ok()?;
+    let log = log(bench.alloc, page_room(100, bench.size)).ok()?;
     let queue = Queue::Logged(session_over(bench.alloc, log, u8::MAX)?);
     timing.perform(bench, &mut clients_of(bench.alloc, queue, line, false))
 }
@@ -259,7 +219,7 @@ pub fn time_drained<R: CpuClock + Print + Eprint>(
 /// Opens a session of sixteen clients, each with the queue depth of a port's, over this log and this line, does this,
 /// and looks at its log.
 pub fn on_queue<X: Line + Drop, D: Job<R>, R>(
-    bench: &Bench<'_, R>,
+    bench: &Bench<R>,
     log: Log,
     line: X,
     job: &mut D,
@@ -273,7 +233,7 @@ pub fn on_queue<X: Line + Drop, D: Job<R>, R>(
 
 // Does this with these clients, and looks at their log.
 fn perform<X: Line + Drop, D: Job<R>, R>(
-    bench: &Bench<'_, R>,
+    bench: &Bench<R>,
     clients: &mut Clients<X>,
     job: &mut D,
 ) -> Option<()> {
@@ -284,9 +244,9 @@ fn perform<X: Line + Drop, D: Job<R>, R>(
     }
 }
 
-/// A session of sixteen clients, for the requests that are timed while this many wait.
-pub fn session<R>(bench: &Bench<'_, R>, waiting: usize) -> Option<Session> {
-    session_over(bench.alloc, written_log(bench, waiting)?, u8::MAX)
+// A session of sixteen clients, for the requests that are timed.
+fn session<R>(bench: &Bench<R>) -> Option<Session> {
+    session_over(bench.alloc, written_log(bench)?, u8::MAX)
 }
 
 // A session over this log of sixteen clients with this queue depth.
@@ -326,4 +286,85 @@ pub fn replay_of(alloc: Global, count: usize) -> Option<Replay> {
         replies.push(bytes_of(&taped.reply)?).ok()?;
     }
     Some(Replay { replies, next: 0 })
+}
+
+/// Times requests while others wait: by one `run` for the four events of a request, or by an `answer` for each.
+pub fn time_events<R: Times>(bench: &Bench<R>, at_once: bool) -> Option<()> {
+    let mut requests = Requests {
+        alloc: bench.alloc,
+        reply: reply(2)?,
+        session: session(bench)?,
+        at_once,
+        waiting: bench.size,
+        turn: 0,
+    };
+    for index in 0..bench.size {
+        let client = id_of(index % usize::from(CLIENTS));
+        holds(requests.session.submit(client, request(TAG)).is_ok())?;
+    }
+    let work = if at_once {
+        "queue with log, Run"
+    } else {
+        "queue with log, Answer"
+    };
+    bench.time(work, &mut requests)
+}
+
+// A session in which this many requests wait, and the reply to each of them.
+#[derive(Drop)]
+struct Requests {
+    alloc: Global,
+    session: Session,
+    at_once: bool,
+    reply: LineReply,
+    waiting: usize,
+    turn: usize,
+}
+
+impl Sample for Requests {
+    // One request is answered and collected, and another submitted.
+    fn perform(&mut self) -> Option<u64> {
+        let reply = numbered(&self.reply, (self.turn % 256) as u8);
+        let submitter = self.turn.wrapping_add(self.waiting) % usize::from(CLIENTS);
+        let events = [
+            Event::Take,
+            Event::Deliver(LineEvent::Reply(reply)),
+            Event::Collect(id_of(self.turn % usize::from(CLIENTS))),
+            Event::Submit(id_of(submitter), request(TAG)),
+        ];
+        self.turn = self.turn.wrapping_add(1);
+        let are_right = if self.at_once {
+            self.runs(&events)
+        } else {
+            self.answers(&events)
+        };
+        if are_right { Some(1) } else { None }
+    }
+}
+
+impl Requests {
+    fn answers(&mut self, events: &[Event]) -> bool {
+        for event in events {
+            if !is_right(&self.session.answer(self.alloc, event)) {
+                return false;
+            }
+        }
+        true
+    }
+
+    fn runs(&mut self, events: &[Event]) -> bool {
+        match self.session.run(self.alloc, events) {
+            Ok(answers) => answers.as_slice().iter().all(is_right),
+            Err(_) => false,
+        }
+    }
+}
+
+// Whether a request's event came to what it should.
+fn is_right(answer: &Answer) -> bool {
+    match answer {
+        Answer::Take(Ok(Some(_))) | Answer::Deliver(Ok(())) | Answer::Submit(Ok(_)) => true,
+        Answer::Collect(Ok(Some(BoxedOutcome::Request { done, .. }))) => done.bytes.len() == 2,
+        _ => false,
+    }
 }

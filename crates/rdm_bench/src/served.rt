@@ -2,16 +2,14 @@
 ghost use Rattle.std.specs.Prelude.{◌≡◌, [], IfSome};
 ghost use Rattle.rdm_log.specs.log.Config.{IsConfig};
 
-use crate::bench::{Bench, Sample, holds};
+use crate::bench::{Bench, Sample, Times, holds};
 use crate::packets::TAG;
 use rdm_agent::DEFAULT_BUDGET;
-use rdm_client::Told;
 use rdm_log::{Config, Entry, Log, MOST_PLACES, Page};
 use rdm_wire::Uid;
 use std::alloc::Global;
-use std::time::CpuClock;
-use std::{fmt, mem};
-use test_rig::{LONG, log};
+use std::mem;
+use test_rig::{Ending, Found, Heard, LONG, log};
 
 /// How many entries the log of a soak has free if it is drained, beside one for a close.
 pub const ENTRIES: usize = 1_000;
@@ -25,41 +23,19 @@ pub const FREE: usize = 1_000_000;
 /// The queue depth of each client of a port, and the slots of its rings.
 pub const PLACES: u8 = 8;
 
-/// What a client is told of an outcome.
-#[derive(Drop)]
-pub enum Ending {
-    /// A request has ended.
-    Request(Told),
-    /// The discovery with this tag, or number, has ended with this many devices; None: with a fault.
-    Discovery(u64, Option<usize>),
-}
-
-/// What a client calls.
-#[derive(Clone, Copy)]
-pub enum Call {
-    /// It submits the request with this tag.
-    Submit(u64),
-    /// It asks for a full discovery with this tag.
-    Ask(u64),
-    /// It collects an outcome of a request.
-    CollectRequest,
-    /// It collects its next outcome.
-    Collect,
-}
-
-/// What a call returns.
-#[derive(Drop)]
-pub enum Answer {
-    /// The queue accepted the request or the discovery, or it is full.
-    Accepted(bool),
-    /// The client is told this. None: it is told nothing, or not of a request.
-    Told(Option<Ending>),
-}
-
 /// Clients of a session, with their worker and its line. None: a call didn't return what it should.
 pub trait Served {
-    /// A client makes this call.
-    fn call(&mut self, client: usize, call: Call) -> Option<Answer>;
+    /// A client submits the request with this tag. Returns whether its queue accepted it, or is full.
+    fn submit(&mut self, client: usize, tag: u64) -> Option<bool>;
+
+    /// A client asks for a full discovery with this tag. Returns whether its queue accepted it, or is full.
+    fn ask(&mut self, client: usize, tag: u64) -> Option<bool>;
+
+    /// A client collects a request's outcome. Returns how many bytes of data it has. None: there is no outcome.
+    fn collect_bytes(&mut self, client: usize) -> Option<usize>;
+
+    /// A client collects its next outcome, if there is one.
+    fn collect(&mut self, client: usize) -> Option<Heard>;
 
     /// The worker makes this many turns.
     fn work(&mut self, turns: u64) -> Option<()>;
@@ -74,47 +50,26 @@ pub trait Served {
     /// The worker makes a turn. The log is drained between its frame and the reply, if it can be drained then.
     /// Otherwise, or if no frame is sent, it is drained afterwards.
     fn work_drained(&mut self, next: Vec<Entry>) -> Option<Page>
-        requires { next.items ≡ [] }
-    {
-        self.work(1)?;
-        self.drain(next)
-    }
-}
-
-/// A client submits a request, or asks for a discovery. Returns whether its queue accepted it.
-pub fn accepts<S: Served>(served: &mut S, client: usize, call: Call) -> Option<bool> {
-    match served.call(client, call)? {
-        Answer::Accepted(accepted) => Some(accepted),
-        Answer::Told(_) => None,
-    }
-}
-
-/// What a client is told if it collects. None: it is told nothing.
-pub fn collected<S: Served>(served: &mut S, client: usize, call: Call) -> Option<Ending> {
-    match served.call(client, call)? {
-        Answer::Accepted(_) => None,
-        Answer::Told(ending) => ending,
-    }
+        requires { next.items ≡ [] };
 }
 
 /// What is done with the clients of a session.
 pub trait Job<R> {
     /// Does it.
-    fn perform<S: Served>(&mut self, bench: &Bench<'_, R>, served: &mut S) -> Option<()>;
+    fn perform<S: Served>(&mut self, bench: &Bench<R>, served: &mut S) -> Option<()>;
 
     /// Looks at the log of a session that was drained, once it has ended.
-    fn end(&mut self, _log: &Log) -> Option<()> {
-        Some(())
-    }
+    fn end(&mut self, log: &Log) -> Option<()>;
 }
 
 /// The tag of the request with this number. One in 8 asks for the parameter in three parts.
 pub fn tag_of(number: u64) -> u64 {
-    if number % 8 == 0 {
-        number.wrapping_add(LONG)
-    } else {
-        number
-    }
+    long_if(number, number % 8 == 0)
+}
+
+/// This tag, or one that asks for the parameter in three parts.
+pub fn long_if(tag: u64, is_long: bool) -> u64 {
+    if is_long { tag.wrapping_add(LONG) } else { tag }
 }
 
 /// A controller `7a70:00000100` with all the places that there may be.
@@ -128,12 +83,12 @@ pub fn config() -> Config
     }
 }
 
-/// A log for the requests that are timed while this many wait. Its memory was written before, so none is taken from the
+/// A log for the requests that are timed. Its memory was written before, so none is taken from the
 /// system meanwhile. It has five entries for each request.
-pub fn written_log<R>(bench: &Bench<'_, R>, waiting: usize) -> Option<Log>
+pub fn written_log<R>(bench: &Bench<R>) -> Option<Log>
     ensures { IfSome result (λ log. log.entries ≡ []) }
 {
-    let requests = bench.repeats().wrapping_add(waiting);
+    let requests = bench.repeats().wrapping_add(bench.size);
     let mut log = log(bench.alloc, requests.wrapping_mul(5).wrapping_add(100)).ok()?;
     for _ in 0..log.room() {
         if log.entries().len() < log.room() {
@@ -145,10 +100,9 @@ pub fn written_log<R>(bench: &Bench<'_, R>, waiting: usize) -> Option<Log>
 
 /// Times turns while this many requests wait: one is answered and collected, and another submitted. Or times
 /// discoveries that have this many frames and find this many devices.
-#[derive(Drop)]
-pub struct Timing<W> {
-    pub subject: &'static str,
-    pub work: W,
+#[derive(Clone, Copy)]
+pub struct Timing {
+    pub work: &'static str,
     pub clients: u8,
     pub waiting: usize,
     pub discovery: Option<(u64, usize)>,
@@ -156,11 +110,10 @@ pub struct Timing<W> {
     pub drained_after: usize,
 }
 
-impl<W> Timing<W> {
+impl Timing {
     /// Times requests of this many clients, while this many wait, without a drain.
-    pub fn new(subject: &'static str, work: W, clients: u8, waiting: usize) -> Timing<W> {
+    pub fn new(work: &'static str, clients: u8, waiting: usize) -> Timing {
         Timing {
-            subject,
             work,
             clients,
             waiting,
@@ -170,54 +123,51 @@ impl<W> Timing<W> {
     }
 }
 
-impl<R: CpuClock + Print + Eprint, W: fmt::Display + Copy> Job<R> for Timing<W> {
-    fn perform<S: Served>(&mut self, bench: &Bench<'_, R>, served: &mut S) -> Option<()> {
-        let clients = usize::from(self.clients.max(1));
+impl<R: Times> Job<R> for Timing {
+    fn perform<S: Served>(&mut self, bench: &Bench<R>, served: &mut S) -> Option<()> {
+        let clients = usize::from(self.clients).max(1);
         for index in 0..self.waiting {
-            holds(accepts(served, index % clients, Call::Submit(TAG))?)?;
+            holds(served.submit(index % clients, TAG)?)?;
         }
         let mut turns = Turns {
             served,
+            timing: *self,
             clients,
-            waiting: self.waiting,
             turn: 0,
-            discovery: self.discovery,
-            drained_after: self.drained_after,
             alloc: bench.alloc,
             next: written_page(bench.alloc, self.drained_after, self.waiting)?,
         };
-        bench.time(self.subject, self.work, &mut turns)
+        bench.time(self.work, &mut turns)
+    }
+
+    fn end(&mut self, _log: &Log) -> Option<()> {
+        Some(())
     }
 }
 
-// Clients that take turns, while this many requests wait. Or a discovery after another.
+// Clients that take turns, while requests wait. Or a discovery after another.
 #[derive(Drop)]
 struct Turns<'a, S> {
     served: &'a mut S,
+    timing: Timing,
     clients: usize,
-    waiting: usize,
     turn: usize,
-    discovery: Option<(u64, usize)>,
-    drained_after: usize,
     alloc: Global,
     next: Vec<Entry>,
 }
 
 impl<S: Served> Sample for Turns<'_, S> {
     fn perform(&mut self) -> Option<u64> {
-        if let Some((frames, devices)) = self.discovery {
+        if let Some((frames, devices)) = self.timing.discovery {
             return self.discover(frames, devices);
         }
         let clients = self.clients.max(1);
-        let (collector, submitter) = (
-            self.turn % clients,
-            self.turn.wrapping_add(self.waiting) % clients,
-        );
+        let submitter = self.turn.wrapping_add(self.timing.waiting) % clients;
         self.served.work(1)?;
-        holds(self.collects_two_bytes(collector))?;
-        holds(accepts(self.served, submitter, Call::Submit(TAG))?)?;
+        holds(self.served.collect_bytes(self.turn % clients)? == 2)?;
+        holds(self.served.submit(submitter, TAG)?)?;
         self.turn = self.turn.wrapping_add(1);
-        if self.turn.checked_rem(self.drained_after) == Some(0) {
+        if self.turn.checked_rem(self.timing.drained_after) == Some(0) {
             self.drain()?;
         }
         Some(1)
@@ -225,21 +175,16 @@ impl<S: Served> Sample for Turns<'_, S> {
 }
 
 impl<S: Served> Turns<'_, S> {
-    // A client collects the outcome of a request. Returns whether its answer has two bytes.
-    fn collects_two_bytes(&mut self, client: usize) -> bool {
-        match collected(self.served, client, Call::CollectRequest) {
-            Some(Ending::Request(told)) => told.done.bytes.len() == 2,
-            _ => false,
-        }
-    }
-
     // The first client asks for a discovery, and is told of it.
     #[inline(never)]
     fn discover(&mut self, frames: u64, devices: usize) -> Option<u64> {
-        holds(accepts(self.served, 0, Call::Ask(0))?)?;
+        holds(self.served.ask(0, 0)?)?;
         self.served.work(frames)?;
-        match collected(self.served, 0, Call::Collect) {
-            Some(Ending::Discovery(_, found)) if found == Some(devices) => Some(frames),
+        match self.served.collect(0)? {
+            Heard::Discovery(_, _, Ending::Faultless, Found::Others(found)) => {
+                holds(found == devices)?;
+                Some(frames)
+            }
             _ => None,
         }
     }
@@ -256,15 +201,16 @@ impl<S: Served> Turns<'_, S> {
 // Memory for the entries of this many turns, and for those that are reserved while this many requests wait. It was
 // written before.
 fn written_page(alloc: Global, turns: usize, waiting: usize) -> Option<Vec<Entry>> {
-    let mut page = Vec::new(alloc);
-    if turns > 0 {
-        let room = page_room(turns, waiting);
-        page.reserve(room).ok()?;
-        for _ in 0..room {
-            page.push(Entry::Pause).ok()?;
-        }
-        page.clear();
+    let room = if turns > 0 {
+        page_room(turns, waiting)
+    } else {
+        0
+    };
+    let mut page = Vec::with_capacity(alloc, room).ok()?;
+    for _ in 0..room {
+        page.push(Entry::Pause).ok()?;
     }
+    page.clear();
     Some(page)
 }
 

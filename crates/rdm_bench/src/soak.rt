@@ -3,17 +3,14 @@
 //! run. The log of a session that never ends is drained all the time, and each page has to follow the one before it. A
 //! port's pages go through its record.
 
-use crate::bench::{Bench, holds};
+use crate::bench::{Bench, Prints, holds};
 use crate::checked::{Held, History, Tally, Waiting};
 use crate::lines::{Random, drawn_line};
 use crate::ports::{on_recorded_port, on_session};
 use crate::queue::on_queue;
-use crate::served::{
-    CLIENTS, Call, ENTRIES, Ending, FREE, Job, Served, accepts, collected, tag_of,
-};
+use crate::served::{CLIENTS, ENTRIES, FREE, Job, Served, tag_of};
 use rdm_log::{Entry, Log};
 use std::alloc::Global;
-use std::rt::Files;
 use std::sync::Wait;
 use std::{fs, mem};
 use test_rig::log;
@@ -43,54 +40,32 @@ impl Port {
     }
 }
 
-/// Prints what the clients of as many ports as there are rounds are told, each of this many requests. How much memory
+/// Prints what the clients of as many ports as there are rounds are told, each of SIZE requests. How much memory
 /// the process holds after each port goes to standard error.
-pub fn print_ports<R: Files + AllocGlobal + Print + Eprint + Wait>(
-    bench: &Bench<'_, R>,
-    port: Port,
-    requests: u64,
-) -> Option<()> {
-    let alloc = bench.alloc;
-    let with_mutex = matches!(port, Port::Locked);
+pub fn print_ports<R: Prints + Wait>(bench: &Bench<R>, port: Port) -> Option<()> {
     for seed in 1..=bench.rounds as u64 {
-        let mut soak = Soak::new(alloc, port, false, requests, seed)?;
-        let (log, line) = (log(alloc, FREE).ok()?, drawn_line(alloc, seed)?);
-        on_session(
-            bench,
-            with_mutex,
-            CLIENTS,
-            log,
-            Vec::new(alloc),
-            line,
-            &mut soak,
-        )?;
+        let mut soak = Soak::new(bench, port, false, seed)?;
+        soak.serve_on(bench, FREE, seed)?;
         soak.print(bench)?;
     }
     Some(())
 }
 
-/// Prints what the clients of one session are told of this many requests, as often as there are rounds, and how many
+/// Prints what the clients of one session are told of SIZE requests, as often as there are rounds, and how many
 /// entries its pages have. How much memory the process holds after each goes to standard error. `discovers`: one call
 /// in 50 is a discovery.
-pub fn print_drained<R: Files + AllocGlobal + Print + Eprint + Wait>(
-    bench: &Bench<'_, R>,
+pub fn print_drained<R: Prints + Wait>(
+    bench: &Bench<R>,
     port: Port,
     discovers: bool,
-    requests: u64,
 ) -> Option<()> {
-    let alloc = bench.alloc;
-    let mut soak = Soak::new(alloc, port, true, requests, 2)?;
+    let mut soak = Soak::new(bench, port, true, 2)?;
     soak.discovers = discovers;
-    let (log, line) = (log(alloc, ENTRIES).ok()?, drawn_line(alloc, 1)?);
-    match port {
-        Port::Alone => on_queue(bench, log, line, &mut soak),
-        Port::Locked => on_recorded_port(bench, CLIENTS, log, line, &mut soak),
-        Port::Rings => on_session(bench, false, CLIENTS, log, Vec::new(alloc), line, &mut soak),
-    }
+    soak.serve_on(bench, ENTRIES, 1)
 }
 
 /// How many kilobytes of memory the process holds now, if the system says it, as Linux does.
-pub fn resident<R: Files + AllocGlobal>(rt: &R) -> Option<u64> {
+pub fn resident<R: Prints>(rt: &R) -> Option<u64> {
     let text = fs::read_to_string(rt, "/proc/self/status").ok()?;
     resident_in(text.as_str())
 }
@@ -113,8 +88,6 @@ struct Soak {
     random: Random,
     // What each client waits for.
     waiting: Vec<Waiting>,
-    submitted: u64,
-    asked: u64,
     told: Tally,
     // The memory of the next page.
     next: Vec<Entry>,
@@ -122,12 +95,12 @@ struct Soak {
     held: Held,
 }
 
-impl<R: Files + AllocGlobal + Print + Eprint> Job<R> for Soak {
+impl<R: Prints> Job<R> for Soak {
     // At last each client looks for one outcome more.
-    fn perform<S: Served>(&mut self, bench: &Bench<'_, R>, served: &mut S) -> Option<()> {
+    fn perform<S: Served>(&mut self, bench: &Bench<R>, served: &mut S) -> Option<()> {
         let rounds = if self.drained { bench.rounds } else { 1 };
         for _ in 0..rounds {
-            self.submit_until(served, self.submitted.wrapping_add(self.requests))?;
+            self.submit_until(served, self.told.submitted.wrapping_add(self.requests))?;
             if self.drained {
                 self.print(bench)?;
             }
@@ -135,22 +108,20 @@ impl<R: Files + AllocGlobal + Print + Eprint> Job<R> for Soak {
         for client in 0..usize::from(CLIENTS) {
             self.collect(served, client)?;
         }
-        if !self.drained {
-            return holds(self.is_told());
-        }
         // The second page is empty, and has the number of all entries.
         self.drain(served, false)?;
         self.drain(served, false)?;
-        self.history.holds_all(self.submitted, self.asked)
+        holds(self.told.is_whole() && (!self.drained || self.history.has_all(&self.told)))
     }
 
     fn end(&mut self, log: &Log) -> Option<()> {
-        self.history.end(log, self.submitted, self.asked)
+        self.history.end(log, &self.told)
     }
 }
 
 impl Soak {
-    fn new(alloc: Global, port: Port, drained: bool, requests: u64, seed: u64) -> Option<Soak> {
+    fn new<R>(bench: &Bench<R>, port: Port, drained: bool, seed: u64) -> Option<Soak> {
+        let alloc = bench.alloc;
         let mut waiting = Vec::new(alloc);
         for _ in 0..CLIENTS {
             waiting.push(Waiting::new(alloc)?).ok()?;
@@ -159,12 +130,10 @@ impl Soak {
             alloc,
             port,
             drained,
-            requests,
+            requests: bench.size as u64,
             discovers: false,
             random: Random::new(seed),
             waiting,
-            submitted: 0,
-            asked: 0,
             told: Tally::default(),
             next: Vec::with_capacity(alloc, if drained { ENTRIES } else { 0 }).ok()?,
             history: History::default(),
@@ -172,12 +141,30 @@ impl Soak {
         })
     }
 
+    // Opens its session over a log with this many free entries, and a line drawn by this seed.
+    fn serve_on<R: Prints + Wait>(
+        &mut self,
+        bench: &Bench<R>,
+        free: usize,
+        seed: u64,
+    ) -> Option<()> {
+        let line = drawn_line(bench.alloc, seed)?;
+        let log = log(bench.alloc, free).ok()?;
+        let record = Vec::new(bench.alloc);
+        match self.port {
+            Port::Alone => on_queue(bench, log, line, self),
+            Port::Locked if self.drained => on_recorded_port(bench, CLIENTS, log, line, self),
+            Port::Locked => on_session(bench, true, CLIENTS, log, record, line, self),
+            Port::Rings => on_session(bench, false, CLIENTS, log, record, line, self),
+        }
+    }
+
     // Rounds until so many requests were submitted, and all were reported. There are many more rounds than it takes.
     fn submit_until<S: Served>(&mut self, served: &mut S, submitted: u64) -> Option<()> {
         for round in 0..self.requests.wrapping_mul(8).wrapping_add(10_000) {
-            if self.submitted < submitted {
+            if self.told.submitted < submitted {
                 self.submit(served, submitted)?;
-            } else if self.is_told() {
+            } else if self.told.is_whole() {
                 return Some(());
             }
             self.serve(served)?;
@@ -188,20 +175,21 @@ impl Soak {
         None
     }
 
-    // Whether each call was told.
-    fn is_told(&self) -> bool {
-        self.told.requests() == self.submitted && self.told.discoveries() == self.asked
-    }
-
     // A client submits up to four requests, or asks for a discovery, as far as its queue has places. Unless the log is
     // drained, there are no more requests than these.
     fn submit<S: Served>(&mut self, served: &mut S, most: u64) -> Option<()> {
         let client = self.random.below(u64::from(CLIENTS)) as usize;
         if self.discovers && self.random.below(50) == 0 {
-            return self.ask(served, client);
+            let accepted = served.ask(client, self.told.asked)?;
+            if accepted {
+                self.waiting
+                    .get_mut(client)?
+                    .wait_for_discovery(&mut self.told)?;
+            }
+            return Some(());
         }
         for _ in 0..self.random.below(5) {
-            if self.drained || self.submitted < most {
+            if self.drained || self.told.submitted < most {
                 self.submit_one(served, client)?;
             }
         }
@@ -209,19 +197,11 @@ impl Soak {
     }
 
     fn submit_one<S: Served>(&mut self, served: &mut S, client: usize) -> Option<()> {
-        let tag = tag_of(self.submitted);
-        if accepts(served, client, Call::Submit(tag))? {
-            self.waiting.get_mut(client)?.wait_for_request(tag)?;
-            self.submitted = self.submitted.wrapping_add(1);
-        }
-        Some(())
-    }
-
-    fn ask<S: Served>(&mut self, served: &mut S, client: usize) -> Option<()> {
-        if accepts(served, client, Call::Ask(self.asked))? {
-            let waiting = self.waiting.get_mut(client)?;
-            waiting.wait_for_discovery(self.asked)?;
-            self.asked = self.asked.wrapping_add(1);
+        let tag = tag_of(self.told.submitted);
+        if served.submit(client, tag)? {
+            self.waiting
+                .get_mut(client)?
+                .wait_for_request(tag, &mut self.told)?;
         }
         Some(())
     }
@@ -246,22 +226,10 @@ impl Soak {
         Some(())
     }
 
-    // A client collects an outcome, if there is one. It has to be that of its oldest call of this kind.
+    // A client collects an outcome, if there is one.
     fn collect<S: Served>(&mut self, served: &mut S, client: usize) -> Option<()> {
-        let Some(ending) = collected(served, client, Call::Collect) else {
-            return Some(());
-        };
-        let waiting = self.waiting.get_mut(client)?;
-        match ending {
-            Ending::Request(told) => {
-                holds(waiting.requests.pop_front()? == told.tag)?;
-                self.told.count(told)
-            }
-            Ending::Discovery(tag, devices) => {
-                holds(waiting.discoveries.pop_front()? == tag)?;
-                self.told.count_discovery(devices)
-            }
-        }
+        let heard = served.collect(client)?;
+        self.waiting.get_mut(client)?.hear(heard, &mut self.told)
     }
 
     // Drains the log, if it is to be drained: at once, or in a turn of the worker. The page that was drained before is
@@ -277,17 +245,13 @@ impl Soak {
         } else {
             served.drain(next)?
         };
-        let follows = self.history.follow(&page);
+        let follows = self.history.follow(page.first, page.entries.as_slice());
         self.next = page.entries;
         follows
     }
 
-    fn print<R: Files + AllocGlobal + Print + Eprint>(
-        &mut self,
-        bench: &Bench<'_, R>,
-    ) -> Option<()> {
-        let rt = bench.rt;
-        let name = self.port.name(self.drained);
+    fn print<R: Prints>(&mut self, bench: &Bench<R>) -> Option<()> {
+        let (rt, name) = (bench.rt, self.port.name(self.drained));
         let Tally {
             completed,
             timeouts,
@@ -296,15 +260,14 @@ impl Soak {
         } = self.told;
         println!(rt; "{name}: {completed} completed, {timeouts} timeouts, {failed} failed").ok()?;
         if self.drained {
-            self.print_pages(rt)?;
+            self.print_pages(rt, name)?;
         }
         let kilobytes = resident(rt).unwrap_or(0);
         eprintln!(rt; "{name}: {kilobytes} kB").ok()?;
-        self.held.stays(self.submitted, kilobytes)
+        self.held.stays(self.told.submitted, kilobytes)
     }
 
-    fn print_pages<R: Print>(&self, rt: &R) -> Option<()> {
-        let name = self.port.name(true);
+    fn print_pages<R: Print>(&self, rt: &R, name: &str) -> Option<()> {
         let (discovered, aborted) = (self.told.discovered, self.told.aborted);
         println!(rt; "{name}: {discovered} discovered, {aborted} failed").ok()?;
         let (entries, awaited) = (self.history.entries, self.history.awaited);

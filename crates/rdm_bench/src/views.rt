@@ -2,7 +2,7 @@
 ghost use Rattle.std.specs.Prelude.{◌≡◌};
 ghost use Rattle.rdm_lanes.specs.Workers.{book_of};
 
-use crate::bench::{Bench, Sample, holds};
+use crate::bench::{Bench, Sample, Times, holds};
 use crate::lines::{Spread, device_of, devices};
 use left_right::Absorb;
 use rdm_client::DeviceView;
@@ -11,44 +11,36 @@ use rdm_wire::DeviceSet;
 use std::alloc::Global;
 use std::marker::Brand;
 use std::sync::Wait;
-use std::time::CpuClock;
 
 // How many clients read.
 const READERS: usize = 16;
 
-/// Times publications, reads of a view that has changed, and reads of one that hasn't, with this many devices.
-pub fn time<R: CpuClock + Print + Eprint + Wait>(bench: &Bench<'_, R>, count: usize) -> Option<()> {
-    time_all::<Brand, &R, R>(bench, bench.rt, BlankHistory::new(), count)
+/// Times publications, reads of a view that has changed, and reads of one that hasn't.
+pub fn time<R: Times + Wait>(bench: &Bench<R>) -> Option<()> {
+    time_all::<Brand, &R, R>(bench, bench.rt, BlankHistory::new())
 }
 
-fn time_all<J: ViewHistory, W: Wait + Drop, R: CpuClock + Print + Eprint>(
-    bench: &Bench<'_, R>,
+fn time_all<J: ViewHistory, W: Wait + Drop, R: Times>(
+    bench: &Bench<R>,
     rt: W,
     history: BlankHistory,
-    count: usize,
 ) -> Option<()>
     requires { book_of history ≡ J.book }
 {
-    let devices = device_set(count)?;
     let publisher = Publisher::<J, Shown<J>, W>::new(bench.alloc, rt, history, READERS).ok()?;
     let mut views = Views {
         alloc: bench.alloc,
         readers: readers_of(bench.alloc, &publisher)?,
         publisher,
-        devices,
+        devices: device_set(bench.size)?,
         publishes: true,
         reads: false,
     };
-    for (work, publishes, reads) in [
-        ("Publish", true, false),
-        ("PublishAndRead", true, true),
-        ("Read", false, true),
-    ] {
-        views.publishes = publishes;
-        views.reads = reads;
-        bench.time("views", work, &mut views)?;
-    }
-    Some(())
+    bench.time("views, Publish", &mut views)?;
+    views.reads = true;
+    bench.time("views, PublishAndRead", &mut views)?;
+    views.publishes = false;
+    bench.time("views, Read", &mut views)
 }
 
 fn readers_of<J: ViewHistory, W: Wait + Drop>(
