@@ -117,7 +117,7 @@ def requests() -> Iterator[Case]:
     calls = (({**GET, **IN_512}, whole), (SET, acknowledged), (GET, whole), ({**SET, **OTHER}, unknown),
              ({**SET, **OTHER, **IN_512}, unknown), ({**GET, **OTHER}, unknown), (GET, whole))
     yield asked("parts, sub-devices and unknown parameters", calls, scene(one))
-    calls = (({**GET, "sub": 512}, silence), (SET, acknowledged), (GET, "0 00 03"), (GET, whole))
+    calls = (({**GET, **IN_512}, silence), (SET, acknowledged), (GET, "0 00 03"), (GET, whole))
     name = "a lost part isn't sent again, whatever the sub-device, and a SET changes no part"
     yield asked(name, calls, scene(one, losses=[0]))
     yield asked("a part that fails is sent again", ((GET, "2"), (GET, whole)), scene(one, fails=[0]))
