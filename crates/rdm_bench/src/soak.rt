@@ -15,6 +15,12 @@ use std::sync::Wait;
 use std::{fs, mem};
 use test_rig::log;
 
+// How many blocks fill the gaps in memory while it is measured.
+const BLOCKS: usize = 512;
+
+// How many bytes each of them has: 2 MB together.
+const BLOCK: usize = 4_000;
+
 // How many rounds there are between two drains. In one round of as many, drawn at random, there is one more, before the
 // reply to a frame.
 const ROUNDS: u64 = 8;
@@ -64,15 +70,27 @@ pub fn print_drained<R: Prints + Wait>(
     soak.serve_on(bench, ENTRIES, 1)
 }
 
-/// How many kilobytes of memory the process holds now, if the system says it, as Linux does.
+/// How many kilobytes of memory the process holds now, if the system says it, as Linux does. Pages of its files aren't
+/// among them, since the system takes them back when it likes.
 pub fn resident<R: Prints>(rt: &R) -> Option<u64> {
     let text = fs::read_to_string(rt, "/proc/self/status").ok()?;
     resident_in(text.as_str())
 }
 
-// The number after "VmRSS:".
+// The same while the gaps between values in use are filled; 0: the system doesn't say it. None: out of memory. Gaps
+// come and go while no more memory is in use: a shared view takes 16 bytes more than a set, so the two don't fit where
+// two sets were.
+fn resident_without_gaps<R: Prints>(rt: &R, alloc: Global) -> Option<u64> {
+    let mut blocks = Vec::with_capacity(alloc, BLOCKS).ok()?;
+    for _ in 0..BLOCKS {
+        blocks.push(vec![in alloc; 0u8; BLOCK].ok()?).ok()?;
+    }
+    Some(resident(rt).unwrap_or(0))
+}
+
+// The number after "RssAnon:".
 fn resident_in(text: &str) -> Option<u64> {
-    let (_, from) = text.split_once("VmRSS:")?;
+    let (_, from) = text.split_once("RssAnon:")?;
     from.split_ascii_whitespace().next()?.parse::<u64>().ok()
 }
 
@@ -262,7 +280,7 @@ impl Soak {
         if self.drained {
             self.print_pages(rt, name)?;
         }
-        let kilobytes = resident(rt).unwrap_or(0);
+        let kilobytes = resident_without_gaps(rt, self.alloc)?;
         eprintln!(rt; "{name}: {kilobytes} kB").ok()?;
         self.held.stays(self.told.submitted, kilobytes)
     }
