@@ -15,7 +15,7 @@ pub use rdm_queue::{
     Answer, AskCompletion, AskFault, BoxedOutcome, Call, Cause, ClientId, Completion, Config,
     Controller, DiscoveryEnd, Entry, Event, JoinFault, LEAST_FREE, Log, LogFull, MOST_CLIENTS,
     MOST_DISCOVERIES, MOST_FREE_ENTRIES, MOST_PLACES, NoMemory, NotAsked, NotIdle, Oldest, Opening,
-    Outcome, OutcomeKind, Owner, Session, Setup, SubmitFault, TakesDevices,
+    Outcome, OutcomeKind, Owner, Session, Setup, SubmitFault, TakesDevices, Work, WorkFault,
 };
 pub use rdm_wire::{
     AckType, BranchReply, Device, DeviceSet, Frame, MOST_DEVICES, MOST_PARAMETER_BYTES, MuteAck,

@@ -1,3 +1,5 @@
 pub mod Boxed
 pub mod Callbacks
 pub mod Desks
+pub mod Collects
+pub mod Faults

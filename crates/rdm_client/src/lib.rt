@@ -7,11 +7,15 @@
 //!
 //! Desks and clients are generic in their callbacks, under [`Tells`] and [`TellsAsk`]. The defaults are boxed closures:
 //! [`Callback`] and [`AskCallback`].
+//!
+//! There are clients with a mutex (`rdm_locked`) and with ring buffers (`rdm_lanes`). [`Client`] has the calls
+//! that both make alike: submit, discover and collect.
 #![tactic(auto)]
 
 mod ask_callback;
 mod boxed_ask;
 mod callback;
+mod client;
 mod desk;
 mod fault;
 mod found_set;
@@ -23,8 +27,9 @@ mod worker_end;
 pub use ask_callback::{AskCallback, TellsAsk};
 pub use boxed_ask::BoxedAsk;
 pub use callback::{Callback, Tells};
+pub use client::Client;
 pub use desk::{Desk, MOST_ASKS_HELD};
-pub use fault::{Full, Misdelivered};
+pub use fault::{CallFault, Full, Misdelivered};
 pub use told::{AskTold, Collected, Told};
 pub use unspent::{Unfinished, Unspent};
 pub use view::DeviceView;

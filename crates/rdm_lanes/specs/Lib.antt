@@ -3,6 +3,7 @@ pub mod Publishing
 pub mod Calls
 pub mod Told
 pub mod Callbacks
+pub mod Faults
 pub mod Clients
 pub mod Pairs
 pub mod Operators

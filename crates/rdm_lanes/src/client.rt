@@ -1,12 +1,13 @@
 //! A client of the rings.
-ghost use Rattle.std.specs.Prelude.{◌≡◌, ◌+◌, length};
+ghost use Rattle.std.specs.Prelude.{◌≡◌, ◌+◌, [], length, false};
 ghost use Rattle.rtrb.specs.Ring.{sent as pushed, received as popped};
 ghost use Rattle.rdm_lanes.specs.body.Counts.{IsCounted};
 ghost use Rattle.rdm_lanes.specs.Calls.{work_in};
 ghost use Rattle.rdm_lanes.specs.Callbacks.{HoldsItsOwn};
 ghost use Rattle.rdm_lanes.specs.Told.{values_in};
-ghost use Rattle.rdm_lanes.specs.Views.{last_found};
+ghost use Rattle.rdm_lanes.specs.Views.{last_found, opening_view};
 
+pub(crate) mod any_client;
 pub(crate) mod calls;
 pub(crate) mod ends;
 pub(crate) mod found;
@@ -28,17 +29,47 @@ use std::alloc::Global;
 ///
 /// It isn't [`Drop`]: [`RingClient::end`] returns the callbacks that it holds.
 pub struct RingClient<J: ViewHistory, C = Callback, A = AskCallback> {
-    pub(crate) desk: Desk<C, A>,
-    pub(crate) calls: Producer<ClientCall, Global>,
-    pub(crate) replies: Consumer<RingOutcome, Global>,
-    pub(crate) views: ViewReader<J>,
+    desk: Desk<C, A>,
+    calls: Producer<ClientCall, Global>,
+    replies: Consumer<RingOutcome, Global>,
+    views: ViewReader<J>,
     // What the client's last discovery without fault found.
-    pub(crate) found: Box<DeviceView>,
-    pub(crate) sent: u64,
-    pub(crate) collected: u64,
-    pub(crate) left: bool,
+    found: Box<DeviceView>,
+    sent: u64,
+    collected: u64,
+    left: bool,
     ghost counted: { IsCounted calls replies sent collected left },
     ghost held: { collected + (length desk.requests + length desk.asks) ≡ sent },
     ghost own: { HoldsItsOwn (work_in (pushed calls)) (values_in (popped replies)) desk.requests desk.asks },
     ghost last: { found.value ≡ last_found (values_in (popped replies)) },
+}
+
+impl<J: ViewHistory, C, A> RingClient<J, C, A> {
+    // A client that has made no call. Nobody has used its desk and its ends of the rings, and `found` is the view of
+    // run 0.
+    pub(crate) fn new(
+        desk: Desk<C, A>,
+        calls: Producer<ClientCall, Global>,
+        replies: Consumer<RingOutcome, Global>,
+        views: ViewReader<J>,
+        found: Box<DeviceView>,
+    ) -> RingClient<J, C, A>
+        requires idle { (desk.requests ≡ []) × (desk.asks ≡ []) }
+        requires unused { (pushed calls ≡ []) × (popped replies ≡ []) }
+        requires found_is { found.value ≡ opening_view }
+        ensures holds { (result.desk ≡ desk) × (result.views ≡ views) }
+        ensures rings { (result.calls ≡ calls) × (result.replies ≡ replies) }
+        ensures not_left { result.left ≡ false }
+    {
+        RingClient {
+            desk,
+            calls,
+            replies,
+            views,
+            found,
+            sent: 0,
+            collected: 0,
+            left: false,
+        }
+    }
 }

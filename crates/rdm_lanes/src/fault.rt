@@ -1,4 +1,5 @@
 //! Why a call is refused.
+use rdm_client::CallFault;
 use thiserror::Error;
 
 /// Why lanes can't be opened. They are tested in this order.
@@ -37,3 +38,18 @@ pub enum RingFault {
 #[derive(Clone, Copy, Debug, PartialEq, Eq, Error)]
 #[error("the ring of calls is full")]
 pub struct RingFull;
+
+impl From<RingFault> for CallFault {
+    ghost use Rattle.std.specs.Prelude.{◌≡◌};
+    ghost use Rattle.rdm_lanes.specs.Faults.{of_ring};
+
+    ghost from_gives = { λ fault call_fault. call_fault ≡ of_ring fault };
+
+    fn from(fault: RingFault) -> CallFault {
+        match fault {
+            RingFault::Full => CallFault::Full,
+            RingFault::RingFull => CallFault::RingFull,
+            RingFault::Left => CallFault::Left,
+        }
+    }
+}

@@ -88,12 +88,7 @@ pub fn open_lanes<J: ViewHistory, C: Tells, A: TellsAsk, R: Wait + Drop, S: Into
             clients,
             operator: Operator { calls, left: false },
             worker: ViewWorker {
-                server: Worker {
-                    session,
-                    lanes,
-                    operator: heard,
-                    operator_left: false,
-                },
+                server: Worker::new(session, lanes, heard),
                 views,
                 turns_made: 0,
             },

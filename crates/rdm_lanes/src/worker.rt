@@ -1,5 +1,5 @@
 //! The worker, which has the session and one end of each ring.
-ghost use Rattle.std.specs.Prelude.{◌≤◌, vec_len};
+ghost use Rattle.std.specs.Prelude.{◌≡◌, ◌≤◌, false, vec_len};
 ghost use Rattle.rtrb.specs.Ring.{received as popped};
 ghost use Rattle.rdm_lanes.specs.Lines.{IsBetweenTurns};
 ghost use Rattle.rdm_lanes.specs.body.Operated.{IsOperated};
@@ -31,12 +31,35 @@ use std::alloc::Global;
 /// and closes in the log are those of the operator's calls that had an effect.
 #[derive(Drop)]
 pub struct Worker {
-    pub(crate) session: Session,
-    pub(crate) lanes: Vec<Lane>,
-    pub(crate) operator: Consumer<OperatorCall, Global>,
-    pub(crate) operator_left: bool,
+    session: Session,
+    lanes: Vec<Lane>,
+    operator: Consumer<OperatorCall, Global>,
+    operator_left: bool,
     ghost few: { vec_len lanes ≤ 16 },
     ghost served: { IsBetweenTurns session },
     ghost fits: { AllFit session lanes.items },
     ghost operated: { IsOperated session (popped operator) },
+}
+
+impl Worker {
+    // A worker of these lanes that hasn't made a turn.
+    pub(crate) fn new(
+        session: Session,
+        lanes: Vec<Lane>,
+        operator: Consumer<OperatorCall, Global>,
+    ) -> Worker
+        requires few { vec_len lanes ≤ 16 }
+        requires served { IsBetweenTurns session }
+        requires fits { AllFit session lanes.items }
+        requires operated { IsOperated session (popped operator) }
+        ensures holds { (result.session ≡ session) × (result.lanes ≡ lanes) }
+        ensures operator { (result.operator ≡ operator) × (result.operator_left ≡ false) }
+    {
+        Worker {
+            session,
+            lanes,
+            operator,
+            operator_left: false,
+        }
+    }
 }

@@ -1,10 +1,14 @@
 //! A client of a session with a mutex.
 ghost use Rattle.std.specs.Prelude.{◌≡◌, ◌⊎◌, ◌≤◌, ◌+◌, ◌++◌, ◌∷◌, [], length, nat_le, true, false, OnOk, IfErr};
-ghost use Rattle.std.specs.Prelude.{IsErrAnd, IfSome, IfNone, OnSome, IsNone, Some, ◌≢◌, if◌then◌else◌};
+ghost use Rattle.std.specs.Prelude.{IsErrAnd, IfSome, IfNone, OnSome, IsNone, Some, ◌≢◌, if◌then◌else◌, MatchOption};
+ghost use Rattle.std.specs.Prelude.{IsSome, refl};
+ghost use Rattle.std.proofs.Common.{◌∙◌};
+ghost use Rattle.rdm_log.specs.declared.fault.WorkFault.{WorkFault as WorkFaultState};
 ghost use Rattle.rdm_log.specs.declared.fault.WorkFault.TheVariants as work_faults;
 ghost use Rattle.rdm_log.specs.declared.outcome.OutcomeKind.TheVariants as kinds;
 ghost use Rattle.rdm_locked.specs.Calls.{refused_calls};
-ghost use Rattle.rdm_locked.specs.Collects.{Collects, CollectsRequest, CollectsDiscovery};
+ghost use Rattle.rdm_client.specs.Collects.{Collects, CollectsRequest, CollectsDiscovery};
+ghost use Rattle.rdm_client.specs.Faults.{of_session};
 ghost use Rattle.rdm_locked.specs.body.Oldest.{IsOfWanted};
 
 use crate::oldest::OldestOutcome;
@@ -14,7 +18,8 @@ use crate::sets::SharedSets;
 use crate::share::CallShare;
 use rdm_agent::Kind;
 use rdm_client::{
-    AskCallback, AskTold, Callback, Collected, Desk, DeviceView, Tells, TellsAsk, Told, Unspent,
+    AskCallback, AskTold, CallFault, Callback, Client, Collected, Desk, DeviceView, Tells,
+    TellsAsk, Told, Unspent,
 };
 use rdm_log::{AskFault, ClientId, OutcomeKind, SubmitFault};
 use rdm_wire::Request;
@@ -285,4 +290,58 @@ impl<'a, L: Ledger, C: Tells, A: TellsAsk, J: PageRing> LockedClient<'a, L, C, A
             calls,
         }
     }
+}
+
+/// Its calls wait for the mutex with the runtime.
+impl<L: Ledger, C: Tells, A: TellsAsk, J: PageRing, R: Wait> Client<C, A, R>
+    for LockedClient<'_, L, C, A, J> {
+    ghost held = { λ client. client.desk };
+
+    ghost same = { λ old new. new.number ≡ old.number };
+
+    ghost submits = { λ old request number new. IsSome number × (new.calls.count ≡ old.calls.count + 1) };
+
+    ghost refuses_submit = { λ old fault new. (session_fault : WorkFaultState) × (fault ≡ of_session session_fault)
+        × (new.calls.count ≡ old.calls.count
+        + (if nat_le old.desk.places (length old.desk.requests) then 0 else refused_calls session_fault)) };
+
+    ghost discovers = { λ old kind number new. IsSome number × (new.calls.count ≡ old.calls.count + 1) };
+
+    ghost refuses_discover = { λ old fault new. (session_fault : WorkFaultState) × (fault ≡ of_session session_fault)
+        × (new.calls.count ≡ old.calls.count
+        + (if nat_le 4 (length old.desk.asks) then 0 else refused_calls session_fault)) };
+
+    ghost collects = { λ old collected new. MatchOption collected (new.calls.count ≡ old.calls.count)
+        (λ told. new.calls.count ≡ old.calls.count + 1) };
+
+    fn submit(
+        &mut self,
+        rt: &R,
+        request: Request,
+        callback: C,
+    ) -> Result<Option<u64>, (CallFault, Request, C)> {
+        match LockedClient::submit(self, rt, request, callback) {
+            Ok(number) => Ok(Some(number)),
+            Err((fault, request, callback)) => Err((CallFault::from(fault), request, callback)),
+        }
+    }
+
+    fn discover(&mut self, rt: &R, kind: Kind, callback: A) -> Result<Option<u64>, (CallFault, A)> {
+        match LockedClient::discover(self, rt, kind, callback) {
+            Ok(number) => Ok(Some(number)),
+            Err((fault, callback)) => Err((CallFault::from(fault), callback)),
+        }
+    }
+
+    fn collect(&mut self, rt: &R) -> Option<Collected> {
+        LockedClient::collect(self, rt)
+    }
+
+    fn collect_request(&mut self, rt: &R) -> Option<Told> {
+        LockedClient::collect_request(self, rt)
+    }
+
+    ghost stays = { λ a. refl };
+
+    ghost follows = { λ a b c before after. after ∙ before };
 }

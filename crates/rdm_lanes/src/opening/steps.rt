@@ -35,7 +35,6 @@ pub fn total(places: &[u8]) -> u16
 }
 
 /// A client with this queue depth, and its lane. None: out of memory, or [`Publisher::reader`] failed.
-#[tactic(auto, using(crate::proofs::OpenLemmas::counted_new))]
 pub fn open_client<J: ViewHistory, C: Tells, A: TellsAsk, R: Wait + Drop>(
     alloc: Global,
     publisher: &Publisher<J, Shown<J>, R>,
@@ -60,16 +59,7 @@ pub fn open_client<J: ViewHistory, C: Tells, A: TellsAsk, R: Wait + Drop>(
     let Ok(desk) = Desk::new(alloc, places) else {
         return None;
     };
-    let client = RingClient {
-        desk,
-        calls,
-        replies,
-        views,
-        found,
-        sent: 0,
-        collected: 0,
-        left: false,
-    };
+    let client = RingClient::new(desk, calls, replies, views, found);
     let lane = Lane {
         calls: heard,
         replies: outcomes,
@@ -129,17 +119,7 @@ pub fn discard<J: ViewHistory, C: Tells, A: TellsAsk>(clients: Vec<RingClient<J,
 {
     let mut clients = clients;
     while let Some(client) = clients.pop() {
-        let RingClient {
-            desk,
-            calls: _,
-            replies: _,
-            views: _,
-            found: _,
-            sent: _,
-            collected: _,
-            left: _,
-        } = client;
-        desk.end().close_empty();
+        client.end().into_unspent().close_empty();
     }
     clients.destroy_empty();
 }

@@ -1,21 +1,18 @@
 //! Serves the clients of a session file with a mutex.
-ghost use Rattle.std.specs.Prelude.{◌≡◌, ◌⊎◌, ◌≤◌, ◌+◌, [], ⊤, None, length, IfOk, IfErr};
+ghost use Rattle.std.specs.Prelude.{◌≡◌, ◌⊎◌, ◌≤◌, ◌+◌, [], ⊤, None, length, IfOk};
 ghost use Rattle.std.specs.List.{All};
 ghost use Rattle.rdm_log.specs.log.Config.{IsConfig};
 ghost use Rattle.rdm_lanes.specs.Lines.{exchange_count};
 
 use crate::serving::calls::cancel_all;
-use crate::serving::playing::{Player, play};
+use crate::serving::playing::{Watch, play};
 use crate::serving::ticket::{AskTicket, RequestTicket};
 use crate::serving::{ServeFault, Served, Start};
-use rdm_agent::Kind;
-use rdm_client::{Collected, Tells, TellsAsk};
 use rdm_files::{ClientCall, ClientFile};
 use rdm_line::Line;
 use rdm_locked::{CallShare, Exchange, Left, LockedClient, Port};
-use rdm_log::{AskFault, JoinFault, SubmitFault};
+use rdm_log::JoinFault;
 use rdm_reports::Outcomes;
-use rdm_wire::Request;
 use std::alloc::Global;
 use std::sync::Wait;
 use std::sync::atomic::{AtomicBool, Ordering};
@@ -261,8 +258,7 @@ impl<'p, 'c, L: Ledger> Caller<'p, 'c, L> {
         let Some(mut client) = mem::replace(&mut self.client, None) else {
             return;
         };
-        let beside = Beside { rt, stop };
-        let (outcomes, end) = play(alloc, self.calls, &mut client, &beside, self.turns);
+        let (outcomes, end) = play(rt, alloc, self.calls, &mut client, stop, self.turns);
         self.outcomes = outcomes;
         self.end = end;
         self.share = Some(leave(rt, alloc, client));
@@ -297,107 +293,11 @@ fn leave<L: Ledger, R: Wait>(rt: &R, alloc: Global, client: Client<'_, L>) -> Ca
     calls
 }
 
-// What a client has beside it in its thread.
-#[derive(Drop)]
-struct Beside<'a, R> {
-    rt: &'a R,
-    // Whether the worker has stopped.
-    stop: &'a AtomicBool,
-}
+// Whether the worker has stopped.
+impl<C> Watch<C> for AtomicBool {
+    ghost sees = { λ watch client has_stopped. ⊤ };
 
-impl<L: Ledger, R: Wait> Player<Beside<'_, R>> for LockedClient<'_, L, RequestTicket, AskTicket> {
-    ghost same = { λ old new. ⊤ };
-
-    ghost sees = { λ client has_stopped. ⊤ };
-
-    ghost collects = { λ old collected new. ⊤ };
-
-    fn make(
-        &mut self,
-        alloc: Global,
-        beside: &Beside<'_, R>,
-        call: &ClientCall,
-        call_index: u64,
-    ) -> Result<bool, ServeFault> {
-        is_accepted(beside.rt, alloc, self, call, call_index)
-    }
-
-    fn has_stopped(&self, beside: &Beside<'_, R>) -> bool {
-        beside.stop.load(Ordering::SeqCst)
-    }
-
-    fn collect_outcome(&mut self, beside: &Beside<'_, R>) -> Option<Collected> {
-        self.collect(beside.rt)
-    }
-
-    ghost stays = { λ a. tt };
-
-    ghost follows = { λ a b c before after. tt };
-}
-
-// Whether a call is accepted; if not, the client's queue is full. Err: there was no memory, or the log is full.
-fn is_accepted<L: Ledger, R: Wait>(
-    rt: &R,
-    alloc: Global,
-    client: &mut Client<'_, L>,
-    call: &ClientCall,
-    call_index: u64,
-) -> Result<bool, ServeFault>
-    ensures { IfErr result (λ e. (e ≡ ServeFault.Log) ⊎ (e ≡ ServeFault.Memory)) }
-{
-    match call {
-        ClientCall::Submit(request) => {
-            is_submitted(
-                rt,
-                alloc,
-                client,
-                request.copied(),
-                RequestTicket(call_index),
-            )
-        }
-        ClientCall::Discover(kind) => is_asked(rt, client, *kind, AskTicket(call_index)),
-    }
-}
-
-fn is_submitted<L: Ledger, R: Wait>(
-    rt: &R,
-    alloc: Global,
-    client: &mut Client<'_, L>,
-    request: Request,
-    callback: RequestTicket,
-) -> Result<bool, ServeFault>
-    ensures { IfErr result (λ e. e ≡ ServeFault.Log) }
-{
-    match client.submit(rt, request, callback) {
-        Ok(_) => Ok(true),
-        Err((fault, _, callback)) => {
-            drop(callback.cancel(alloc));
-            if fault == SubmitFault::LogFull {
-                Err(ServeFault::Log)
-            } else {
-                Ok(false)
-            }
-        }
-    }
-}
-
-fn is_asked<L: Ledger, R: Wait>(
-    rt: &R,
-    client: &mut Client<'_, L>,
-    kind: Kind,
-    callback: AskTicket,
-) -> Result<bool, ServeFault>
-    ensures { IfErr result (λ e. e ≡ ServeFault.Log) }
-{
-    match client.discover(rt, kind, callback) {
-        Ok(_) => Ok(true),
-        Err((fault, callback)) => {
-            drop(callback.cancel());
-            if fault == AskFault::LogFull {
-                Err(ServeFault::Log)
-            } else {
-                Ok(false)
-            }
-        }
+    fn has_stopped(&self, _client: &C) -> bool {
+        self.load(Ordering::SeqCst)
     }
 }

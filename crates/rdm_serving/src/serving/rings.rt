@@ -1,7 +1,6 @@
 //! Serves the clients of a session file with ring buffers.
 ghost use Rattle.std.specs.Prelude.{◌≡◌, ◌≤◌, [], ⊤, length, slice_get, option_map, IfSome, IfOk};
 ghost use Rattle.std.specs.List.{All};
-ghost use Rattle.std.proofs.Common.{rules};
 ghost use Rattle.rdm_log.specs.log.Config.{IsConfig};
 ghost use Rattle.rdm_arguments.specs.declared.port_kind.PortKind.TheVariants.{Rings};
 ghost use Rattle.rdm_lanes.specs.Clients.{SameClient};
@@ -12,10 +11,10 @@ ghost use Rattle.rdm_serving.specs.Serving.{slots_by};
 ghost use Rattle.rdm_serving.specs.body.Scripts.{ran_out_by};
 
 use crate::serving::calls::cancel_all;
-use crate::serving::playing::{Player, play};
+use crate::serving::playing::{Watch, play};
 use crate::serving::ticket::{AskTicket, RequestTicket};
 use crate::serving::{ServeFault, Served, Start};
-use rdm_client::{Collected, Tells, TellsAsk, WorkerEnd};
+use rdm_client::WorkerEnd;
 use rdm_files::{ClientCall, ClientFile};
 use rdm_lanes::views::{BlankHistory, ViewHistory};
 use rdm_lanes::{
@@ -222,69 +221,22 @@ impl Body<RequestTicket, AskTicket> for Caller<'_> {
         ensures in_turns { self.new.outcomes.turns ≤ self.old.turns }
         ensures same { SameClient client.old client.new }
     {
-        let (outcomes, end) = play(self.alloc, self.calls, client, gate, self.turns);
+        let watch = AtGate(gate);
+        let (outcomes, end) = play(&(), self.alloc, self.calls, client, &watch, self.turns);
         self.outcomes = outcomes;
         self.end = end;
         self.leave(client, gate);
     }
 }
 
-impl<J: ViewHistory, G: Gate> Player<G> for RingClient<J, RequestTicket, AskTicket> {
-    ghost same = { SameClient };
+// Looks at the gate for the worker's stop.
+#[derive(Drop)]
+struct AtGate<'a, G>(&'a G);
 
-    ghost sees = { λ client has_stopped. ⊤ };
+impl<C, G: Gate> Watch<C> for AtGate<'_, G> {
+    ghost sees = { λ watch client has_stopped. ⊤ };
 
-    ghost collects = { λ old collected new. ⊤ };
-
-    fn make(
-        &mut self,
-        alloc: Global,
-        _gate: &G,
-        call: &ClientCall,
-        call_index: u64,
-    ) -> Result<bool, ServeFault> {
-        Ok(is_accepted(alloc, self, call, call_index))
-    }
-
-    fn has_stopped(&self, gate: &G) -> bool {
-        gate.passed(WORKER_STOPPED)
-    }
-
-    fn collect_outcome(&mut self, _gate: &G) -> Option<Collected> {
-        self.collect()
-    }
-
-    ghost stays = { Prim.search rules };
-
-    ghost follows = { Prim.search rules };
-}
-
-// Whether a call is sent to the worker; if not, the queue or the ring is full.
-fn is_accepted<J: ViewHistory>(
-    alloc: Global,
-    client: &mut Client<J>,
-    call: &ClientCall,
-    call_index: u64,
-) -> bool
-    ensures { SameClient client.old client.new }
-{
-    match call {
-        ClientCall::Submit(request) => match client.submit(
-            request.copied(),
-            RequestTicket(call_index),
-        ) {
-            Ok(()) => true,
-            Err((_, _, callback)) => {
-                drop(callback.cancel(alloc));
-                false
-            }
-        },
-        ClientCall::Discover(kind) => match client.discover(*kind, AskTicket(call_index)) {
-            Ok(()) => true,
-            Err((_, callback)) => {
-                drop(callback.cancel());
-                false
-            }
-        },
+    fn has_stopped(&self, _client: &C) -> bool {
+        self.0.passed(WORKER_STOPPED)
     }
 }

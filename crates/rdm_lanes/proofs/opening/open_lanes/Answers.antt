@@ -6,19 +6,23 @@ use Rattle.rdm_lanes.proofs.OpenLemmas.{new_clients, new_pairs, publishes_opened
 use Rattle.rdm_lanes.proofs.FirstLemmas.{new_shown_first}
 use Rattle.rdm_lanes.proofs.opening.open_lanes.Goals as goal
 
-pub invariant_of-result-in-Ok-joined : goal.invariant_of-result-in-Ok-joined
-invariant_of-result-in-Ok-joined g c = record {
-  publishes = subst (λ (k : LogState). Publishes k c.in-Ok-new.views) (sym c.in-Ok-joined.ensures.session)
-      (publishes_opened c.into_setup-setup.result c.args.log.room c.args.places.now c.in-Ok-new.views
-      c.in-Ok-new.ensures.opening.0
-      c.in-Ok-new.ensures.opening.1);
-  shown_first =
-      new_shown_first c.in-Ok-new.views.shown c.args.ring c.args.places.now c.in-Some-open_clients.clients.items
-      c.in-Some-open_clients.lanes.items c.in-Some-open_clients.ensures;
-}
-
 pub invariant_of-result : goal.invariant_of-result
 invariant_of-result g c =
+    let is : c.new-in-Ok-joined.result.session
+    ≡ opened_with c.into_setup-setup.result c.args.log.room c.args.places.now
+    = c.new-in-Ok-joined.ensures.holds.0 ∙ c.in-Ok-joined.ensures.session in
+    record {
+      publishes = subst (λ (k : LogState). Publishes k c.in-Ok-new.views) (sym is)
+          (publishes_opened c.into_setup-setup.result c.args.log.room c.args.places.now c.in-Ok-new.views
+          c.in-Ok-new.ensures.opening.0
+          c.in-Ok-new.ensures.opening.1);
+      shown_first = rw c.new-in-Ok-joined.ensures.holds.1
+          (new_shown_first c.in-Ok-new.views.shown c.args.ring c.args.places.now c.in-Some-open_clients.clients.items
+          c.in-Some-open_clients.lanes.items c.in-Some-open_clients.ensures);
+    }
+
+pub new-requires-in-Ok-joined : goal.new-requires-in-Ok-joined
+new-requires-in-Ok-joined g c =
     let places = c.args.places.now in
     let all = c.in-Some-open_clients.ensures in
     let is : c.in-Ok-joined.session
@@ -50,16 +54,18 @@ returns-in-Ok-joined-clause-opened g c =
     let clients = c.in-Some-open_clients.clients.items in
     let lanes = c.in-Some-open_clients.lanes.items in
     record {
-      session = subst (λ (s : Setup). c.in-Ok-joined.session ≡ opened_with s c.args.log.room c.args.places.now)
-          c.into_setup-setup.ensures c.in-Ok-joined.ensures.session;
+      session =
+          subst (λ (s : Setup). c.new-in-Ok-joined.result.session ≡ opened_with s c.args.log.room c.args.places.now)
+          c.into_setup-setup.ensures (c.new-in-Ok-joined.ensures.holds.0 ∙ c.in-Ok-joined.ensures.session);
       clients = new_clients c.args.ring c.args.places.now clients lanes c.in-Some-open_clients.ensures;
       operator = (
         c.in-Ok.ensures.producer.0,
         refl,
-        refl,
+        c.new-in-Ok-joined.ensures.operator.1,
         c.in-Ok.ensures.producer.2 ∙ c.from.ensures,
-        c.in-Ok.ensures.pair,
+        rw c.new-in-Ok-joined.ensures.operator.0 c.in-Ok.ensures.pair,
       );
-      pairs = new_pairs c.args.ring c.args.places.now clients lanes c.in-Some-open_clients.ensures;
+      pairs = rw c.new-in-Ok-joined.ensures.holds.1
+          (new_pairs c.args.ring c.args.places.now clients lanes c.in-Some-open_clients.ensures);
       published = c.in-Ok-new.ensures.opening.0;
     }

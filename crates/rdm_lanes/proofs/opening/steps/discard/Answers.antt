@@ -6,7 +6,7 @@ pub close_empty-requires : goal.close_empty-requires
 close_empty-requires g c =
     let items = rw c.in-Some.is at c.pop.ensures.items in
     let last = hold_last c.pop.new.self.items c.in-Some.client (rw items at c.loop-client.invariant) in
-    c.end.ensures ∙ rw (last.0, last.1) refl
+    c.into_unspent.ensures ∙ c.end.ensures.unspent ∙ rw (last.0, last.1) refl
 
 pub loop-client-preserved : goal.loop-client-preserved
 loop-client-preserved g c =

@@ -7,4 +7,4 @@ abbrev pub invariant-turns : goal.invariant-turns
 invariant-turns g l =
     (l.script.outcomes.turns ≡ l._turn)
     × (done_by l.script ≤ done_by l.fn.script + l._turn) × (l.script.calls ≡ l.fn.script.calls)
-    × g.C.Player.same l.fn.client l.client
+    × g.C.Client.same l.fn.client l.client
