@@ -16,8 +16,7 @@ use rdm_lanes::{
     open_lanes,
 };
 use rdm_line::{Line, TapeLine};
-use rdm_log::Log;
-use rdm_queue::Setup as SessionSetup;
+use rdm_log::{Log, Setup as SessionSetup};
 use std::alloc::Global;
 use std::marker::Brand;
 use std::sync::Wait;

@@ -14,8 +14,7 @@ use rdm_lanes::{
     run_session_with,
 };
 use rdm_line::Line;
-use rdm_log::Log;
-use rdm_queue::Setup as SessionSetup;
+use rdm_log::{Log, Setup as SessionSetup};
 use std::alloc::Global;
 use std::marker::Brand;
 use std::sync::Wait;

@@ -153,6 +153,8 @@ fn span_of(page: &Page) -> Span {
 #[derive(Clone, Copy, Debug, PartialEq, Eq)]
 struct Over {
     worker: WorkerEnd,
+    // How many turns were made, if it ended because there were no more.
+    turns: Option<u64>,
     kept: [Option<Span>; 4],
     refused: Option<Span>,
     // How many entries fit into the spare memory; 0: there is none.
@@ -164,7 +166,7 @@ struct Over {
 }
 
 impl Over {
-    fn new(worker: WorkerEnd, pages: &Pages<Kept>, log: &Log) -> Over {
+    fn new(worker: WorkerEnd, turns: u64, pages: &Pages<Kept>, log: &Log) -> Over {
         let kept = pages.sink.pages.as_slice();
         let (refused, spare) = match &pages.spare {
             Spare::Memory(next) => (None, next.capacity()),
@@ -173,6 +175,11 @@ impl Over {
         };
         Over {
             worker,
+            turns: if worker == WorkerEnd::Turns {
+                Some(turns)
+            } else {
+                None
+            },
             kept: [
                 kept.get(0).map(span_of),
                 kept.get(1).map(span_of),
@@ -227,13 +234,13 @@ fn over_of<J: ViewHistory>(
         matched: _,
         bodies,
         worker,
-        turns: _,
+        turns,
         line: _,
         published: _,
     } = end;
     cancel_ends(alloc, ends);
     match all_heard(bodies.as_slice(), case.script.len()) {
-        Ok(()) => Ok(Over::new(worker, &pages, session.log())),
+        Ok(()) => Ok(Over::new(worker, turns, &pages, session.log())),
         Err(fail) => Err(fail),
     }
 }
@@ -347,6 +354,7 @@ fn a_session_outlives_three_memories(rt: HostRuntime) -> Result<(), Fail> {
     let case = Case::alone(&SENDS_SIX, 10);
     let wanted = Over {
         worker: WorkerEnd::AllLeft,
+        turns: None,
         kept: [Some((0, 6)), Some((6, 10)), Some((16, 10)), None],
         refused: None,
         spare: ROOM,
@@ -363,6 +371,7 @@ fn a_refused_page_comes_back_with_a_full_log(rt: HostRuntime) -> Result<(), Fail
     let case = Case::alone(&SENDS_FIVE, 1);
     let wanted = Over {
         worker: WorkerEnd::LogFull,
+        turns: None,
         kept: [Some((0, 6)), None, None, None],
         refused: Some((6, 10)),
         spare: 0,
@@ -379,6 +388,7 @@ fn a_page_is_handed_out_after_the_last_turn(rt: HostRuntime) -> Result<(), Fail>
     let case = Case::small(&LEAVES, 2, 1);
     let wanted = Over {
         worker: WorkerEnd::Turns,
+        turns: Some(1),
         kept: [Some((0, 2)), None, None, None],
         refused: None,
         spare: ROOM,
@@ -397,6 +407,7 @@ fn clients_that_leave_at_once_leave_an_empty_log(rt: HostRuntime) -> Result<(), 
     case.free = 6;
     let wanted = Over {
         worker: WorkerEnd::AllLeft,
+        turns: None,
         kept: [Some((0, 3)), None, None, None],
         refused: None,
         spare: ROOM,
@@ -413,6 +424,7 @@ fn without_a_turn_no_page_is_handed_out(rt: HostRuntime) -> Result<(), Fail> {
     let case = Case::small(&LEAVES, 2, 0);
     let wanted = Over {
         worker: WorkerEnd::Turns,
+        turns: Some(0),
         kept: [None; 4],
         refused: None,
         spare: ROOM,
@@ -431,6 +443,7 @@ fn a_log_that_the_joins_fill_goes_on(rt: HostRuntime) -> Result<(), Fail> {
     case.spare = 40;
     let wanted = Over {
         worker: WorkerEnd::AllLeft,
+        turns: None,
         kept: [Some((0, 2)), None, None, None],
         refused: None,
         spare: ROOM,

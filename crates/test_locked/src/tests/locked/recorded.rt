@@ -8,7 +8,7 @@ use rdm_line::Line;
 use rdm_locked::{
     CallShare, DrainFault, FinishFault, Left, PageEnds, PageRing, Port, Record, SessionEnd,
 };
-use rdm_log::Setup;
+use rdm_log::{LogFull, Setup};
 use rdm_wire::{AckType, Frame};
 use std::alloc::Global;
 use std::marker::Brand;
@@ -32,7 +32,7 @@ impl<L: Ledger, J: PageRing, R: Wait, X: Line + Drop> Line for DrainingLine<'_, 
     ghost failures_of = { λ line. X.failures_of line.line };
 
     fn exchange(&mut self, frame: &Frame) -> Result<LineReply, LineFault> {
-        let _ = drains(self.rt, self.alloc, self.port);
+        let _ = drains(self.rt, self.alloc, self.port, 20);
         self.line.exchange(frame)
     }
 
@@ -41,13 +41,14 @@ impl<L: Ledger, J: PageRing, R: Wait, X: Line + Drop> Line for DrainingLine<'_, 
     }
 }
 
-// Drains the port into memory for 20 entries.
+// Drains the port into memory for this many entries.
 fn drains<L: Ledger, J: PageRing, R: Wait>(
     rt: &R,
     alloc: Global,
     port: &Port<L, J>,
+    room: usize,
 ) -> Option<DrainFault> {
-    let Ok(memory) = Vec::with_capacity(alloc, 20) else {
+    let Ok(memory) = Vec::with_capacity(alloc, room) else {
         return None;
     };
     match port.drain_recorded(rt, memory) {
@@ -68,6 +69,7 @@ fn next<J: PageRing>(kept: &mut Record<J>) -> Option<(u64, usize)> {
 #[derive(Drop)]
 struct Played {
     pages: [Option<(u64, usize)>; 2],
+    small: Option<DrainFault>,
     waits: Option<DrainFault>,
     refused: Option<FinishFault>,
     // The calls of clients, the entries that were handed out, and all entries.
@@ -117,7 +119,7 @@ fn works<'a, L: Ledger, J: PageRing, R: Wait, X: Line + Drop>(
         line,
     };
     port.work_recorded(rt, alloc, &mut line, 1, kept);
-    let waits = drains(rt, alloc, port);
+    let waits = drains(rt, alloc, port, 20);
     let first = next(kept);
     port.work_recorded(rt, alloc, &mut line, 1, kept);
     (waits, first)
@@ -141,6 +143,8 @@ fn plays<L: Ledger, J: PageRing, R: Wait>(
         return Err(Wrong::NoMemory);
     };
     let _ = client.submit(rt, request(0), Note(1));
+    // A waiting request has two entries reserved, and a close one.
+    let small = drains(rt, alloc, &port, 2);
     let (waits, first) = works(rt, alloc, &port, tape, &mut kept);
     let _ = client.collect(rt);
     let Left { unspent, calls } = client.leave(rt);
@@ -148,6 +152,7 @@ fn plays<L: Ledger, J: PageRing, R: Wait>(
     let (second, refused, end) = ends_twice(alloc, port, calls, &mut kept)?;
     Ok(Played {
         pages: [first, second],
+        small,
         waits,
         refused,
         end,
@@ -193,6 +198,7 @@ fn play<R: Wait>(rt: &R, alloc: Global) -> Result<Played, Wrong> {
 #[test]
 fn a_drained_port_with_its_record_is_ended(rt: HostRuntime) -> Result<(), Fail> {
     let played = play(&rt, rt.alloc())?;
+    assert_eq!(rt; played.small, Some(DrainFault::Refused(LogFull)));
     assert_eq!(rt; played.waits, Some(DrainFault::PageWaits));
     assert_eq!(rt;
         (played.refused, played.end),
@@ -223,7 +229,7 @@ fn differs<L: Ledger, J: PageRing, R: Wait>(
     let mut elsewhere = Vec::new(alloc);
     port.work(rt, alloc, &mut line, 1, &mut elsewhere);
     if drained {
-        let _ = drains(rt, alloc, &port);
+        let _ = drains(rt, alloc, &port, 20);
     }
     let refused = kept.next_page().is_err();
     let Left { unspent, calls } = client.leave(rt);
