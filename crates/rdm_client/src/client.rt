@@ -24,7 +24,8 @@ pub trait Client<C: Tells, A: TellsAsk, R> {
     /// The callbacks that it holds, and its queue depth.
     ghost held: { Self → Held C A };
 
-    /// What stays of a client over its calls: with a mutex its number, with ring buffers its rings.
+    /// What stays of a client over its calls: with a mutex its number; with ring buffers its rings, what it has read,
+    /// and whether it has left.
     ghost same: { Self → Self → Type 0 };
 
     /// What a submit of this request changes besides the callbacks, if it returns this number.

@@ -13,8 +13,8 @@ pub struct Full;
 pub struct Misdelivered;
 
 /// Why a call of a [`Client`](crate::Client) is refused. A client with a mutex has the faults of its session. A client
-/// with ring buffers has Full, RingFull and Left: after a close an outcome refuses its call, and while the log is full
-/// the call stays in the ring.
+/// with ring buffers has Full, RingFull and Left. After a close its call is sent, and the outcome says that it was
+/// refused. While the log is full, the call stays in the ring.
 #[derive(Clone, Copy, Debug, PartialEq, Eq, Error)]
 pub enum CallFault {
     /// With a mutex: the queue is closed.

@@ -59,6 +59,10 @@ module _ {J : Type 0} {h : Ghosts J} {C A : Type 0} where
   abbrev pub SameClient : RingClient J C A h → RingClient J C A h → Type 0
   SameClient old new = SameProducer old.calls new.calls × SameConsumer old.replies new.replies
 
+  -- the client's rings are the same, it has read no more views, and it has left only if it had
+  abbrev pub StaysClient : RingClient J C A h → RingClient J C A h → Type 0
+  StaysClient old new = SameClient old new × (new.left ≡ old.left) × (new.views ≡ old.views)
+
   -- The client read what was published, and did nothing else. What it had read before is a prefix of what it has read
   -- now.
   abbrev pub HasRead : RingClient J C A h → RingClient J C A h → Type 0

@@ -299,17 +299,21 @@ impl<L: Ledger, C: Tells, A: TellsAsk, J: PageRing, R: Wait> Client<C, A, R>
 
     ghost same = { λ old new. new.number ≡ old.number };
 
-    ghost submits = { λ old request number new. IsSome number × (new.calls.count ≡ old.calls.count + 1) };
+    ghost submits = { λ old request number new. IsSome number × (new.calls.count ≡ old.calls.count + 1)
+        × (new.stranded ≡ old.stranded) };
 
     ghost refuses_submit = { λ old fault new. (session_fault : WorkFaultState) × (fault ≡ of_session session_fault)
         × (new.calls.count ≡ old.calls.count
-        + (if nat_le old.desk.places (length old.desk.requests) then 0 else refused_calls session_fault)) };
+        + (if nat_le old.desk.places (length old.desk.requests) then 0 else refused_calls session_fault))
+        × (new.stranded ≡ old.stranded) };
 
-    ghost discovers = { λ old kind number new. IsSome number × (new.calls.count ≡ old.calls.count + 1) };
+    ghost discovers = { λ old kind number new. IsSome number × (new.calls.count ≡ old.calls.count + 1)
+        × (new.stranded ≡ old.stranded) };
 
     ghost refuses_discover = { λ old fault new. (session_fault : WorkFaultState) × (fault ≡ of_session session_fault)
         × (new.calls.count ≡ old.calls.count
-        + (if nat_le 4 (length old.desk.asks) then 0 else refused_calls session_fault)) };
+        + (if nat_le 4 (length old.desk.asks) then 0 else refused_calls session_fault))
+        × (new.stranded ≡ old.stranded) };
 
     ghost collects = { λ old collected new. MatchOption collected (new.calls.count ≡ old.calls.count)
         (λ told. new.calls.count ≡ old.calls.count + 1) };

@@ -2,7 +2,7 @@
 ghost use Rattle.std.specs.Prelude.{◌≡◌, ◌++◌, ◌∷◌, [], None, MatchOption};
 ghost use Rattle.std.proofs.Common.{rules};
 ghost use Rattle.rdm_lanes.specs.declared.call.ClientCall.TheVariants.{Submit, Discover};
-ghost use Rattle.rdm_lanes.specs.Clients.{SameClient, Collects, sent_by, got_by, submit_fault, discover_fault};
+ghost use Rattle.rdm_lanes.specs.Clients.{StaysClient, Collects, sent_by, got_by, submit_fault, discover_fault};
 ghost use Rattle.rdm_lanes.specs.Faults.{shown_fault};
 
 use crate::client::RingClient;
@@ -15,19 +15,22 @@ use rdm_wire::Request;
 impl<J: ViewHistory, C: Tells, A: TellsAsk, R> Client<C, A, R> for RingClient<J, C, A> {
     ghost held = { λ client. client.desk };
 
-    ghost same = { SameClient };
+    ghost same = { StaysClient };
 
     ghost submits = { λ old request number new. (number ≡ None)
-        × (sent_by new ≡ sent_by old ++ Submit request ∷ []) };
+        × (sent_by new ≡ sent_by old ++ Submit request ∷ []) × (got_by new ≡ got_by old) };
 
-    ghost refuses_submit = { λ old fault new. (fault ≡ shown_fault (submit_fault old)) × (sent_by new ≡ sent_by old) };
+    ghost refuses_submit = { λ old fault new. (fault ≡ shown_fault (submit_fault old))
+        × (sent_by new ≡ sent_by old) × (got_by new ≡ got_by old) };
 
-    ghost discovers = { λ old kind number new. (number ≡ None) × (sent_by new ≡ sent_by old ++ Discover kind ∷ []) };
+    ghost discovers = { λ old kind number new. (number ≡ None)
+        × (sent_by new ≡ sent_by old ++ Discover kind ∷ []) × (got_by new ≡ got_by old) };
 
     ghost refuses_discover = { λ old fault new. (fault ≡ shown_fault (discover_fault old))
-        × (sent_by new ≡ sent_by old) };
+        × (sent_by new ≡ sent_by old) × (got_by new ≡ got_by old) };
 
-    ghost collects = { λ old collected new. MatchOption collected (got_by new ≡ got_by old)
+    ghost collects = { λ old collected new. (sent_by new ≡ sent_by old)
+        × MatchOption collected (got_by new ≡ got_by old)
         (λ told. Collects C.calls C.tag_of A.calls A.tag_of old told new) };
 
     fn submit(

@@ -12,12 +12,12 @@ use rdm_reports::Outcomes;
 use std::alloc::Global;
 use std::thread;
 
-/// What a client looks at for its worker's stop.
+/// Where a client sees whether its worker has stopped.
 pub trait Watch<C> {
     /// That this client sees this when it looks whether the worker has stopped.
     ghost sees: { Self → C → Bool → Type 0 };
 
-    /// Looks whether the client's worker has stopped.
+    /// Whether the client's worker has stopped.
     fn has_stopped(&self, client: &C) -> bool
         ensures { sees self.now client.now result };
 }
