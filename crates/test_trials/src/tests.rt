@@ -6,4 +6,5 @@ mod closes_threads;
 mod due;
 mod full_logs;
 mod full_port;
+mod laws;
 mod threads_rings;

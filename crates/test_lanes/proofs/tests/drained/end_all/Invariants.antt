@@ -1,6 +1,0 @@
--- the clients get fewer
-use Rattle.std.proofs.Common.{length}
-use Rattle.test_lanes.proofs.tests.drained.end_all.Given as goal
-
-abbrev pub decreases-loop-client : goal.decreases-loop-client
-decreases-loop-client g l = length l.clients.items

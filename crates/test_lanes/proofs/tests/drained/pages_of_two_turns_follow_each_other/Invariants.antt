@@ -1,6 +1,0 @@
--- the history of this session's views
-use Rattle.rdm_lanes.specs.Workers.{book_of}
-use Rattle.test_lanes.proofs.tests.drained.pages_of_two_turns_follow_each_other.Given as goal
-
-abbrev pub ghosts-served : goal.ghosts-served
-ghosts-served g a = record { book = book_of a.history }

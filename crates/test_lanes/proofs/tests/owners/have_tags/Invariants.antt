@@ -1,6 +1,0 @@
--- what is left gets less
-use Rattle.std.proofs.Common.{◌+◌, length}
-use Rattle.test_lanes.proofs.tests.owners.have_tags.Given as goal
-
-abbrev pub decreases-loop-left : goal.decreases-loop-left
-decreases-loop-left l = length l.unspent.requests + length l.unspent.asks

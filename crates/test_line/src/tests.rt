@@ -1,8 +1,0 @@
-//! What the proofs don't cover and no case of the program shows: values from outside, and that calls succeed.
-
-mod agent;
-mod checks;
-mod commands;
-mod faults;
-mod line;
-mod sets;
