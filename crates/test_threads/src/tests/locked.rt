@@ -1,6 +1,7 @@
 //! Sessions with a mutex, by hand and in threads.
 
 mod again;
+mod any_client;
 mod calls;
 mod drained;
 mod faults;

@@ -153,7 +153,7 @@ fn span_of(page: &Page) -> Span {
 #[derive(Clone, Copy, Debug, PartialEq, Eq)]
 struct Over {
     worker: WorkerEnd,
-    // How many turns were made, if it ended because there were no more.
+    // How many turns were made, if these were all.
     turns: Option<u64>,
     kept: [Option<Span>; 4],
     refused: Option<Span>,
@@ -166,7 +166,7 @@ struct Over {
 }
 
 impl Over {
-    fn new(worker: WorkerEnd, turns: u64, pages: &Pages<Kept>, log: &Log) -> Over {
+    fn new(worker: WorkerEnd, turns: Option<u64>, pages: &Pages<Kept>, log: &Log) -> Over {
         let kept = pages.sink.pages.as_slice();
         let (refused, spare) = match &pages.spare {
             Spare::Memory(next) => (None, next.capacity()),
@@ -175,11 +175,7 @@ impl Over {
         };
         Over {
             worker,
-            turns: if worker == WorkerEnd::Turns {
-                Some(turns)
-            } else {
-                None
-            },
+            turns,
             kept: [
                 kept.get(0).map(span_of),
                 kept.get(1).map(span_of),
@@ -239,6 +235,7 @@ fn over_of<J: ViewHistory>(
         published: _,
     } = end;
     cancel_ends(alloc, ends);
+    let turns = Some(turns).filter(|turns| *turns == case.turns);
     match all_heard(bodies.as_slice(), case.script.len()) {
         Ok(()) => Ok(Over::new(worker, turns, &pages, session.log())),
         Err(fail) => Err(fail),
