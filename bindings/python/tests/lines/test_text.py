@@ -299,6 +299,18 @@ class Limits(TestCase):
             pipes.answers(b"01\n", b"02\n")
             self.assertEqual(pipes.line.exchange(FRAME), b"\x02")
 
+    def test_an_interrupt_before_a_frame_is_written(self) -> None:
+        """Nothing was sent, so no line is owed."""
+        class Interrupted(bytes):
+            def hex(self, *arguments: object) -> str:
+                raise KeyboardInterrupt
+
+        with Pipes(0.3) as pipes:
+            with self.assertRaises(KeyboardInterrupt):
+                pipes.line.exchange(Interrupted(FRAME))
+            pipes.answers(b"01\n")
+            self.assertEqual(pipes.line.exchange(FRAME), b"\x01")
+
     def test_an_interrupt_after_a_line_was_read(self) -> None:
         with Pipes(0.3) as pipes:
             real = LineReader.read
@@ -355,6 +367,24 @@ class Limits(TestCase):
                 pipes.replies.write(b"\n")
             time.sleep(0.02)
             pipes.replies.write(line_of(response(number)))
+
+    def test_lines_too_many_without_an_end(self) -> None:
+        """They hold no exchange for longer than its limit."""
+        for pause in (0.0, 0.02):
+            with Pipes(0.3) as pipes:
+                has_ended = threading.Event()
+                pipes.start(self.flood, pipes, pause, has_ended)
+                self.assertEqual(pipes.line.exchange(get(0)), response(9))
+                self.assertFalse(has_ended.is_set())
+
+    def flood(self, pipes: Pipes, pause: float, has_ended: threading.Event) -> None:
+        """A far end that answers a frame by another one's response, again and again for some seconds."""
+        pipes.frames.read(1000)
+        end = time.monotonic() + 4.0
+        while time.monotonic() < end:
+            pipes.replies.write(line_of(response(9)))
+            time.sleep(pause)
+        has_ended.set()
 
     def test_a_device_that_answers_wrongly_is_heard(self) -> None:
         with Pipes() as pipes:

@@ -111,15 +111,19 @@ class TextLine(OpenLine):
 
     def _ask(self, frame: bytes) -> bytes:
         """The reply to a frame. A line that can't be its reply is dropped if another one follows soon."""
+        text = frame.hex().encode() + b"\n"
         end = self._end()
         wait_to_write(self._frames, end)
         self._read_before = self._reader.lines_read
-        self._frames.write(frame.hex().encode() + b"\n")
+        self._frames.write(text)
         self._frames.flush()
         reply = parse_hex(self._read(end))
         while reply is not None and _is_late(reply, frame) and self._reader.is_pipe:
+            now = time.monotonic()
+            if end is not None and now >= end:
+                break
             try:
-                reply = parse_hex(self._read(time.monotonic() + LATE_SECONDS))
+                reply = parse_hex(self._read(now + LATE_SECONDS))
             except TooLate:
                 break
         if reply is None:
