@@ -277,11 +277,11 @@ impl Caller {
         let made = if self.told.submitted == self.share {
             Some(false)
         } else if self.asks_next {
-            ask(client, self.told.asked)
+            ask(&(), client, self.told.asked)
         } else {
-            submit(client, self.tag())
+            submit(&(), client, self.tag())
         };
-        let heard = collect(client);
+        let heard = collect(&(), client);
         self.note(made?, heard)
     }
 

@@ -1,6 +1,5 @@
 //! Clients of a port, which has a mutex, and clients with ring buffers.
 ghost use Rattle.std.specs.Prelude.{◌≡◌, []};
-ghost use Rattle.rdm_lanes.specs.Clients.{SameClient};
 ghost use Rattle.rdm_lanes.specs.Workers.{book_of};
 ghost use Rattle.rdm_locked.specs.Recorded.{ring_of};
 
@@ -10,13 +9,13 @@ use crate::queue::replay_of;
 use crate::served::{CLIENTS, FREE, Job, PLACES, Served, Timing, config, written_log};
 use left_right::Absorb;
 use rdm_agent::{Kind, Search};
-use rdm_client::{DeviceView, WorkerEnd};
+use rdm_client::{CallFault, Client, DeviceView, WorkerEnd};
 use rdm_join::{LineEvent, LineFault, LineReply};
 use rdm_lanes::views::{BlankHistory, Shown, ViewHistory};
-use rdm_lanes::{Lanes, RingClient, RingFault, open_lanes};
+use rdm_lanes::{Lanes, RingClient, open_lanes};
 use rdm_line::Line;
 use rdm_locked::{CallShare, Exchange, Left, LockedClient, PageEnds, PageRing, Port, Record};
-use rdm_log::{AskFault, Entry, Log, Page, Setup, SubmitFault};
+use rdm_log::{Entry, Log, Page, Setup};
 use rdm_wire::Frame;
 use std::alloc::Global;
 use std::marker::Brand;
@@ -139,32 +138,19 @@ struct Locked<'a, L: Ledger, J: PageRing, R, X: Drop> {
 
 impl<L: Ledger, J: PageRing, R: Wait, X: Line + Drop> Served for Locked<'_, L, J, R, X> {
     fn submit(&mut self, client: usize, tag: u64) -> Option<bool> {
-        let client = self.clients.get_mut(client)?;
-        match client.submit(self.bench.rt, request(tag), Note(tag)) {
-            Ok(_) => Some(true),
-            Err((SubmitFault::Full, _, _)) => Some(false),
-            Err(_) => None,
-        }
+        submit(self.bench.rt, self.clients.get_mut(client)?, tag)
     }
 
     fn ask(&mut self, client: usize, tag: u64) -> Option<bool> {
-        let client = self.clients.get_mut(client)?;
-        match client.discover(self.bench.rt, Kind::Full, AskNote(tag)) {
-            Ok(_) => Some(true),
-            Err((AskFault::Full, _)) => Some(false),
-            Err(_) => None,
-        }
+        ask(self.bench.rt, self.clients.get_mut(client)?, tag)
     }
 
     fn collect_bytes(&mut self, client: usize) -> Option<usize> {
-        let client = self.clients.get_mut(client)?;
-        Some(client.collect_request(self.bench.rt)?.done.bytes.len())
+        collect_bytes(self.bench.rt, self.clients.get_mut(client)?)
     }
 
-    #[inline(never)]
     fn collect(&mut self, client: usize) -> Option<Heard> {
-        let client = self.clients.get_mut(client)?;
-        Some(told(&client.collect(self.bench.rt)))
+        Some(collect(self.bench.rt, self.clients.get_mut(client)?))
     }
 
     fn work(&mut self, turns: u64) -> Option<()> {
@@ -377,20 +363,19 @@ struct Rings<
 
 impl<J: ViewHistory, W: Wait + Drop, X: Line> Served for Rings<J, Shown<J>, W, X> {
     fn submit(&mut self, client: usize, tag: u64) -> Option<bool> {
-        submit(self.lanes.clients.get_mut(client)?, tag)
+        submit(&(), self.lanes.clients.get_mut(client)?, tag)
     }
 
     fn ask(&mut self, client: usize, tag: u64) -> Option<bool> {
-        ask(self.lanes.clients.get_mut(client)?, tag)
+        ask(&(), self.lanes.clients.get_mut(client)?, tag)
     }
 
     fn collect_bytes(&mut self, client: usize) -> Option<usize> {
-        let client = self.lanes.clients.get_mut(client)?;
-        Some(client.collect_request()?.done.bytes.len())
+        collect_bytes(&(), self.lanes.clients.get_mut(client)?)
     }
 
     fn collect(&mut self, client: usize) -> Option<Heard> {
-        Some(collect(self.lanes.clients.get_mut(client)?))
+        Some(collect(&(), self.lanes.clients.get_mut(client)?))
     }
 
     fn work(&mut self, turns: u64) -> Option<()> {
@@ -417,34 +402,39 @@ impl<J: ViewHistory, W: Wait + Drop, X: Line> Served for Rings<J, Shown<J>, W, X
     }
 }
 
-/// A client with ring buffers submits the request with this tag. Returns whether its queue accepted it.
-pub fn submit<J: ViewHistory>(client: &mut RingClient<J, Note, AskNote>, tag: u64) -> Option<bool>
-    ensures { SameClient client.old client.new }
+/// A client of either port submits the request with this tag. Returns whether its queue accepted it, or is full.
+pub fn submit<R, C: Client<Note, AskNote, R>>(rt: &R, client: &mut C, tag: u64) -> Option<bool>
+    ensures { C.same client.old client.new }
 {
-    match client.submit(request(tag), Note(tag)) {
-        Ok(()) => Some(true),
-        Err((RingFault::Full | RingFault::RingFull, _, _)) => Some(false),
+    match client.submit(rt, request(tag), Note(tag)) {
+        Ok(_) => Some(true),
+        Err((CallFault::Full | CallFault::RingFull, _, _)) => Some(false),
         Err(_) => None,
     }
 }
 
-/// It asks for a full discovery with this tag. Returns whether its queue accepted it.
-pub fn ask<J: ViewHistory>(client: &mut RingClient<J, Note, AskNote>, tag: u64) -> Option<bool>
-    ensures { SameClient client.old client.new }
+/// It asks for a full discovery with this tag. Returns whether its queue accepted it, or is full.
+pub fn ask<R, C: Client<Note, AskNote, R>>(rt: &R, client: &mut C, tag: u64) -> Option<bool>
+    ensures { C.same client.old client.new }
 {
-    match client.discover(Kind::Full, AskNote(tag)) {
-        Ok(()) => Some(true),
-        Err((RingFault::Full | RingFault::RingFull, _)) => Some(false),
+    match client.discover(rt, Kind::Full, AskNote(tag)) {
+        Ok(_) => Some(true),
+        Err((CallFault::Full | CallFault::RingFull, _)) => Some(false),
         Err(_) => None,
     }
 }
 
 /// What it collects.
 #[inline(never)]
-pub fn collect<J: ViewHistory>(client: &mut RingClient<J, Note, AskNote>) -> Heard
-    ensures { SameClient client.old client.new }
+pub fn collect<R, C: Client<Note, AskNote, R>>(rt: &R, client: &mut C) -> Heard
+    ensures { C.same client.old client.new }
 {
-    told(&client.collect())
+    told(&client.collect(rt))
+}
+
+// How many bytes of data the request's outcome has that it collects. None: there is no outcome.
+fn collect_bytes<R, C: Client<Note, AskNote, R>>(rt: &R, client: &mut C) -> Option<usize> {
+    Some(client.collect_request(rt)?.done.bytes.len())
 }
 
 // The ring buffers, with the history of the views that this blank begins.

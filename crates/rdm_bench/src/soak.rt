@@ -49,10 +49,13 @@ impl Port {
 /// Prints what the clients of as many ports as there are rounds are told, each of SIZE requests. How much memory
 /// the process holds after each port goes to standard error.
 pub fn print_ports<R: Prints + Wait>(bench: &Bench<R>, port: Port) -> Option<()> {
+    let mut held = Held::default();
+    let mut requests: u64 = 0;
     for seed in 1..=bench.rounds as u64 {
         let mut soak = Soak::new(bench, port, false, seed)?;
         soak.serve_on(bench, FREE, seed)?;
-        soak.print(bench)?;
+        requests = requests.wrapping_add(soak.told.submitted);
+        held.stays(requests, soak.print(bench)?)?;
     }
     Some(())
 }
@@ -120,7 +123,8 @@ impl<R: Prints> Job<R> for Soak {
         for _ in 0..rounds {
             self.submit_until(served, self.told.submitted.wrapping_add(self.requests))?;
             if self.drained {
-                self.print(bench)?;
+                let kilobytes = self.print(bench)?;
+                self.held.stays(self.told.submitted, kilobytes)?;
             }
         }
         for client in 0..usize::from(CLIENTS) {
@@ -268,7 +272,8 @@ impl Soak {
         follows
     }
 
-    fn print<R: Prints>(&mut self, bench: &Bench<R>) -> Option<()> {
+    // Returns how many kilobytes of memory the process holds.
+    fn print<R: Prints>(&self, bench: &Bench<R>) -> Option<u64> {
         let (rt, name) = (bench.rt, self.port.name(self.drained));
         let Tally {
             completed,
@@ -282,7 +287,7 @@ impl Soak {
         }
         let kilobytes = resident_without_gaps(rt, self.alloc)?;
         eprintln!(rt; "{name}: {kilobytes} kB").ok()?;
-        self.held.stays(self.told.submitted, kilobytes)
+        Some(kilobytes)
     }
 
     fn print_pages<R: Print>(&self, rt: &R, name: &str) -> Option<()> {
