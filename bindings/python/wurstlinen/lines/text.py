@@ -120,7 +120,7 @@ class TextLine(OpenLine):
         reply = parse_hex(self._read(end))
         while reply is not None and _is_late(reply, frame) and self._reader.is_pipe:
             now = time.monotonic()
-            if end is not None and now >= end:
+            if end is not None and now >= end + LATE_SECONDS:
                 break
             try:
                 reply = parse_hex(self._read(now + LATE_SECONDS))
