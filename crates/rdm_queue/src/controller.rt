@@ -34,7 +34,7 @@ impl Model for Controller {
 }
 
 impl Controller {
-    ghost use Rattle.std.specs.Prelude.{◌≡◌, ◌∷◌, ◌<◌, [], true, false, length, IfOk, IfErr, IfSome};
+    ghost use Rattle.std.specs.Prelude.{◌≡◌, ◌∷◌, ◌<◌, ◌≤◌, ◌+◌, ◌*◌, [], true, false, length, IfOk, IfErr, IfSome};
     ghost use Rattle.std.specs.Prelude.{IfNone, OnErr, OnSome, Some, ◌≢◌, option_map};
     ghost use Rattle.rdm_log.specs.declared.entry.Entry.TheVariants.{Send, Came, Close};
     ghost use Rattle.rdm_log.specs.log.History.{awaited, is_paused, is_closed, can_pause, can_resume, is_idle};
@@ -365,6 +365,15 @@ impl Controller {
         ensures { result ≡ length self.now.asked }
     {
         self.queue.asked()
+    }
+
+    /// At least as many as `uncollected`, and two for each request that isn't finished and each discovery that isn't
+    /// answered. It looks at no client.
+    pub(crate) fn most_reserved(&self) -> usize
+        ensures most { 2 * (length self.now.waiting + length self.now.asked) + uncollected self.now ≤ result }
+        ensures fits { result ≤ 12432 }
+    {
+        self.queue.most_reserved()
     }
 
     /// How many outcomes aren't collected.

@@ -71,8 +71,9 @@ impl Model for Queue {
 }
 
 impl Queue {
-    ghost use Rattle.std.specs.Prelude.{◌≡◌, ◌<◌, ◌+◌, ◌++◌, ◌∷◌, [], ℕ, Bool, ◌==◌, ◌&&◌, false, true, List, length};
-    ghost use Rattle.std.specs.Prelude.{drop, sum, map, IfOk, IfErr, IfSome, IfNone, OnOk, OnErr, OnSome, Some, None};
+    ghost use Rattle.std.specs.Prelude.{◌≡◌, ◌<◌, ◌+◌, ◌*◌, ◌++◌, ◌∷◌, [], ℕ, Bool, ◌==◌, ◌&&◌, false, true, List};
+    ghost use Rattle.std.specs.Prelude.{length, drop, sum, map, IfOk, IfErr, IfSome, IfNone, OnOk, OnErr, OnSome};
+    ghost use Rattle.std.specs.Prelude.{Some, None};
     ghost use Rattle.std.specs.Prelude.{is_some, option_map, slice_get, if◌then◌else◌, ◌≢◌, ◌≤◌};
     ghost use Rattle.rdm_wire.specs.Devices.{uids_of};
     ghost use Rattle.rdm_agent.specs.Calls.{HasRunBy};
@@ -466,6 +467,15 @@ impl Queue {
         ensures { result ≡ length self.now.asked }
     {
         self.asked.len()
+    }
+
+    /// At least as many as `uncollected`, and two for each request that isn't finished and each discovery that isn't
+    /// answered. It looks at no client.
+    pub(crate) fn most_reserved(&self) -> usize
+        ensures most { 2 * (length self.now.waiting + length self.now.asked) + uncollected self.now ≤ result }
+        ensures fits { result ≤ 12432 }
+    {
+        3 * (usize::from(self.config.places) + MOST_ASKED)
     }
 
     /// How many outcomes aren't collected.

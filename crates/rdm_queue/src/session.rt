@@ -383,11 +383,21 @@ impl Session {
         room >= 1 && room >= self.reserved() && room as u64 <= MOST_ENTRIES - self.log.len_in_all()
     }
 
-    // Whether the log is too full for the calls that a full log refuses.
-    fn is_full(&self) -> bool
+    /// Whether the log is full: fewer than three entries are [free](Session::free), so that it refuses some calls.
+    pub fn is_full(&self) -> bool
         ensures { result ≡ is_full_log self.now }
     {
-        self.free() < LEAST_FREE
+        !self.has_ample_room() && self.free() < LEAST_FREE
+    }
+
+    // Whether so many entries are unused that three are free, whatever is reserved. Most logs have as many, so that few
+    // calls have to count.
+    fn has_ample_room(&self) -> bool
+        ensures { result ≡ true → is_full_log self.now ≡ false }
+    {
+        let unused = self.log.room() - self.log.entries().len();
+        // One more entry is reserved for a close, and one for a reply.
+        unused >= self.controller.most_reserved() + 2 + LEAST_FREE
     }
 
     /// The log. It is legal, and keeps all that clients are promised.

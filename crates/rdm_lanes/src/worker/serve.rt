@@ -17,7 +17,7 @@ use crate::worker::lane::Lane;
 use rdm_agent::AgentFault;
 use rdm_client::BoxedAsk;
 use rdm_join::Status;
-use rdm_log::{ClientId, Completion, LEAST_FREE, MOST_DISCOVERIES, OutcomeKind, Work, WorkFault};
+use rdm_log::{ClientId, Completion, MOST_DISCOVERIES, OutcomeKind, Work, WorkFault};
 use rdm_queue::Session;
 use std::alloc::Global;
 
@@ -29,7 +29,7 @@ pub fn serve_call(alloc: Global, session: &mut Session, client: ClientId, lane: 
     requires served { IsBetweenTurns session.old }
     ensures { DoesFor NoExchange IsServed client.0 session.old lane.old session.new lane.new }
 {
-    if lane.calls.slots() == 0 || session.free() < LEAST_FREE {
+    if lane.calls.slots() == 0 || session.is_full() {
         return;
     }
     if !may_make(session, client, lane) {

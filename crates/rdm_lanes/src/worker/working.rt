@@ -13,7 +13,7 @@ use crate::worker::operating::operate;
 use crate::worker::serve::serve_call;
 use rdm_join::LineEvent;
 use rdm_line::Line;
-use rdm_log::{ClientId, LEAST_FREE, LogFull};
+use rdm_log::{ClientId, LogFull};
 use rdm_queue::Session;
 use std::alloc::Global;
 
@@ -70,7 +70,7 @@ impl Worker {
     pub(crate) fn serve_operator(&mut self)
         ensures { ServesOperator self.old self.new }
     {
-        if self.operator_left || self.session.free() < LEAST_FREE || self.operator.slots() == 0 {
+        if self.operator_left || self.operator.slots() == 0 || self.session.is_full() {
             return;
         }
         let Worker {

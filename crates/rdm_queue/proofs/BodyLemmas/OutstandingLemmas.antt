@@ -152,6 +152,13 @@ sum_lengths (ds ∷ lists) (n ∷ places) same each =
 pub uncollected-le : (s : QueueState) → StateInvariant s → uncollected s ≤ sum s.places + 4 * length s.places
 uncollected-le s held = sum_lengths s.owed s.places held.owed_for_each (λ c. owed-le s c held)
 
+-- at most three entries are reserved for each place, and for each of a client's four discoveries
+pub reserved_le : (s : QueueState) → StateInvariant s
+    → 2 * (length s.waiting + length s.asked) + uncollected s ≤ 3 * (s.greatest + 64)
+reserved_le s held =
+    let waiting = waiting-le s held in let asked = asked-le s held in let owed = uncollected-le s held in
+    omega (arith, held.few_places, held.few_clients)
+
 -- one more outcome for a client
 pub owes-own : (s : QueueState) (c : ℕ) (d : OutcomeValue) → c < length s.owed
     → get_or (owes c d s) c [] ≡ owed_to c s ++ d ∷ []

@@ -1,16 +1,19 @@
 -- A session's entries always fit into its log, and its controller stands after it.
-use Rattle.rdm_queue.proofs.Common.{◌≡◌, ℕ, ◌+◌, ◌≤◌, Bool, true, false, List, [], ◌∷◌, ◌++◌, length, append_assoc}
-use Rattle.rdm_queue.proofs.Common.{append-nil, length-append, refl, sym, ap, arith, ◌∙◌, ltb-false, Ok}
+use Rattle.rdm_queue.proofs.Common.{◌≡◌, ℕ, ◌+◌, ◌-◌, ◌*◌, ◌≤◌, if◌then◌else◌, Bool, true, false, List, [], ◌∷◌, ◌++◌}
+use Rattle.rdm_queue.proofs.Common.{append_assoc, append-nil, length, length-append, refl, sym, ap, arith, ◌∙◌, Ok}
+use Rattle.rdm_queue.proofs.Common.{ltb-false, unfinished, unanswered}
 use Rattle.rdm_queue.proofs.Common.{LineEvent, ClientId, Work, work_accepted}
 use Rattle.rdm_queue.proofs.Common.{Setup, Entry, Came, Finish, Answer, Close, accepts, asks, finishes, answers}
 use Rattle.rdm_queue.proofs.Common.{collectors, is_closed, awaited, LogState, grown, opened, is_result, AllResults}
 use Rattle.rdm_queue.proofs.Common.{IsWithResults, CloseAdds, FaultNeedsClose, AnswersInBound, QueueState, StandsAfter}
 use Rattle.rdm_queue.proofs.Common.{StandsAmid, SessionInvariant, SessionAmid, EachAfter, MayFollow, empty_in_bound}
 use Rattle.rdm_queue.proofs.Common.{IsSetUp}
-use Rattle.rdm_log.specs.log.History.{reserved}
+use Rattle.std.proofs.lemmas.Bool.{le-ltb}
+use Rattle.rdm_log.specs.log.History.{reserved, uncollected_count}
 use Rattle.rdm_log.specs.log.LogState.{free_entries, is_full_log, drained}
 use Rattle.rdm_log.specs.declared.work.Work.TheVariants.{Submit, Discover}
 use Rattle.rdm_log.specs.promises.Blocks.{UnlessFull, DeliverAdds, GrowsBy}
+use Rattle.rdm_queue.specs.body.State.{uncollected}
 use Rattle.rdm_queue.specs.body.SessionInvariant.{HasRoom, FinishesDue}
 use Rattle.rdm_log.proofs.BoundLemmas.{after_growth}
 use Rattle.rdm_log.proofs.PromiseLemmas.LogInBoundLemmas.{in_bound_grows}
@@ -61,6 +64,27 @@ room_for k e room = omega (arith, room, length-append k.entries (e ∷ []))
 
 pub free_of : (k : LogState) → is_full_log k ≡ false → 3 ≤ free_entries k
 free_of k free = ltb-false (free_entries k) 3 free
+
+-- at most two more entries are reserved than for what is outstanding
+few_reserved : (closed awaits : Bool) (n m : ℕ) → n ≤ m
+    → (if closed then 0 else 1) + (if awaits then 1 else 0) + n ≤ m + 2
+few_reserved true true n m most = omega arith
+few_reserved true false n m most = omega arith
+few_reserved false true n m most = omega arith
+few_reserved false false n m most = omega arith
+
+-- a log with five more unused entries than can be reserved for what is outstanding isn't full
+pub ample_room : (s : QueueState) (k : LogState) (most : ℕ) → SessionInvariant s k
+    → 2 * (length s.waiting + length s.asked) + uncollected s ≤ most → most + 5 ≤ k.room - length k.entries
+    → is_full_log k ≡ false
+ample_room s k most kept few unused =
+    let stands = kept.after.stands in
+    let waiting = ap length stands.waiting_are in
+    let asked = ap length stands.asked_are in
+    let counted : 2 * (length (unfinished k.entries) + length (unanswered k.entries)) + uncollected_count k.entries
+        ≤ most = omega (arith, waiting, asked, stands.all_outcomes, few) in
+    let all = few_reserved (is_closed k.opening k.entries) (awaited k.entries) _ most counted in
+    le-ltb (free_entries k) 3 (omega (arith, all, unused))
 
 -- a Finish takes no free entry
 pub result_added : (e : Entry) → is_result e ≡ true → added e ≡ 0

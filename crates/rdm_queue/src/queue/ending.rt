@@ -197,6 +197,9 @@ impl Queue {
         ensures finished { IfSome result (λ entry. IsFinished self.old entry self.new) }
         ensures none { IfNone result ((due self.old ≡ None) × (self.new ≡ self.old)) }
     {
+        if self.decided.is_none() && !self.is_closing() {
+            return None;
+        }
         let (at, _) = self.oldest()?;
         let done = self.end_of_oldest()?;
         Some(self.finish(at, done))
