@@ -16,6 +16,7 @@ pub mod AnswersReportTheLine
 pub mod OwnDiscoveries
 pub mod Promises
 pub mod BlockLemmas
+pub mod EntriesOf
 pub mod ExplainsLemmas
 pub mod ClosedEvents
 pub mod QuietEvents

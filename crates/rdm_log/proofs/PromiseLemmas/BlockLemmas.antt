@@ -1,7 +1,7 @@
 -- What the blocks of a session's joins and of its clients' work say if the log isn't full, and which entries they have.
 use Rattle.rdm_log.proofs.Common.{◌≡◌, ℕ, Bool, true, false, List, [], ◌∷◌, refl, ap, inl, inr, ◌⊎◌, Result, Ok, Err}
 use Rattle.rdm_log.proofs.Common.{Request, ClientId, Entry, Work, WorkFault, LogState, is_full_log, join_refused}
-use Rattle.rdm_log.proofs.Common.{WorkAdds, WorkLogs, work_accepted, work_refused, Adds, brings, answer_to}
+use Rattle.rdm_log.proofs.Common.{WorkAdds, WorkLogs, Adds, brings, answer_to}
 use Rattle.rdm_log.specs.declared.event.Answer.{Answer}
 use Rattle.rdm_log.specs.declared.event.Answer.TheVariants as answers
 use Rattle.rdm_log.specs.declared.fault.JoinFault.{JoinFault}
@@ -19,7 +19,7 @@ in_each : {A B C D : Type 0} (full : Bool) → (A → C) → (B → D) → Unles
 in_each true refused added is = refused is
 in_each false refused added is = added is
 
-in_both : {A B C : Type 0} (full : Bool) → (A → C) → (B → C) → UnlessFull full A B → C
+pub in_both : {A B C : Type 0} (full : Bool) → (A → C) → (B → C) → UnlessFull full A B → C
 in_both true refused added is = refused is
 in_both false refused added is = added is
 
@@ -79,16 +79,3 @@ work_answer k c (Submit request) (answers.Submit (Err e)) block adds =
 work_answer k c (Submit request) _ block adds = absurd adds
 work_answer k c (Discover kind) (answers.Discover r) block adds = (r, refl)
 work_answer k c (Discover kind) _ block adds = absurd adds
-
--- what holds of the blocks of work: of none, of the entry of accepted work, and of that of refused work
-pub work_block : (P : List Entry → Type 0) (k : LogState) (c : ClientId) (work : Work) (answer : Answer)
-    (block : List Entry) → P [] → ((n : ℕ) → P (work_accepted c n work ∷ []))
-    → ((fault : WorkFault) → P (work_refused c work fault ∷ [])) → Adds k (brings c work) answer block → P block
-work_block P k c work answer block none accepted refused adds =
-    let is = work_answer k c work answer block adds in
-    by_result is.0 (work_adds k c work is.0 block (rw is.1 at adds))
-  where
-    by_result : (r : Result ℕ WorkFault) → WorkLogs k c work r block → P block
-    by_result (Ok n) logs = rw (work_ok k c work n block logs).2 (accepted n)
-    by_result (Err fault) logs =
-        in_both (is_full_log k) (λ full. rw full.1 none) (λ added. rw added.1 (refused fault)) logs

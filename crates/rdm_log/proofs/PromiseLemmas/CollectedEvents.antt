@@ -1,20 +1,16 @@
 -- A client collects the outcomes of its Finishes and Answers once, in order.
-use Rattle.rdm_log.proofs.Common.{◌≡◌, ℕ, zero, suc, Bool, true, false, List, [], ◌∷◌, ◌++◌, length, take, drop, Option}
+use Rattle.rdm_log.proofs.Common.{◌≡◌, ℕ, zero, suc, true, false, List, [], ◌∷◌, ◌++◌, length, take, drop, Option}
 use Rattle.rdm_log.proofs.Common.{Some, None, if◌then◌else◌, slice_get, refl, ap, ◌∙◌, append_assoc, append-nil}
 use Rattle.rdm_log.proofs.Common.{add-one, inl, inr, filter_map, ◌⊎◌, ◌==◌, Ok, Err, AllByRecursion, cons_option}
-use Rattle.rdm_log.proofs.Common.{eq-eqb, cases_Bool, false≢true, eqb-true, length_push, filter-append}
-use Rattle.rdm_log.proofs.Common.{filter_map-append, same_Some, EachAfter, ClientId, Opening, Entry, Came, Finish}
-use Rattle.rdm_log.proofs.Common.{Collect, Pause, Resume, Close, Outcome, Event, collector_of, collectors, is_closed}
-use Rattle.rdm_log.proofs.Common.{can_pause, can_resume, answers_to, collects_by, collected, uncollected, MayFollow}
-use Rattle.rdm_log.proofs.Common.{OutcomeValue, outcome_value, outcome_of, unboxed, LogState, grown, join_refused}
-use Rattle.rdm_log.proofs.Common.{is_result, IsWithResults, IsOldest, SwitchAdds}
-use Rattle.rdm_log.proofs.Common.{CloseAddsWhere, Adds, IsAnswered, Explains}
-use Rattle.rdm_log.specs.declared.entry.Entry.TheVariants as discovery
+use Rattle.rdm_log.proofs.Common.{eq-eqb, cases_Bool, eqb-true, length_push, filter-append, filter_map-append}
+use Rattle.rdm_log.proofs.Common.{same_Some, EachAfter, ClientId, Opening, Entry, Collect, Outcome, Event}
+use Rattle.rdm_log.proofs.Common.{collector_of, collectors, answers_to, collects_by, collected, uncollected, MayFollow}
+use Rattle.rdm_log.proofs.Common.{OutcomeValue, outcome_value, outcome_of, unboxed, LogState, grown, IsOldest, Adds}
+use Rattle.rdm_log.proofs.Common.{IsAnswered, Explains}
 use Rattle.rdm_log.specs.declared.event.Event.TheVariants as events
 use Rattle.rdm_log.specs.declared.event.Answer.{Answer}
 use Rattle.rdm_log.specs.declared.event.Answer.TheVariants as answers
-use Rattle.rdm_log.specs.declared.work.Work.TheVariants as works
-use Rattle.rdm_log.proofs.PromiseLemmas.BlockLemmas.{join_ok, join_refusal, work_block}
+use Rattle.rdm_log.proofs.PromiseLemmas.EntriesOf.{EachOf, adds_each}
 use Rattle.rdm_log.specs.promises.EventsHeadline.{outcome_given, given_to, collected_outcomes}
 use Rattle.rdm_log.proofs.LogLemmas.Grows.{front}
 use Rattle.rdm_log.proofs.LogLemmas.PushLemmas.{collectors_more}
@@ -67,30 +63,6 @@ collected_other o c h d other =
       append-nil,
     ) refl
 
--- an event that returns no outcome adds no Collect
-none_or_one : (e : Entry) (block : List Entry) → collector_of e ≡ None → (block ≡ []) ⊎ (block ≡ e ∷ [])
-    → NoCollects block
-none_or_one e block none (inl is) = rw is tt
-none_or_one e block none (inr is) = rw is (none, tt)
-
-switch_none : (b : Bool) (e : Entry) (block : List Entry) → collector_of e ≡ None → SwitchAdds b e block
-    → NoCollects block
-switch_none true e block none is = rw is (none, tt)
-switch_none false e block none is = rw is tt
-
-results_none : (block : List Entry) → AllByRecursion (λ r. is_result r ≡ true) block → NoCollects block
-results_none [] all = tt
-results_none (Finish n status len ∷ block) all = (refl, results_none block all.1)
-results_none (discovery.Answer n run fault ∷ block) all = (refl, results_none block all.1)
-results_none (_ ∷ block) all = absurd (false≢true all.0)
-
-with_results_none : (e : Entry) (block : List Entry) → collector_of e ≡ None → IsWithResults e block → NoCollects block
-with_results_none e block none is = rw is.whole (none, results_none is.results is.each)
-
-close_none : (closed : Bool) (block : List Entry) → CloseAddsWhere closed block → NoCollects block
-close_none true block adds = rw adds tt
-close_none false block adds = with_results_none Close block refl adds
-
 -- for an event that returned no outcome
 pub record GaveNothing (e : Event) (r : Answer) (block : List Entry) : Type 0 where
   pub none : NoCollects block
@@ -104,54 +76,27 @@ pub record GaveOne (k : LogState) (e : Event) (r : Answer) (block : List Entry) 
   pub is : block ≡ Collect client ∷ []
   pub given : (c : ℕ) → outcome_given c e r ≡ (if c == client.0 then Some (outcome_value outcome) else None)
 
+-- an event whose block has no Collect
+gave_nothing : (k : LogState) (e : Event) (r : Answer) (block : List Entry) → EachOf e (λ e. collector_of e ≡ None)
+    → ((c : ℕ) → outcome_given c e r ≡ None) → Adds k e r block → GaveNothing e r block ⊎ GaveOne k e r block
+gave_nothing k e r block each nothing adds =
+    inl (record { none = adds_each (λ e. collector_of e ≡ None) k e r block each adds; nothing = nothing })
+
 gave : (k : LogState) (e : Event) (r : Answer) (block : List Entry) → Adds k e r block → GaveNothing e r block
     ⊎ GaveOne k e r block
-gave k (events.Join n) (answers.Join (Ok c)) block adds = inl (record {
-  none = rw (join_ok k n c block adds).2 (refl, tt);
-  nothing = λ d. refl;
-})
-gave k (events.Join n) (answers.Join (Err fault)) block adds = inl (record {
-  none = none_or_one (join_refused n fault) block refl (join_refusal k n fault block adds);
-  nothing = λ d. refl;
-})
-gave k (events.Submit c request) r block adds = inl (record {
-  none = work_block (λ l. NoCollects l) k c (works.Submit request) r block tt (λ n. (refl, tt)) (λ fault. (refl, tt))
-      adds;
-  nothing = λ d. refl;
-})
-gave k (events.Discover c kind) r block adds = inl (record {
-  none = work_block (λ l. NoCollects l) k c (works.Discover kind) r block tt (λ n. (refl, tt)) (λ fault. (refl, tt))
-      adds;
-  nothing = λ d. refl;
-})
-gave k events.Pause (answers.Pause (Ok x)) block adds = inl (record {
-  none = switch_none (can_pause k.opening k.entries) Pause block refl adds.1;
-  nothing = λ d. refl;
-})
-gave k events.Pause (answers.Pause (Err x)) block adds = inl (record { none = rw adds.1 tt; nothing = λ d. refl })
-gave k events.Resume (answers.Resume (Ok x)) block adds = inl (record {
-  none = switch_none (can_resume k.opening k.entries) Resume block refl adds.1;
-  nothing = λ d. refl;
-})
-gave k events.Resume (answers.Resume (Err x)) block adds = inl (record { none = rw adds.1 tt; nothing = λ d. refl })
-gave k events.Close answers.Close block adds = inl (record {
-  none = close_none (is_closed k.opening k.entries) block adds;
-  nothing = λ d. refl;
-})
-gave k events.Take (answers.Take (Ok (Some frame))) block adds = inl (record {
-  none = rw adds.1.2 (refl, tt);
-  nothing = λ d. refl;
-})
-gave k events.Take (answers.Take (Ok None)) block adds = inl (record { none = rw adds.1.1 tt; nothing = λ d. refl })
-gave k events.Take (answers.Take (Err x)) block adds = inl (record { none = rw adds.1 tt; nothing = λ d. refl })
-gave k (events.Deliver event) (answers.Deliver (Ok x)) block adds = inl (record {
-  none = with_results_none (Came event) block refl adds.1;
-  nothing = λ d. refl;
-})
-gave k (events.Deliver event) (answers.Deliver (Err e)) block adds = inl (record {
-  none = rw adds.2 tt;
-  nothing = λ d. refl;
-})
+gave k (events.Join n) r block adds =
+    gave_nothing k (events.Join n) r block (λ c. refl, λ fault. refl) (λ d. refl) adds
+gave k (events.Submit c request) r block adds =
+    gave_nothing k (events.Submit c request) r block (λ n. refl, λ fault. refl) (λ d. refl) adds
+gave k (events.Discover c kind) r block adds =
+    gave_nothing k (events.Discover c kind) r block (λ n. refl, λ fault. refl) (λ d. refl) adds
+gave k events.Pause r block adds = gave_nothing k events.Pause r block refl (λ d. refl) adds
+gave k events.Resume r block adds = gave_nothing k events.Resume r block refl (λ d. refl) adds
+gave k events.Close r block adds =
+    gave_nothing k events.Close r block (refl, (λ n status len. refl, λ n run fault. refl)) (λ d. refl) adds
+gave k events.Take r block adds = gave_nothing k events.Take r block (λ owner frame. refl) (λ d. refl) adds
+gave k (events.Deliver event) r block adds =
+    gave_nothing k (events.Deliver event) r block (refl, (λ n status len. refl, λ n run fault. refl)) (λ d. refl) adds
 gave k (events.Collect c) (answers.Collect (Ok (Some outcome))) block adds = inr (record {
   client = c;
   outcome = unboxed outcome;
@@ -159,15 +104,11 @@ gave k (events.Collect c) (answers.Collect (Ok (Some outcome))) block adds = inr
   is = adds.1;
   given = λ d. refl;
 })
-gave k (events.Collect c) (answers.Collect (Ok None)) block adds = inl (record {
-  none = rw adds.1 tt;
-  nothing = λ d. refl;
-})
-gave k (events.Collect c) (answers.Collect (Err x)) block adds = inl (record {
-  none = rw adds.1 tt;
-  nothing = λ d. refl;
-})
-gave k _ _ block adds = absurd adds
+gave k (events.Collect c) (answers.Collect (Ok None)) block adds =
+    inl (record { none = rw adds.1 tt; nothing = λ d. refl })
+gave k (events.Collect c) (answers.Collect (Err x)) block adds =
+    inl (record { none = rw adds.1 tt; nothing = λ d. refl })
+gave k (events.Collect c) _ block adds = absurd adds
 
 -- the oldest uncollected answer has its outcome also in a later log
 outcome_lasts : (o : Opening) (h more : List Entry) (c : ℕ) (outcome : Outcome) → EachAfter (MayFollow o) (h ++ more)

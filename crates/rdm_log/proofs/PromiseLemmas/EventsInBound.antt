@@ -1,10 +1,9 @@
 -- On a calm line, with a budget that suffices, a discovery that events answered has a fault only after a close.
 use Rattle.rdm_log.proofs.Common.{◌≡◌, ℕ, zero, suc, Bool, true, false, List, [], ◌∷◌, ◌++◌, Some, None, refl, sym, ap}
-use Rattle.rdm_log.proofs.Common.{◌∙◌, append_assoc, append-nil, inl, inr, ◌⊎◌, ◌≢◌, Ok, Err, append_cancel_left}
-use Rattle.rdm_log.proofs.Common.{EachAfter, AgentFault, Entry, Pause, Resume, Close, Event, is_closed, can_pause}
-use Rattle.rdm_log.proofs.Common.{can_resume, has_begun, MayAnswer, MayFollow, LogState, grown, with_entries}
-use Rattle.rdm_log.proofs.Common.{join_refused, SwitchAdds, CloseAddsWhere, IsCalmRun}
-use Rattle.rdm_log.proofs.Common.{FaultNeedsClose, AnswersInBound, Adds, Explains}
+use Rattle.rdm_log.proofs.Common.{◌∙◌, append_assoc, append-nil, ◌≢◌, Ok, Err, append_cancel_left, AllByRecursion}
+use Rattle.rdm_log.proofs.Common.{EachAfter, AgentFault, Entry, Close, Event, is_closed, has_begun, MayAnswer}
+use Rattle.rdm_log.proofs.Common.{MayFollow, LogState, grown, with_entries, CloseAddsWhere, IsCalmRun, FaultNeedsClose}
+use Rattle.rdm_log.proofs.Common.{AnswersInBound, Adds, Explains}
 use Rattle.rdm_log.specs.declared.entry.Entry.TheVariants as discovery
 use Rattle.rdm_log.specs.declared.event.Event.TheVariants as events
 use Rattle.rdm_log.specs.declared.event.Answer.{Answer}
@@ -15,20 +14,8 @@ use Rattle.rdm_log.proofs.LogLemmas.PushLemmas.{is_closed-push}
 use Rattle.rdm_log.proofs.LogLemmas.RunLemmas.{entries_before_run_stays, served_stays}
 use Rattle.rdm_log.proofs.PromiseLemmas.NothingAfterClose.{closed_more}
 use Rattle.rdm_log.proofs.PromiseLemmas.RunsAnswer.{named_begun, ended}
-use Rattle.rdm_log.specs.declared.work.Work.TheVariants as works
-use Rattle.rdm_log.proofs.PromiseLemmas.BlockLemmas.{join_ok, join_refusal, work_block}
+use Rattle.rdm_log.proofs.PromiseLemmas.EntriesOf.{EachOf, adds_each}
 use Rattle.rdm_log.proofs.PromiseLemmas.ExplainsLemmas.{grown_twice}
-
--- blocks of one entry that is no Answer, or of none
-none_or_one : (k : LogState) (e : Entry) (block : List Entry) → FaultNeedsClose k e → (block ≡ []) ⊎ (block ≡ e ∷ [])
-    → AnswersInBound k block
-none_or_one k e block none (inl is) = rw is tt
-none_or_one k e block none (inr is) = rw is (none, tt)
-
-switch_in_bound : (k : LogState) (b : Bool) (e : Entry) (block : List Entry) → FaultNeedsClose k e
-    → SwitchAdds b e block → AnswersInBound k block
-switch_in_bound k true e block none is = rw is (none, tt)
-switch_in_bound k false e block none is = rw is tt
 
 -- if the queue is closed, any Answer is in bound
 closed_entry : (k : LogState) (e : Entry) → is_closed k.opening k.entries ≡ true → FaultNeedsClose k e
@@ -48,32 +35,34 @@ close_in_bound k true block adds = rw adds tt
 close_in_bound k false block adds =
     rw adds.whole (tt, closed_in_bound (grown k (Close ∷ [])) adds.results (is_closed-push k.opening k.entries Close))
 
--- the same for each event's block
+-- the same for each event's block: one without Answers
+no_answers : (k : LogState) (block : List Entry) → AllByRecursion (λ e. (k : LogState) → FaultNeedsClose k e) block
+    → AnswersInBound k block
+no_answers k [] all = tt
+no_answers k (e ∷ block) all = (all.0 k, no_answers (grown k (e ∷ [])) block all.1)
+
+answerless : (k : LogState) (e : Event) (r : Answer) (block : List Entry)
+    → EachOf e (λ e. (k : LogState) → FaultNeedsClose k e) → Adds k e r block → AnswersInBound k block
+answerless k e r block each adds =
+    no_answers k block (adds_each (λ e. (k : LogState) → FaultNeedsClose k e) k e r block each adds)
+
 pub event_in_bound : (k : LogState) (e : Event) (r : Answer) (block : List Entry) → Adds k e r block
     → AnswersInBound k block
-event_in_bound k (events.Join n) (answers.Join (Ok c)) block adds = rw (join_ok k n c block adds).2 (tt, tt)
-event_in_bound k (events.Join n) (answers.Join (Err fault)) block adds =
-    none_or_one k (join_refused n fault) block tt (join_refusal k n fault block adds)
-event_in_bound k (events.Submit c request) r block adds =
-    work_block (AnswersInBound k) k c (works.Submit request) r block tt (λ n. (tt, tt)) (λ fault. (tt, tt)) adds
-event_in_bound k (events.Discover c kind) r block adds =
-    work_block (AnswersInBound k) k c (works.Discover kind) r block tt (λ n. (tt, tt)) (λ fault. (tt, tt)) adds
-event_in_bound k events.Pause (answers.Pause (Ok x)) block adds =
-    switch_in_bound k (can_pause k.opening k.entries) Pause block tt adds.1
-event_in_bound k events.Pause (answers.Pause (Err x)) block adds = rw adds.1 tt
-event_in_bound k events.Resume (answers.Resume (Ok x)) block adds =
-    switch_in_bound k (can_resume k.opening k.entries) Resume block tt adds.1
-event_in_bound k events.Resume (answers.Resume (Err x)) block adds = rw adds.1 tt
 event_in_bound k events.Close answers.Close block adds = close_in_bound k (is_closed k.opening k.entries) block adds
-event_in_bound k events.Take (answers.Take (Ok (Some frame))) block adds = rw adds.1.2 (tt, tt)
-event_in_bound k events.Take (answers.Take (Ok None)) block adds = rw adds.1.1 tt
-event_in_bound k events.Take (answers.Take (Err x)) block adds = rw adds.1 tt
+event_in_bound k events.Close _ block adds = absurd adds
 event_in_bound k (events.Deliver event) (answers.Deliver (Ok x)) block adds = adds.2
 event_in_bound k (events.Deliver event) (answers.Deliver (Err e)) block adds = rw adds.2 tt
-event_in_bound k (events.Collect c) (answers.Collect (Ok (Some outcome))) block adds = rw adds.1 (tt, tt)
-event_in_bound k (events.Collect c) (answers.Collect (Ok None)) block adds = rw adds.1 tt
-event_in_bound k (events.Collect c) (answers.Collect (Err x)) block adds = rw adds.1 tt
-event_in_bound k _ _ block adds = absurd adds
+event_in_bound k (events.Deliver event) _ block adds = absurd adds
+event_in_bound k (events.Join n) r block adds =
+    answerless k (events.Join n) r block (λ c l. tt, λ fault l. tt) adds
+event_in_bound k (events.Submit c request) r block adds =
+    answerless k (events.Submit c request) r block (λ n l. tt, λ fault l. tt) adds
+event_in_bound k (events.Discover c kind) r block adds =
+    answerless k (events.Discover c kind) r block (λ n l. tt, λ fault l. tt) adds
+event_in_bound k events.Pause r block adds = answerless k events.Pause r block (λ l. tt) adds
+event_in_bound k events.Resume r block adds = answerless k events.Resume r block (λ l. tt) adds
+event_in_bound k events.Take r block adds = answerless k events.Take r block (λ owner frame l. tt) adds
+event_in_bound k (events.Collect c) r block adds = answerless k (events.Collect c) r block (λ l. tt) adds
 
 -- and with all that events added
 all_in_bound : (old : LogState) (es : List Event) (rs : List Answer) (new : LogState) → Explains old es rs new
