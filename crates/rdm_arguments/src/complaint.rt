@@ -14,7 +14,7 @@ use rdm_wire::MOST_DEVICES;
 use std::{fmt, mem};
 
 /// What is wrong with arguments that fit no command, or what they ask for instead. Options are named without hyphens.
-#[derive(Clone, Copy, PartialEq, Eq)]
+#[derive(Clone, Copy)]
 pub enum Complaint<'a> {
     /// Nothing: they ask for the usage.
     Help,

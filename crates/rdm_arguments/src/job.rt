@@ -11,7 +11,7 @@ use clap::error::ErrorKind;
 use std::alloc::Global;
 
 /// The job that arguments give.
-#[derive(Drop, PartialEq, Eq)]
+#[derive(Drop)]
 pub enum Job<'a> {
     /// Say what these bytes mean, which answered a branch. They are given in hexadecimal.
     Decode(&'a str),
@@ -26,7 +26,7 @@ pub enum Job<'a> {
 }
 
 /// A discovery, from the arguments.
-#[derive(Drop, PartialEq, Eq)]
+#[derive(Drop)]
 pub struct DiscoverJob<'a> {
     /// The line.
     pub line: DiscoveryLine<'a>,
@@ -39,7 +39,7 @@ pub struct DiscoverJob<'a> {
 }
 
 /// The line of a discovery.
-#[derive(Drop, PartialEq, Eq)]
+#[derive(Drop)]
 pub enum DiscoveryLine<'a> {
     /// The simulated line of the scene in the file at this path.
     Scene(&'a str),
@@ -48,7 +48,7 @@ pub enum DiscoveryLine<'a> {
 }
 
 /// What a discovery on a line of the caller's own needs. The UIDs aren't parsed yet.
-#[derive(Drop, PartialEq, Eq)]
+#[derive(Drop)]
 pub struct LineDiscovery<'a> {
     /// The streams that reach the line.
     pub streams: Streams<'a>,
@@ -61,7 +61,7 @@ pub struct LineDiscovery<'a> {
 }
 
 /// The streams of text that reach a line.
-#[derive(Clone, Copy, PartialEq, Eq)]
+#[derive(Clone, Copy)]
 pub struct Streams<'a> {
     /// The path of the stream that frames go to.
     pub out: &'a str,
@@ -70,7 +70,7 @@ pub struct Streams<'a> {
 }
 
 /// A session, from the arguments.
-#[derive(Clone, Copy, PartialEq, Eq)]
+#[derive(Clone, Copy)]
 pub struct RunJob<'a> {
     /// The path of the session file.
     pub file: &'a str,
@@ -83,7 +83,7 @@ pub struct RunJob<'a> {
 }
 
 /// An explanation of a log, from the arguments. The UIDs aren't parsed yet.
-#[derive(Drop, PartialEq, Eq)]
+#[derive(Drop)]
 pub struct ExplainJob<'a> {
     /// The path of the log.
     pub log: &'a str,

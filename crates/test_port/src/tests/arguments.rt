@@ -10,13 +10,20 @@ use std::thread::Threads;
 
 // The arguments ask for a session of the file `file` over this port.
 fn names(rt: &impl Abort, alloc: Global, words: &[&str], port: PortKind) {
-    let job = Job::Run(RunJob {
-        file: "file",
-        streams: None,
-        port,
-        log: None,
-    });
-    check(rt, parse_words(alloc, words) == Ok(job));
+    let is_named = match parse_words(alloc, words) {
+        Ok(
+            Job::Run(
+                RunJob {
+                    file: "file",
+                    streams: None,
+                    port: named,
+                    log: None,
+                },
+            ),
+        ) => named == port,
+        _ => false,
+    };
+    check(rt, is_named);
 }
 
 // Both ports print the same, so only the value shows which one was named.
@@ -76,7 +83,7 @@ fn a_second_file_is_not_read(rt: HostRuntime) {
 fn faults_of_arguments_say_what_is_wrong(rt: HostRuntime) {
     let alloc = rt.alloc();
     let complaint = complaint_of(&["decode", "00"]);
-    check(&rt, complaint == Complaint::Misfit);
+    check(&rt, matches!(complaint, Complaint::Misfit));
     let text = "the arguments fit no command; try 'wurstlinen --help'";
     says(&rt, alloc, &complaint, text);
     says(&rt, alloc, &Reason::Arguments, text);
