@@ -82,7 +82,7 @@ ample_room s k most kept few unused =
     let waiting = ap length stands.waiting_are in
     let asked = ap length stands.asked_are in
     let counted : 2 * (length (unfinished k.entries) + length (unanswered k.entries)) + uncollected_count k.entries
-        ≤ most = omega (arith, waiting, asked, stands.all_outcomes, few) in
+    ≤ most = omega (arith, waiting, asked, stands.all_outcomes, few) in
     let all = few_reserved (is_closed k.opening k.entries) (awaited k.entries) _ most counted in
     le-ltb (free_entries k) 3 (omega (arith, all, unused))
 
