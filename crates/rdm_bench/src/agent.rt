@@ -4,9 +4,9 @@ ghost use Rattle.rdm_wire.specs.Uid.{IsDevice};
 ghost use Rattle.rdm_agent.specs.Calls.{next_op};
 
 use crate::bench::{Bench, Sample, Times, holds};
-use crate::lines::{Spread, Taped, TestLine, Wrong, devices};
+use crate::lines::{Taped, TestLine, devices};
 use crate::packets::TRANSACTION_NUMBER;
-use rdm_agent::{Agent, DEFAULT_BUDGET, Kind, Op, OpReply, Search};
+use rdm_agent::{Agent, DEFAULT_BUDGET, Kind, Op, OpReply};
 use rdm_wire::UidSet;
 use std::alloc::Global;
 use test_rig::controller;
@@ -14,11 +14,7 @@ use test_rig::controller;
 /// Times runs: a start and an end alone; and all frames of a run, with branch replies read from their bytes or not, and
 /// with each frame written too or not.
 pub fn time<R: Times>(bench: &Bench<R>) -> Option<()> {
-    let known = devices(
-        bench.size,
-        Spread::Random,
-        (bench.size as u64).wrapping_add(42),
-    )?;
+    let known = devices(bench.size, (bench.size as u64).wrapping_add(42))?;
     let mut runs = Runs {
         known: &known,
         budget: 0,
@@ -39,8 +35,8 @@ pub fn time<R: Times>(bench: &Bench<R>) -> Option<()> {
 
 /// What comes in a steady run on a line with these devices that loses nothing.
 pub fn tape(alloc: Global, devices: &UidSet) -> Option<Vec<Taped>> {
-    let mut line = TestLine::new(alloc, Wrong::Nothing, devices, 1)?;
-    let found = line.count(Search::Steady)?;
+    let mut line = TestLine::new(alloc, devices)?;
+    let found = line.count()?;
     holds(found == devices.len())?;
     Some(line.tape)
 }

@@ -38,8 +38,6 @@ usage: rdm_bench SUBJECT SIZE ROUNDS
   port_discovery  discoveries of SIZE devices, 1 to 1024, with a mutex
   ring_discovery  the same with ring buffers
   views           views of SIZE devices, 1 to 1024, that sixteen clients read
-  frames          frames of both searches over SIZE devices, 1 to 1024, on ROUNDS honest lines of each kind
-  scenes          ends of both searches over SIZE devices, 1 to 1000, on ROUNDS lines of each kind that aren't honest
   soak_locked     SIZE requests, 1 to 100000, of sixteen clients of each of ROUNDS ports with a mutex
   soak_rings      the same with ring buffers
   drained         those that follow, without discoveries and with them
@@ -52,8 +50,7 @@ usage: rdm_bench SUBJECT SIZE ROUNDS
 ROUNDS: 1 to 1000; else how often each of the 21 samples repeats its work";
 
 // What `all` measures first. The other subjects are among these.
-const ALL: &str =
-    "agent calls queue answer run ports port_discovery ring_discovery views frames scenes";
+const ALL: &str = "agent calls queue answer run ports port_discovery ring_discovery views";
 
 // What it measures then, with a hundred times as many requests: these, and those of `drained`.
 const SOAKS: &str = "soak_locked soak_rings";
@@ -119,8 +116,7 @@ fn most(subject: &str) -> usize {
     match subject {
         "ports" | "port" | "rings" => 8,
         "calls" => 231,
-        "scenes" => 1_000,
-        "agent" | "port_discovery" | "ring_discovery" | "views" | "frames" => 1_024,
+        "agent" | "port_discovery" | "ring_discovery" | "views" => 1_024,
         "queue" | "controller" | "session" | "session_drained" | "answer" | "run" => 4_080,
         _ => 100_000,
     }
@@ -180,8 +176,6 @@ fn time<R: Times + Wait>(bench: &Bench<R>, subject: &str) -> Option<()> {
         "port_discovery" => ports::time_discoveries(bench, true),
         "ring_discovery" => ports::time_discoveries(bench, false),
         "views" => views::time(bench),
-        "frames" => lines::honest(bench),
-        "scenes" => lines::dishonest(bench),
         _ => None,
     }
 }

@@ -4,7 +4,7 @@ ghost use Rattle.std.specs.Prelude.{◌≡◌, []};
 
 use crate::agent::tape;
 use crate::bench::{Bench, Sample, Times, holds};
-use crate::lines::{Spread, bytes_of, devices};
+use crate::lines::{bytes_of, devices};
 use crate::packets::{Replay, TAG, numbered, reply};
 use crate::served::{CLIENTS, Job, PLACES, Served, Timing, config, page_room, tag_of, written_log};
 use rdm_agent::Kind;
@@ -282,7 +282,7 @@ fn clients_of<X: Drop>(alloc: Global, queue: Queue, line: X, by_outcome: bool) -
 /// A line that replays the replies of a steady run over this many devices.
 pub fn replay_of(alloc: Global, count: usize) -> Option<Replay> {
     let mut replies = Vec::new(alloc);
-    for taped in tape(alloc, &devices(count, Spread::Random, 58)?)?.as_slice() {
+    for taped in tape(alloc, &devices(count, 58)?)?.as_slice() {
         replies.push(bytes_of(&taped.reply)?).ok()?;
     }
     Some(Replay { replies, next: 0 })

@@ -3,7 +3,7 @@ ghost use Rattle.std.specs.Prelude.{◌≡◌};
 ghost use Rattle.rdm_lanes.specs.Workers.{book_of};
 
 use crate::bench::{Bench, Sample, Times, holds};
-use crate::lines::{Spread, device_of, devices};
+use crate::lines::{device_of, devices};
 use left_right::Absorb;
 use rdm_client::DeviceView;
 use rdm_lanes::views::{BlankHistory, Publisher, Shown, ViewHistory, ViewReader};
@@ -56,7 +56,7 @@ fn readers_of<J: ViewHistory, W: Wait + Drop>(
 
 fn device_set(count: usize) -> Option<DeviceSet> {
     let mut set = DeviceSet::new();
-    let uids = devices(count, Spread::Random, 42)?;
+    let uids = devices(count, 42)?;
     for uid in uids.as_slice() {
         set.insert(device_of(*uid)).ok()?;
     }
