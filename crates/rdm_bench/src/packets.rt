@@ -1,4 +1,4 @@
-//! Packets: a line that replays stored replies, and single calls that write, read, judge and copy packets.
+//! Packets: a line that replays stored replies, and single calls that write, read and judge packets.
 ghost use Rattle.std.specs.Prelude.{⊤};
 
 use crate::bench::{Bench, Sample, Times, holds};
@@ -106,11 +106,6 @@ fn copied(reply: &LineReply) -> LineReply {
     bytes
 }
 
-#[inline(never)]
-fn cloned(reply: &LineReply) -> LineReply {
-    reply.clone().unwrap()
-}
-
 // What is called.
 #[derive(Clone, Copy)]
 enum Work {
@@ -118,17 +113,13 @@ enum Work {
     DecodeResponse,
     Judge,
     ReadBranchReply,
-    Clone,
-    TryExtendFromSlice,
 }
 
-const WORKS: [(&str, Work); 6] = [
+const WORKS: [(&str, Work); 4] = [
     ("calls, EncodeRequest", Work::EncodeRequest),
     ("calls, DecodeResponse", Work::DecodeResponse),
     ("calls, Judge", Work::Judge),
     ("calls, ReadBranchReply", Work::ReadBranchReply),
-    ("calls, Clone", Work::Clone),
-    ("calls, TryExtendFromSlice", Work::TryExtendFromSlice),
 ];
 
 /// Times calls on packets.
@@ -192,8 +183,6 @@ impl Calls {
             },
             Work::Judge => matches!(judge(&self.sent(tn), event), Judged::Whole(_)),
             Work::ReadBranchReply => matches!(read_branch_reply(&self.branch), BranchReply::One(_)),
-            Work::Clone => cloned(reply).len() == reply.len(),
-            Work::TryExtendFromSlice => copied(reply).len() == reply.len(),
         }
     }
 

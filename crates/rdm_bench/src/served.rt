@@ -17,6 +17,9 @@ pub const ENTRIES: usize = 1_000;
 /// How many clients there are, unless there is one.
 pub const CLIENTS: u8 = 16;
 
+// How many entries of the log stay unused while requests are timed. No session can have as many reserved.
+const UNUSED: usize = 13_000;
+
 /// How many entries a log has free, unless requests are timed. Memory that isn't used isn't taken from the system.
 pub const FREE: usize = 1_000_000;
 
@@ -83,13 +86,13 @@ pub fn config() -> Config
     }
 }
 
-/// A log for the requests that are timed. Its memory was written before, so none is taken from the
-/// system meanwhile. It has five entries for each request.
+/// A log for the requests that are timed: five entries for each, and as many unused ones as most logs have. Its memory
+/// was written before, so none is taken from the system meanwhile.
 pub fn written_log<R>(bench: &Bench<R>) -> Option<Log>
     ensures { IfSome result (λ log. log.entries ≡ []) }
 {
     let requests = bench.repeats().wrapping_add(bench.size);
-    let mut log = log(bench.alloc, requests.wrapping_mul(5).wrapping_add(100)).ok()?;
+    let mut log = log(bench.alloc, requests.wrapping_mul(5).wrapping_add(UNUSED)).ok()?;
     for _ in 0..log.room() {
         if log.entries().len() < log.room() {
             log.append(Entry::Pause);
