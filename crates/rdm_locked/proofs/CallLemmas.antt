@@ -2,7 +2,7 @@
 use Rattle.std.proofs.Common.{◌≡◌, ℕ, ◌+◌, ◌≤◌, inl, inr, if◌then◌else◌, cond, Bool, true, false, not, List, [], ◌∷◌}
 use Rattle.std.proofs.Common.{◌++◌, length, refl, ap, ◌∙◌, length-append, arith, None, Some}
 use Rattle.std.specs.Prelude.{Result, Ok, Err, Option}
-use Rattle.std.specs.List.{filter}
+use Rattle.std.specs.List.{filter, AllByRecursion}
 use Rattle.std.proofs.lemmas.List.Elements.{filter-append}
 use Rattle.std.proofs.lemmas.List.Filters.{length-filter_both}
 use Rattle.arrayvec.specs.ArrayVec.{ArrayVec}
@@ -12,25 +12,28 @@ use Rattle.rdm_log.specs.declared.entry.Opening.{Opening}
 use Rattle.rdm_log.specs.declared.entry.Entry.{Entry}
 use Rattle.rdm_log.specs.log.Entries.{join_of, joins}
 use Rattle.rdm_log.specs.log.History.{next_client}
-use Rattle.rdm_log.specs.log.LogState.{LogState}
-use Rattle.rdm_log.specs.declared.entry.Entry.TheVariants.{Join, Refuse, Accept, Ask, Send, Came, Finish, Answer}
-use Rattle.rdm_log.specs.declared.entry.Entry.TheVariants.{Collect, Pause, Resume, Close}
+use Rattle.rdm_log.specs.log.LogState.{LogState, is_full_log}
+use Rattle.rdm_log.specs.declared.entry.Entry.TheVariants.{Join, Accept, Ask, Collect}
 use Rattle.rdm_log.specs.declared.fault.JoinFault.{JoinFault}
 use Rattle.rdm_log.specs.declared.fault.WorkFault.{WorkFault}
 use Rattle.rdm_log.specs.declared.fault.WorkFault.TheVariants as work_faults
 use Rattle.rdm_log.specs.declared.fault.LogFull.{LogFull}
 use Rattle.rdm_log.specs.declared.fault.NotAsked.{NotAsked}
 use Rattle.rdm_log.specs.declared.outcome.Outcome.{Outcome}
-use Rattle.rdm_log.specs.log.LogState.{is_full_log}
 use Rattle.rdm_log.specs.log.Refusals.{work_fault}
-use Rattle.rdm_log.specs.promises.Blocks.{GrowsBy, is_result, AllResults, IsWithResults, UnlessFull, SwitchAdds}
-use Rattle.rdm_log.specs.promises.Blocks.{submit_refused, ask_refused, work_accepted, work_refused}
-use Rattle.rdm_log.specs.promises.Blocks.{JoinLogs, WorkLogs, PauseLogs, ResumeLogs, TakeLogs}
-use Rattle.rdm_log.specs.promises.Blocks.{CloseAdds, CloseAddsWhere, DeliverAdds, CollectAdds, WorkAdds}
+use Rattle.rdm_log.specs.promises.Blocks.{GrowsBy, UnlessFull, submit_refused, ask_refused, work_accepted, work_refused}
+use Rattle.rdm_log.specs.promises.Blocks.{JoinLogs, WorkLogs, PauseLogs, ResumeLogs, TakeLogs, CloseAdds, DeliverAdds}
+use Rattle.rdm_log.specs.promises.Blocks.{CollectAdds, WorkAdds}
 use Rattle.rdm_log.proofs.PromiseLemmas.BlockLemmas.{join_ok, join_refusal, work_ok}
 use Rattle.rdm_log.specs.declared.work.Work.{Work}
 use Rattle.rdm_log.specs.declared.work.Work.TheVariants as works
 use Rattle.rdm_log.proofs.LogLemmas.PushLemmas.{joins-append}
+use Rattle.rdm_log.specs.declared.event.Event.{Event}
+use Rattle.rdm_log.specs.declared.event.Event.TheVariants as events
+use Rattle.rdm_log.specs.declared.event.Answer.{Answer}
+use Rattle.rdm_log.specs.declared.event.Answer.TheVariants as answers
+use Rattle.rdm_log.specs.promises.Explains.{Adds}
+use Rattle.rdm_log.proofs.PromiseLemmas.EntriesOf.{EachOf, adds_each}
 use Rattle.rdm_locked.specs.Calls.{is_call, count_calls, refused_calls, calls_logged}
 
 -- there are no more calls than entries
@@ -94,30 +97,17 @@ before : (e : Entry) (block : List Entry) → is_call e ≡ false → join_of e 
 unfolding count_calls joins
 before e block no_call no_join b = record { calls_are = rw no_call b.calls_are; clients_are = rw no_join b.clients_are }
 
--- a Finish and an Answer are no calls of a client
-result_is_no_call : (e : Entry) → is_result e ≡ true → (is_call e ≡ false) × (join_of e ≡ None)
-result_is_no_call (Finish n status len) is = (refl, refl)
-result_is_no_call (Answer n run fault) is = (refl, refl)
-result_is_no_call (Join c n) is = cc
-result_is_no_call (Refuse c call cause) is = cc
-result_is_no_call (Accept c n request) is = cc
-result_is_no_call (Ask c n kind) is = cc
-result_is_no_call (Send owner frame) is = cc
-result_is_no_call (Came event) is = cc
-result_is_no_call (Collect c) is = cc
-result_is_no_call Pause is = cc
-result_is_no_call Resume is = cc
-result_is_no_call Close is = cc
+-- entries that are no calls and no joins of a client
+abbrev IsNoCall : Entry → Type 0
+IsNoCall e = (is_call e ≡ false) × (join_of e ≡ None)
 
-results : (block : List Entry) → AllResults block → Brings 0 0 block
-results [] all = none
-results (e ∷ block) all =
-    let kind = result_is_no_call e all.0 in
-    before e block kind.0 kind.1 (results block all.1)
+no_calls : (block : List Entry) → AllByRecursion IsNoCall block → Brings 0 0 block
+no_calls [] all = none
+no_calls (e ∷ block) all = before e block all.0.0 all.0.1 (no_calls block all.1)
 
-with_results : (e : Entry) (block : List Entry) → is_call e ≡ false → join_of e ≡ None → IsWithResults e block
-    → Brings 0 0 block
-with_results e block no_call no_join is = rw is.whole (before e is.results no_call no_join (results is.results is.each))
+no_call_added : (k : LogState) (event : Event) (r : Answer) (block : List Entry) → EachOf event IsNoCall
+    → Adds k event r block → Brings 0 0 block
+no_call_added k event r block each adds = no_calls block (adds_each IsNoCall k event r block each adds)
 
 nothing : (block : List Entry) → block ≡ [] → Brings 0 0 block
 nothing block is = rw is none
@@ -188,35 +178,24 @@ unfolding joins
 collect_brings o h c outcome block is = rw is.1 (one (Collect c))
 
 -- the calls that are no client's
-switch_brings : (effect : Bool) (e : Entry) (block : List Entry) → is_call e ≡ false → join_of e ≡ None
-    → SwitchAdds effect e block → Brings 0 0 block
-switch_brings true e block no_call no_join is = rw is (before e [] no_call no_join none)
-switch_brings false e block no_call no_join is = nothing block is
-
 pub pause_brings : (k : LogState) (answer : Result (Unit {0}) LogFull) (block : List Entry) → PauseLogs k answer block
     → Brings 0 0 block
-pause_brings k (Ok x) block is = switch_brings _ Pause block refl refl is.1
-pause_brings k (Err x) block is = nothing block is.1
+pause_brings k answer block is = no_call_added k events.Pause (answers.Pause answer) block (refl, refl) is
 
 pub resume_brings : (k : LogState) (answer : Result (Unit {0}) LogFull) (block : List Entry) → ResumeLogs k answer block
     → Brings 0 0 block
-resume_brings k (Ok x) block is = switch_brings _ Resume block refl refl is.1
-resume_brings k (Err x) block is = nothing block is.1
+resume_brings k answer block is = no_call_added k events.Resume (answers.Resume answer) block (refl, refl) is
 
-close_where_brings : (closed : Bool) (block : List Entry) → CloseAddsWhere closed block → Brings 0 0 block
-close_where_brings true block is = nothing block is
-close_where_brings false block is = with_results Close block refl refl is
-
-pub close_brings : (o : Opening) (h : List Entry) (block : List Entry) → CloseAdds o h block → Brings 0 0 block
-close_brings o h block is = close_where_brings _ block is
+pub close_brings : (k : LogState) (block : List Entry) → CloseAdds k.opening k.entries block → Brings 0 0 block
+close_brings k block is = no_call_added k events.Close answers.Close block
+    ((refl, refl), (λ n status len. (refl, refl), λ n run fault. (refl, refl))) is
 
 pub take_brings : (k : LogState) (answer : Result (Option (ArrayVec ℕ)) LogFull) (block : List Entry)
     → TakeLogs k answer block → Brings 0 0 block
-take_brings k (Ok (Some frame)) block is = rw is.1.2 (before (Send is.1.0 frame) [] refl refl none)
-take_brings k (Ok None) block is = nothing block is.1.1
-take_brings k (Err x) block is = nothing block is.1
+take_brings k answer block is =
+    no_call_added k events.Take (answers.Take answer) block (λ owner frame. (refl, refl)) is
 
 pub deliver_brings : (k : LogState) (event : LineEvent) (answer : Result (Unit {0}) (NotAsked × LineEvent))
     (block : List Entry) → DeliverAdds k event answer block → Brings 0 0 block
-deliver_brings k event (Ok x) block is = with_results (Came event) block refl refl is.1
-deliver_brings k event (Err e) block is = nothing block is.2
+deliver_brings k event answer block is = no_call_added k (events.Deliver event) (answers.Deliver answer) block
+    ((refl, refl), (λ n status len. (refl, refl), λ n run fault. (refl, refl))) is

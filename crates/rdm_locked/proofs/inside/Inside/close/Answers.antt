@@ -8,7 +8,7 @@ invariant_of-self g c =
     let me = c.args.self.now in
     let k = me.session in
     let counts = grown_counts k _ c.close.new.self 0 0 c.close.ensures.adds
-    (λ block. close_brings k.opening k.entries block) in
+    (λ block. close_brings k block) in
     record {
       counted = omega (arith, counts.calls_are, me.counted);
       clients = omega (arith, counts.clients_are, me.clients);
