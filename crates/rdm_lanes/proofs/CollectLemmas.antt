@@ -1,18 +1,16 @@
 -- What collects leave as it is.
 use Rattle.rdm_lanes.proofs.Common.{◌≡◌, ℕ, true, false, true≢false, List, [], ◌∷◌, ◌++◌, None, refl, sym, ap, ◌∙◌}
 use Rattle.rdm_lanes.proofs.Common.{subst, inl, inr, append-nil, append_assoc, arith, nat_lt, AllByRecursion, ArrayVec}
-use Rattle.rdm_lanes.proofs.Common.{Search, EachAfter, ClientId, Opening, Entry, Join, Send, Came, Finish, Answer}
-use Rattle.rdm_lanes.proofs.Common.{Collect, Pause, Resume, Close, join_of, answered_of, NoSend, MayBegin, Legal}
-use Rattle.rdm_lanes.proofs.Common.{MayFollow, LogState, is_full_log, free_entries, sends_same, answered_same}
-use Rattle.rdm_lanes.proofs.Common.{awaited-push, is_closed-push, is_paused-push, last_run_same, NoExchange}
-use Rattle.rdm_lanes.proofs.Common.{OnlyCollects, SameSwitches}
+use Rattle.rdm_lanes.proofs.Common.{Search, EachAfter, ClientId, Opening, Entry, Collect, join_of, answered_of, NoSend}
+use Rattle.rdm_lanes.proofs.Common.{MayBegin, Legal, MayFollow, LogState, is_full_log, free_entries, sends_same}
+use Rattle.rdm_lanes.proofs.Common.{answered_same, awaited-push, is_closed-push, is_paused-push, last_run_same}
+use Rattle.rdm_lanes.proofs.Common.{NoExchange, OnlyCollects, SameSwitches}
 use Rattle.rdm_log.specs.declared.entry.Owner.TheVariants as owners
 use Rattle.rdm_log.specs.log.MaySend.{MaySendRequest, MaySendRun}
 use Rattle.rdm_log.proofs.LogLemmas.PushLemmas.{accepts_same, asks_same, finishes_same}
 use Rattle.rdm_log.proofs.LogLemmas.RunLemmas.{open_run_same, asked_before_same}
 use Rattle.rdm_log.proofs.LogLemmas.RoomLemmas.{added, added_by, used_block}
 use Rattle.rdm_lanes.specs.body.Quiet.{is_collect}
-use Rattle.rdm_lanes.proofs.ListLemmas.{all_follow}
 use Rattle.rdm_lanes.proofs.FoundLemmas.{quiet_views}
 use Rattle.rdm_lanes.proofs.LineLemmas.{is_off_line, is_switch, line_off, switches_stay, grown_join, grown_same}
 
@@ -34,49 +32,27 @@ collects_join a b d p q = record {
 }
 
 -- they are no frames, joins or switches
-off_line : (e : Entry) → is_collect e ≡ true → is_off_line e ≡ true
-off_line (Send owner frame) is = absurd (true≢false (sym is))
-off_line (Came event) is = absurd (true≢false (sym is))
-off_line _ is = refl
-
-no_join : (e : Entry) → is_collect e ≡ true → join_of e ≡ None
-no_join (Join c n) is = absurd (true≢false (sym is))
-no_join _ is = refl
-
-unanswered : (e : Entry) → is_collect e ≡ true → answered_of e ≡ None
-unanswered (Answer n r fault) is = absurd (true≢false (sym is))
-unanswered _ is = refl
-
-no_switch : (e : Entry) → is_collect e ≡ true → is_switch e ≡ false
-no_switch Pause is = absurd (true≢false (sym is))
-no_switch Resume is = absurd (true≢false (sym is))
-no_switch Close is = absurd (true≢false (sym is))
-no_switch _ is = refl
+collects_each : (P : Entry → Type 0) → ((c : ClientId) → P (Collect c)) → (block : List Entry) → AllCollects block
+    → AllByRecursion P block
+collects_each P each [] all = tt
+collects_each P each (Collect c ∷ block) all = (each c, collects_each P each block all.1)
+collects_each P each (_ ∷ block) all = absurd (true≢false (sym all.0))
 
 pub collects_line : (old new : LogState) → OnlyCollects old new → NoExchange old new
-collects_line old new is = line_off old new is.block is.grows
-    (all_follow (λ e. is_collect e ≡ true) (λ e. is_off_line e ≡ true) off_line is.block is.each)
-    (all_follow (λ e. is_collect e ≡ true) (λ e. join_of e ≡ None) no_join is.block is.each)
-    (quiet_views old.entries is.block
-    (all_follow (λ e. is_collect e ≡ true) (λ e. is_off_line e ≡ true) off_line is.block is.each)
-    (all_follow (λ e. is_collect e ≡ true) (λ e. answered_of e ≡ None) unanswered is.block is.each))
+collects_line old new is =
+    let off = collects_each (λ e. is_off_line e ≡ true) (λ c. refl) is.block is.each in
+    line_off old new is.block is.grows off (collects_each (λ e. join_of e ≡ None) (λ c. refl) is.block is.each)
+    (quiet_views old.entries is.block off
+    (collects_each (λ e. answered_of e ≡ None) (λ c. refl) is.block is.each))
 
 pub collects_switches : (old new : LogState) → OnlyCollects old new → SameSwitches old new
 collects_switches old new is = switches_stay old new is.block is.grows
-    (all_follow (λ e. is_collect e ≡ true) (λ e. is_switch e ≡ false) no_switch is.block is.each)
+    (collects_each (λ e. is_switch e ≡ false) (λ c. refl) is.block is.each)
 
 -- as many entries are free
-collect_needs_nothing : (e : Entry) → is_collect e ≡ true → added e ≡ 0
-collect_needs_nothing (Collect c) is = refl
-collect_needs_nothing (Finish n status len) is = refl
-collect_needs_nothing (Answer n run fault) is = refl
-collect_needs_nothing (Came event) is = refl
-collect_needs_nothing Close is = refl
-collect_needs_nothing _ is = absurd (true≢false (sym is))
-
-collects_need_nothing : (block : List Entry) → AllCollects block → added_by block ≡ 0
+collects_need_nothing : (block : List Entry) → AllByRecursion (λ e. added e ≡ 0) block → added_by block ≡ 0
 collects_need_nothing [] all = refl
-collects_need_nothing (e ∷ block) all = omega (arith, collect_needs_nothing e all.0, collects_need_nothing block all.1)
+collects_need_nothing (e ∷ block) all = omega (arith, all.0, collects_need_nothing block all.1)
 
 free_stays : (o : Opening) (h block : List Entry) (room : ℕ) (search : Search) (gone : ℕ)
     → EachAfter (MayFollow o) (h ++ block) → AllCollects block
@@ -89,7 +65,11 @@ free_stays : (o : Opening) (h block : List Entry) (room : ℕ) (search : Search)
       gone = gone;
     })
 free_stays o h block room search gone each all =
-    omega (arith, used_block o h block each, collects_need_nothing block all)
+    omega (
+      arith,
+      used_block o h block each,
+      collects_need_nothing block (collects_each (λ e. added e ≡ 0) (λ c. refl) block all),
+    )
 
 pub full_stays : (old new : LogState) → OnlyCollects old new → Legal new.opening new.entries
     → is_full_log new ≡ is_full_log old

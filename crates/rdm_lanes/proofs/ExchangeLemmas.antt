@@ -18,7 +18,8 @@ use Rattle.rdm_lanes.proofs.LaneLemmas.{waits, waits_join, waits_same}
 use Rattle.rdm_lanes.proofs.LineLemmas.{traded_one, exchanges_off, results_off, results_no_join, results_no_switch}
 use Rattle.rdm_lanes.proofs.LineLemmas.{joins_stay, switches_stay, awaited_off, none_lost_grows, rightly_without}
 use Rattle.rdm_lanes.proofs.LineLemmas.{results_no_refusal, grown_join, line_same, switches_same}
-use Rattle.rdm_lanes.proofs.StepLemmas.{results_untouched}
+use Rattle.rdm_log.proofs.PromiseLemmas.EntriesOf.{results_each}
+use Rattle.rdm_lanes.proofs.GrowthLemmas.{touches}
 
 -- nothing was taken
 same_state : (old new : LogState) (block : List Entry) → block ≡ [] → new ≡ grown old block → new ≡ old
@@ -64,7 +65,8 @@ delivered old mid new owner frame event results sent came all legal_mid legal_ne
   switches = switches_stay old new (Send owner frame ∷ Came event ∷ results) grew_all
       (refl, (refl, results_no_switch results all));
   wait = λ c. waits_join c old mid new (waits c old mid (Send owner frame ∷ []) sent legal_mid (refl, tt))
-      (waits c mid new (Came event ∷ results) came legal_new (refl, results_untouched c results all));
+      (waits c mid new (Came event ∷ results) came legal_new
+      (refl, results_each (λ e. touches c e ≡ false) (λ n status len. refl, λ n run fault. refl) results all));
 }
   where
     h : List Entry

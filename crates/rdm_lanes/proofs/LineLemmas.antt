@@ -4,13 +4,14 @@ use Rattle.rdm_lanes.proofs.Common.{sym, ap, ◌∙◌, subst, zip, filter_map, 
 use Rattle.rdm_lanes.proofs.Common.{map-append, filter_map-append, ArrayVec, EachAfter, LineEvent, Opening, Owner}
 use Rattle.rdm_lanes.proofs.Common.{Entry, Join, Refuse, Accept, Ask, Send, Came, Finish, Answer, Collect, Pause}
 use Rattle.rdm_lanes.proofs.Common.{Resume, Close, join_of, sends, cames, traded, joins, exchanges, awaited, is_closed}
-use Rattle.rdm_lanes.proofs.Common.{is_paused, LogState, grown, is_result, AllResults, awaited-push, is_closed-push}
+use Rattle.rdm_lanes.proofs.Common.{is_paused, LogState, grown, AllResults, awaited-push, is_closed-push}
 use Rattle.rdm_lanes.proofs.Common.{is_paused-push, SameSwitches, IsBetweenTurns, NoCallLost, switch_of, switches}
 use Rattle.rdm_lanes.proofs.Common.{NoExchange, views_found}
 use Rattle.rdm_wire.proofs.EachAfterLemmas.{EachAfter-push}
 use Rattle.rdm_log.specs.log.Entries.{sending_of, came_of, traded_of, exchange_of}
 use Rattle.rdm_log.specs.log.History.{closed_after as closed_by, paused_after as paused_by}
 use Rattle.rdm_log.proofs.LogLemmas.Indices.{zip_both_more}
+use Rattle.rdm_log.proofs.PromiseLemmas.EntriesOf.{results_each}
 use Rattle.rdm_lanes.specs.Lines.{may_refuse}
 use Rattle.rdm_lanes.proofs.ListLemmas.{filter_map_nothing, all_follow}
 
@@ -34,24 +35,10 @@ is_off_line _ = true
 abbrev pub AllOffLine : List Entry → Type 0
 AllOffLine block = AllByRecursion (λ e. is_off_line e ≡ true) block
 
-abbrev pub AllQuiet : List Entry → Type 0
-AllQuiet block = AllByRecursion (λ e. is_quiet e ≡ true) block
-
-quiet_off : (e : Entry) → is_quiet e ≡ true → is_off_line e ≡ true
-quiet_off (Send owner frame) is = is
-quiet_off (Came event) is = is
-quiet_off _ is = refl
-
-result_off : (e : Entry) → is_result e ≡ true → is_off_line e ≡ true
-result_off (Send owner frame) is = is
-result_off (Came event) is = is
-result_off _ is = refl
-
-pub quiet_all_off : (block : List Entry) → AllQuiet block → AllOffLine block
-quiet_all_off block all = all_follow (λ e. is_quiet e ≡ true) (λ e. is_off_line e ≡ true) quiet_off block all
-
+-- what holds of Finishes and Answers
 pub results_off : (block : List Entry) → AllResults block → AllOffLine block
-results_off block all = all_follow (λ e. is_result e ≡ true) (λ e. is_off_line e ≡ true) result_off block all
+results_off block all =
+    results_each (λ e. is_off_line e ≡ true) (λ n status len. refl, λ n run fault. refl) block all
 
 -- what is awaited stays
 awaited_one : (h : List Entry) (e : Entry) → is_off_line e ≡ true → awaited (h ++ e ∷ []) ≡ awaited h
@@ -83,14 +70,9 @@ is_switch _ = false
 abbrev pub NoSwitch : List Entry → Type 0
 NoSwitch block = AllByRecursion (λ e. is_switch e ≡ false) block
 
-result_no_switch : (e : Entry) → is_result e ≡ true → is_switch e ≡ false
-result_no_switch Pause is = absurd (true≢false (sym is))
-result_no_switch Resume is = absurd (true≢false (sym is))
-result_no_switch Close is = absurd (true≢false (sym is))
-result_no_switch _ is = refl
-
 pub results_no_switch : (block : List Entry) → AllResults block → NoSwitch block
-results_no_switch block all = all_follow (λ e. is_result e ≡ true) (λ e. is_switch e ≡ false) result_no_switch block all
+results_no_switch block all =
+    results_each (λ e. is_switch e ≡ false) (λ n status len. refl, λ n run fault. refl) block all
 
 not_closing : (b : Bool) (e : Entry) → is_switch e ≡ false → closed_by b e ≡ b
 not_closing b Close is = absurd (true≢false is)
@@ -148,12 +130,9 @@ switches_same a = record { switches_are = refl; paused = refl; closed = refl }
 abbrev pub NobodyJoins : List Entry → Type 0
 NobodyJoins block = AllByRecursion (λ e. join_of e ≡ None) block
 
-result_no_join : (e : Entry) → is_result e ≡ true → join_of e ≡ None
-result_no_join (Join c n) is = absurd (true≢false (sym is))
-result_no_join _ is = refl
-
 pub results_no_join : (block : List Entry) → AllResults block → NobodyJoins block
-results_no_join block all = all_follow (λ e. is_result e ≡ true) (λ e. join_of e ≡ None) result_no_join block all
+results_no_join block all =
+    results_each (λ e. join_of e ≡ None) (λ n status len. refl, λ n run fault. refl) block all
 
 pub joins_stay : (h block : List Entry) → NobodyJoins block → joins (h ++ block) ≡ joins h
 unfolding joins
@@ -265,19 +244,15 @@ pub rightly_without : (o : Opening) (h block : List Entry) → AllByRecursion (�
 rightly_without o h [] all = tt
 rightly_without o h (e ∷ block) all = (rightly_other o h e all.0, rightly_without o (h ++ e ∷ []) block all.1)
 
-result_no_refusal : (e : Entry) → is_result e ≡ true → is_refusal e ≡ false
-result_no_refusal (Refuse c call cause) is = absurd (true≢false (sym is))
-result_no_refusal _ is = refl
-
 pub results_no_refusal : (block : List Entry) → AllResults block → AllByRecursion (λ e. is_refusal e ≡ false) block
 results_no_refusal block all =
-    all_follow (λ e. is_result e ≡ true) (λ e. is_refusal e ≡ false) result_no_refusal block all
+    results_each (λ e. is_refusal e ≡ false) (λ n status len. refl, λ n run fault. refl) block all
 
--- what a quiet block leaves
-pub served_quiet : (old new : LogState) (block : List Entry) → new ≡ grown old block → AllQuiet block
+-- what a block without frames leaves
+pub served_off : (old new : LogState) (block : List Entry) → new ≡ grown old block → AllOffLine block
     → AllRightly old.opening old.entries block → IsBetweenTurns old → IsBetweenTurns new
-served_quiet old new block is all rightly s = rw is (record {
-  answered = awaited_off old.entries block (quiet_all_off block all) ∙ s.answered;
+served_off old new block is off rightly s = rw is (record {
+  answered = awaited_off old.entries block off ∙ s.answered;
   no_call_lost = none_lost_grows old block s.no_call_lost rightly;
 })
 
@@ -313,15 +288,6 @@ line_join a b d p q = record {
 pub line_same : (a : LogState) → NoExchange a a
 line_same a = record { block = []; grows = grown_same a; nobody_joined = refl; same = refl; same_views = refl }
 
--- a close, and an exchange
+-- a close
 pub closed_after : (o : Opening) (h : List Entry) → is_closed o (h ++ Close ∷ []) ≡ true
 closed_after o h = is_closed-push o h Close
-
-pub served_closed : (old new : LogState) (results : List Entry) → new ≡ grown old (Close ∷ results) → AllResults results
-    → IsBetweenTurns old → IsBetweenTurns new
-served_closed old new results is all s = rw is (record {
-  answered = awaited_off old.entries (Close ∷ results) (refl, results_off results all) ∙ s.answered;
-  no_call_lost =
-      none_lost_grows old (Close ∷ results) s.no_call_lost
-      (rightly_without old.opening old.entries (Close ∷ results) (refl, results_no_refusal results all));
-})

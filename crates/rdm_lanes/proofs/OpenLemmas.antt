@@ -25,9 +25,10 @@ use Rattle.rdm_lanes.specs.declared.fault.OpenFault.TheVariants.{TooManyClients,
 use Rattle.rdm_lanes.specs.Opened.{places_fault, IsFullFor}
 use Rattle.rdm_lanes.specs.body.Opening.{IsNewWith}
 use Rattle.rdm_lanes.proofs.LaneLemmas.{waits, fits_waits}
-use Rattle.rdm_lanes.proofs.LineLemmas.{AllQuiet, NoSwitch, quiet_all_off, served_quiet, exchanges_off, awaited_off}
-use Rattle.rdm_lanes.proofs.LineLemmas.{closed_stays, paused_stays, switches_off, is_refusal, rightly_without}
-use Rattle.rdm_lanes.proofs.GrowthLemmas.{Untouched, calls_untouched}
+use Rattle.rdm_lanes.proofs.LineLemmas.{AllOffLine, is_off_line, NoSwitch, is_switch, served_off, exchanges_off}
+use Rattle.rdm_lanes.proofs.LineLemmas.{awaited_off, closed_stays, paused_stays, switches_off, is_refusal}
+use Rattle.rdm_lanes.proofs.LineLemmas.{rightly_without}
+use Rattle.rdm_lanes.proofs.GrowthLemmas.{Untouched, touches, calls_untouched}
 use Rattle.rdm_lanes.proofs.FoundLemmas.{quiet_views}
 use Rattle.rdm_lanes.proofs.ShowingLemmas.{showing_all}
 use Rattle.rdm_lanes.proofs.ViewFacts.{none_later_opening}
@@ -171,25 +172,19 @@ unfolding joins
 joins_of m [] = refl
 joins_of m (p ∷ ps) = ap (λ (qs : List ℕ). p ∷ qs) (joins_of (m + 1) ps)
 
-joins_quiet : (m : ℕ) (ps : List ℕ) → AllQuiet (join_entries m ps)
-joins_quiet m [] = tt
-joins_quiet m (p ∷ ps) = (refl, joins_quiet (m + 1) ps)
+joins_each : (P : Entry → Type 0) → ((c : ClientId) (n : ℕ) → P (Join c n)) → (m : ℕ) (ps : List ℕ)
+    → AllByRecursion P (join_entries m ps)
+joins_each P each m [] = tt
+joins_each P each m (p ∷ ps) = (each _ p, joins_each P each (m + 1) ps)
 
-joins_no_switch : (m : ℕ) (ps : List ℕ) → NoSwitch (join_entries m ps)
-joins_no_switch m [] = tt
-joins_no_switch m (p ∷ ps) = (refl, joins_no_switch (m + 1) ps)
+joins_off : (ps : List ℕ) → AllOffLine (join_entries 0 ps)
+joins_off ps = joins_each (λ e. is_off_line e ≡ true) (λ c n. refl) 0 ps
 
-joins_no_refusal : (m : ℕ) (ps : List ℕ) → AllByRecursion (λ e. is_refusal e ≡ false) (join_entries m ps)
-joins_no_refusal m [] = tt
-joins_no_refusal m (p ∷ ps) = (refl, joins_no_refusal (m + 1) ps)
+joins_no_switch : (ps : List ℕ) → NoSwitch (join_entries 0 ps)
+joins_no_switch ps = joins_each (λ e. is_switch e ≡ false) (λ c n. refl) 0 ps
 
-joins_untouched : (c m : ℕ) (ps : List ℕ) → Untouched c (join_entries m ps)
-joins_untouched c m [] = tt
-joins_untouched c m (p ∷ ps) = (refl, joins_untouched c (m + 1) ps)
-
-joins_unanswered : (m : ℕ) (ps : List ℕ) → AllByRecursion (λ e. answered_of e ≡ None) (join_entries m ps)
-joins_unanswered m [] = tt
-joins_unanswered m (p ∷ ps) = (refl, joins_unanswered (m + 1) ps)
+joins_untouched : (c : ℕ) (ps : List ℕ) → Untouched c (join_entries 0 ps)
+joins_untouched c ps = joins_each (λ e. touches c e ≡ false) (λ d n. refl) 0 ps
 
 nothing_seen : views_found [] ≡ []
 unfolding runs_found answers
@@ -207,8 +202,8 @@ publishes_opened setup room ps p shown added = record {
   where
     all : all_views (join_entries 0 ps) ≡ opening_view ∷ []
     all = ap (λ vs. opening_view ∷ vs)
-        (quiet_views [] (join_entries 0 ps) (quiet_all_off (join_entries 0 ps) (joins_quiet 0 ps))
-        (joins_unanswered 0 ps) ∙ nothing_seen)
+        (quiet_views [] (join_entries 0 ps) (joins_off ps)
+        (joins_each (λ e. answered_of e ≡ None) (λ c n. refl) 0 ps) ∙ nothing_seen)
 
 -- a session in which clients have joined
 abbrev pub empty_log : Setup → ℕ → LogState
@@ -235,8 +230,9 @@ served_empty setup room = record {
 
 pub served_opened : (setup : Setup) (room : ℕ) (ps : List ℕ) → IsBetweenTurns (opened_with setup room ps)
 served_opened setup room ps =
-    served_quiet (empty_log setup room) (opened_with setup room ps) (join_entries 0 ps) refl (joins_quiet 0 ps)
-    (rightly_without (opened setup.config) [] (join_entries 0 ps) (joins_no_refusal 0 ps)) (served_empty setup room)
+    served_off (empty_log setup room) (opened_with setup room ps) (join_entries 0 ps) refl (joins_off ps)
+    (rightly_without (opened setup.config) [] (join_entries 0 ps)
+    (joins_each (λ e. is_refusal e ≡ false) (λ c n. refl) 0 ps)) (served_empty setup room)
 
 closed_nothing : (config : Config) → is_closed (opened config) [] ≡ false
 unfolding is_closed
@@ -249,7 +245,7 @@ exchanges_nothing = refl
 pub open_opened : (setup : Setup) (room : ℕ) (ps : List ℕ)
     → is_closed (opened_with setup room ps).opening (opened_with setup room ps).entries ≡ false
 open_opened setup room ps =
-    closed_stays (opened setup.config) [] (join_entries 0 ps) (joins_no_switch 0 ps) ∙ closed_nothing setup.config
+    closed_stays (opened setup.config) [] (join_entries 0 ps) (joins_no_switch ps) ∙ closed_nothing setup.config
 
 paused_nothing : (config : Config) → is_paused (opened config) [] ≡ false
 unfolding is_paused
@@ -258,14 +254,14 @@ paused_nothing config = refl
 pub not_paused_opened : (setup : Setup) (room : ℕ) (ps : List ℕ)
     → is_paused (opened_with setup room ps).opening (opened_with setup room ps).entries ≡ false
 not_paused_opened setup room ps =
-    paused_stays (opened setup.config) [] (join_entries 0 ps) (joins_no_switch 0 ps) ∙ paused_nothing setup.config
+    paused_stays (opened setup.config) [] (join_entries 0 ps) (joins_no_switch ps) ∙ paused_nothing setup.config
 
 no_switches : switches [] ≡ []
 unfolding switches
 no_switches = refl
 
 pub no_switches_opened : (setup : Setup) (room : ℕ) (ps : List ℕ) → switches (opened_with setup room ps).entries ≡ []
-no_switches_opened setup room ps = switches_off [] (join_entries 0 ps) (joins_no_switch 0 ps) ∙ no_switches
+no_switches_opened setup room ps = switches_off [] (join_entries 0 ps) (joins_no_switch ps) ∙ no_switches
 
 -- the operator's calls at first
 no_effects : effective [] ≡ []
@@ -282,7 +278,7 @@ operated_opened setup room ps calls none = record {
 
 pub no_exchanges_opened : (setup : Setup) (room : ℕ) (ps : List ℕ) → exchanges (opened_with setup room ps).entries ≡ []
 no_exchanges_opened setup room ps =
-    exchanges_off [] (join_entries 0 ps) (quiet_all_off (join_entries 0 ps) (joins_quiet 0 ps)) ∙ exchanges_nothing
+    exchanges_off [] (join_entries 0 ps) (joins_off ps) ∙ exchanges_nothing
 
 fits_empty : (c p : ℕ) (setup : Setup) (room : ℕ) (lane : Lane) → popped lane.calls ≡ [] → pushed lane.replies ≡ []
     → lane.requests ≡ 0 → lane.asks ≡ 0 → lane.left ≡ false → Fits c (empty_log setup room) lane
@@ -329,9 +325,9 @@ fits_opened setup room ring ps clients lanes legal all = record {
       (fits_empty i p.0 setup room lane new.nothing_received new.nothing_moved new.no_requests new.no_asks
       new.not_received)
       (waits i (empty_log setup room) (opened_with setup room ps) (join_entries 0 ps) refl legal
-      (joins_untouched i 0 ps));
+      (joins_untouched i ps));
   clients_are = joins_of 0 ps ∙ lanes_places ring ps clients lanes all;
-  nobody_else = λ c out. calls_untouched c [] (join_entries 0 ps) (joins_untouched c 0 ps) ∙ no_calls c;
+  nobody_else = λ c out. calls_untouched c [] (join_entries 0 ps) (joins_untouched c ps) ∙ no_calls c;
 }
 
 -- one client joins
@@ -417,8 +413,8 @@ closed_by_opening o = refl
 joins_reserve : (o : Opening) (ps : List ℕ) → o.closed ≡ false → reserved o (join_entries 0 ps) ≡ 1
 joins_reserve o ps open_ =
     rw (
-      closed_stays o [] (join_entries 0 ps) (joins_no_switch 0 ps) ∙ closed_by_opening o ∙ open_,
-      awaited_off [] (join_entries 0 ps) (quiet_all_off (join_entries 0 ps) (joins_quiet 0 ps)) ∙ nothing_awaited,
+      closed_stays o [] (join_entries 0 ps) (joins_no_switch ps) ∙ closed_by_opening o ∙ open_,
+      awaited_off [] (join_entries 0 ps) (joins_off ps) ∙ nothing_awaited,
       no_accepts 0 ps,
       no_asks 0 ps,
       no_finishes 0 ps,

@@ -25,31 +25,12 @@ paused_same : (b : Bool) (h : List Entry) → fold paused_after b h ≡ fold pau
 paused_same b [] = refl
 paused_same b (entries.Pause ∷ h) = paused_same true h
 paused_same b (entries.Resume ∷ h) = paused_same false h
-paused_same b (entries.Close ∷ h) = paused_same b h
-paused_same b (entries.Join c n ∷ h) = paused_same b h
-paused_same b (entries.Refuse c call cause ∷ h) = paused_same b h
-paused_same b (entries.Accept c n request ∷ h) = paused_same b h
-paused_same b (entries.Ask c n kind ∷ h) = paused_same b h
-paused_same b (entries.Send owner frame ∷ h) = paused_same b h
-paused_same b (entries.Came event ∷ h) = paused_same b h
-paused_same b (entries.Finish n status len ∷ h) = paused_same b h
-paused_same b (entries.Answer n r fault ∷ h) = paused_same b h
-paused_same b (entries.Collect c ∷ h) = paused_same b h
+paused_same b (_ ∷ h) = paused_same b h
 
 closed_same : (b : Bool) (h : List Entry) → fold closed_after b h ≡ fold closed_by b (filter_map switch_of h)
 closed_same b [] = refl
-closed_same b (entries.Pause ∷ h) = closed_same b h
-closed_same b (entries.Resume ∷ h) = closed_same b h
 closed_same b (entries.Close ∷ h) = closed_same true h
-closed_same b (entries.Join c n ∷ h) = closed_same b h
-closed_same b (entries.Refuse c call cause ∷ h) = closed_same b h
-closed_same b (entries.Accept c n request ∷ h) = closed_same b h
-closed_same b (entries.Ask c n kind ∷ h) = closed_same b h
-closed_same b (entries.Send owner frame ∷ h) = closed_same b h
-closed_same b (entries.Came event ∷ h) = closed_same b h
-closed_same b (entries.Finish n status len ∷ h) = closed_same b h
-closed_same b (entries.Answer n r fault ∷ h) = closed_same b h
-closed_same b (entries.Collect c ∷ h) = closed_same b h
+closed_same b (_ ∷ h) = closed_same b h
 
 paused_is : (o : Opening) (h : List Entry) → o.paused ≡ false → is_paused o h ≡ fold paused_by false (switches h)
 unfolding is_paused switches
