@@ -3,8 +3,8 @@
 //! It explains their logs. All of it is the profile of this project.
 //!
 //! [`parse_words`] finds the [`Job`] that arguments give, and [`perform`] prints its answer. [`carry_out`] also keeps
-//! its log, and opens its line. A session file is read by [`read_session`] and served by [`serve`]. [`session_text`]
-//! returns what is printed for it. For people there are these:
+//! its log, and opens its line. `rdm_files` reads the files, `rdm_serving` serves sessions, and `rdm_reports` makes the
+//! texts. For people there are these:
 //! - a [`Reason`] says why something isn't done;
 //! - a [`Remark`] says what they should know about a file before its work begins;
 //! - a [`Complaint`] says what is wrong with arguments that fit no command.
@@ -34,17 +34,13 @@ pub use performing::{Silent, carry_out, perform};
 pub use position::Position;
 pub use rdm_arguments::{
     Complaint, DiscoverJob, DiscoveryLine, ExplainJob, Job, LineDiscovery, PortKind, RunJob,
-    Streams, Usage, VERSION, WordsFault, complaint_of, parse_words,
+    Streams, Usage, VERSION, WordsFault, parse_words,
 };
 pub use rdm_files::{
     ClientCall, ClientFile, FileFault, FileKind, Found, MOST_BYTES, Mismatch, Path, Remark,
-    SceneFault, SceneFile, SessionFile, Step, UnknownKey, discovery_command, five_losses,
-    looks_like, read_file, read_scene, read_session,
+    SceneFault, SceneFile, SessionFile, Step, UnknownKey,
 };
-pub use rdm_reports::{
-    Discovered, Discovery, LogOutput, OpensLog, Outcomes, Progress, discover, discover_in, report,
-    session_text,
-};
-pub use rdm_serving::{ServeFault, Served, serve};
+pub use rdm_reports::{Discovered, Discovery, LogOutput, OpensLog, Outcomes, Progress, discover};
+pub use rdm_serving::{ServeFault, Served};
 pub use reason::Reason;
 pub use standard_error::{Progressing, print_reason, print_usage};
