@@ -7,6 +7,7 @@ it is named, and the status is 1. WURSTLINEN_LIBRARY names the shared library.
 """
 from __future__ import annotations
 
+import argparse
 import itertools
 import os
 import sys
@@ -122,7 +123,8 @@ class SimulatedLine:
         command = decode_packet(frame)
         if command is not None and command.pid == Pid.DISC_MUTE:
             return self.mute(command)
-        self.unmuted = sorted(self.devices)
+        if command is not None and command.pid == Pid.DISC_UN_MUTE:
+            self.unmuted = sorted(self.devices)
         return b""
 
     def branch(self, low: int, high: int) -> bytes:
@@ -259,15 +261,20 @@ def print_row(spread: str, wrong: Wrong, search: Search, size: int, rounds: int)
     print(f"{row}: {ends}")
 
 
-def main(subject: str, size: int, rounds: int) -> None:
+def main() -> None:
     """Prints the rows of a subject."""
-    most, rows = SUBJECTS[subject]
-    if not (1 <= size <= most and 1 <= rounds <= MOST_ROUNDS):
-        sys.exit(f"searches: SIZE is from 1 to {most}, and ROUNDS from 1 to {MOST_ROUNDS}")
+    parser = argparse.ArgumentParser(description=__doc__.splitlines()[0])
+    parser.add_argument("subject", choices=SUBJECTS)
+    parser.add_argument("size", type=int)
+    parser.add_argument("rounds", type=int)
+    given = parser.parse_args()
+    most, rows = SUBJECTS[given.subject]
+    if not (1 <= given.size <= most and 1 <= given.rounds <= MOST_ROUNDS):
+        parser.error(f"SIZE is from 1 to {most}, and ROUNDS from 1 to {MOST_ROUNDS}")
     for spread, wrong in rows:
         for search in Search:
-            print_row(spread, wrong, search, size, rounds)
+            print_row(spread, wrong, search, given.size, given.rounds)
 
 
 if __name__ == "__main__":
-    main(sys.argv[1], int(sys.argv[2]), int(sys.argv[3]))
+    main()

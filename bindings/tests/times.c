@@ -11,8 +11,8 @@
 #define CLIENTS 16
 #define ROUNDS 1000
 #define SAMPLES 21
-/* A request has five entries. */
-#define ENTRIES (5 * (ROUNDS * SAMPLES + CLIENTS) + 100)
+/* A request has five entries, and 13,000 stay unused, as in rdm_bench. */
+#define ENTRIES (5 * (ROUNDS * SAMPLES + CLIENTS) + 13000)
 #define LARGE (1 << 20)
 
 struct wurst_block {
