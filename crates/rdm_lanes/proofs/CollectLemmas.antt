@@ -31,13 +31,13 @@ collects_join a b d p q = record {
   grows = grown_join a b d p.block q.block p.grows q.grows;
 }
 
--- they are no frames, joins or switches
 collects_each : (P : Entry → Type 0) → ((c : ClientId) → P (Collect c)) → (block : List Entry) → AllCollects block
     → AllByRecursion P block
 collects_each P each [] all = tt
 collects_each P each (Collect c ∷ block) all = (each c, collects_each P each block all.1)
 collects_each P each (_ ∷ block) all = absurd (true≢false (sym all.0))
 
+-- they are no frames, joins or switches
 pub collects_line : (old new : LogState) → OnlyCollects old new → NoExchange old new
 collects_line old new is =
     let off = collects_each (λ e. is_off_line e ≡ true) (λ c. refl) is.block is.each in

@@ -35,7 +35,7 @@ is_off_line _ = true
 abbrev pub AllOffLine : List Entry → Type 0
 AllOffLine block = AllByRecursion (λ e. is_off_line e ≡ true) block
 
--- what holds of Finishes and Answers
+-- Finishes and Answers aren't of the line
 pub results_off : (block : List Entry) → AllResults block → AllOffLine block
 results_off block all =
     results_each (λ e. is_off_line e ≡ true) (λ n status len. refl, λ n run fault. refl) block all
@@ -287,7 +287,3 @@ line_join a b d p q = record {
 
 pub line_same : (a : LogState) → NoExchange a a
 line_same a = record { block = []; grows = grown_same a; nobody_joined = refl; same = refl; same_views = refl }
-
--- a close
-pub closed_after : (o : Opening) (h : List Entry) → is_closed o (h ++ Close ∷ []) ≡ true
-closed_after o h = is_closed-push o h Close

@@ -4,7 +4,7 @@ use Rattle.rdm_lanes.proofs.Common.{fold, filter_map, refl, sym, ap, ◌∙◌, 
 use Rattle.rdm_lanes.proofs.Common.{AllByRecursion, fold-append, filter_map-append, Opening, Entry, LogFull, is_closed}
 use Rattle.rdm_lanes.proofs.Common.{is_paused, can_pause, can_resume, LogState, grown, is_full_log, Legal, GrowsBy}
 use Rattle.rdm_lanes.proofs.Common.{PauseLogs, ResumeLogs, CloseAdds, CloseAddsWhere, is_result, OperatorCall}
-use Rattle.rdm_lanes.proofs.Common.{SameSwitches, switch_of, switches, effective, NoExchange, IsOperated}
+use Rattle.rdm_lanes.proofs.Common.{SameSwitches, switch_of, switches, effective, IsOperated}
 use Rattle.rdm_log.specs.declared.entry.Entry.TheVariants as entries
 use Rattle.rdm_log.specs.log.History.{closed_after, paused_after}
 use Rattle.rdm_lanes.specs.declared.call.OperatorCall.TheVariants.{Pause, Resume, Close, Leave}
@@ -140,7 +140,3 @@ operated_stays old new block calls is same op = record {
   not_closed = ap (λ (k : LogState). k.opening.closed) is ∙ op.not_closed;
   switched = same.switches_are ∙ op.switched;
 }
-
-pub operated_quiet : (old new : LogState) (calls : List OperatorCall) → NoExchange old new → SameSwitches old new
-    → IsOperated old calls → IsOperated new calls
-operated_quiet old new calls line same op = operated_stays old new line.block calls line.grows same op

@@ -20,11 +20,11 @@ quiet_block h [] idle quiet = rw append-nil idle
 quiet_block h (e ∷ block) idle quiet =
     rw (append_assoc h (e ∷ []) block) at (quiet_block (h ++ e ∷ []) block (awaited-push h e ∙ rw idle quiet.0) quiet.1)
 
--- if the queue is closed, no event's block awaits a reply
 quiet_events : (k : LogState) (e : Event) (r : Answer) (block : List Entry)
     → EachOf e (λ e. awaits_after false e ≡ false) → Adds k e r block → IsQuiet block
 quiet_events k e r block each adds = adds_each (λ e. awaits_after false e ≡ false) k e r block each adds
 
+-- if the queue is closed, no event's block awaits a reply
 quiet : (k : LogState) (e : Event) (r : Answer) (block : List Entry) → is_closed k.opening k.entries ≡ true
     → Adds k e r block → IsQuiet block
 quiet k events.Take (answers.Take (Ok (Some frame))) block closed adds = absurd (by_owner adds.1.0 adds.1.1)

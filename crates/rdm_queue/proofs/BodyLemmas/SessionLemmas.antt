@@ -105,14 +105,7 @@ pub work_in_bound : (k : LogState) (c : ClientId) (n : ℕ) (work : Work)
 work_in_bound k c n (Submit request) = (tt, tt)
 work_in_bound k c n (Discover kind) = (tt, tt)
 
--- a call whose entries fit, and one whose don't
-pub not_full : (A B : Type 0) (full : Bool) → full ≡ false → B → UnlessFull full A B
-not_full A B true is adds = absurd (no is)
-  where
-    no : true ≡ false → ⊥
-    no h = cc
-not_full A B false is adds = adds
-
+-- a call whose entries don't fit
 pub full : (A B : Type 0) (full : Bool) → full ≡ true → A → UnlessFull full A B
 full A B true is refused = refused
 full A B false is refused = absurd (no is)
