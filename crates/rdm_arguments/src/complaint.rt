@@ -322,30 +322,23 @@ fn write_complaint<W: fmt::Write>(
     complaint: &Complaint<'_>,
 ) -> fmt::Result {
     match complaint {
-        Complaint::NoCommand => write!(f, "the command is missing"),
-        Complaint::UnknownCommand(word) if word.starts_with('-') => {
-            write!(
-                f,
-                "unknown command {word:?}; options come after the command"
-            )
-        }
-        Complaint::UnknownCommand(word) => write!(f, "unknown command {word:?}"),
+        Complaint::NoCommand => f.write_str("the command is missing"),
+        Complaint::UnknownCommand(word) => write_unknown_command(f, word),
         Complaint::UnknownOption { command, option } => {
             write!(f, "{command} has no option {option:?}")
         }
-        Complaint::Repeated(option) => write!(f, "the option --{option} is given twice"),
-        Complaint::HasValue(option) => write!(f, "the option --{option} takes no value"),
-        Complaint::UnknownPort(name) => write!(f, "--port is locked or rings, not {name:?}"),
+        Complaint::Repeated(option) => write_about(f, option, "is given twice"),
+        Complaint::HasValue(option) => write_about(f, option, "takes no value"),
+        Complaint::UnknownPort(name) => write_quoted(f, "--port is locked or rings, not", name),
         Complaint::NoArgument { command, argument } => {
             write!(f, "the {argument} of {command} is missing")
         }
-        Complaint::Unexpected(word) => write!(f, "unexpected argument {word:?}"),
-        Complaint::NoValue("port") => write!(f, "the value of --port is missing: locked or rings"),
-        Complaint::NoValue(option) => write!(f, "the value of --{option} is missing"),
+        Complaint::Unexpected(word) => write_quoted(f, "unexpected argument", word),
+        Complaint::NoValue(option) => write_no_value(f, option),
         Complaint::NoOption { command, option } => {
             write!(f, "the option --{option} of {command} is missing")
         }
-        Complaint::NeedsLine(option) => write!(f, "the option --{option} needs --line"),
+        Complaint::NeedsLine(option) => write_about(f, option, "needs --line"),
         Complaint::TooOften(option) => {
             write!(
                 f,
@@ -353,12 +346,38 @@ fn write_complaint<W: fmt::Write>(
             )
         }
         Complaint::UnknownBudget(text) => {
-            write!(
-                f,
-                "--budget is a whole number from 1 to 1000000000, not {text:?}"
-            )
+            let wanted = "--budget is a whole number from 1 to 1000000000, not";
+            write_quoted(f, wanted, text)
         }
-        Complaint::NoText => write!(f, "an argument isn't UTF-8 text"),
-        _ => write!(f, "the arguments fit no command"),
+        Complaint::NoText => f.write_str("an argument isn't UTF-8 text"),
+        _ => f.write_str("the arguments fit no command"),
     }
+}
+
+// An option where a command should be may be one that is given too early.
+fn write_unknown_command<W: fmt::Write>(f: &mut fmt::Formatter<W>, word: &str) -> fmt::Result {
+    write_quoted(f, "unknown command", word)?;
+    if word.starts_with('-') {
+        f.write_str("; options come after the command")?;
+    }
+    Ok(())
+}
+
+// For a port, the values that it may have are few.
+fn write_no_value<W: fmt::Write>(f: &mut fmt::Formatter<W>, option: &str) -> fmt::Result {
+    write!(f, "the value of --{option} is missing")?;
+    if option == PORT.name {
+        f.write_str(": locked or rings")?;
+    }
+    Ok(())
+}
+
+// What is wrong with an argument, which is quoted.
+fn write_quoted<W: fmt::Write>(f: &mut fmt::Formatter<W>, wrong: &str, word: &str) -> fmt::Result {
+    write!(f, "{wrong} {word:?}")
+}
+
+// What is wrong with an option.
+fn write_about<W: fmt::Write>(f: &mut fmt::Formatter<W>, option: &str, wrong: &str) -> fmt::Result {
+    write!(f, "the option --{option} {wrong}")
 }

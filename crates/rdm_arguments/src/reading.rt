@@ -25,23 +25,35 @@ pub(crate) fn given<'a>(alloc: Global, matches: &ArgMatches<'a>) -> Result<Job<'
         → (job : Job) → IsGiven (subcommand_rows_of matches.now) job → ⊥ }
 {
     match matches.subcommand() {
-        Some(("decode", given)) => match value(given, "hex") {
+        Some((command, given)) => given_to(alloc, command, given),
+        None => Err(WordsFault::Words),
+    }
+}
+
+// The job of the command with this name.
+fn given_to<'a>(alloc: Global, command: &str, given: &ArgMatches<'a>) -> Result<Job<'a>, WordsFault>
+    ensures ok { IfOk result (IsGiven (Some (command.now, rows_of (found_of given.now)))) }
+    ensures words { result ≡ Err WordsFault.Words
+        → (job : Job) → IsGiven (Some (command.now, rows_of (found_of given.now))) job → ⊥ }
+{
+    match command {
+        "decode" => match value(given, "hex") {
             Some(digits) => Ok(Job::Decode(digits)),
             None => Err(WordsFault::Words),
         },
-        Some(("encode", given)) => match value(given, "uid") {
+        "encode" => match value(given, "uid") {
             Some(uid) => Ok(Job::Encode(uid)),
             None => Err(WordsFault::Words),
         },
-        Some(("discover", given)) => match discovery(alloc, given) {
+        "discover" => match discovery(alloc, given) {
             Ok(job) => Ok(Job::Discover(job)),
             Err(fault) => Err(fault),
         },
-        Some(("run", given)) => match run(given) {
+        "run" => match run(given) {
             Some(job) => Ok(Job::Run(job)),
             None => Err(WordsFault::Words),
         },
-        Some(("explain", given)) => match explanation(alloc, given) {
+        "explain" => match explanation(alloc, given) {
             Ok(job) => Ok(Job::Explain(job)),
             Err(fault) => Err(fault),
         },

@@ -5,7 +5,7 @@ use rdm_agent::Kind;
 use std::alloc::Global;
 
 /// What a client does.
-#[derive(Clone, Copy, Debug, PartialEq, Eq)]
+#[derive(Clone, Copy)]
 pub enum Step {
     /// It submits the request with this tag.
     Submit(u64),
@@ -22,7 +22,7 @@ pub enum Step {
 }
 
 /// What somebody does. Clients have numbers from 0.
-#[derive(Clone, Copy, Debug, PartialEq, Eq)]
+#[derive(Clone, Copy)]
 pub enum Act {
     /// A client joins with this queue depth.
     Join(u8),
@@ -88,7 +88,7 @@ pub fn moved<S: Stage>(alloc: Global, stage: &mut S, moves: &[Move]) -> Result<(
     for (number, (act, wanted)) in moves.iter().enumerate() {
         let came = stage.act(alloc, *act);
         if came != *wanted {
-            return Err(Wrong::Move(number, *act, came));
+            return Err(Wrong::Move(number, came));
         }
     }
     Ok(())

@@ -2,7 +2,7 @@
 use rdm_wire::{Device, Uid};
 
 /// A device of a scene. Their control fields and binding UIDs differ, so a test notices if one is lost.
-#[derive(Clone, Copy, Debug, PartialEq, Eq)]
+#[derive(Clone, Copy)]
 pub enum Who {
     /// `1234:00000001`, with control field 2, bound to `1234:00000005`.
     First,

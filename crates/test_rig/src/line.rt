@@ -12,7 +12,7 @@ use rdm_wire::{NoMemory, Uid};
 use std::alloc::Global;
 
 /// A device of a scene, and when it is there.
-#[derive(Clone, Copy, Debug)]
+#[derive(Clone, Copy)]
 pub struct TimedDevice {
     /// The device.
     pub who: Who,
@@ -34,7 +34,7 @@ impl TimedDevice {
 }
 
 /// What the line carries if replies to a branch collide.
-#[derive(Clone, Copy, Debug)]
+#[derive(Clone, Copy)]
 pub enum Meeting {
     /// The bitwise OR of the replies.
     Or,
@@ -46,7 +46,7 @@ pub enum Meeting {
 
 /// A scene in short. Each device has two parameters: `0060`, in one part with the bytes 1 and 2, and `8001`, in three
 /// parts of 231 bytes.
-#[derive(Clone, Copy, Debug)]
+#[derive(Clone, Copy)]
 pub struct LineOf<'a> {
     /// The devices.
     pub devices: &'a [TimedDevice],

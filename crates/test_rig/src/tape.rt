@@ -11,7 +11,7 @@ use rdm_wire::{
 use std::alloc::Global;
 
 /// What a line answers to a frame.
-#[derive(Clone, Copy, Debug)]
+#[derive(Clone, Copy)]
 pub enum Came {
     /// Silence.
     Nothing,

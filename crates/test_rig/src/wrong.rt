@@ -1,5 +1,4 @@
 //! Errors of rigs.
-use crate::act::Act;
 use crate::heard::Heard;
 use crate::said::Said;
 
@@ -13,7 +12,7 @@ pub enum Wrong {
     /// The scene has a device that a line can't have.
     Device,
     /// The move with this number had this result.
-    Move(usize, Act, Heard),
+    Move(usize, Heard),
     /// The log has this entry with this number; None: it ends before.
     Entry(usize, Option<Said>),
 }

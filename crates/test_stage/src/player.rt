@@ -72,7 +72,7 @@ pub fn waits<G: Gate>(gate: &G, point: u8, tries: u64) -> bool {
 }
 
 /// One line of a player's script.
-#[derive(Clone, Copy, Debug, PartialEq, Eq)]
+#[derive(Clone, Copy, Debug)]
 pub enum Play {
     /// It notes that this point is reached.
     Arrive(u8),
