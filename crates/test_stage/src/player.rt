@@ -72,7 +72,7 @@ pub fn waits<G: Gate>(gate: &G, point: u8, tries: u64) -> bool {
 }
 
 /// One line of a player's script.
-#[derive(Clone, Copy, Debug)]
+#[derive(Clone, Copy)]
 pub enum Play {
     /// It notes that this point is reached.
     Arrive(u8),
@@ -87,7 +87,7 @@ pub enum Play {
 }
 
 /// A client that follows its script.
-#[derive(Clone, Copy, Debug)]
+#[derive(Clone, Copy)]
 pub struct Player {
     /// Its script.
     pub script: &'static [Play],

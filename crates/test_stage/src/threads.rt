@@ -53,12 +53,21 @@ pub struct PlayersOver {
 }
 
 /// Why a session of players wasn't held.
-#[derive(Debug, Drop)]
+#[derive(Drop)]
 pub enum NotServed {
     /// It was refused: the fault, and the players that were returned. The log was returned like a new one.
     Refused(OpenFault, Vec<Player>),
     /// Something else failed.
     Failed(Failed),
+}
+
+impl From<NotServed> for Failed {
+    fn from(not: NotServed) -> Failed {
+        match not {
+            NotServed::Refused(fault, _) => Failed::Open(fault),
+            NotServed::Failed(failed) => failed,
+        }
+    }
 }
 
 // Why a session wasn't held, and what was returned.
@@ -145,11 +154,7 @@ pub fn play_threads<X: Line + Send + Drop, R: Threads + Wait + Sync>(
     line: X,
     heard: &[&[Heard]],
 ) -> Result<PlayersOver, Failed> {
-    let over = match serve_players(rt, alloc, setup, scripts, line) {
-        Ok(over) => over,
-        Err(NotServed::Refused(fault, _)) => return Err(Failed::Open(fault)),
-        Err(NotServed::Failed(failed)) => return Err(failed),
-    };
+    let over = serve_players(rt, alloc, setup, scripts, line)?;
     if over.stop != Stop::AllLeft {
         return Err(Failed::Stop(over.stop));
     }

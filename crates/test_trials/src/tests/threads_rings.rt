@@ -11,7 +11,9 @@ use test_rig::{
     Ending, Found, Heard, LineOf, Meeting, Said, Step, TimedDevice, Who, Wrong, line_of,
     one_device, says, says_at,
 };
-use test_stage::{Play, PlayersOver, Setup, counts_are, play_threads, player_heard, serve_players};
+use test_stage::{
+    Failed, Play, PlayersOver, Setup, counts_are, play_threads, player_heard, serve_players,
+};
 
 const TIMES: u64 = 100;
 
@@ -274,7 +276,9 @@ fn runs_find_the_device_that_stays(rt: HostRuntime) -> Result<(), Fail> {
         let from = session % 20;
         let stays_for = 1u64 << (session / 20 % 5);
         let line = line_with_second(rt.alloc(), from, Some(from.saturating_add(stays_for)))?;
-        let over = serve_players(&rt, rt.alloc(), setup(&[2]), &[&SEARCHER], line)?;
+        let over = serve_players(&rt, rt.alloc(), setup(&[2]), &[&SEARCHER], line).map_err(
+            Failed::from,
+        )?;
         counts_are(&over.left, &[(4, 4, 0)])?;
         is_sound(&over)?;
     }

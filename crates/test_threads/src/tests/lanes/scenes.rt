@@ -103,7 +103,7 @@ static FINDER_HEARD: [Heard; 4] = [
 // read the last view.
 fn views<R: Threads + Wait + Sync>(rt: &R, alloc: Global, line: SimLine) -> Result<Heard, Fail> {
     let setup = Setup::new(1000, 4, &[1, 1]);
-    let over = serve_players(rt, alloc, setup, &[&FINDER, &VIEWER], line)?;
+    let over = serve_players(rt, alloc, setup, &[&FINDER, &VIEWER], line).map_err(Failed::from)?;
     let (Some(finder), Some(viewer)) = (over.players.first(), over.players.get(1)) else {
         return Err("a player is missing")?;
     };
