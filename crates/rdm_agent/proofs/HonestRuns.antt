@@ -2,7 +2,6 @@
 use Rattle.rdm_agent.proofs.Common.{◌≡◌, ℕ, true, List, [], ◌∷◌, take, None, sym, ap, ◌∙◌, subst, MatchOption, has}
 use Rattle.rdm_agent.proofs.Common.{IsDevice, IsDeviceSet, MOST_DEVICES, once, Seen, HonestOver, acked_in, Certificate}
 use Rattle.rdm_agent.proofs.Common.{Cause, AgentState, Runs, start_by, next_of, fault_of, found_uids, Kind, Search}
-use Rattle.rdm_agent.proofs.Common.{Steady}
 use Rattle.rdm_agent.specs.Statements.{FindsAll, FindsEach, FindsNoPhantom, FindsStaying, FindsNoStranger}
 use Rattle.rdm_agent.proofs.OneDevice.{found}
 use Rattle.rdm_agent.proofs.Honest.{devices, no_phantom}
@@ -63,13 +62,3 @@ finds_staying_by search kind known budget x b set run sets u end fault honest ea
     device : (y : List Seen) → Certificate kind known y b.found → HonestOver sets y → IsDevice u
     device [] c h = let begun = c.search.unmutes in cc
     device (e ∷ y) c h = staying_device sets u e y each h
-
--- the same of the steady search
-pub finds_all : FindsAll Steady
-finds_all = finds_all_by Steady
-
-pub finds_staying : FindsStaying Steady
-finds_staying = finds_staying_by Steady
-
-pub finds_no_stranger : FindsNoStranger Steady
-finds_no_stranger = finds_no_stranger_by Steady

@@ -4,10 +4,10 @@ use Rattle.rdm_agent.proofs.Common.{Option, None, Some, refl, sym, ap, ◌∙◌
 use Rattle.rdm_agent.proofs.Common.{nat_lt, MatchOption, AllByRecursion, ltb-false, cond-false, length-map, IsDevice}
 use Rattle.rdm_agent.proofs.Common.{IsDeviceSet, Asked, Heard, Seen, Unmute, Branch, Mute, Acked, Failed, Silent, One}
 use Rattle.rdm_agent.proofs.Common.{Noise, FailureIsLast, Certificate, SearchShows, known_of, Cause, IsCorrupt}
-use Rattle.rdm_agent.proofs.Common.{EndsFailed, AllReported, Phase, AgentState, Runs, start, start_by, next_of, wanted}
+use Rattle.rdm_agent.proofs.Common.{EndsFailed, AllReported, Phase, AgentState, Runs, start_by, next_of, wanted}
 use Rattle.rdm_agent.proofs.Common.{fed, fault_of, heard_by_phase, to_phase, found_uids, Unmuting, MutingKnown}
 use Rattle.rdm_agent.proofs.Common.{Searching, MutingRead, Sweeping, MutingSwept, Ended, IsInOrder, Kind, Search}
-use Rattle.rdm_agent.proofs.Common.{Steady, Full, Incremental, AgentFault, LineFailed, Exhausted, UNMUTES}
+use Rattle.rdm_agent.proofs.Common.{Full, Incremental, AgentFault, LineFailed, Exhausted, UNMUTES}
 use Rattle.std.proofs.lemmas.Bool.{le-ltb}
 use Rattle.std.proofs.lemmas.List.{length-take}
 use Rattle.rdm_agent.specs.Machine.{open_ranges}
@@ -401,21 +401,3 @@ finds_acknowledged_by search kind known budget x b set run =
     by_next : next_of b ≢ None → (next : Option Asked) → next_of b ≡ next → AllReported x
     by_next goes None end = absurd (goes end)
     by_next goes (Some asked) next = all_reported_by search kind known budget x b asked set run next
-
--- the same of the steady search
-pub goes_on_soundly : GoesOnSoundly Steady
-goes_on_soundly = goes_on_soundly_by Steady
-
-pub stands : (kind : Kind) (known : List ℕ) (budget : ℕ) (x : List Seen) (b : AgentState) → IsDeviceSet known
-    → Runs (start kind known budget) x b → RunInvariant kind known budget x b
-stands = stands_by Steady
-
-pub asks_in_order : AsksInOrder Steady
-asks_in_order = asks_in_order_by Steady
-
-pub ends_at_budget : EndsAtBudget Steady
-ends_at_budget = ends_at_budget_by Steady
-
-pub all_reported : (kind : Kind) (known : List ℕ) (budget : ℕ) (x : List Seen) (b : AgentState) (asked : Asked)
-    → IsDeviceSet known → Runs (start kind known budget) x b → next_of b ≡ Some asked → AllReported x
-all_reported = all_reported_by Steady

@@ -354,7 +354,7 @@ fn write_complaint<W: fmt::Write>(
     }
 }
 
-// An option where a command should be may be one that is given too early.
+// A word with a leading hyphen may be an option that is given too early.
 fn write_unknown_command<W: fmt::Write>(f: &mut fmt::Formatter<W>, word: &str) -> fmt::Result {
     write_quoted(f, "unknown command", word)?;
     if word.starts_with('-') {
@@ -363,7 +363,7 @@ fn write_unknown_command<W: fmt::Write>(f: &mut fmt::Formatter<W>, word: &str) -
     Ok(())
 }
 
-// For a port, the values that it may have are few.
+// The option --port takes one of two words, so the message names them.
 fn write_no_value<W: fmt::Write>(f: &mut fmt::Formatter<W>, option: &str) -> fmt::Result {
     write!(f, "the value of --{option} is missing")?;
     if option == PORT.name {

@@ -30,7 +30,7 @@ pub(crate) fn given<'a>(alloc: Global, matches: &ArgMatches<'a>) -> Result<Job<'
     }
 }
 
-// The job of the command with this name.
+// The job that these arguments give to the command with this name. Err: they give none, or there was no memory.
 fn given_to<'a>(alloc: Global, command: &str, given: &ArgMatches<'a>) -> Result<Job<'a>, WordsFault>
     ensures ok { IfOk result (IsGiven (Some (command.now, rows_of (found_of given.now)))) }
     ensures words { result ≡ Err WordsFault.Words

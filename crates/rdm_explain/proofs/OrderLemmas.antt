@@ -2,7 +2,7 @@
 use Rattle.std.proofs.Common.{◌≡◌, ℕ, zero, suc, ◌+◌, ◌<◌, ◌≤◌, List, [], ◌∷◌, refl, sym, ap, ◌∙◌, subst, arith}
 use Rattle.std.proofs.Common.{take, length, get_or, map}
 use Rattle.std.specs.Prelude.{replicate}
-use Rattle.std.proofs.lemmas.List.{get_or-map, length-map, take_all, length-replicate}
+use Rattle.std.proofs.lemmas.List.{get_or-map, length-map}
 use Rattle.rdm_wire.specs.Honest.{Asked, Seen}
 use Rattle.rdm_wire.specs.Honest.Asked.{Unmute}
 use Rattle.rdm_agent.specs.declared.limits.TheConstants.{UNMUTES}
@@ -34,11 +34,6 @@ one_more n [] d within is e = absurd (omega arith)
 one_more zero (a ∷ l) d within is e = ap (λ b. b ∷ []) is
 one_more (suc n) (a ∷ l) d within is e =
     ap (λ b. b ∷ take (suc n) l) (heads e) ∙ ap (λ k. Unmute ∷ k) (one_more n l d (omega arith) is (tails e))
-
-too_short : (n : ℕ) (l : List Asked) → length l < n → Begins n l → ⊥
-too_short n l short e =
-    let long : length l ≡ n = ap length (sym (take_all n l (omega arith)) ∙ e) ∙ length-replicate n Unmute in
-    omega arith
 
 abbrev asks : List Exchange → List Asked
 asks xs = map (λ (e : Seen). e.asked) (seen_all xs)

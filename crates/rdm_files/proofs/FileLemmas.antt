@@ -5,14 +5,6 @@ use Rattle.std.proofs.Common.{inl, inr}
 use Rattle.std.proofs.lemmas.List.{take_all, length-take}
 use Rattle.rdm_files.specs.Input.{IsContent}
 
--- a reader that gives more than the limit has more
-pub longer : (known : Option (List ℕ)) (bytes : List ℕ) → 1048576 < length bytes
-    → IfSome (option_map (take 1048577) known) (λ xs. bytes ≡ xs) → IfSome known (λ xs. 1048576 < length xs)
-longer None bytes many read = tt
-longer (Some xs) bytes many read =
-    let taken : length bytes ≡ min 1048577 (length xs) = ap length read ∙ length-take 1048577 xs in
-    omega (arith, taken, many)
-
 pub content : (known : Option (List ℕ)) (bytes : List ℕ) → length bytes ≤ 1048576
     → IfSome (option_map (take 1048577) known) (λ xs. bytes ≡ xs) → IsContent known bytes
 content None bytes few read = record { all = tt; few = few }

@@ -37,7 +37,7 @@ collects_each P each [] all = tt
 collects_each P each (Collect c ∷ block) all = (each c, collects_each P each block all.1)
 collects_each P each (_ ∷ block) all = absurd (true≢false (sym all.0))
 
--- they are no frames, joins or switches
+-- collects are no frames, replies or joins, and add no view
 pub collects_line : (old new : LogState) → OnlyCollects old new → NoExchange old new
 collects_line old new is =
     let off = collects_each (λ e. is_off_line e ≡ true) (λ c. refl) is.block is.each in
@@ -45,6 +45,7 @@ collects_line old new is =
     (quiet_views old.entries is.block off
     (collects_each (λ e. answered_of e ≡ None) (λ c. refl) is.block is.each))
 
+-- nor do they pause, resume or close
 pub collects_switches : (old new : LogState) → OnlyCollects old new → SameSwitches old new
 collects_switches old new is = switches_stay old new is.block is.grows
     (collects_each (λ e. is_switch e ≡ false) (λ c. refl) is.block is.each)

@@ -19,7 +19,7 @@ use Rattle.rdm_lanes.specs.declared.worker.Worker.{Worker}
 use Rattle.rdm_lanes.specs.declared.worker.view_worker.ViewWorker.{ViewWorker}
 use Rattle.rdm_lanes.specs.Lines.{Exchanged, exchange_count}
 use Rattle.rdm_lanes.specs.Views.{all_views}
-use Rattle.rdm_lanes.specs.Pages.{HandsOut, HasMemory, pages_out, refused_in, emptied, IsHalfUsed, IsDue}
+use Rattle.rdm_lanes.specs.Pages.{HandsOut, HasMemory, pages_out, refused_in, emptied, IsDue}
 use Rattle.rdm_lanes.specs.Pages.{spare_capacity}
 use Rattle.rdm_lanes.specs.body.Paging.{HandsPages, WorksInPages}
 use Rattle.rdm_lanes.specs.body.Showing.{Publishing, Publishes, AllPublished}
@@ -190,10 +190,6 @@ not_due_without k spare none due = rw none at due.1
 pub not_due_within : (k : LogState) (spare : Spare) (room : ℕ) → spare_capacity spare ≡ Some room
     → (MayGoOn k room → ⊥) → IsDue k spare → ⊥
 not_due_within k spare room is small due = small (rw is at due.1)
-
-pub due_within : (k : LogState) (spare : Spare) (room : ℕ) → spare_capacity spare ≡ Some room → IsHalfUsed k
-    → MayGoOn k room → IsDue k spare
-due_within k spare room is half fits = (half, rw is fits)
 
 -- what is handed out if no page is due, if the log can't continue, and if it can
 memory_there : (spare : Spare) → HasMemory spare → spare ≢ Nothing

@@ -5,7 +5,7 @@ use Rattle.std.specs.Prelude.{Option, is_some, false, ◌⊎◌}
 use Rattle.std.proofs.lemmas.Bool.{false≢true}
 use Rattle.std.specs.Option.{ForSome}
 use Rattle.std.proofs.lemmas.List.{append_assoc, append-nil, map-append}
-use Rattle.std.proofs.lemmas.List.{take_more, take-append-drop, length-append}
+use Rattle.std.proofs.lemmas.List.{take_more, length-append}
 use Rattle.std.proofs.lemmas.List.Elements.{filter_map-append}
 use Rattle.std.proofs.lemmas.Grind.{flat_map-append}
 use Rattle.std.proofs.Math.Seq.{drop-append_seam, take-append_seam, take-length}
@@ -21,8 +21,7 @@ use Rattle.rdm_log.specs.log.Entries.{came_of, sending_of, cames, sends, traded,
 use Rattle.rdm_log.specs.log.LogState.{LogState, stored, drained}
 use Rattle.rdm_log.proofs.LogLemmas.PushLemmas.{sends-append}
 use Rattle.rdm_log.specs.promises.Blocks.{GrowsBy}
-use Rattle.rdm_line.specs.Events.{Exchange as LineExchange}
-use Rattle.rdm_locked.specs.Exchanges.{recorded, Records}
+use Rattle.rdm_locked.specs.Exchanges.{recorded}
 use Rattle.rdm_log.specs.log.Pages.{entries_of}
 use Rattle.rdm_locked.specs.Pages.{Numbered}
 use Rattle.rdm_locked.specs.body.Compared.{awaited, Matches, Walked, Finds, HandedOut}
@@ -124,21 +123,6 @@ compared_whole a b pages h past xs n before found all =
     let rest : Matches a h xs b = rw (all, take-length xs) at (found_matches a b h xs n found) in
     matched_exchanges (entries_of pages ++ h) (past ++ xs) b
     (matches_on None a b (entries_of pages) h past xs before rest)
-
--- a record's exchanges, of which the first go with a page
-pub exchanges_kept : (past xs : List Exchange) (n : ℕ) → (past ++ take n xs) ++ drop n xs ≡ past ++ xs
-exchanges_kept past xs n = append_assoc past (take n xs) (drop n xs) ∙ ap (λ zs. past ++ zs) (take-append-drop n xs)
-
--- a worker's exchanges behind those that went with pages
-pub records_behind : (L : Type 0) (step : L → LineExchange → L → Type 0) (a : L) (past old : List Exchange) (b : L)
-    (new : List Exchange) (turns : ℕ) → Records L step a old b new turns
-    → Records L step a (past ++ old) b (past ++ new) turns
-records_behind L step a past old b new turns r = record {
-  made = r.made;
-  appended = rw r.appended (sym (append_assoc past old r.made));
-  steps = r.steps;
-  few = r.few;
-}
 
 abbrev pages_behind : List Page → List Page
 pages_behind [] = []
@@ -243,10 +227,6 @@ sent_on (Some f) e owner frame none is = absurd (false≢true (sym none))
 pub came_on : (a : Option (ArrayVec ℕ)) (e : Entry) (event : LineEvent) (x : Exchange) → e ≡ Came event
     → (a ≡ Some x.frame) × (event ≡ x.event) → Matches a (e ∷ []) (x ∷ []) None
 came_on a e event x is same = rw same.0 (matches_came e event x is same.1)
-
--- all were received only if nothing waits
-pub none_waits : (got known all : List Page) → got ++ known ≡ all → length known ≢ 0 → got ≢ all
-none_waits got known all is some same = some (omega (arith, ap length is, length-append got known, ap length same))
 
 -- the page that is looked at is the one that is taken next
 pub peeked_is : (peeked page : Page) (known rest : List Page) → IsPrefix (peeked ∷ []) known → known ≡ page ∷ rest

@@ -368,8 +368,8 @@ impl Controller {
     }
 
     /// At least as many as `uncollected`, and two for each request that isn't finished and each discovery that isn't
-    /// answered: three for each request that the queue can hold, and for each of sixteen clients' four discoveries. It
-    /// looks at no client.
+    /// answered. It returns three for each request that the queue can hold, and for each of 64 discoveries: sixteen
+    /// clients can have four each. It looks at no client.
     pub(crate) fn most_reserved(&self) -> usize
         ensures most { 2 * (length self.now.waiting + length self.now.asked) + uncollected self.now ≤ result }
         ensures fits { result ≤ 12432 }

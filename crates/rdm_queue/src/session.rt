@@ -390,8 +390,8 @@ impl Session {
         !self.has_ample_room() && self.free() < LEAST_FREE
     }
 
-    // Whether so many entries are unused that three are free, whatever is reserved. A log that is large enough has as
-    // many for most of its life, and then no call has to count.
+    // Whether so many entries are unused that three are free, whatever is reserved. If so, `is_full` doesn't have to
+    // count what is reserved.
     fn has_ample_room(&self) -> bool
         ensures { result ≡ true → is_full_log self.now ≡ false }
     {

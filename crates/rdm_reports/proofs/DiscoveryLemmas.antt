@@ -57,35 +57,7 @@ pub all_driven : (L : Type 0) (step : L → Exchange → L → Type 0) (source :
 all_driven L step source search kind known budget old line a d =
     next-in_budget a kind known budget false (map seen_event d.exchanges) d.run (seen_many d.exchanges ∙ d.many)
 
--- what is reported at the end
-pub reported : (L : Type 0) (step : L → Exchange → L → Type 0) (source : ℕ) (search : Search) (kind : Kind)
-    (known : List ℕ) (budget n frames : ℕ) (old line : L) (a : AgentState)
-    (found : Result (List Device) (AgentFault × List Device))
-    → HasDriven L step source search kind known budget old n a line → next_op a ≡ End
-    → found ≡ run_result (fault_of a.phase) a.found
-    → AfterEach a (λ run. (frames ≡ length run.exchanges) × (frames ≤ run.budget))
-    → IsDiscovery L step source search kind known budget old line found frames
-reported L step source search kind known budget n frames old line a found d ended report counts = record {
-  last = a;
-  driven = subst (λ k. HasDriven L step source search kind known budget old k a line) (sym same) d;
-  ended = ended;
-  report = report;
-}
-  where
-    run : RunSoFar
-    run = record {
-      search = search;
-      kind = kind;
-      known = known;
-      budget = budget;
-      aborted = false;
-      exchanges = map seen_event d.exchanges;
-    }
-
-    same : frames ≡ n
-    same = (counts run d.run).0 ∙ seen_many d.exchanges ∙ d.many
-
--- the same with the exchanges that a log has got: before the first
+-- the exchanges that a log has got: before the first
 pub none_logged : (L : Type 0) (step : L → Exchange → L → Type 0) (source : ℕ) (search : Search) (kind : Kind)
     (known : List ℕ) (budget : ℕ) (old : L) (a : AgentState) (log : LogState) → a ≡ start_by search kind known budget
     → HasRunBy search kind known budget false [] a

@@ -1,25 +1,10 @@
 -- Comparing the calls of a session file with those that a log has.
-use Rattle.std.proofs.Common.{◌≡◌, ℕ, suc, subst, ◌+◌, ◌<◌, List, [], ◌∷◌, ◌++◌, length, take, get_or, refl, ap, sym}
-use Rattle.std.proofs.Common.{◌∙◌, Bool, true, false, arith}
-use Rattle.std.specs.Prelude.{◌==◌}
-use Rattle.std.specs.Bool.{OnTrue}
-use Rattle.std.proofs.lemmas.Bool.{eqb-true}
+use Rattle.std.proofs.Common.{◌≡◌, ℕ, suc, subst, ◌+◌, ◌<◌, List, [], ◌∷◌, ◌++◌, length, take, get_or, ap, sym}
+use Rattle.std.proofs.Common.{◌∙◌, arith}
 use Rattle.std.proofs.lemmas.List.{length-take-le, take_more}
 use Rattle.rdm_log.specs.declared.entry.Entry.{Entry}
 use Rattle.rdm_files.specs.declared.session.client.ClientFile.{ClientFile}
 use Rattle.rdm_serving.specs.LoggedCalls.{AllCalled, calls_logged}
-
--- where the first of both lists are the same, the rest decides
-pub same_next : {X : Type 0} {P : Type 0} (x : X) (xs : List X) (e : X) (left later : List X) → left ≡ e ∷ later → x ≡ e
-    → (x ∷ xs ≡ left → P) → xs ≡ later → P
-same_next x xs e left later is first both rest = both (rw (is, first, rest) refl)
-
--- at the end of both
-pub same_end : {X : Type 0} {P : Type 0} (left : List X) (b : Bool) → ([] ≡ left → P) → b ≡ (length left == 0)
-    → OnTrue b P
-same_end [] b both is = rw is (both refl)
-same_end (y ∷ left) true both is = absurd (let none = eqb-true (length (y ∷ left)) 0 (sym is) in omega arith)
-same_end (y ∷ left) false both is = tt
 
 called_more : (h : List Entry) (c : ℕ) (cs : List ClientFile) (x : ClientFile) → AllCalled h c cs
     → calls_logged (c + length cs) h ≡ x.calls.items → AllCalled h c (cs ++ x ∷ [])

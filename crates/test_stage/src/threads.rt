@@ -62,8 +62,8 @@ pub enum NotServed {
 }
 
 impl From<NotServed> for Failed {
-    fn from(not: NotServed) -> Failed {
-        match not {
+    fn from(why: NotServed) -> Failed {
+        match why {
             NotServed::Refused(fault, _) => Failed::Open(fault),
             NotServed::Failed(failed) => failed,
         }

@@ -35,7 +35,7 @@ close_in_bound k true block adds = rw adds tt
 close_in_bound k false block adds =
     rw adds.whole (tt, closed_in_bound (grown k (Close ∷ [])) adds.results (is_closed-push k.opening k.entries Close))
 
--- a block whose entries need no close
+-- a block is in bound if none of its entries needs a close
 no_answers : (k : LogState) (block : List Entry) → AllByRecursion (λ e. (k : LogState) → FaultNeedsClose k e) block
     → AnswersInBound k block
 no_answers k [] all = tt

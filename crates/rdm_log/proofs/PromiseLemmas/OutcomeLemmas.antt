@@ -1,7 +1,7 @@
 -- What a log has reported doesn't change as it grows.
 use Rattle.rdm_log.proofs.Common.{◌≡◌, ℕ, zero, suc, ◌+◌, ◌≤◌, ◌<◌, Bool, true, false, List, [], ◌∷◌, ◌++◌, length}
 use Rattle.rdm_log.proofs.Common.{drop, fold, Option, Some, None, slice_get, refl, sym, ap, ◌∙◌, inl, inr, arith}
-use Rattle.rdm_log.proofs.Common.{filter_map, if◌then◌else◌, ◌⊎◌, ◌==◌, ◌||◌, option_and_then, AllByRecursion, list_any}
+use Rattle.rdm_log.proofs.Common.{filter_map, ◌⊎◌, ◌==◌, ◌||◌, option_and_then, AllByRecursion, list_any}
 use Rattle.rdm_log.proofs.Common.{false≢true, eq-eqb, none-some, same_Some, drop-append-le, recursion_from_All}
 use Rattle.rdm_log.proofs.Common.{filter_passes, EachAfter, AgentFault, Opening, Entry, Finish, Answer, Answered}
 use Rattle.rdm_log.proofs.Common.{answered_of, answers, is_answer_to, answers_to, collects_by, uncollected, is_answered}
@@ -16,9 +16,6 @@ use Rattle.rdm_log.proofs.PromiseLemmas.StableResults.{result_step, filter_has, 
 use Rattle.rdm_log.proofs.PromiseLemmas.RunsAnswer.{exchanges_step}
 
 -- a run that is answered has no exchange more
-not_open : (h : List Entry) (r : ℕ) → is_answered r h ≡ true → (if is_answered r h then None else Some r) ≡ Some r → ⊥
-not_open h r is e = none-some r (rw is at e)
-
 pub exchanges_kept : (o : Opening) (h : List Entry) (e : Entry) → EachAfter (MayFollow o) h → MayFollow o h e → (r : ℕ)
     → is_answered r h ≡ true → run_exchanges r (h ++ e ∷ []) ≡ run_exchanges r h
 exchanges_kept o h e each may r is =

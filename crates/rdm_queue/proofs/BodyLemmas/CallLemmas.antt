@@ -32,11 +32,6 @@ use Rattle.rdm_queue.proofs.BodyLemmas.AfterLemmas.{number_is, work_after, work_
 use Rattle.rdm_queue.proofs.BodyLemmas.AfterLemmas.{collect_after, none_owed_after}
 use Rattle.rdm_queue.proofs.BodyLemmas.AfterLemmas.{kind_after}
 
--- a call that adds nothing
-pub adds_nothing : (k : LogState) (Adds : List Entry → Type 0) (s : QueueState) → Adds []
-    → StandsAfter k.opening k.entries s → StandsWith k Adds s
-adds_nothing k Adds s none after = record { block = []; adds = none; after = rw append-nil after }
-
 pub join_adds : (r : Result ClientId JoinFault) (s new : QueueState) (n : ℕ)
     → IfOk r (λ c. (first_join_fault s n ≡ None) × (c.0 ≡ length s.places) × (new ≡ joins_client s n))
     → IfErr r (λ fault. RefusesJoin (first_join_fault s n) fault) → OnErr r (new ≡ s)

@@ -12,7 +12,7 @@ use Rattle.std.proofs.lemmas.Bool.{le-ltb}
 use Rattle.rdm_log.specs.log.History.{reserved, uncollected_count}
 use Rattle.rdm_log.specs.log.LogState.{free_entries, is_full_log, drained}
 use Rattle.rdm_log.specs.declared.work.Work.TheVariants.{Submit, Discover}
-use Rattle.rdm_log.specs.promises.Blocks.{UnlessFull, DeliverAdds, GrowsBy}
+use Rattle.rdm_log.specs.promises.Blocks.{DeliverAdds, GrowsBy}
 use Rattle.rdm_queue.specs.body.State.{uncollected}
 use Rattle.rdm_queue.specs.body.SessionInvariant.{HasRoom, FinishesDue}
 use Rattle.rdm_log.proofs.BoundLemmas.{after_growth}
@@ -104,14 +104,6 @@ pub work_in_bound : (k : LogState) (c : ClientId) (n : ℕ) (work : Work)
     → AnswersInBound k (work_accepted c n work ∷ [])
 work_in_bound k c n (Submit request) = (tt, tt)
 work_in_bound k c n (Discover kind) = (tt, tt)
-
--- a call whose entries don't fit
-pub full : (A B : Type 0) (full : Bool) → full ≡ true → A → UnlessFull full A B
-full A B true is refused = refused
-full A B false is refused = absurd (no is)
-  where
-    no : false ≡ true → ⊥
-    no h = cc
 
 -- a log that grew by nothing
 pub grown_none : (k : LogState) → k ≡ grown k []
