@@ -1,7 +1,7 @@
 """Reads which comments cite E1.20, for `./trust --standard`.
 
-A comment cites a subject of the standard by `E1.20, SUBJECT`. Each subject has one name, which begins a row of
-SUBJECTS; the row also has the other forms in which sentences cite it.
+A comment cites a subject of the standard by `E1.20, SUBJECT`, or in a sentence as `E1.20's SUBJECT`. Each subject has
+one name, which begins a row of SUBJECTS; the row also has the other forms in which sentences cite it.
 """
 from __future__ import annotations
 
@@ -56,11 +56,19 @@ def files() -> Iterator[Path]:
 
 
 def cited(path: Path) -> Iterator[tuple[str, str]]:
-    """Each citation: its place, and the words that follow. It may be broken between two lines."""
+    """Each citation: its place, and the words that follow. It may be broken between two lines. What E1.20 has besides
+    its subjects, such as its tables, is no citation."""
     text, blank = path.read_text(encoding="utf-8"), BLANK[path.suffix]
-    for match in re.finditer(rf"E1\.20,{blank}([\w-]+(?:{blank}[\w-]+)*)", text):
+    for match in re.finditer(rf"E1\.20(,|'s){blank}([\w-]+(?:{blank}[\w-]+)*)", text):
         place = f"{path.relative_to(ROOT)}:{text.count(chr(10), 0, match.start()) + 1}"
-        yield place, re.sub(blank, " ", match[1])
+        words = re.sub(blank, " ", match[2])
+        if match[1] == "," or subject_of(words):
+            yield place, words
+
+
+def subject_of(words: str) -> str:
+    """The form of the subject with which the words begin, or an empty text."""
+    return next((form for form in LONGEST_FIRST if re.match(rf"{re.escape(form)}\b", words)), "")
 
 
 def citations() -> tuple[dict[str, list[str]], list[str]]:
@@ -69,7 +77,7 @@ def citations() -> tuple[dict[str, list[str]], list[str]]:
     unknown = []
     for path in files():
         for place, words in cited(path):
-            form = next((form for form in LONGEST_FIRST if re.match(rf"{re.escape(form)}\b", words)), "")
+            form = subject_of(words)
             if form:
                 found[NAMES[form]].append(place)
             elif not OTHERS.match(words):

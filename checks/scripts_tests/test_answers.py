@@ -22,6 +22,11 @@ EARLY = re.compile(rb"wurstlinen: (the command is missing;|unknown command|the f
 TRY_HELP = "; try 'wurstlinen --help'\n"
 PROVED = (b"decode", b"encode", b"discover", b"run", b"explain")
 BUILDING = 'echo "building" >&2; exit 1'
+# The program's commands and arguments, as the table of its parser has them.
+TABLE = ROOT / "crates/rdm_arguments/src/table.rt"
+ARGUMENT = re.compile(r"const (\w+): ArgumentRule = ArgumentRule \{\s+name: \"(\w+)\",\s+form: Form::(\w+),")
+COMMAND = re.compile(r"const \w+: CommandRule = CommandRule \{\s+name: \"(\w+)\",\s+arguments: &\[(.*?)\],"
+                     r"\s+forms: &\[(.*?)\n? *\],\n\s+help: [^\n]*\n\s+explained: &\[(.*?)\],", re.DOTALL)
 
 
 def early_cases() -> List[Case]:
@@ -186,6 +191,24 @@ class Answers(unittest.TestCase):
             self.assertEqual(self.clone.run("./wurstlinen", "run", "none").stdout, "the program: run none\n")
             (self.clone.root / "none").unlink()
             self.assertEqual(self.clone.run("./wurstlinen", *words).stdout, f"the program: {' '.join(words)}\n")
+
+
+class Table(unittest.TestCase):
+    """Nothing proves that the usage shows the options that the parser takes."""
+
+    def test_the_usage_shows_each_option(self) -> None:
+        text = TABLE.read_text(encoding="utf-8")
+        options = {name: option for name, option, form in ARGUMENT.findall(text) if form not in ("Needed", "Optional")}
+        taken, explained = set(), set()
+        commands = COMMAND.findall(text)
+        self.assertEqual(len(commands), text.count(": CommandRule = "))
+        for command, arguments, forms, explains in commands:
+            own = {options[name] for name in re.findall(r"\w+", arguments) if name in options}
+            self.assertEqual(set(re.findall(r"--(\w+)", forms)), own, command)
+            taken |= own
+            explained |= {options[name] for name in re.findall(r"\w+", explains)}
+        self.assertEqual(explained, taken)
+        self.assertIn("quick", taken)
 
 
 class Unproved(unittest.TestCase):

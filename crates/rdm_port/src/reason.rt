@@ -17,7 +17,7 @@ const UID_LEN: usize = 13;
 const COLON_AT: usize = 4;
 
 const DEFECT: &str =
-    "the session's outcomes and its log differ; this is a defect of the program, please report it";
+    "the session's outcomes, its log and its file differ; this is a defect of the program, please report it";
 
 /// Why something isn't done, or what people should know about what was done. It borrows the arguments.
 #[derive(Drop)]
@@ -55,7 +55,7 @@ pub enum Reason<'a> {
         /// A value that may be enough.
         hint: &'static str,
     },
-    /// A session's outcomes and its log differ.
+    /// A session's outcomes, its log and its file differ.
     Defect,
     /// A run had this fault. These lines have the devices that it found until then.
     Fault(AgentFault, Vec<u8>),
