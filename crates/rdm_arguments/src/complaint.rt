@@ -311,7 +311,7 @@ impl fmt::Display for Complaint<'_> {
             Complaint::Version => write!(f, "{Usage}\nversion: {VERSION}"),
             _ => {
                 write_complaint(f, self)?;
-                write!(f, "; try 'wurstlinen --help'")
+                f.write_str("; try 'wurstlinen --help'")
             }
         }
     }

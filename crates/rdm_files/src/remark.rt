@@ -19,7 +19,7 @@ pub enum Remark {
 impl fmt::Display for Remark {
     fn fmt<W: fmt::Write>(&self, f: &mut fmt::Formatter<W>) -> fmt::Result {
         match self {
-            Remark::UnknownKey(key) => write!(f, "{key}"),
+            Remark::UnknownKey(key) => fmt::Display::fmt(key, f),
             Remark::FiveLosses { path, first } => {
                 let last = first.saturating_add(4);
                 write!(

@@ -185,8 +185,8 @@ impl fmt::Display for Found {
         match self {
             Found::Nothing => f.write_str("nothing"),
             Found::Null => f.write_str("null"),
-            Found::Boolean(truth) => write!(f, "{truth}"),
-            Found::Whole(number) => write!(f, "{number}"),
+            Found::Boolean(truth) => fmt::Display::fmt(truth, f),
+            Found::Whole(number) => fmt::Display::fmt(number, f),
             Found::Number => f.write_str("a number that is negative, not whole or too large"),
             Found::Text(excerpt) => match str::from_utf8(excerpt) {
                 Ok(text) => write!(f, "{text:?}"),

@@ -111,11 +111,11 @@ impl fmt::Display for UnknownKey {
                     write!(f, "{}.", self.path)?;
                 }
                 write_key(f, text)?;
-                write!(f, ": this key isn't known")?;
+                f.write_str(": this key isn't known")?;
             }
             _ => write!(f, "{}: a key of {} bytes isn't known", self.path, self.len)?,
         }
-        write!(f, ", and is left out; ")?;
+        f.write_str(", and is left out; ")?;
         write_known(f, self.known)
     }
 }
@@ -126,19 +126,22 @@ fn write_key<W: fmt::Write>(f: &mut fmt::Formatter<W>, key: &str) -> fmt::Result
         .chars()
         .all(|c| c.is_ascii_alphanumeric() || c == '_' || c == '-');
     if is_word && !key.is_empty() {
-        write!(f, "{key}")
+        f.write_str(key)
     } else {
         write!(f, "{key:?}")
     }
 }
 
 fn write_known<W: fmt::Write>(f: &mut fmt::Formatter<W>, known: &[&str]) -> fmt::Result {
-    for (i, key) in known.iter().enumerate() {
-        match (i, known.len()) {
-            (0, 1) => write!(f, "the known one is {key}")?,
-            (0, _) => write!(f, "the known ones are {key}")?,
-            _ => write!(f, ", {key}")?,
+    match known {
+        [] => Ok(()),
+        [key] => write!(f, "the known one is {key}"),
+        [first, others @ ..] => {
+            write!(f, "the known ones are {first}")?;
+            for key in others {
+                write!(f, ", {key}")?;
+            }
+            Ok(())
         }
     }
-    Ok(())
 }

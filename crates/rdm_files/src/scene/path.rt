@@ -55,19 +55,22 @@ impl Path {
 
 impl fmt::Display for Path {
     fn fmt<W: fmt::Write>(&self, f: &mut fmt::Formatter<W>) -> fmt::Result {
-        if self.is_whole() {
+        let mut steps = self.steps.iter().rev();
+        let Some(outermost) = steps.next() else {
             return f.write_str("the file");
-        }
-        for (i, step) in self.steps.iter().rev().enumerate() {
-            write_step(f, if i > 0 { "." } else { "" }, step)?;
+        };
+        write_step(f, outermost)?;
+        for step in steps {
+            f.write_str(".")?;
+            write_step(f, step)?;
         }
         Ok(())
     }
 }
 
-fn write_step<W: fmt::Write>(f: &mut fmt::Formatter<W>, before: &str, step: &Step) -> fmt::Result {
+fn write_step<W: fmt::Write>(f: &mut fmt::Formatter<W>, step: &Step) -> fmt::Result {
     match step.item {
-        Some(item) => write!(f, "{before}{}[{item}]", step.key),
-        None => write!(f, "{before}{}", step.key),
+        Some(item) => write!(f, "{}[{item}]", step.key),
+        None => f.write_str(step.key),
     }
 }
