@@ -1,23 +1,23 @@
 //! The commands of the table, for `clap`.
 ghost use Rattle.std.specs.Prelude.{◌≡◌, [], IfOk, false, map};
-ghost use Rattle.clap.specs.Words.{app_of, rule_of, with_rule, with_subcommand};
+ghost use Rattle.clap.specs.Words.{app_of, rule_of, with_rule};
 ghost use Rattle.clap.specs.declared.builder.command.Command.TheViews.{out-Command as fields_of};
 ghost use Rattle.rdm_arguments.specs.Arguments.{commands, command_with, program, rule_for};
 
-use crate::table::{ArgumentRule, CommandRule, DECODE, DISCOVER, ENCODE, EXPLAIN, Form, RUN};
+use crate::table::{ArgumentRule, COMMANDS, CommandRule, Form};
 use clap::{Arg, ArgAction, Command};
 use std::alloc::{AllocError, Global};
 
 /// The program with its commands.
-// Each is added when it is made, so that only one value has to be dropped if an allocation fails.
 pub(crate) fn commands<'a>(alloc: Global) -> Result<Command<'a>, AllocError>
     ensures { IfOk result (λ c. app_of c ≡ commands) }
 {
-    let decode = with_command(alloc, program(alloc), &DECODE)?;
-    let encode = with_command(alloc, decode, &ENCODE)?;
-    let discover = with_command(alloc, encode, &DISCOVER)?;
-    let run = with_command(alloc, discover, &RUN)?;
-    with_command(alloc, run, &EXPLAIN)
+    let mut parser = program(alloc);
+    'commands: for rule in COMMANDS {
+        let command = command_of(alloc, rule)?;
+        parser = parser.subcommand(command)?;
+    }
+    Ok(parser)
 }
 
 // The program without its commands.
@@ -29,18 +29,6 @@ fn program<'a>(alloc: Global) -> Command<'a>
         .subcommand_required(true)
         .disable_help_flag(true)
         .disable_help_subcommand(true)
-}
-
-// The program with one more command of the table.
-fn with_command<'a>(
-    alloc: Global,
-    program: Command<'a>,
-    rule: &CommandRule,
-) -> Result<Command<'a>, AllocError>
-    ensures { IfOk result (λ r. app_of r ≡ with_subcommand (app_of program.entry) (command_with rule.now.name.now
-        (map (λ (a : ArgumentRule). rule_for a.form a.name.now) rule.now.arguments.now))) }
-{
-    program.subcommand(command_of(alloc, rule)?)
 }
 
 // A command of the table.

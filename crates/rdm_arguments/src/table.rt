@@ -44,7 +44,7 @@ pub(crate) enum Form {
 }
 
 /// All commands, in the order of the usage.
-pub(crate) const COMMANDS: [&CommandRule; 5] = [&DECODE, &ENCODE, &DISCOVER, &RUN, &EXPLAIN];
+pub(crate) const COMMANDS: &[CommandRule] = &[DECODE, ENCODE, DISCOVER, RUN, EXPLAIN];
 
 /// Says what bytes mean.
 pub(crate) const DECODE: CommandRule = CommandRule {
