@@ -1,2 +1,3 @@
 -- What only the proofs need.
+pub mod Agreement
 pub mod Scripts

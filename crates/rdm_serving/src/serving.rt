@@ -1,13 +1,12 @@
 //! Serves the clients of a session file on a line: each in a thread of its own, and a worker in another.
-ghost use Rattle.std.specs.Prelude.{◌≡◌, ◌≤◌, [], Err, IfOk, map, true};
+ghost use Rattle.std.specs.Prelude.{◌≡◌, ◌≤◌, Err, IfOk, OnOk, map, true};
 ghost use Rattle.std.specs.Bool.{OnTrue};
 ghost use Rattle.std.specs.List.{All};
 ghost use Rattle.rdm_wire.specs.Uid.{IsDevice};
 ghost use Rattle.rdm_log.specs.log.Config.{IsConfig};
 ghost use Rattle.rdm_client.specs.declared.told.Told.{Told};
 ghost use Rattle.rdm_serving.specs.Serving.{MayServe, IsInTurns, IsServedBy, IsSetUp};
-ghost use Rattle.rdm_serving.specs.LoggedOutcomes.{IsLogOf};
-ghost use Rattle.rdm_serving.specs.LoggedCalls.{HasCalls};
+ghost use Rattle.rdm_serving.specs.body.Agreement.{AgreesWith};
 ghost use Rattle.rdm_reports.specs.SessionReport.{AllSettled, IsSettled, is_request, is_ask, indices_of};
 ghost use Rattle.rdm_reports.specs.declared.outcomes.Discovered.{Discovered};
 
@@ -32,7 +31,7 @@ use rdm_arguments::PortKind;
 use rdm_client::Told;
 use rdm_files::{ClientCall, ClientFile, SessionFile};
 use rdm_line::Line;
-use rdm_log::{Config, LEAST_FREE, Log, MOST_PLACES, Setup, laws};
+use rdm_log::{Config, Log, MOST_PLACES, Setup, laws};
 use rdm_queue::Session;
 use rdm_reports::{Discovered, Outcomes, Progress};
 use rdm_wire::Uid;
@@ -134,38 +133,44 @@ pub fn serve<
     }
 }
 
-// What is left of the session, if each call has an outcome. A log with fewer than three free entries would have
-// refused the worker's next frame, so it is full, even if no frame was left. If all calls have outcomes, these can't
-// differ unless the program has a defect: the log has each outcome, the file's set-up and exactly its calls, and each
-// client made enough turns and not too many.
+// What is left of the session, if it agrees with the file.
 fn settled(alloc: Global, file: &SessionFile, served: Served) -> Result<Served, ServeFault>
-    ensures settled { IfOk result (λ s. AllSettled file.now.clients.items s.outcomes.items) }
-    ensures logged { IfOk result (λ s. IsLogOf s.session.opening s.session.entries s.outcomes.items) }
-    ensures called { IfOk result (λ s. HasCalls s.session.entries file.now.clients.items) }
-    ensures set_up { IfOk result (λ s. IsSetUp file.now.source file.now.budget file.now.search s.session) }
-    ensures whole { IfOk result (λ s. s.session.gone ≡ 0) }
-    ensures client_turns { IfOk result (λ s. All (IsInTurns file.now.turns) s.outcomes.items) }
+    ensures agrees { IfOk result (AgreesWith file.now) }
     ensures same { IfOk result (λ s. s ≡ served) }
     ensures turns { result ≡ Err ServeFault.Turns → AllSettled file.now.clients.items served.outcomes.items → ⊥ }
 {
-    let (clients, turns) = (&file.clients, file.turns);
+    match compare_with_file(alloc, file, &served) {
+        Ok(()) => Ok(served),
+        Err(fault) => Err(fault),
+    }
+}
+
+// Compares what is left of the session with the file. A log with fewer than three free entries would have refused the
+// worker's next frame, so it is full, even if no frame was left. If all calls have outcomes, only a defect of the
+// program can make these differ from the log or the file. The log has each outcome, the file's set-up and exactly its
+// calls. Each client made enough turns, and not too many.
+fn compare_with_file(alloc: Global, file: &SessionFile, served: &Served) -> Result<(), ServeFault>
+    ensures agrees { OnOk result (AgreesWith file.now served.now) }
+    ensures turns { result ≡ Err ServeFault.Turns → AllSettled file.now.clients.items served.now.outcomes.items → ⊥ }
+{
+    let (log, outcomes) = (served.session.log(), &served.outcomes);
     // Nobody drains the log here, so all its entries are stored.
-    if served.session.free() < LEAST_FREE || served.session.log().gone() > 0 {
+    if served.session.is_full() || log.gone() > 0 {
         return Err(ServeFault::Log);
     }
     laws::legal_keeps_promises();
-    let Ok(is_logged) = are_logged(alloc, served.session.log(), &served.outcomes) else {
+    let Ok(is_logged) = are_logged(alloc, log, outcomes) else {
         return Err(ServeFault::Memory);
     };
-    let is_called = has_calls(all_entries(served.session.log()), clients);
-    let is_set_up = is_set_up(served.session.log(), file);
-    let are_in_turns = all_in_turns(turns, &served.outcomes);
-    if !have_all(clients, &served.outcomes) {
+    let is_called = has_calls(all_entries(log), &file.clients);
+    let is_set_up = is_set_up(log, file);
+    let are_in_turns = all_in_turns(file.turns, outcomes);
+    if !have_all(&file.clients, outcomes) {
         return Err(ServeFault::Turns);
     }
-    let is_settled = all_settled(clients, &served.outcomes);
+    let is_settled = all_settled(&file.clients, outcomes);
     if is_logged && is_called && is_set_up && are_in_turns && is_settled {
-        Ok(served)
+        Ok(())
     } else {
         Err(ServeFault::Defect)
     }

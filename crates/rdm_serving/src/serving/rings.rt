@@ -121,18 +121,26 @@ fn served<J: ViewHistory, X: Drop>(
     } = end;
     let slots = slots_of(&ends);
     cancel_ends(alloc, ends);
+    match outcomes_of(alloc, bodies) {
+        Some(outcomes) => Ok(Served {
+            outcomes,
+            session,
+            slots,
+            ran_out: ran_out_by(worker, turns),
+        }),
+        None => Err(ServeFault::Memory),
+    }
+}
+
+// The outcomes of the clients, in their order. None: there was no memory, now or for one of their calls.
+fn outcomes_of(alloc: Global, callers: Vec<Caller<'_>>) -> Option<Vec<Outcomes>> {
     let mut outcomes = Vec::new(alloc);
-    for caller in bodies {
+    for caller in callers {
         if caller.end == Err(ServeFault::Memory) || outcomes.push(caller.outcomes).is_err() {
-            return Err(ServeFault::Memory);
+            return None;
         }
     }
-    Ok(Served {
-        outcomes,
-        session,
-        slots,
-        ran_out: ran_out_by(worker, turns),
-    })
+    Some(outcomes)
 }
 
 // How many slots the first client's rings had. None: there are no clients.
