@@ -87,6 +87,8 @@ impl Controller {
     /// Accepts a client's work, and returns its number: a request as [`submit`](Controller::submit) does, and a
     /// discovery as [`discover`](Controller::discover) does.
     /// Err: the first fault that applies; nothing has changed, and the work is returned.
+    // It is inlined: a request is large, and each call would move it there and back.
+    #[inline(always)]
     pub fn accept(&mut self, client: ClientId, work: Work) -> Result<u64, (WorkFault, Work)>
         ensures adds { AddsToEach self.old
             (λ k. WorkAdds k.opening k.entries client work (number_or_fault result)) self.new }

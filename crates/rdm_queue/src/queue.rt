@@ -197,6 +197,8 @@ impl Queue {
     }
 
     /// Accepts a client's work, and returns its number.
+    // It is inlined: a request is large, and each call would move it there and back.
+    #[inline(always)]
     pub(crate) fn accept(&mut self, client: ClientId, work: Work) -> Result<u64, (WorkFault, Work)>
         ensures accepted { IfOk result (λ n. (first_fault self.old client.0 work ≡ None)
             × (n ≡ number_for self.old work) × (self.new ≡ accepts_work self.old client.0 work)) }

@@ -107,6 +107,8 @@ impl Session {
 
     /// Accepts a client's work, as [`Controller::accept`] does. Each refusal except LogFull is an entry.
     /// Err: LogFull, or else the first other fault that applies; nothing changes but the log, and the work is returned.
+    // It is inlined: a request is large, and each call would move it there and back.
+    #[inline(always)]
     pub fn accept(&mut self, client: ClientId, work: Work) -> Result<u64, (WorkFault, Work)>
         ensures adds { GrowsBy self.old (WorkLogs self.old client work (number_or_fault result)) self.new }
         ensures returned { IfErr result (λ e. e.1 ≡ work) }
