@@ -201,6 +201,8 @@ impl Controller {
 
     /// A client's oldest uncollected outcome, which is then no longer outstanding. None if there is none, or no such
     /// client.
+    // It is inlined: an outcome has room for a set, and each call would fill and move all of it.
+    #[inline(always)]
     pub fn next_outcome(&mut self, client: ClientId) -> Option<Outcome>
         ensures adds { AddsToEach self.old (λ k. CollectAdds k.opening k.entries client result) self.new }
         ensures unchanged { IfNone result (self.new ≡ self.old) }

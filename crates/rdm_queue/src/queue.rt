@@ -363,6 +363,8 @@ impl Queue {
     }
 
     /// Takes a client's oldest outcome out, which is then no longer outstanding.
+    // It is inlined: an outcome has room for a set, and each call would fill and move all of it.
+    #[inline(always)]
     pub(crate) fn next_outcome(&mut self, client: ClientId) -> Option<Outcome>
         ensures outcome { option_map outcome_value result ≡ slice_get (owed_to client.0 self.old) 0 }
         ensures removed { OnSome result (self.new ≡ collects_oldest self.old client.0) }

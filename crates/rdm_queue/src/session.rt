@@ -247,6 +247,8 @@ impl Session {
 
     /// A client's oldest outcome, as [`Controller::next_outcome`] returns it, with an entry if there is one. The entry
     /// always fits into the log.
+    // It is inlined: an outcome has room for a set, and each call would fill and move all of it.
+    #[inline(always)]
     pub fn next_outcome(&mut self, client: ClientId) -> Option<Outcome>
         ensures adds { GrowsBy self.old (CollectAdds self.old.opening self.old.entries client result) self.new }
         ensures legal { Legal self.new.opening self.new.entries }
