@@ -155,6 +155,8 @@ impl<L: Ledger, J: PageRing> Inside<L, J> {
     /// refused. If the log is full, it isn't counted.
     /// Err: LogFull, or else the first other fault that applies; nothing changes but the log and the counts, and the
     /// work is returned.
+    // It is inlined: a request is large, and each call would move it there and back.
+    #[inline(always)]
     pub fn accept(
         &mut self,
         client: ClientId,
