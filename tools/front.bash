@@ -4,7 +4,7 @@
 
 front_folder="$own/library"
 # With these words, the command in Python needs no library.
-without_library=(adapters bridge completion doctor pids rig trace)
+without_library=(adapters bridge completion doctor patch pids rig trace)
 with_library=(apply fixtures get identify save set)
 
 is_of_front() {

@@ -183,12 +183,13 @@ class Progress(OneRig):
     def test_of_changes(self) -> None:
         with folder() as place:
             file = place / "rig.csv"
-            file.write_text(f"uid,label,address\n{LEFT},Side,9\n1234:00000002,Front right,8\n")
+            file.write_text(f"uid,label,address\n{LEFT},Side,19\n1234:00000002,Front right,8\n")
             terminal = self.on_terminal("apply", str(file))
         self.assertEqual(self.out.splitlines()[-1], "2 changes")
         self.assertEqual(re.findall(r"\r([a-z]+ing \d of \d)", terminal.getvalue()),
-                         ["asking 1 of 2", "asking 2 of 2", "changing 1 of 2", "changing 2 of 2"])
-        self.assertEqual(terminal.lines(), [""])
+                         ["asking 1 of 2", "asking 2 of 2", *(f"comparing {each} of 5" for each in range(1, 6)),
+                          "changing 1 of 2", "changing 2 of 2"])
+        self.assertEqual(terminal.lines(), [f"wurstlinen: {SLOW} asks for 0.3 s", ""])
 
     def test_only_people_want_it(self) -> None:
         self.assertEqual(self.on_terminal("fixtures", "--json").getvalue(), "")
@@ -229,12 +230,12 @@ class Files(OneRig):
     def test_what_is_saved(self) -> None:
         with folder() as place:
             self.assertEqual(self.saved(place)[1], """\
-uid,label,address,personality
-1234:00000001,Front left,1,1
-1234:00000002,Front right,8,1
-454e:0a000017,Back truss,100,1
-9abc:00000002,House lights,1,1
-9abc:00000003,(empty),1,1
+uid,label,address,personality,model,slots
+1234:00000001,Front left,1,1,Wash 7,7
+1234:00000002,Front right,8,1,Wash 7,7
+454e:0a000017,Back truss,100,1,Beam 3,1
+9abc:00000002,House lights,1,1,Dimmer,1
+9abc:00000003,(empty),1,1,"Dimmer, second half",1
 """)
             self.assertEqual([each.name for each in place.iterdir()], ["rig.csv"])
 
@@ -273,7 +274,7 @@ uid,label,address,personality
             self.assertIn(f"wurstlinen: {file} stays as it is, since values are missing\n", errors)
             # A new file has what is known.
             status, out, _ = self.run_command("save", str(place / "new.csv"))
-            self.assertEqual((status, (place / "new.csv").read_text().splitlines()[1]), (1, f"{LEFT},,1,1"))
+            self.assertEqual((status, (place / "new.csv").read_text().splitlines()[1]), (1, f"{LEFT},,1,1,Wash 7,7"))
             self.answers = {0x0082: (ResponseType.NACK_REASON, b"\0\0")}
             self.assertEqual(self.run_command("save", str(file))[0], 0)
             with mock.patch.object(self.rig, "exchange", self.failing_later()):
@@ -293,11 +294,12 @@ uid,label,address,personality
 
     def test_to_standard_output(self) -> None:
         status, out, _ = self.run_command("save", "-")
-        self.assertEqual((status, out.splitlines()[1]), (0, "1234:00000001,Front left,1,1"))
+        self.assertEqual((status, out.splitlines()[1]), (0, "1234:00000001,Front left,1,1,Wash 7,7"))
         status, out, errors = self.run_command("save", "-", "--json")
         rows = [json.loads(line) for line in out.splitlines()]
         self.assertEqual((status, len(rows), errors), (0, 5, ""))
-        self.assertEqual(rows[0], {"uid": LEFT, "label": "Front left", "address": "1", "personality": "1"})
+        self.assertEqual(rows[0], {"uid": LEFT, "label": "Front left", "address": "1", "personality": "1",
+                                   "model": "Wash 7", "slots": "7"})
 
     def test_only_what_differs_is_set(self) -> None:
         with folder() as place:
@@ -323,23 +325,26 @@ uid,label,address,personality
             if command is not None and (command.command_class, command.pid) == (0x30, 0x00E0):
                 moves(replace(command, pid=0x00F0, data=b"\0\xc8").encode())
             return reply
+        self.run_command("set", LEFT, "dmx_start_address", "30")
         with mock.patch.object(self.rig, "exchange", moving):
-            self.assertEqual(self.run_command("apply", "-", text=f"uid,address,personality\n{LEFT},1,2\n"),
-                             (0, f"{LEFT}  personality  1 -> 2\n{LEFT}  address  200 -> 1\n2 changes\n", ""))
-        self.assertEqual(self.run_command("get", LEFT, "dmx_start_address")[1], "1\n")
+            self.assertEqual(self.run_command("apply", "-", text=f"uid,address,personality\n{LEFT},30,2\n")[:2],
+                             (0, f"{LEFT}  personality  1 -> 2\n{LEFT}  address  200 -> 30\n2 changes\n"))
+        self.assertEqual(self.run_command("get", LEFT, "dmx_start_address")[1], "30\n")
 
     def test_a_value_that_is_refused_stops_no_other(self) -> None:
         self.answers = {0x0082: (ResponseType.NACK_REASON, b"\0\0")}
         self.assertEqual(self.run_command("apply", "-", text=f"uid,label,address\n{LEFT},Side,15\n"),
                          (3, f"{LEFT}  address  1 -> 15\n1 change\n",
-                          f"wurstlinen: label: {LEFT} refused it: unknown pid (NACK 0x0000)\n"))
+                          f"wurstlinen: label: {LEFT} refused it: unknown pid (NACK 0x0000)\n"
+                          f"wurstlinen: {SLOW} asks for 0.3 s\n"))
 
     def test_a_line_that_fails_ends_it(self) -> None:
         text = f"uid,label,address\n{LEFT},Side,15\n1234:00000002,Stage,30\n"
+        devices = [{"uid": uid, "rig": {"label": "x"}} for uid in (LEFT, "1234:00000002")]
+        self.scene(*devices)
         self.run_command("apply", "-", "--dry-run", text=text)
         asked = len(self.frames)
         fails = "wurstlinen: the rig's file lets this exchange fail\n"
-        devices = [{"uid": uid, "rig": {"label": "x"}} for uid in (LEFT, "1234:00000002")]
         for failing, end in ((asked - 1, []), (asked + 2, ["1 of 4 changes made"])):
             self.scene(*devices, fails=list(range(failing, failing + 9)))
             status, out, errors = self.run_command("apply", "-", text=text)
@@ -357,25 +362,24 @@ uid,label,address,personality
                          (0, f"{LEFT}  label  Front left -> (empty)\n1 change\n", ""))
         self.assertEqual(self.run_command("get", LEFT, "device_label")[1], "\n")
         empty = self.run_command("save", "-")[1]
-        self.assertEqual(empty.splitlines()[1], f"{LEFT},(empty),1,1")
+        self.assertEqual(empty.splitlines()[1], f"{LEFT},(empty),1,1,Wash 7,7")
         self.assertEqual(self.run_command("apply", "-", text=empty)[1], "0 changes\n")
         # A label that is that word.
         self.assertEqual(self.run_command("apply", "-", text=f"uid,label\n{LEFT},\\x28empty)\n")[1],
                          f"{LEFT}  label  (empty) -> \\x28empty)\n1 change\n")
         word = self.run_command("save", "-")[1]
-        self.assertEqual(word.splitlines()[1], f"{LEFT},\\x28empty),1,1")
+        self.assertEqual(word.splitlines()[1], f"{LEFT},\\x28empty),1,1,Wash 7,7")
         self.assertEqual(self.run_command("apply", "-", text=word)[1], "0 changes\n")
         self.assertEqual(self.run_command("apply", "-", text=empty)[1],
                          f"{LEFT}  label  \\x28empty) -> (empty)\n1 change\n")
 
     def test_files_that_are_wrong(self) -> None:
         for text, wanted in (
-                ("", "the first line has to name the columns, with commas between them, and one of them is uid\n"),
-                ("uid;label\n", "the first line has to name the columns, with commas between them, and one of them is "
-                                "uid, but it is 'uid;label'\n"),
+                ("", "the first line has to name the columns, and one of them is uid\n"),
+                ("uid:label\n", "the first line has to name the columns, and one of them is uid, but it is "
+                                "'uid:label'\n"),
                 ("uid,label,Label\n", "the column 'label' is there more than once"),
                 ("uid,label,uid\n", "the column 'uid' is there more than once"),
-                ("uid,lable\n", "there is no column 'lable'; the columns are uid, label, address, personality"),
                 ("uid,address\n1234:00000001,513\n", "line 2: dmx_start_address: 513 is not from 1 to 512"),
                 ("uid,address\n1234:00000001,0017\n", "line 2: dmx_start_address: '0017' can be read in two ways"),
                 ("uid,address\n1234:00000001,(empty)\n", "line 2: dmx_start_address: '(empty)' "),
@@ -413,13 +417,15 @@ uid,label,address,personality
                 raise Failure(1, "late", reason="late")
             return completion
         with mock.patch.object(work.Work, "ask", late):
-            self.assertEqual(self.run_command("apply", "-", text=f"uid,address\n{LEFT},15\n"),
-                             (0, f"{LEFT}  address  1 -> 15\n1 change\n", ""))
+            self.assertEqual(self.run_command("apply", "-", text=f"uid,address\n{LEFT},15\n")[:2],
+                             (0, f"{LEFT}  address  1 -> 15\n1 change\n"))
 
     def test_a_device_that_refuses(self) -> None:
         status, out, errors = self.run_command("apply", "-", text=f"uid,personality,label\n{LEFT},9,Side\n")
         self.assertEqual((status, out.splitlines()[-1]), (3, "1 of 2 changes made"))
-        self.assertEqual(errors, f"wurstlinen: personality: {LEFT} refused it: data out of range (NACK 0x0006)\n")
+        self.assertEqual(errors.splitlines()[1:], [
+            f"wurstlinen: {LEFT} doesn't say how many slots its personality 9 has, so these aren't compared",
+            f"wurstlinen: personality: {LEFT} refused it: data out of range (NACK 0x0006)"])
         self.assertEqual(self.run_command("get", LEFT, "device_label")[1], "Side\n")
 
     def test_a_device_that_is_absent(self) -> None:
@@ -431,14 +437,14 @@ uid,label,address,personality
     def test_a_device_without_an_address(self) -> None:
         self.scene({"uid": LEFT, "params": [{"pid": "00f0", "parts": ["ffff"]}]})
         status, out, errors = self.run_command("save", "-")
-        self.assertEqual((status, out.splitlines()[1]), (0, f"{LEFT},(empty),,1"))
+        self.assertEqual((status, out.splitlines()[1]), (0, f"{LEFT},(empty),,1,Simulated fixture,1"))
         self.assertIn(f"wurstlinen: {LEFT}: address is none, and is left out\n", errors)
         self.assertEqual(self.run_command("apply", "-", text=out)[:2], (0, "0 changes\n"))
 
     def test_a_text_that_is_not_ascii(self) -> None:
         self.scene({"uid": LEFT, "params": [{"pid": "0082", "parts": ["4361e95c"]}]})
         out = self.run_command("save", "-")[1]
-        self.assertEqual(out.splitlines()[1], f"{LEFT},Ca\\xe9\\\\,1,1")
+        self.assertEqual(out.splitlines()[1], f"{LEFT},Ca\\xe9\\\\,1,1,Simulated fixture,1")
         self.assertEqual(self.run_command("apply", "-", text=out)[:2], (0, "0 changes\n"))
 
     def test_a_disk_that_is_full(self) -> None:

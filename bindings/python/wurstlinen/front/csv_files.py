@@ -1,19 +1,20 @@
-"""The commands save and apply: the labels, addresses and personalities of devices as comma-separated values."""
+"""What save writes and apply reads: a table with the labels, addresses and personalities of devices."""
 from __future__ import annotations
 
 import argparse
-import csv
-import io
+import os
 import sys
 from collections import Counter
 from dataclasses import dataclass
-from typing import Dict, List, Mapping, Optional, Sequence, Tuple
+from typing import Dict, List, Mapping, Sequence, Tuple
 
 from .. import Uid
 from ..lines.packets import is_broadcast, parse_uid
 from ..parameters import STANDARD, Parameter, WordFault, encode
+from ..parameters.words import hint
 from .files import file_of
 from .output import BAD_ARGUMENTS, DONE, FAILED, REFUSED, Failure, Output
+from .sheets import NoSheet, Sheet, sheet_of
 from .work import Work, open_work
 
 STANDARD_STREAM = "-"
@@ -21,6 +22,8 @@ STANDARD_STREAM = "-"
 MOST_BYTES = 1_000_000
 UID = "uid"
 LABEL = "label"
+MODEL = "model"
+SLOTS = "slots"
 MISFIT = "misfit"
 # What an empty text is in a file, where an empty value changes nothing. A text that says so has an escape.
 EMPTY = "(empty)"
@@ -31,7 +34,12 @@ COLUMNS: Mapping[str, Parameter] = {
     "address": STANDARD.named("dmx_start_address"),
     LABEL: STANDARD.named("device_label"),
 }
-WRITTEN = (UID, LABEL, "address", "personality")
+# The columns that say which device it is, and aren't set, with their parameters.
+FACTS: Mapping[str, Tuple[Parameter, str]] = {
+    MODEL: (STANDARD.named("device_model_description"), "description"),
+    SLOTS: (STANDARD.named("device_info"), "dmx_footprint"),
+}
+WRITTEN = (UID, LABEL, "address", "personality", *FACTS)
 
 
 @dataclass(frozen=True)
@@ -49,6 +57,30 @@ class Change:
         return f"{self.uid}  {self.column}  {written(self.before)} -> {written(self.after)}"
 
 
+def show(change: Change, output: Output) -> None:
+    """Prints a change."""
+    output.result([change.text], uid=str(change.uid), column=change.column, before=change.before, after=change.after)
+
+
+@dataclass(frozen=True)
+class Row:
+    """A device of a file, with the values that it is to have."""
+
+    uid: Uid
+    values: Dict[str, str]
+    # All cells, by the names of their columns.
+    cells: Mapping[str, str]
+    place: str
+
+
+@dataclass(frozen=True)
+class RigFile:
+    """A file with devices: a row for each row of its table."""
+
+    sheet: Sheet
+    rows: List[Row]
+
+
 def run_save(chosen: argparse.Namespace, output: Output) -> int:
     """Discovers the devices, and writes their values."""
     if chosen.file == STANDARD_STREAM:
@@ -56,16 +88,49 @@ def run_save(chosen: argparse.Namespace, output: Output) -> int:
         print_rows(rows, output)
         return status
     try:
-        with file_of(chosen.file) as file:
+        before = sheet_before(chosen.file)
+        with file_of(chosen.file, before.encoding) as file:
             rows, status = saved(chosen, output)
             if status != DONE and file.is_replaced:
                 raise Failure(status, f"{chosen.file} stays as it is, since values are missing", reason="file")
-            file.write(table_of(rows))
+            file.write(merged(before, rows, output).text())
     except OSError as fault:
         raise Failure(FAILED, f"{chosen.file}: {fault.strerror}", reason="file") from None
     count = "1 device" if len(rows) == 1 else f"{len(rows)} devices"
     output.result([f"{count}: {chosen.file}"], devices=len(rows), file=chosen.file)
     return status
+
+
+def sheet_before(name: str) -> Sheet:
+    """The table that a file is, or else an empty one."""
+    # A FIFO or a device isn't read.
+    if not os.path.isfile(name):
+        return Sheet([])
+    try:
+        data = bytes_of(name)
+        sheet = sheet_of(data) if len(data) <= MOST_BYTES else Sheet([])
+    except (OSError, NoSheet):
+        return Sheet([])
+    return sheet if sheet.column(UID) is not None else Sheet([])
+
+
+def merged(before: Sheet, rows: Sequence[Mapping[str, str]], output: Output) -> Sheet:
+    """The rows in the manner of the table before, with what its other columns say of these devices."""
+    titles = [*before.titles, *(column for column in WRITTEN if before.column(column) is None)]
+    after = Sheet(titles, delimiter=before.delimiter, encoding=before.encoding)
+    others = before.others(WRITTEN)
+    at = before.column(UID)
+    kept = {} if at is None else {row[at].strip().lower(): row for row in before.rows}
+    for row in rows:
+        cells = [row.get(column, "") for column in after.columns]
+        for number in others:
+            cells[number] = kept[row[UID]][number] if row[UID] in kept else ""
+        after.rows.append(cells)
+    for uid in kept.keys() - {row[UID] for row in rows}:
+        lost = [f"{before.titles[number]} {kept[uid][number]}" for number in others if kept[uid][number]]
+        if lost:
+            output.note(f"{uid} wasn't found, so its row is gone: {', '.join(lost)}")
+    return after
 
 
 def saved(chosen: argparse.Namespace, output: Output) -> Tuple[List[Dict[str, str]], int]:
@@ -78,24 +143,15 @@ def saved(chosen: argparse.Namespace, output: Output) -> Tuple[List[Dict[str, st
         for number, device in enumerate(devices, 1):
             output.progress(f"asking {number} of {len(devices)}")
             row, is_whole = row_of(work, device.uid, output)
-            rows.append(row)
+            rows.append({**row, **facts_of(work, device.uid)})
             status = status if is_whole else FAILED
     return rows, status
-
-
-def table_of(rows: Sequence[Mapping[str, str]]) -> str:
-    """The rows as comma-separated values."""
-    text = io.StringIO()
-    writer = csv.DictWriter(text, WRITTEN, lineterminator="\n")
-    writer.writeheader()
-    writer.writerows(rows)
-    return text.getvalue()
 
 
 def print_rows(rows: Sequence[Mapping[str, str]], output: Output) -> None:
     """Prints the table, or an object for each row."""
     if not output.is_json:
-        output.result(table_of(rows).splitlines())
+        output.result(Sheet(list(WRITTEN), [[row[column] for column in WRITTEN] for row in rows]).text().splitlines())
         return
     for row in rows:
         output.result([], **row)
@@ -126,6 +182,23 @@ def row_of(work: Work, uid: Uid, output: Output) -> Tuple[Dict[str, str], bool]:
     return row, is_whole
 
 
+def facts_of(work: Work, uid: Uid) -> Dict[str, str]:
+    """What says which device it is. What a device doesn't say stays empty, since nothing is set by it."""
+    facts = {}
+    for column, (parameter, name) in FACTS.items():
+        try:
+            values = work.read(uid, parameter).values or {}
+        except Failure as failure:
+            if failure.is_of_line:
+                raise
+            values = {}
+        value = values.get(name, "")
+        # A text that is empty, or a number that isn't valid, says nothing.
+        is_said = isinstance(value, int) or column == MODEL and value != ""
+        facts[column] = written(str(value)) if is_said else ""
+    return facts
+
+
 def value_of(work: Work, uid: Uid, column: str) -> str:
     """A value of a device, as it is written. Raises Failure."""
     reading = work.read(uid, COLUMNS[column])
@@ -134,54 +207,25 @@ def value_of(work: Work, uid: Uid, column: str) -> str:
     return str(next(iter(reading.values.values())))
 
 
-def run_apply(chosen: argparse.Namespace, output: Output) -> int:
-    """Reads a file, shows what differs from the devices, and changes that."""
-    rows = read(chosen.file)
-    with open_work(chosen, output) as work:
-        changes, status = changes_of(work, rows, output)
-        for change in changes:
-            show(change, output)
-        applied = Applied(work, output, status)
-        if not chosen.dry_run:
-            applied.make_all(changes, dict(rows))
-    count = applied.made + applied.failed if not chosen.dry_run else len(changes)
-    text = "1 change" if count == 1 else f"{count} changes"
-    if chosen.dry_run:
-        text = f"{text}; nothing was sent"
-    elif applied.failed:
-        text = f"{applied.made} of {text} made"
-    output.result([text], changes=count, made=applied.made, dry_run=chosen.dry_run)
-    return applied.status
-
-
-def show(change: Change, output: Output) -> None:
-    """Prints a change."""
-    output.result([change.text], uid=str(change.uid), column=change.column, before=change.before, after=change.after)
-
-
-def read(name: str) -> List[Tuple[Uid, Dict[str, str]]]:
-    """The devices of a file, with the values that they are to have. Raises Failure."""
+def read(name: str, output: Output) -> RigFile:
+    """The devices of a file. Columns that it doesn't know are named. Raises Failure."""
     try:
         data = standard_input() if name == STANDARD_STREAM else bytes_of(name)
     except OSError as fault:
         raise wrong(f"{name}: {fault.strerror}") from None
     if len(data) > MOST_BYTES:
         raise wrong(f"{name} is longer than {MOST_BYTES} bytes")
-    text = data.decode("utf-8-sig", "replace")
-    reader = csv.DictReader(io.StringIO(text), strict=True)
-    rows: List[Tuple[Uid, Dict[str, str]]] = []
     try:
-        reader.fieldnames = [column.strip().lower() for column in reader.fieldnames or ()]
-        check_columns(name, reader.fieldnames)
-        for row in reader:
-            rows.append(checked(row, f"{name}: line {reader.line_num}"))
-    except csv.Error as fault:
+        sheet = sheet_of(data)
+    except NoSheet as fault:
         raise wrong(f"{name}: {fault}") from None
-    counts = Counter(uid for uid, _ in rows)
-    for uid in counts:
-        if counts[uid] > 1:
+    check_columns(name, sheet)
+    rows = [checked(sheet.by_name(row), f"{name}: line {line}") for line, row in zip(sheet.lines, sheet.rows)]
+    for uid, count in Counter(row.uid for row in rows).items():
+        if count > 1:
             raise wrong(f"{name}: {uid} is there more than once")
-    return rows
+    note_others(name, sheet, output)
+    return RigFile(sheet, rows)
 
 
 def standard_input() -> bytes:
@@ -200,72 +244,38 @@ def wrong(text: str) -> Failure:
     return Failure(BAD_ARGUMENTS, text, reason="file")
 
 
-def check_columns(name: str, columns: Sequence[str]) -> None:
-    """Refuses a file whose columns aren't known."""
-    if UID not in columns:
-        first = f", but it is '{','.join(columns)}'" if columns else ""
-        raise wrong(f"{name}: the first line has to name the columns, with commas between them, and one of them is "
-                    f"uid{first}")
-    for column in columns:
-        if column not in (UID, *COLUMNS):
-            raise wrong(f"{name}: there is no column '{column}'; the columns are {', '.join(WRITTEN)}")
-        if columns.count(column) > 1:
+def check_columns(name: str, sheet: Sheet) -> None:
+    """Refuses a file that doesn't say which devices it is about, or has a value twice."""
+    if sheet.column(UID) is None:
+        first = f", but it is '{sheet.delimiter.join(sheet.titles)}'" if sheet.titles else ""
+        raise wrong(f"{name}: the first line has to name the columns, and one of them is uid{first}")
+    for column in WRITTEN:
+        if sheet.columns.count(column) > 1:
             raise wrong(f"{name}: the column '{column}' is there more than once")
 
 
-def checked(row: Mapping[Optional[str], Optional[str]], place: str) -> Tuple[Uid, Dict[str, str]]:
+def note_others(name: str, sheet: Sheet, output: Output) -> None:
+    """Names the columns that change nothing, since one of them may be misspelled."""
+    others = [sheet.columns[number] for number in sheet.others(WRITTEN) if sheet.columns[number]]
+    if others:
+        named = ", ".join(f"{each}{hint(each, COLUMNS)}" for each in others)
+        output.note(f"{name}: these columns change nothing: {named}")
+
+
+def checked(cells: Mapping[str, str], place: str) -> Row:
     """A row whose values can be set, without those that stay as they are."""
-    if None in row or None in row.values():
-        raise wrong(f"{place}: it has more or fewer values than the first line")
-    values = {column: str(row[column]) for column in COLUMNS if row.get(column)}
+    values = {column: cells[column] for column in COLUMNS if cells.get(column)}
     if values.get(LABEL) == EMPTY:
         values[LABEL] = ""
     try:
-        number = parse_uid(str(row[UID]).strip())
+        number = parse_uid(cells[UID].strip())
         for column, value in values.items():
             encode(COLUMNS[column], True, [value])
     except ValueError as fault:
         raise wrong(f"{place}: {fault}") from None
     if is_broadcast(number):
-        raise wrong(f"{place}: {row[UID]} is no device's own UID")
-    return Uid.from_number(number), values
-
-
-def changes_of(work: Work, rows: Sequence[Tuple[Uid, Dict[str, str]]], output: Output) -> Tuple[List[Change], int]:
-    """What differs, and the status of those devices that couldn't be asked. Raises Failure if the line failed."""
-    changes: List[Change] = []
-    status = DONE
-    for number, (uid, values) in enumerate(rows, 1):
-        output.progress(f"asking {number} of {len(rows)}")
-        try:
-            for column in COLUMNS:
-                if column in values:
-                    change, failed = difference(work, uid, column, values[column], output)
-                    changes += [change] if change else []
-                    status = failed or status
-        except Failure as failure:
-            if failure.is_of_line:
-                raise
-            output.failure(failure)
-            status = failure.status
-    return changes, status
-
-
-def difference(work: Work, uid: Uid, column: str, after: str, output: Output) -> Tuple[Optional[Change], int]:
-    """How a value differs, if it does, and the status. Raises Failure if the device doesn't answer."""
-    try:
-        before = value_of(work, uid, column)
-    except Failure as failure:
-        if failure.status != REFUSED and failure.keys["reason"] != MISFIT:
-            raise
-        output.failure(named(column, failure))
-        return None, failure.status
-    return (Change(uid, column, before, after) if differs(column, before, after) else None), DONE
-
-
-def named(column: str, failure: Failure) -> Failure:
-    """A failure that says which column it is about."""
-    return Failure(failure.status, f"{column}: {failure}", **failure.keys)
+        raise wrong(f"{place}: {cells[UID]} is no device's own UID")
+    return Row(Uid.from_number(number), values, cells, place)
 
 
 def differs(column: str, before: str, after: str) -> bool:
@@ -275,69 +285,3 @@ def differs(column: str, before: str, after: str) -> bool:
     except WordFault:
         # What a device returns may be nothing that can be set.
         return True
-
-
-class Applied:
-    """Changes as they are made, and the status of the last one that failed."""
-
-    def __init__(self, work: Work, output: Output, status: int) -> None:
-        self.status = status
-        self.made = self.failed = 0
-        self._work = work
-        self._output = output
-
-    def make_all(self, changes: Sequence[Change], values: Mapping[Uid, Dict[str, str]]) -> None:
-        """Makes the changes, until the line fails."""
-        for number, change in enumerate(changes, 1):
-            self._output.progress(f"changing {number} of {len(changes)}")
-            failure = self._try(change)
-            if failure is None and change.column == "personality":
-                failure = self._make_again(change.uid, values[change.uid], changes)
-            if failure is not None and failure.is_of_line:
-                self.failed = len(changes) - self.made
-                break
-
-    def _try(self, change: Change) -> Optional[Failure]:
-        """Makes a change, and counts it."""
-        try:
-            make(self._work, change)
-        except Failure as failure:
-            self._fail(failure if failure.is_of_line else named(change.column, failure))
-            self.failed += 1
-            return failure
-        self.made += 1
-        return None
-
-    def _make_again(self, uid: Uid, values: Mapping[str, str], changes: Sequence[Change]) -> Optional[Failure]:
-        """What a new personality has changed is set too, unless it will be set anyway."""
-        planned = {change.column for change in changes if change.uid == uid}
-        for column in (each for each in COLUMNS if each in values and each not in planned):
-            try:
-                change, status = difference(self._work, uid, column, values[column], self._output)
-            except Failure as failure:
-                self._fail(failure)
-                return failure
-            self.status = status or self.status
-            if change is not None:
-                show(change, self._output)
-                self._try(change)
-        return None
-
-    def _fail(self, failure: Failure) -> None:
-        self._output.failure(failure)
-        self.status = failure.status
-
-
-def make(work: Work, change: Change) -> None:
-    """Makes a change, and reads it back. Raises Failure."""
-    parameter = COLUMNS[change.column]
-    try:
-        work.ask(change.uid, parameter.number, encode(parameter, True, [change.after]), is_set=True)
-    except Failure as failure:
-        # It may have done so, though it didn't say so in time.
-        if failure.keys.get("reason") != "late":
-            raise
-    found = value_of(work, change.uid, change.column)
-    if differs(change.column, found, change.after):
-        raise Failure(FAILED, f"{change.uid} accepted {change.after}, but has {found}", uid=str(change.uid),
-                      reason="read_back")

@@ -29,7 +29,7 @@ class NewFile:
 
 
 @contextlib.contextmanager
-def file_of(name: str) -> Iterator[NewFile]:
+def file_of(name: str, encoding: str = "utf-8") -> Iterator[NewFile]:
     """A file for the duration of a `with`, which replaces a file of this name at its end, with its mode and owner.
 
     What is no file on a disk, such as a device or a FIFO, is written to. Raises OSError, at once if there is no place.
@@ -38,13 +38,13 @@ def file_of(name: str) -> Iterator[NewFile]:
         raise FileNotFoundError(errno.ENOENT, os.strerror(errno.ENOENT), name)
     old = status_of(name)
     if old is not None and not stat.S_ISREG(old.st_mode):
-        with open(name, "w", encoding="utf-8") as file:
+        with open(name, "w", encoding=encoding) as file:
             yield NewFile(file, False)
         return
     path = os.path.realpath(name)
     handle, made = tempfile.mkstemp(prefix=f".{os.path.basename(path)}.", dir=os.path.dirname(path))
     try:
-        with open(handle, "w", encoding="utf-8") as file:
+        with open(handle, "w", encoding=encoding) as file:
             take_mode(handle, old)
             yield NewFile(file, old is not None)
         os.replace(made, path)

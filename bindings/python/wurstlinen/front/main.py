@@ -19,6 +19,7 @@ from .output import BAD_ARGUMENTS, FAILED, INTERRUPTED, Failure, Output
 PROGRAM = "wurstlinen"
 DEFAULT_WAIT = 10.0
 MOST_WAIT = 3600.0
+LAST_SLOT = 512
 RAW_COMMANDS = ("get", "set")
 Runner = Callable[[argparse.Namespace, Output], int]
 
@@ -193,9 +194,23 @@ def add_save(made: Any, name: str) -> None:
 def add_apply(made: Any, name: str) -> None:
     """The arguments of apply."""
     command = add_command(made, name, "change devices so that they are as a file says", "apply rig.csv --dry-run",
-                          "csv_files.run_apply")
+                          "applying.run_apply")
     command.add_argument("file", metavar="FILE", help="a file as save writes it; - is standard input")
     command.add_argument("--dry-run", action="store_true", help="show the changes, and make none")
+    command.add_argument("--force", action="store_true",
+                         help="change addresses and personalities even if slots overlap or end after 512 then")
+
+
+def add_patch(made: Any, name: str) -> None:
+    """The arguments of patch."""
+    command = add_command(made, name, "give the devices of a file addresses without overlaps",
+                          "patch rig.csv --from 1 --order label", "patching.run_patch", needs_line=False)
+    command.add_argument("file", metavar="FILE",
+                         help="a file as save writes it, which is replaced; - is standard input and output")
+    command.add_argument("--from", dest="first", type=slot, required=True, metavar="N", help="the first address")
+    command.add_argument("--order", choices=("file", "label", "uid"), default="file",
+                         help="which device comes first; as in the file if absent")
+    command.add_argument("--to", metavar="OTHER", help="a file for the table, in place of FILE; - is standard output")
 
 
 def add_trace(made: Any, name: str) -> None:
@@ -216,12 +231,18 @@ def seconds(text: str) -> float:
     return found
 
 
+def slot(text: str) -> int:
+    """An argument that is a DMX slot."""
+    return commands.number_to(text, 1, LAST_SLOT)
+
+
 COMMANDS: Dict[str, Callable[[Any, str], None]] = {
     "get": add_get,
     "set": add_set,
     "identify": add_identify,
     "fixtures": add_fixtures,
     "save": add_save,
+    "patch": add_patch,
     "apply": add_apply,
     "trace": add_trace,
     "pids": add_pids,

@@ -1,0 +1,127 @@
+"""What changes would do to the patch: whose slots would overlap, or end after the last one."""
+from __future__ import annotations
+
+from dataclasses import dataclass, replace
+from typing import Any, Dict, Iterable, List, Mapping, Optional, Sequence
+
+from .. import Device, Uid
+from ..parameters.words import whole
+from .csv_files import Change, Row
+from .fixtures import LAST_SLOT, Fixture, overlap, text_of, values_of
+from .output import BAD_ARGUMENTS, FAILED, LINE_FAILED, Failure
+from .work import Work
+
+ADDRESS = "address"
+PERSONALITY = "personality"
+ADDRESS_FIELD = "dmx_start_address"
+SLOTS_FIELD = "dmx_footprint"
+
+
+@dataclass(frozen=True)
+class Problem:
+    """A device whose slots overlap another's, or, without another, end after the last slot."""
+
+    fixture: Fixture
+    other: Optional[Fixture] = None
+
+    @property
+    def text(self) -> str:
+        """The problem, for people."""
+        if self.other is None:
+            return f"{described(self.fixture)} ends after {LAST_SLOT}"
+        return f"{described(self.fixture)} overlaps {described(self.other)}"
+
+    @property
+    def keys(self) -> Dict[str, Any]:
+        """The problem, for JSON."""
+        found = {"uid": str(self.fixture.uid), "slots": self.fixture.slots}
+        if self.other is None:
+            return {"problem": "end", **found}
+        return {"problem": "overlap", **found, "other": str(self.other.uid), "other_slots": self.other.slots}
+
+
+def described(fixture: Fixture) -> str:
+    """A device with its label and its slots."""
+    first, last = fixture.slots or (0, 0)
+    label = f" {fixture.label}" if fixture.label else ""
+    return f"{fixture.uid}{label} {first}-{last}" if first != last else f"{fixture.uid}{label} {first}"
+
+
+def problems_of(fixtures: Sequence[Fixture]) -> List[Problem]:
+    """All problems, in the order of the devices."""
+    found = []
+    for number, fixture in enumerate(fixtures):
+        if fixture.slots is not None and fixture.slots[1] > LAST_SLOT:
+            found.append(Problem(fixture))
+        found += [Problem(fixture, other) for other in fixtures[number + 1:] if overlap(fixture, other)]
+    return found
+
+
+def guard(work: Work, rows: Sequence[Row], changes: Sequence[Change], is_forced: bool) -> None:
+    """Shows the problems that changes would make. Raises Failure if there are any, unless they are wanted."""
+    moved = {change.uid for change in changes if change.column in (ADDRESS, PERSONALITY)}
+    if not moved:
+        return
+    after = [moved_fixture(work, fixture, rows, changes) if fixture.uid in moved else fixture
+             for fixture in fixtures_of(work, moved)]
+    found = [each for each in problems_of(after)
+             if each.fixture.uid in moved or (each.other is not None and each.other.uid in moved)]
+    for problem in found:
+        label_all(work, rows, (problem.fixture, problem.other))
+        work.output.result([f"after this, {problem.text}"], **problem.keys)
+    if found and not is_forced:
+        raise Failure(BAD_ARGUMENTS, "nothing was changed, because of these slots; --force changes it all the same",
+                      reason="patch")
+
+
+def fixtures_of(work: Work, moved: Iterable[Uid]) -> List[Fixture]:
+    """The devices on the line, and those that are to be moved, as they are now."""
+    devices, fault = work.discover()
+    if work.line.failure is not None:
+        raise Failure(FAILED, str(work.line.failure), reason=LINE_FAILED)
+    if fault is not None:
+        work.output.note(f"slots of devices that weren't found aren't compared: the discovery ended early: {fault}")
+    known = {device.uid for device in devices}
+    found = [*devices, *(Device(uid) for uid in moved if uid not in known)]
+    fixtures = []
+    for number, device in enumerate(found, 1):
+        work.output.progress(f"comparing {number} of {len(found)}")
+        fixture = Fixture(device.uid, root=device.binding or device.uid)
+        fixture.info = values_of(work, fixture, "device_info")
+        fixtures.append(fixture)
+    return fixtures
+
+
+def moved_fixture(work: Work, fixture: Fixture, rows: Sequence[Row], changes: Sequence[Change]) -> Fixture:
+    """A device as it will be. Without a number of slots that is known, it has none."""
+    if fixture.info is None:
+        return fixture
+    values = values_after(fixture.uid, rows, changes)
+    info = dict(fixture.info)
+    if ADDRESS in values:
+        info[ADDRESS_FIELD] = whole(values[ADDRESS])
+    if PERSONALITY in values:
+        number = whole(values[PERSONALITY])
+        found = values_of(work, fixture, "dmx_personality_description", bytes([number]))
+        info[SLOTS_FIELD] = 0 if found is None else found["slots_required"]
+        if found is None:
+            work.output.note(f"{fixture.uid} doesn't say how many slots its personality {number} has, so these aren't "
+                             "compared")
+    return replace(fixture, info=info)
+
+
+def values_after(uid: Uid, rows: Sequence[Row], changes: Sequence[Change]) -> Mapping[str, str]:
+    """What is to be changed, and the address of a device that gets another personality."""
+    changed = {change.column: change.after for change in changes if change.uid == uid}
+    row = next(each for each in rows if each.uid == uid)
+    if PERSONALITY in changed and ADDRESS in row.values:
+        changed[ADDRESS] = row.values[ADDRESS]
+    return changed
+
+
+def label_all(work: Work, rows: Sequence[Row], fixtures: Iterable[Optional[Fixture]]) -> None:
+    """Gives devices the labels that they will have."""
+    for fixture in fixtures:
+        if fixture is not None and fixture.label is None:
+            label = next((row.values.get("label") for row in rows if row.uid == fixture.uid), None)
+            fixture.label = label if label is not None else text_of(work, fixture, "device_label") or ""
