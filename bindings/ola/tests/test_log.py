@@ -284,9 +284,16 @@ def check_version(checks: Checks, files: Files) -> None:
 
 
 def script(*words: str, user: Optional[str] = None) -> Tuple[int, str]:
-    """The status of `wurstlinen --check-ola`, and what it prints."""
-    done = subprocess.run([str(ROOT / "wurstlinen"), "--check-ola", *words], stdout=subprocess.PIPE,
-                          stderr=subprocess.STDOUT, check=False, **({"user": user} if user else {}))
+    """The status of `wurstlinen --check-ola`, and what it prints. Another user may not be able to read this folder."""
+    with tempfile.TemporaryDirectory() as name:
+        folder = Path(name)
+        folder.chmod(0o755)
+        shutil.copy(ROOT / "wurstlinen", folder)
+        shutil.copytree(ROOT / "tools", folder / "tools", ignore=shutil.ignore_patterns("__pycache__"))
+        for path in folder.rglob("*"):
+            path.chmod(0o755)
+        done = subprocess.run([str(folder / "wurstlinen"), "--check-ola", *words], stdout=subprocess.PIPE, cwd=folder,
+                              stderr=subprocess.STDOUT, check=False, **({"user": user} if user else {}))
     return done.returncode, done.stdout.decode()
 
 

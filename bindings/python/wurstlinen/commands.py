@@ -31,6 +31,8 @@ DEFAULT_BUDGET = 384_008
 MOST_BUDGET = 1_000_000_000
 MOST_SECONDS = 86_400
 MOST_DATA_BYTES = 231
+# Python refuses to read very long numbers.
+MOST_DIGITS = 40
 VERSION = re.compile("([0-9]{1,3})[.]([0-9]{1,3})")
 ALL_SUB_DEVICES = 0xFFFF
 # The faults of a run, by their numbers.
@@ -315,7 +317,7 @@ def seconds(text: str) -> int:
 
 def number_to(text: str, least: int, most: int) -> int:
     """A decimal number of this range."""
-    if not (text.isascii() and text.isdigit() and least <= int(text) <= most):
+    if not (text.isascii() and text.isdigit() and len(text) <= MOST_DIGITS and least <= int(text) <= most):
         raise argparse.ArgumentTypeError(f"'{text}' isn't a number from {least} to {most}")
     return int(text)
 

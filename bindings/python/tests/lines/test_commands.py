@@ -82,9 +82,10 @@ class Arguments(TestCase):
                           ["discover", "--budget", "0", "--line", line], ["bridge"], ["rig", "a", "--line", line],
                           ["rig", str(FIVE), "--firmware", "2"], ["rig", str(FIVE), "--firmware", "2.4.x"],
                           ["rig", str(FIVE), "--firmware", "2.256"], ["bridge", "--seconds", "0", "--line", line],
-                          ["rig", str(FIVE), "--seconds", "86401"]):
+                          ["rig", str(FIVE), "--seconds", "86401"], ["rig", str(FIVE), "--seconds", "1" * 5_000]):
             self.assertEqual(called(*arguments)[:2], (2, ""), arguments)
             self.assertIn("usage:", called(*arguments)[2])
+        self.assertIn("isn't a number from 1 to 86400", called("rig", str(FIVE), "--seconds", "1" * 5_000)[2])
         self.assertEqual(run("find").returncode, 2)
 
     def test_a_line_that_is_not_there_ends_with_1(self) -> None:

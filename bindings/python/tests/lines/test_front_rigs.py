@@ -309,7 +309,7 @@ uid,label,address,personality,model,slots
             changes = ("1234:00000002  personality  1 -> 2\n1234:00000002  address  8 -> 15\n"
                        "1234:00000002  label  Front right -> Side\n9abc:00000002  label  House lights -> House\n")
             self.assertEqual(self.run_command("apply", str(file), "--dry-run")[1],
-                             changes + "4 changes; nothing was sent\n")
+                             changes + "4 changes; nothing was changed\n")
             self.assertEqual(self.sets(), 0)
             self.assertEqual(self.run_command("apply", str(file))[:2], (0, changes + "4 changes\n"))
             self.assertEqual(self.sets(), 4)
@@ -446,6 +446,28 @@ uid,label,address,personality,model,slots
         out = self.run_command("save", "-")[1]
         self.assertEqual(out.splitlines()[1], f"{LEFT},Ca\\xe9\\\\,1,1,Simulated fixture,1")
         self.assertEqual(self.run_command("apply", "-", text=out)[:2], (0, "0 changes\n"))
+
+    def test_a_label_is_no_formula(self) -> None:
+        for label, column in (('=HYPERLINK("http://x","a")', '"\\x3dHYPERLINK(""http://x"",""a"")"'), ("+1", "\\x2b1"),
+                              ("-1", "\\x2d1"), ("@A1", "\\x40A1"), ("  =A1", "  \\x3dA1"), ("a;=A1", "a;\\x3dA1"),
+                              (";;+-1", ";;\\x2b-1"), ("a=1-2", "a=1-2"), ("a,=1", '"a,=1"')):
+            self.scene({"uid": LEFT, "rig": {"label": label}})
+            out = self.run_command("save", "-")[1]
+            self.assertEqual(out.splitlines()[1], f"{LEFT},{column},1,1,Simulated fixture,1")
+            self.assertEqual(self.run_command("apply", "-", text=out)[:2], (0, "0 changes\n"))
+
+    def test_another_thread_makes_files_meanwhile(self) -> None:
+        """The mask of permissions is everybody's, so it isn't changed."""
+        before, modes = os.umask(0o077), []
+        try:
+            with folder() as place, mock.patch.object(files.os, "umask", side_effect=AssertionError):
+                with files.file_of(str(place / "new")) as file:
+                    modes.append(next(place.iterdir()).stat().st_mode & 0o777)
+                    file.write("new")
+                modes.append((place / "new").stat().st_mode & 0o777)
+            self.assertEqual(modes, [0o600, 0o600])
+        finally:
+            os.umask(before)
 
     def test_a_disk_that_is_full(self) -> None:
         with folder() as place:

@@ -220,6 +220,13 @@ class Logs(TestCase):
             with self.assertRaisesRegex(page_log.NoLog, "line 1 "):
                 page_log.read_log(io.BytesIO(data))
 
+    def test_a_log_has_a_limit(self) -> None:
+        lines = "".join(exchange_line(number, "unmute", b"\xcc", b"") for number in range(4))
+        with mock.patch.object(page_log, "MOST_ENTRIES", 4):
+            self.assertEqual(len(page_log.read_log(io.BytesIO(lines.encode()))), 4)
+        with mock.patch.object(page_log, "MOST_ENTRIES", 3), self.assertRaisesRegex(page_log.NoLog, "than 3 entries"):
+            page_log.read_log(io.BytesIO(lines.encode()))
+
     def test_a_log_that_ends_within_an_exchange(self) -> None:
         log = session_of(['{"entry":"send","run":1,"frame":"cc"}', '{"entry":"came","reply":""}',
                           '{"entry":"send","run":1,"frame":"cc"}'])

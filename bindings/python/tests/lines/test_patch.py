@@ -128,7 +128,7 @@ class Columns(OneRig):
         for mark in (";", "\t"):
             text = "\ufeffUID,Label,position\r\n{},Side,left\r\n".format(LEFT).replace(",", mark)
             self.assertEqual(self.run_command("apply", "-", "--dry-run", text=text),
-                             (0, f"{LEFT}  label  Front left -> Side\n1 change; nothing was sent\n",
+                             (0, f"{LEFT}  label  Front left -> Side\n1 change; nothing was changed\n",
                               "wurstlinen: -: these columns change nothing: position\n"))
 
     def test_a_column_that_is_misspelled(self) -> None:

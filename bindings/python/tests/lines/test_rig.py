@@ -6,7 +6,7 @@ import unittest
 from typing import Any, Dict, List, Tuple
 
 from common import (
-    LOSSES, ROOT, SEEDS, SOURCE, Collide, TestCase, discoveries_of_examples, one, random_scene, scene, uids_of,
+    LOSSES, ROOT, SEEDS, SOURCE, Collide, TestCase, discoveries_of_examples, folder, one, random_scene, scene, uids_of,
 )
 from search import TIMEOUT, Answer, Controller, Corrupt, discover
 from wurstlinen.line import LineFailed
@@ -419,6 +419,18 @@ class Files(TestCase):
             self.assertEqual(str(caught.exception), wanted)
         with self.assertRaises(SceneFault):
             Keys([])
+
+    def test_numbers_of_any_length(self) -> None:
+        long, whole = "9" * 5_000, "a whole number from 0 to"
+        with folder() as place:
+            for keys, wanted in ((f'"losses": [0, {long}]', f"losses[1]: {whole} {2 ** 64 - 1} is expected"),
+                                 (f'"rig": {{"seed": -{long}}}', f"rig.seed: {whole} {2 ** 64 - 1} is expected"),
+                                 ('"rig": {"loss": NaN}', "rig.loss: a share from 0 to 1 is expected"),
+                                 (f'"rig": {{"loss": {long}}}', "rig.loss: a share from 0 to 1 is expected")):
+                (place / "rig.json").write_text(f'{{"source": "7a70:00000100", {keys}}}')
+                with self.assertRaises(SceneFault) as caught:
+                    Rig(place / "rig.json")
+                self.assertEqual(str(caught.exception), wanted)
 
     def test_a_rig_is_searched_as_the_simulated_line_is(self) -> None:
         read = 0

@@ -242,6 +242,8 @@ class Words(TestCase):
                  "dmx_start_address: '1f' isn't a decimal number; as a hexadecimal one it is written 0x1f, and is 31"),
                 ("dmx_start_address", ["1.5"], "dmx_start_address: '1.5' isn't a number"),
                 ("dmx_start_address", ["none"], "dmx_start_address: 'none' isn't a number"),
+                ("dmx_start_address", ["1" * 5_000],
+                 f"dmx_start_address: '{'1' * 40}..' is too long for a number"),
                 ("dmx_start_address", [], "SET dmx_start_address takes DMX_START_ADDRESS, and not 0 arguments"),
                 ("lamp_state", ["stike"],
                  "lamp_state: 'stike' is not one of off, on, strike, standby or from 128 to 223; "

@@ -26,7 +26,7 @@ def run_apply(chosen: argparse.Namespace, output: Output) -> int:
     count = applied.made + applied.failed if not chosen.dry_run else len(changes)
     text = "1 change" if count == 1 else f"{count} changes"
     if chosen.dry_run:
-        text = f"{text}; nothing was sent"
+        text = f"{text}; nothing was changed"
     elif applied.failed:
         text = f"{applied.made} of {text} made"
     output.result([text], changes=count, made=applied.made, dry_run=chosen.dry_run)

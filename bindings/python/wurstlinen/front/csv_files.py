@@ -3,6 +3,7 @@ from __future__ import annotations
 
 import argparse
 import os
+import re
 import sys
 from collections import Counter
 from dataclasses import dataclass
@@ -28,6 +29,9 @@ MISFIT = "misfit"
 # What an empty text is in a file, where an empty value changes nothing. A text that says so has an escape.
 EMPTY = "(empty)"
 ESCAPED = "\\x28empty)"
+# Where a spreadsheet would take a label for a formula: labels come from the line, and may be anybody's. A semicolon
+# separates cells in many languages.
+FORMULA = re.compile("(^|;)([ ;]*)([=+@-])")
 # The columns with their parameters, in the order in which they are set: a personality may change an address.
 COLUMNS: Mapping[str, Parameter] = {
     "personality": STANDARD.named("dmx_personality"),
@@ -158,8 +162,13 @@ def print_rows(rows: Sequence[Mapping[str, str]], output: Output) -> None:
 
 
 def written(value: str) -> str:
-    """A value of a device, as it is in a file."""
-    return ESCAPED if value == EMPTY else value or EMPTY
+    """A value of a device, as it is in a file. The sign that begins a formula has an escape."""
+    return ESCAPED if value == EMPTY else FORMULA.sub(without_formula, value) or EMPTY
+
+
+def without_formula(found: "re.Match[str]") -> str:
+    """The beginning of a formula, with an escape that is read back as its sign."""
+    return f"{found[1]}{found[2]}\\x{ord(found[3]):02x}"
 
 
 def row_of(work: Work, uid: Uid, output: Output) -> Tuple[Dict[str, str], bool]:

@@ -4,12 +4,14 @@ from __future__ import annotations
 import contextlib
 import errno
 import os
+import secrets
 import stat
-import tempfile
 from typing import Iterator, Optional, TextIO
 
 # A little more than the longest line of a log, in bytes or characters.
 MOST_LINE = 1 << 18
+NEW_MODE = 0o666
+PRIVATE_MODE = 0o600
 
 
 class NewFile:
@@ -42,14 +44,17 @@ def file_of(name: str, encoding: str = "utf-8") -> Iterator[NewFile]:
             yield NewFile(file, False)
         return
     path = os.path.realpath(name)
-    handle, made = tempfile.mkstemp(prefix=f".{os.path.basename(path)}.", dir=os.path.dirname(path))
+    made = os.path.join(os.path.dirname(path), f".wurstlinen.{secrets.token_hex(8)}")
+    # A new file gets the usual mode from the system. Another one is nobody else's until it has the old one's mode.
+    mode = NEW_MODE if old is None else PRIVATE_MODE
     try:
-        with open(handle, "w", encoding=encoding) as file:
-            take_mode(handle, old)
+        with open(made, "x", encoding=encoding, opener=lambda path, flags: os.open(path, flags, mode)) as file:
+            if old is not None:
+                take_mode(file.fileno(), old)
             yield NewFile(file, old is not None)
         os.replace(made, path)
     except BaseException:
-        # An interrupt may come when it has its name already.
+        # An interrupt may come before it is there, or when it has its name already.
         with contextlib.suppress(FileNotFoundError):
             os.unlink(made)
         raise
@@ -63,18 +68,8 @@ def status_of(name: str) -> Optional[os.stat_result]:
         return None
 
 
-def take_mode(handle: int, old: Optional[os.stat_result]) -> None:
-    """Gives a new file the old one's mode and owner, or else the usual mode."""
-    if old is None:
-        os.fchmod(handle, 0o666 & ~current_mask())
-        return
+def take_mode(handle: int, old: os.stat_result) -> None:
+    """Gives a new file the old one's mode and owner."""
     with contextlib.suppress(PermissionError):
         os.fchown(handle, old.st_uid, old.st_gid)
     os.fchmod(handle, stat.S_IMODE(old.st_mode))
-
-
-def current_mask() -> int:
-    """The mask of new files' permissions."""
-    mask = os.umask(0)
-    os.umask(mask)
-    return mask

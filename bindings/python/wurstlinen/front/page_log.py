@@ -17,15 +17,17 @@ from .page_details import Details
 from .page_frames import NO_UID, Came, answer_to, command_in
 
 MOST_CLIENTS = 16
-MOST_EXCHANGES = 10_000_000
+# As many as a session can store. A page of so many exchanges takes minutes, and some 500 MB of memory.
+MOST_ENTRIES = 1_000_000
 NO_RUN = "discovery"
 
 
 class NoLog(Exception):
-    """A line that isn't a log's."""
+    """A line that isn't a log's, or a log that is too long for a page."""
 
     def __init__(self, line: int) -> None:
-        super().__init__(f"line {line} isn't an entry of a log")
+        is_last = line > MOST_ENTRIES
+        super().__init__(f"more than {MOST_ENTRIES} entries" if is_last else f"line {line} isn't an entry of a log")
 
 
 @dataclass
@@ -257,14 +259,14 @@ def for_clients(clients: List[int]) -> str:
 
 
 def lines_of(file: BinaryIO) -> Iterator[bytes]:
-    """The lines of a log. Raises NoLog for one that is too long."""
+    """The lines of a log. Raises NoLog for one that is too long, and after the most entries that are drawn."""
     number = 0
     while True:
         line = file.readline(MOST_LINE)
         if not line:
             return
         number += 1
-        if len(line) == MOST_LINE:
+        if len(line) == MOST_LINE or number > MOST_ENTRIES:
             raise NoLog(number)
         yield line
 

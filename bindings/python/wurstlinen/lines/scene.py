@@ -12,6 +12,7 @@ from .numbers import DMX_SLOTS, MOST_DATA_BYTES, MOST_LABEL_BYTES
 from .packets import MOST_PREAMBLE_BYTES
 
 MOST_FILE_BYTES = 1_048_576
+MOST_DIGITS = len(str(2 ** 64))
 MOST_DEVICES = 1024
 MOST_EXCHANGE = 1_000_000_000
 LAST_EXCHANGE = 2 ** 64 - 1
@@ -144,9 +145,15 @@ def read_scene(path: Union[str, Path]) -> Scene:
     if len(data) > MOST_FILE_BYTES:
         raise SceneFault(f"the file has more than {MOST_FILE_BYTES} bytes")
     try:
-        return parse_scene(json.loads(data.decode("utf-8")))
-    except (UnicodeDecodeError, json.JSONDecodeError, RecursionError) as error:
+        value = json.loads(data.decode("utf-8"), parse_int=_number)
+    except (ValueError, RecursionError) as error:
         raise SceneFault(f"the file isn't JSON: {error}") from error
+    return parse_scene(value)
+
+
+def _number(digits_of: str) -> Union[int, float]:
+    """A whole number. One that is too long for any key becomes a float, which its key then refuses."""
+    return int(digits_of) if len(digits_of) <= MOST_DIGITS else float(digits_of)
 
 
 def parse_scene(value: Any) -> Scene:

@@ -9,6 +9,8 @@ DECIMAL = re.compile(r"-?(0|[1-9][0-9]*)")
 HEXADECIMAL = re.compile(r"0[xX][0-9a-fA-F]+")
 BARE_DECIMAL = re.compile(r"[0-9]+")
 BARE_HEXADECIMAL = re.compile(r"[0-9a-fA-F]+")
+# No number of a parameter is as long, and Python refuses to read very long ones.
+MOST_DIGITS = 40
 
 
 class WordFault(ValueError):
@@ -17,6 +19,8 @@ class WordFault(ValueError):
 
 def whole(word: str) -> int:
     """The number that a word spells: a decimal one, or a hexadecimal one after 0x."""
+    if len(word) > MOST_DIGITS:
+        raise WordFault(f"'{word[:MOST_DIGITS]}..' is too long for a number")
     if DECIMAL.fullmatch(word):
         return int(word)
     if HEXADECIMAL.fullmatch(word):
