@@ -8,7 +8,8 @@ from typing import Any, Dict, List, Optional, Sequence, Tuple
 from .. import Device, Uid
 from ..parameters import STANDARD
 from ..parameters.decoding import Values
-from .output import DONE, FAILED, REFUSED, Failure, Output
+from .discovery_log import sink_of
+from .output import DONE, FAILED, REFUSED, Failure, Output, aligned
 from .work import Work, open_work
 
 HEADINGS = ("UID", "ADDRESS", "SLOTS", "LABEL", "MAKER", "MODEL", "PERSONALITY", "NOTE")
@@ -17,6 +18,8 @@ LAST_SLOT = 512
 UNKNOWN_PID = "unknown_pid"
 # A device that doesn't answer so many times in a row isn't asked any more.
 MOST_SILENCES = 2
+ADDRESS_FIELD = "dmx_start_address"
+FOOTPRINT_FIELD = "dmx_footprint"
 REASONS = {"timeout": "no answer", "late": "no answer in time"}
 
 
@@ -45,14 +48,22 @@ class Fixture:
     @property
     def slots(self) -> Optional[Tuple[int, int]]:
         """Its first and last DMX slot; None if it has none."""
-        address, count = self.number("dmx_start_address"), self.number("dmx_footprint")
+        address, count = self.number(ADDRESS_FIELD), self.number(FOOTPRINT_FIELD)
         return (address, address + count - 1) if address and count else None
+
+    @property
+    def slots_text(self) -> str:
+        """The same for people."""
+        if self.slots is None:
+            return NOTHING
+        first, last = self.slots
+        return str(first) if first == last else f"{first}-{last}"
 
 
 def run_fixtures(chosen: argparse.Namespace, output: Output) -> int:
     """Discovers the devices, and prints what they say of themselves."""
-    with open_work(chosen, output) as work:
-        devices, fault = work.discover()
+    with sink_of(chosen.log) as sink, open_work(chosen, output) as work:
+        devices, fault = work.discover(sink)
         found, failure = look_at_all(work, devices)
         frames = work.line.frames
     print_all(found, output)
@@ -193,24 +204,21 @@ def print_all(found: Sequence[Fixture], output: Output) -> None:
         for fixture in found:
             output.result([], **keys_of(fixture))
         return
-    rows = [HEADINGS, *(cells_of(fixture) for fixture in found)] if found else []
-    widths = [max(len(cell) for cell in column) for column in zip(*rows)]
-    output.result("  ".join(cell.ljust(width) for cell, width in zip(row, widths)).rstrip() for row in rows)
+    output.result(aligned([HEADINGS, *(cells_of(fixture) for fixture in found)] if found else []))
 
 
 def cells_of(fixture: Fixture) -> Tuple[str, ...]:
     """A device's row."""
-    slots, number = fixture.slots, fixture.number("current_personality")
-    address = NOTHING if slots is None else str(slots[0]) if slots[0] == slots[1] else f"{slots[0]}-{slots[1]}"
-    footprint = fixture.number("dmx_footprint")
+    number, footprint = fixture.number("current_personality"), fixture.number(FOOTPRINT_FIELD)
     personality = " ".join([str(number or ""), fixture.personality or ""]).strip()
-    return (str(fixture.uid), address, NOTHING if footprint is None else str(footprint), fixture.label or NOTHING,
-            fixture.maker or NOTHING, fixture.model or NOTHING, personality or NOTHING, "; ".join(fixture.notes))
+    return (str(fixture.uid), fixture.slots_text, NOTHING if footprint is None else str(footprint),
+            fixture.label or NOTHING, fixture.maker or NOTHING, fixture.model or NOTHING, personality or NOTHING,
+            "; ".join(fixture.notes))
 
 
 def keys_of(fixture: Fixture) -> Dict[str, Any]:
     """A device, for JSON."""
-    return {"uid": str(fixture.uid), "address": fixture.number("dmx_start_address"),
-            "slots": fixture.number("dmx_footprint"), "label": fixture.label, "manufacturer": fixture.maker,
+    return {"uid": str(fixture.uid), "address": fixture.number(ADDRESS_FIELD),
+            "slots": fixture.number(FOOTPRINT_FIELD), "label": fixture.label, "manufacturer": fixture.maker,
             "model": fixture.model, "personality": fixture.number("current_personality"),
             "personality_name": fixture.personality, "notes": fixture.notes}

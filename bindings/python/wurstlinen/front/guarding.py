@@ -2,19 +2,17 @@
 from __future__ import annotations
 
 from dataclasses import dataclass, replace
-from typing import Any, Dict, Iterable, List, Mapping, Optional, Sequence
+from typing import Any, Dict, Iterable, List, Mapping, Optional, Sequence, Tuple
 
 from .. import Device, Uid
 from ..parameters.words import whole
 from .csv_files import Change, Row
-from .fixtures import LAST_SLOT, Fixture, overlap, text_of, values_of
+from .fixtures import ADDRESS_FIELD, FOOTPRINT_FIELD, LAST_SLOT, Fixture, overlap, text_of, values_of
 from .output import BAD_ARGUMENTS, FAILED, LINE_FAILED, Failure
 from .work import Work
 
 ADDRESS = "address"
 PERSONALITY = "personality"
-ADDRESS_FIELD = "dmx_start_address"
-SLOTS_FIELD = "dmx_footprint"
 
 
 @dataclass(frozen=True)
@@ -25,26 +23,32 @@ class Problem:
     other: Optional[Fixture] = None
 
     @property
-    def text(self) -> str:
-        """The problem, for people."""
+    def kind(self) -> str:
+        """What it is."""
+        return "end" if self.other is None else "overlap"
+
+    @property
+    def devices(self) -> Tuple[Uid, ...]:
+        """The devices."""
+        return (self.fixture.uid,) if self.other is None else (self.fixture.uid, self.other.uid)
+
+    @property
+    def slots_text(self) -> str:
+        """The slots and the problem, for people."""
         if self.other is None:
-            return f"{described(self.fixture)} ends after {LAST_SLOT}"
-        return f"{described(self.fixture)} overlaps {described(self.other)}"
+            return f"{self.fixture.slots_text} ends after {LAST_SLOT}"
+        return f"{self.fixture.slots_text} overlaps {named(self.other)} {self.other.slots_text}"
 
     @property
     def keys(self) -> Dict[str, Any]:
-        """The problem, for JSON."""
-        found = {"uid": str(self.fixture.uid), "slots": self.fixture.slots}
-        if self.other is None:
-            return {"problem": "end", **found}
-        return {"problem": "overlap", **found, "other": str(self.other.uid), "other_slots": self.other.slots}
+        """The slots, for JSON."""
+        other = {} if self.other is None else {"other": str(self.other.uid), "other_slots": self.other.slots}
+        return {"slots": self.fixture.slots, **other}
 
 
-def described(fixture: Fixture) -> str:
-    """A device with its label and its slots."""
-    first, last = fixture.slots or (0, 0)
-    label = f" {fixture.label}" if fixture.label else ""
-    return f"{fixture.uid}{label} {first}-{last}" if first != last else f"{fixture.uid}{label} {first}"
+def named(fixture: Fixture) -> str:
+    """A device with its label."""
+    return f"{fixture.uid} {fixture.label}" if fixture.label else str(fixture.uid)
 
 
 def problems_of(fixtures: Sequence[Fixture]) -> List[Problem]:
@@ -64,11 +68,11 @@ def guard(work: Work, rows: Sequence[Row], changes: Sequence[Change], is_forced:
         return
     after = [moved_fixture(work, fixture, rows, changes) if fixture.uid in moved else fixture
              for fixture in fixtures_of(work, moved)]
-    found = [each for each in problems_of(after)
-             if each.fixture.uid in moved or (each.other is not None and each.other.uid in moved)]
+    found = [each for each in problems_of(after) if moved.intersection(each.devices)]
     for problem in found:
         label_all(work, rows, (problem.fixture, problem.other))
-        work.output.result([f"after this, {problem.text}"], **problem.keys)
+        work.output.result([f"after this, {named(problem.fixture)} {problem.slots_text}"], problem=problem.kind,
+                           uid=str(problem.fixture.uid), **problem.keys)
     if found and not is_forced:
         raise Failure(BAD_ARGUMENTS, "nothing was changed, because of these slots; --force changes it all the same",
                       reason="patch")
@@ -103,7 +107,7 @@ def moved_fixture(work: Work, fixture: Fixture, rows: Sequence[Row], changes: Se
     if PERSONALITY in values:
         number = whole(values[PERSONALITY])
         found = values_of(work, fixture, "dmx_personality_description", bytes([number]))
-        info[SLOTS_FIELD] = 0 if found is None else found["slots_required"]
+        info[FOOTPRINT_FIELD] = 0 if found is None else found["slots_required"]
         if found is None:
             work.output.note(f"{fixture.uid} doesn't say how many slots its personality {number} has, so these aren't "
                              "compared")

@@ -180,8 +180,15 @@ def add_pids(made: Any, name: str) -> None:
 
 def add_fixtures(made: Any, name: str) -> None:
     """The arguments of fixtures."""
-    add_command(made, name, "list the devices on the line with their addresses and labels", "fixtures",
-                "fixtures.run_fixtures")
+    command = add_command(made, name, "list the devices on the line with their addresses and labels", "fixtures",
+                          "fixtures.run_fixtures")
+    add_log(command)
+
+
+def add_log(command: Parser) -> None:
+    """Where the log of a discovery goes."""
+    command.add_argument("--log", metavar="LOG", help="a file for the discovery's exchanges, which is replaced; "
+                                                      f"'{PROGRAM} explain' reads it")
 
 
 def add_save(made: Any, name: str) -> None:
@@ -199,6 +206,14 @@ def add_apply(made: Any, name: str) -> None:
     command.add_argument("--dry-run", action="store_true", help="show the changes, and make none")
     command.add_argument("--force", action="store_true",
                          help="change addresses and personalities even if slots overlap or end after 512 then")
+
+
+def add_check(made: Any, name: str) -> None:
+    """The arguments of check."""
+    command = add_command(made, name, "compare the devices on the line with a file", "check rig.csv",
+                          "checking.run_check")
+    command.add_argument("file", metavar="FILE", help="a file as save writes it; - is standard input")
+    add_log(command)
 
 
 def add_patch(made: Any, name: str) -> None:
@@ -242,6 +257,7 @@ COMMANDS: Dict[str, Callable[[Any, str], None]] = {
     "identify": add_identify,
     "fixtures": add_fixtures,
     "save": add_save,
+    "check": add_check,
     "patch": add_patch,
     "apply": add_apply,
     "trace": add_trace,

@@ -5,7 +5,7 @@ import contextlib
 import json
 import sys
 from threading import RLock
-from typing import Any, Iterable, Optional, TextIO
+from typing import Any, Iterable, Iterator, Optional, Sequence, TextIO
 
 from ..parameters import Parameter, Reading
 
@@ -112,6 +112,13 @@ class Output:
         """A frame with its reply, for those who want to see them."""
         self.end_progress()
         self._remark(f"{line}\n")
+
+
+def aligned(rows: Sequence[Sequence[str]]) -> Iterator[str]:
+    """Rows as lines whose columns are aligned."""
+    widths = [max(map(len, column)) for column in zip(*rows)]
+    for row in rows:
+        yield "  ".join(cell.ljust(width) for cell, width in zip(row, widths)).rstrip()
 
 
 def reading_keys(uid: str, parameter: Parameter, reading: Reading) -> dict[str, Any]:

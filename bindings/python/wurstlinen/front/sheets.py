@@ -1,7 +1,6 @@
 """Tables of values as spreadsheets write them: with commas, semicolons or tabs, and with columns of their own."""
 from __future__ import annotations
 
-import codecs
 import csv
 import io
 from dataclasses import dataclass, field
@@ -10,7 +9,7 @@ from typing import Dict, Iterator, List, Optional, Sequence, Tuple
 DELIMITERS = (",", ";", "\t")
 UID = "uid"
 # How a file's bytes may begin, and what its encoding is then.
-MARKS = ((codecs.BOM_UTF8, "utf-8-sig"), (codecs.BOM_UTF16_LE, "utf-16"), (codecs.BOM_UTF16_BE, "utf-16"))
+MARKS = ((b"\xef\xbb\xbf", "utf-8-sig"), (b"\xff\xfe", "utf-16"), (b"\xfe\xff", "utf-16"))
 PLAIN = "utf-8"
 # Any bytes are a text of this one, and are written again as they were.
 ANY = "latin-1"

@@ -6,6 +6,7 @@ from typing import Optional, Set
 from ..line import Line, LineFailed
 from ..lines.numbers import Pid
 from ..lines.packets import BRANCH_SEPARATOR, ENCODED_BYTES, decode_branch_reply, decode_packet, is_answer
+from .discovery_log import DiscoveryLog
 from .frames import exchange_text
 from .output import Output
 
@@ -19,6 +20,8 @@ class WatchedLine:
         self._shows_frames = shows_frames
         self.frames = 0
         self.failure: Optional[LineFailed] = None
+        # The log of a discovery that runs, if somebody wants it.
+        self.log: Optional[DiscoveryLog] = None
         # The devices that a discovery has muted so far; None if none runs.
         self.found: Optional[Set[int]] = None
         # The devices that sent more after a branch than E1.20 allows, and what the last branch's reply spelled.
@@ -34,8 +37,10 @@ class WatchedLine:
         except LineFailed as failure:
             self.failure = failure
             self._show(number, frame, None)
+            self._record(frame, None)
             raise
         self._show(number, frame, reply)
+        self._record(frame, reply)
         if self.found is not None:
             self._note(self.found, frame, reply)
         return reply
@@ -52,6 +57,10 @@ class WatchedLine:
             found.add(command.destination)
         if not self._shows_frames:
             self._output.progress(f"{len(found)} found, {self.frames} frames")
+
+    def _record(self, frame: bytes, reply: Optional[bytes]) -> None:
+        if self.log is not None:
+            self.log.add(frame, reply)
 
     def _show(self, number: int, frame: bytes, reply: Optional[bytes]) -> None:
         if self._shows_frames:

@@ -15,6 +15,7 @@ from ..line import LineFailed
 from ..lines import open_line
 from ..lines.numbers import Pid
 from ..parameters import Misfit, Parameter, Reading, decode, described
+from .discovery_log import DiscoveryLog, Sink
 from .naming import is_manufacturers, known_or_raw, nack_of, raw_parameter, table_of
 from .output import BAD_ARGUMENTS, FAILED, LINE_FAILED, REFUSED, Failure, Output
 from .watched import WatchedLine
@@ -27,13 +28,14 @@ PLACES = 4
 class Work:
     """What a command does on its line."""
 
-    def __init__(self, line: WatchedLine, client: Client, wait: float, output: Output) -> None:
+    def __init__(self, line: WatchedLine, source: Uid, client: Client, wait: float, output: Output) -> None:
         self.line = line
         self.output = output
         # The devices that asked for time.
         self.slow: Set[Uid] = set()
         # The UID whose branch was answered again and again, so that the last discovery ended early.
         self.unmuted: Optional[Uid] = None
+        self._source = source
         self._client = client
         self._asked: Optional[Uid] = None
         self._asker = Asker(client, line, wait, on_wait=self._waits)
@@ -112,14 +114,15 @@ class Work:
                 raise
             return raw_parameter(pid)
 
-    def discover(self) -> Tuple[Tuple[Device, ...], Optional[str]]:
-        """The devices on the line, and why the run ended early; None if it didn't."""
+    def discover(self, sink: Optional[Sink] = None) -> Tuple[Tuple[Device, ...], Optional[str]]:
+        """The devices on the line, and why the run ended early; None if it didn't. A sink gets the run's log."""
         self._client.discover(Kind.FULL)
         self.line.found = set()
+        self.line.log = None if sink is None else DiscoveryLog(self._source, sink)
         try:
             self._client.queue.run(self.line)
         finally:
-            self.line.found = None
+            self.line.found = self.line.log = None
             self.output.end_progress()
         found = self._client.next_discovery()
         assert found is not None
@@ -146,5 +149,6 @@ def open_work(chosen: argparse.Namespace, output: Output) -> Iterator[Work]:
         raise Failure(FAILED, f"{fault.filename}: {fault.strerror}", reason="line") from None
     with line:
         watched = WatchedLine(line, output, chosen.frames)
-        with Controller(Uid.from_number(source_of(chosen, line)), PLACES, search=Search.QUICK) as controller:
-            yield Work(watched, controller.join(PLACES), chosen.wait, output)
+        source = Uid.from_number(source_of(chosen, line))
+        with Controller(source, PLACES, search=Search.QUICK) as controller:
+            yield Work(watched, source, controller.join(PLACES), chosen.wait, output)
