@@ -3,10 +3,11 @@ from __future__ import annotations
 
 import contextlib
 import threading
-from typing import Callable, Optional, TypeVar
+from typing import Callable, List, Optional, TypeVar
 
 Result = TypeVar("Result")
 
+WITHOUT_LIMIT = -1.0
 # How often what another thread does is ended again, until it has ended.
 AGAIN_SECONDS = 0.02
 
@@ -18,37 +19,35 @@ class Turns:
     """
 
     def __init__(self) -> None:
-        # It knows the thread that has it, so releasing it twice releases no other thread's.
+        # A signal's handler may take a turn within one of its own thread.
         self._lock = threading.RLock()
-        self._owner: Optional[int] = None
 
     def alone(self, work: Callable[[], Result], end_others: Optional[Callable[[], object]] = None) -> Result:
-        """Does something when it is this thread's turn. It is at once if a signal's handler calls it in a turn.
+        """Does something when it is this thread's turn.
 
         `end_others` ends what another thread does in its turn. It is called again and again until that is over.
         """
-        if self._owner == threading.get_ident():
-            return work()
+        held: List[bool] = []
         try:
             try:
-                self._wait(end_others)
-                self._owner = threading.get_ident()
+                self._wait(held, end_others)
                 return work()
             finally:
-                self._end()
+                self._end(held)
         finally:
             # If an exception came just before the other one.
-            self._end()
+            self._end(held)
 
-    def _wait(self, end_others: Optional[Callable[[], object]]) -> None:
-        if end_others is None:
-            self._lock.acquire()
-            return
-        while not self._lock.acquire(timeout=AGAIN_SECONDS):
-            end_others()
+    def _wait(self, held: List[bool], end_others: Optional[Callable[[], object]]) -> None:
+        seconds = WITHOUT_LIMIT if end_others is None else AGAIN_SECONDS
+        while not held:
+            # In one step, so that an interrupt can't come between having the lock and its being known.
+            held.extend(filter(None, map(self._lock.acquire, (True,), (seconds,))))
+            if not held and end_others is not None:
+                end_others()
 
-    def _end(self) -> None:
-        if self._owner == threading.get_ident():
-            self._owner = None
-        with contextlib.suppress(RuntimeError):
-            self._lock.release()
+    def _end(self, held: List[bool]) -> None:
+        if held:
+            with contextlib.suppress(RuntimeError):
+                self._lock.release()
+            held.clear()
