@@ -2,13 +2,13 @@
 
 import contextlib
 import ctypes
-import threading
+import time
 from collections import defaultdict
 from typing import Callable, DefaultDict, List, Optional, Tuple, Union, cast
 
 from ._ask import DEFAULT_WAIT, Answer, Asker, Kept
 from ._collecting import NO_NUMBER, Collecting, CollectingDiscovery, CollectingRequest
-from ._faults import OtherOutcome, check, given
+from ._faults import Closed, OtherOutcome, check, given
 from ._held import Held, Unreturned
 from ._library import Calls, DeviceForm, Setup, buffer_of, room_for
 from ._types import (
@@ -18,6 +18,8 @@ from ._wire import form_of_request
 from .line import Line, LineFailed
 
 NO_CLIENT = 255
+# A close ends a wait within this time.
+SLICE_SECONDS = 0.1
 Outcome = Union[Completion, Discovery]
 
 
@@ -37,8 +39,8 @@ class Queue(Held):
         # What isn't returned so far: clients by their places, and outcomes by the client's number.
         self._joined: DefaultDict[int, Unreturned[Client]] = defaultdict(Unreturned)
         self._collected: DefaultDict[int, Unreturned[Outcome]] = defaultdict(Unreturned)
-        # What waits for the queue ends with it.
-        self._ending = threading.Event()
+        # Whether what waits for the queue has to end.
+        self._is_ending = False
 
     def join(self, places: int) -> "Client":
         """A client that may have this many requests outstanding."""
@@ -65,11 +67,12 @@ class Queue(Held):
     def close(self) -> None:
         """Refuses all later joins, submits and discovers, sends nothing more, and ends what waits."""
         check(self._made(self._calls.close))
-        self._ending.set()
+        self._is_ending = True
 
     def dispose(self) -> None:
+        """Frees its memory, and ends what waits. Later calls raise NotOpen."""
         super().dispose()
-        self._ending.set()
+        self._is_ending = True
 
     def take(self) -> Optional[bytes]:
         """The next frame for the line; None while a reply is awaited, or if there is nothing to send."""
@@ -144,6 +147,14 @@ class Queue(Held):
             self.fail()
         else:
             self.deliver(reply)
+
+    def _sleep(self, seconds: float) -> None:
+        """Waits. Raises Closed or NotOpen when the queue is closed or disposed of."""
+        end = time.monotonic() + seconds
+        while not self._is_ending and time.monotonic() < end:
+            time.sleep(max(0.0, min(SLICE_SECONDS, end - time.monotonic())))
+        if self._is_ending and self.is_closed():
+            raise Closed()
 
     def devices(self) -> Tuple[Device, ...]:
         """The devices that the last run without fault found, ascending by UID."""
