@@ -1,6 +1,6 @@
 """What explain shows of whole logs: parts of a discovery, logs one after another, the runs of sessions.
 
-The texts are those of crates/rdm_findings/specs/FindingText.antt, by the rules of docs/FORMATS.md.
+The texts are those of FindingText.antt and DeviceText.antt in crates/rdm_findings/specs, by the rules of docs/FORMATS.md.
 """
 from __future__ import annotations
 
@@ -15,14 +15,14 @@ FULL = opening("full")
 
 FOUND = """\
 discovery: full, steady, 10 exchanges, 1 device; its certificate is complete
-1234:00000001 followed the rules
+1234:00000001 was found, and followed the rules
 """
 
 # Without its opening.
 FOUND_UNOPENED = """\
 discovery: 10 exchanges, 1 device; its certificate is complete but for what depends on its kind, \
 which the log doesn't have
-1234:00000001 followed the rules
+1234:00000001 was found, and followed the rules
 """
 
 # Its exchanges 0 to 3, exchange 3 alone, and those from 5.
@@ -92,6 +92,9 @@ exchange 1 should be one of the three unmutes that begin a run
 0000:00000000 is the first UID that wasn't ruled out: it needs five silences in a row of a range that holds it
 """
 
+# A known device, in a run that ended too soon.
+GONE = "1234:00000001 was known, and wasn't found: the run ended before it was ruled out\n"
+
 OF_KINDS = f"""\
 run 1: incremental, quick, 1 exchange, fault 3, 0 devices; its certificate is incomplete
 {GAPS}\
@@ -102,11 +105,11 @@ run 3: incremental, quick, 1 exchange, 0 devices; its certificate is incomplete,
 
 AFTER_WAITING = f"""\
 run 2: steady, 1 exchange, fault 3, 0 devices; its certificate is incomplete
-{GAPS}\
+{GAPS}{GONE}\
 run 3: incremental, steady, 1 exchange, fault 3, 0 devices; its certificate is incomplete
 {GAPS}\
 1234:00000001 is known, but wasn't muted before the first branch
-"""
+{GONE}"""
 
 FROM_WITHIN = f"""\
 run 2: steady, 1 exchange, fault 3, 0 devices; its certificate can't be decided, since the log begins within the run; \
@@ -114,7 +117,7 @@ exchanges count from there
 run 3: incremental, steady, 1 exchange, fault 3, 0 devices; its certificate is incomplete
 {GAPS}\
 1234:00000001 is known, but wasn't muted before the first branch
-"""
+{GONE}"""
 
 UNOPENED = f"""\
 run 2: 1 exchange, fault 3, 0 devices; its certificate can't be decided, since the log may begin within the run; \
@@ -124,10 +127,11 @@ run 3: incremental, 1 exchange, fault 3, 0 devices; its certificate is incomplet
 
 OF_THREE_RUNS = f"""\
 run 1: full, quick, 10 exchanges, no fault, 1 device; its certificate is complete
-1234:00000001 followed the rules
+1234:00000001 was found, and followed the rules
 run 2: incremental, quick, 1 exchange, fault 3, 0 devices; its certificate is incomplete
 {GAPS}\
 1234:00000001 is known, but wasn't muted before the first branch
+{GONE}\
 run 3: incremental, quick, 1 exchange, 0 devices; its certificate is incomplete, or the log ends within the run
 {GAPS}\
 1234:00000001 is known, but wasn't muted before the first branch

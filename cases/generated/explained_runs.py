@@ -1,6 +1,6 @@
 """What explain shows of single runs: devices that break a rule, bytes that no line should have, gaps in a certificate.
 
-The texts are those of crates/rdm_findings/specs/FindingText.antt, by the rules of docs/FORMATS.md.
+The texts are those of FindingText.antt and DeviceText.antt in crates/rdm_findings/specs, by the rules of docs/FORMATS.md.
 """
 from __future__ import annotations
 
@@ -33,7 +33,7 @@ other bytes from another UID alone, with which a run ends
 3 unmute; alone spare > noise
 4 exchanges, fault 1 1234:00000008, 0 devices; its certificate is incomplete
 0000:00000000 is the first UID that wasn't ruled out: it needs five silences in a row of a range that holds it
-1234:00000009 followed the rules
+1234:00000009 wasn't found: the run ended before it was ruled out; it broke no rule until then
 exchange 3: bytes came from 1234:00000008 alone that aren't its text; \
 a rule was broken, by it, another device or noise: try each device alone on the line
 status 3
@@ -42,7 +42,7 @@ another UID's text from it alone, after which a run goes on
 3 unmute; alone spare > spare
 4 exchanges, 0 devices; its certificate is incomplete, or the log ends within the run
 0000:00000000 is the first UID that wasn't ruled out: it needs five silences in a row of a range that holds it
-1234:00000009 followed the rules in the exchanges that the log has
+1234:00000009 wasn't found yet; it followed the rules in the exchanges that the log has
 exchange 3: bytes came from 1234:00000008 to 1234:00000008, where no listed device was due; \
 they read as 1234:00000008, which isn't listed: name it by --present, if it is there
 status 0
@@ -51,18 +51,16 @@ the same and five mutes of it, with which a run ends
 3 unmute; alone spare > spare; 5 mute spare
 9 exchanges, fault 1 1234:00000008, 0 devices; its certificate is incomplete
 0000:00000000 is the first UID that wasn't ruled out: it needs five silences in a row of a range that holds it
-1234:00000009 followed the rules
-exchange 3: bytes came from 1234:00000008 to 1234:00000008, where no listed device was due; \
-they read as 1234:00000008, which isn't listed: name it by --present, if it is there
-status 0
+1234:00000009 wasn't found: the run ended before it was ruled out; it broke no rule until then
+1234:00000008 answered alone and then acknowledged no mute: it left, or broke a rule; try it alone on the line
+status 3
 
 the same with other bytes after each mute
 3 unmute; alone spare > spare; 5 mute spare > noise
 9 exchanges, fault 1 1234:00000008, 0 devices; its certificate is incomplete
 0000:00000000 is the first UID that wasn't ruled out: it needs five silences in a row of a range that holds it
-1234:00000009 followed the rules
-exchange 3: bytes came from 1234:00000008 to 1234:00000008, where no listed device was due; \
-they read as 1234:00000008, which isn't listed: name it by --present, if it is there
+1234:00000009 wasn't found: the run ended before it was ruled out; it broke no rule until then
+1234:00000008 answered alone and then acknowledged no mute: it left, or broke a rule; try it alone on the line
 exchange 4: bytes came after a mute of 1234:00000008 that don't acknowledge it; \
 a rule was broken, by it, another device or noise: try each device alone on the line
 status 3
@@ -74,7 +72,7 @@ four silent branches
 3 unmute; 4 all
 discovery: 7 exchanges, 0 devices; its certificate is incomplete, or the log ends within the run
 0000:00000000 is the first UID that wasn't ruled out: it needs five silences in a row of a range that holds it
-1234:00000009 followed the rules in the exchanges that the log has
+1234:00000009 wasn't found yet; it followed the rules in the exchanges that the log has
 status 0
 
 a device that is off, which an incremental run mutes first
@@ -88,7 +86,7 @@ a broadcast UID that answers alone
 3 unmute; alone nobody > nobody
 discovery: 4 exchanges, fault 1 ffff:ffffffff, 0 devices; its certificate is incomplete
 0000:00000000 is the first UID that wasn't ruled out: it needs five silences in a row of a range that holds it
-1234:00000009 followed the rules
+1234:00000009 wasn't found: the run ended before it was ruled out; it broke no rule until then
 exchange 3: bytes came from ffff:ffffffff alone, which no device may have; a rule was broken: look for one that has it
 status 3
 
@@ -97,15 +95,15 @@ four silent mutes
 discovery: 8 exchanges, 0 devices; its certificate is incomplete, or the log ends within the run
 exchange 4 mutes a UID that neither acknowledged nor was muted five times in a row: perhaps no device has it
 0000:00000000 is the first UID that wasn't ruled out: it needs five silences in a row of a range that holds it
-1234:00000009 followed the rules in the exchanges that the log has
+1234:00000009 wasn't found yet; it followed the rules in the exchanges that the log has
 status 0
 
 bytes of a device that stays unmuted, first where another one was due, and then from it alone
 3 unmute; all > liar; mute liar > ack; all > liar; mute spare > ack; 2 alone liar > liar
 discovery: 9 exchanges, fault 1 1234:00000009, 2 devices; its certificate is incomplete
 0000:00000000 is the first UID that wasn't ruled out: it needs five silences in a row of a range that holds it
-1234:00000008 followed the rules
-1234:00000009 followed the rules
+1234:00000008 was found, and followed the rules
+1234:00000009 was found, and followed the rules, but see exchange 7
 exchange 7: bytes came from 1234:00000009 alone, which had acknowledged its mute; \
 a rule was broken: try it alone on the line
 status 3
@@ -114,16 +112,16 @@ a device that answers alone, after an unmute and a mute that it didn't acknowled
 3 unmute; mute liar > ack; unmute; mute liar; mute spare > ack; alone liar > liar
 discovery: 8 exchanges, fault 1 1234:00000009, 2 devices; its certificate is incomplete
 0000:00000000 is the first UID that wasn't ruled out: it needs five silences in a row of a range that holds it
-1234:00000008 followed the rules
-1234:00000009 followed the rules
+1234:00000008 was found, and followed the rules
+1234:00000009 was found, and followed the rules
 status 0
 
 the same, and then a mute that it acknowledged and silence
 3 unmute; mute liar > ack; unmute; mute liar; mute spare > ack; alone liar > liar; mute liar > ack; alone liar
 discovery: 10 exchanges, 2 devices; its certificate is incomplete, or the log ends within the run
 0000:00000000 is the first UID that wasn't ruled out: it needs five silences in a row of a range that holds it
-1234:00000008 followed the rules in the exchanges that the log has
-1234:00000009 followed the rules in the exchanges that the log has
+1234:00000008 was found, and followed the rules in the exchanges that the log has
+1234:00000009 was found, and followed the rules in the exchanges that the log has
 status 0
 
 the same, and then its text
@@ -131,8 +129,8 @@ the same, and then its text
 alone liar > liar
 discovery: 11 exchanges, fault 1 1234:00000009, 2 devices; its certificate is incomplete
 0000:00000000 is the first UID that wasn't ruled out: it needs five silences in a row of a range that holds it
-1234:00000008 followed the rules
-1234:00000009 followed the rules
+1234:00000008 was found, and followed the rules
+1234:00000009 was found, and followed the rules, but see exchange 10
 exchange 10: bytes came from 1234:00000009 alone, which had acknowledged its mute; \
 a rule was broken: try it alone on the line
 status 3
@@ -141,14 +139,14 @@ bytes from a range with a listed device
 3 unmute; lower > noise
 discovery: 4 exchanges, 0 devices; its certificate is incomplete, or the log ends within the run
 0000:00000000 is the first UID that wasn't ruled out: it needs five silences in a row of a range that holds it
-1234:00000009 followed the rules in the exchanges that the log has
+1234:00000009 wasn't found yet; it followed the rules in the exchanges that the log has
 status 0
 
 bytes from a range with a listed device, and from one without
 3 unmute; lower > noise; upper > noise
 discovery: 5 exchanges, 0 devices; its certificate is incomplete, or the log ends within the run
 0000:00000000 is the first UID that wasn't ruled out: it needs five silences in a row of a range that holds it
-1234:00000009 followed the rules in the exchanges that the log has
+1234:00000009 wasn't found yet; it followed the rules in the exchanges that the log has
 exchange 4: bytes came from 8000:00000000 to ffff:ffffffff, where no listed device was due; \
 they may be those of a device that the log doesn't show
 status 0
@@ -180,7 +178,7 @@ noise from all UIDs and from two, and then the text of one from it alone
 discovery: 8 exchanges, 0 devices; its certificate is incomplete, or the log ends within the run
 exchange 5 mutes a UID that neither acknowledged nor was muted five times in a row: perhaps no device has it
 0000:00000000 is the first UID that wasn't ruled out: it needs five silences in a row of a range that holds it
-1234:00000009 followed the rules in the exchanges that the log has
+1234:00000009 wasn't found yet; it followed the rules in the exchanges that the log has
 status 0
 
 the same, and then noise from it alone
@@ -188,7 +186,8 @@ the same, and then noise from it alone
 discovery: 10 exchanges, fault 1 1234:00000009, 0 devices; its certificate is incomplete
 exchange 5 mutes a UID that neither acknowledged nor was muted five times in a row: perhaps no device has it
 0000:00000000 is the first UID that wasn't ruled out: it needs five silences in a row of a range that holds it
-1234:00000009 followed the rules
+1234:00000009 wasn't found: the run ended before it was ruled out; it broke no rule until then, \
+but see exchange 8
 exchange 8: bytes came from 1234:00000009 alone that aren't its text; \
 a rule was broken, by it, another device or noise: try each device alone on the line
 status 3
@@ -197,7 +196,7 @@ a mute that is lost, and one that is acknowledged
 3 unmute; mute liar; mute liar > ack
 discovery: 5 exchanges, 1 device; its certificate is incomplete, or the log ends within the run
 0000:00000000 is the first UID that wasn't ruled out: it needs five silences in a row of a range that holds it
-1234:00000009 followed the rules in the exchanges that the log has
+1234:00000009 was found, and followed the rules in the exchanges that the log has
 status 0
 
 the same, and then one that is answered as a branch
@@ -214,7 +213,7 @@ other bytes after two mutes of a UID that isn't listed
 discovery: 5 exchanges, 0 devices; its certificate is incomplete, or the log ends within the run
 exchange 3 mutes a UID that neither acknowledged nor was muted five times in a row: perhaps no device has it
 0000:00000000 is the first UID that wasn't ruled out: it needs five silences in a row of a range that holds it
-1234:00000009 followed the rules in the exchanges that the log has
+1234:00000009 wasn't found yet; it followed the rules in the exchanges that the log has
 exchange 3: bytes came after a mute of 1234:00000008 that don't acknowledge it; \
 a rule was broken, by it, another device or noise: try each device alone on the line
 status 3
@@ -224,14 +223,14 @@ another UID's text from a UID alone, after an exchange that failed
 discovery: 5 exchanges, 0 devices; its certificate is incomplete
 exchange 3 failed: check the adapter and the cable
 0000:00000000 is the first UID that wasn't ruled out: it needs five silences in a row of a range that holds it
-1234:00000009 followed the rules until exchange 3 failed
+1234:00000009 wasn't found: exchange 3 failed before it was ruled out; it broke no rule until then
 status 0
 
 silence of the upper half
 3 unmute; 5 upper
 discovery: 8 exchanges, 0 devices; its certificate is incomplete, or the log ends within the run
 0000:00000000 is the first UID that wasn't ruled out: it needs five silences in a row of a range that holds it
-1234:00000009 followed the rules in the exchanges that the log has
+1234:00000009 wasn't found yet; it followed the rules in the exchanges that the log has
 status 0
 
 silence of the upper half, and then of the lower one
@@ -250,8 +249,9 @@ two known UIDs, one of which is there
 incremental 1234:00000001 5678:00000009
 3 unmute; mute found; mute found > bound; 5 mute absent; all > new; mute new > bound; 5 all
 discovery: incremental, steady, 17 exchanges, 2 devices; its certificate is complete
-1234:00000001 followed the rules
-9abc:00000002 followed the rules
+1234:00000001 was found, and followed the rules
+9abc:00000002 was found, and followed the rules
+5678:00000009 was known, and didn't answer five mutes: exchange 9 is the last of them
 status 0
 
 two unmutes
@@ -259,8 +259,9 @@ incremental 1234:00000001 5678:00000009
 2 unmute; mute found; mute found > bound; 5 mute absent; all > new; mute new > bound; 5 all
 discovery: incremental, steady, 16 exchanges, 2 devices; its certificate is incomplete
 exchange 2 should be one of the three unmutes that begin a run
-1234:00000001 followed the rules in the exchanges that the log has
-9abc:00000002 followed the rules in the exchanges that the log has
+1234:00000001 was found, and followed the rules in the exchanges that the log has
+9abc:00000002 was found, and followed the rules in the exchanges that the log has
+5678:00000009 was known, and didn't answer five mutes: exchange 8 is the last of them
 status 0
 
 two exchanges that fail
@@ -268,8 +269,9 @@ incremental 1234:00000001 5678:00000009
 3 unmute; mute found; mute found > bound; 5 mute absent; all > new; mute new > bound; 5 all; 2 all > failed
 discovery: incremental, steady, 19 exchanges, 2 devices; its certificate is incomplete
 exchange 17 failed: check the adapter and the cable
-1234:00000001 followed the rules until exchange 17 failed
-9abc:00000002 followed the rules until exchange 17 failed
+1234:00000001 was found, and followed the rules until exchange 17 failed
+9abc:00000002 was found, and followed the rules until exchange 17 failed
+5678:00000009 was known, and didn't answer five mutes: exchange 9 is the last of them
 status 0
 
 four mutes of a UID that isn't there
@@ -277,8 +279,8 @@ incremental 1234:00000001 5678:00000009
 3 unmute; mute found; mute found > bound; 4 mute absent; all > new; mute new > bound; 5 all
 discovery: incremental, steady, 16 exchanges, 2 devices; its certificate is incomplete, or the log ends within the run
 exchange 5 mutes a UID that neither acknowledged nor was muted five times in a row: perhaps no device has it
-1234:00000001 followed the rules in the exchanges that the log has
-9abc:00000002 followed the rules in the exchanges that the log has
+1234:00000001 was found, and followed the rules in the exchanges that the log has
+9abc:00000002 was found, and followed the rules in the exchanges that the log has
 status 0
 
 a mute of a UID that is neither known nor read
@@ -286,8 +288,8 @@ incremental 1234:00000001
 3 unmute; mute found; mute found > bound; 5 mute absent; all > new; mute new > bound; 5 all
 discovery: incremental, steady, 17 exchanges, 2 devices; its certificate is incomplete
 exchange 5 mutes a UID that no earlier branch had read
-1234:00000001 followed the rules
-9abc:00000002 followed the rules
+1234:00000001 was found, and followed the rules
+9abc:00000002 was found, and followed the rules
 status 0
 
 a known UID that is muted only after a branch
@@ -295,8 +297,9 @@ incremental 1234:00000001 5678:00000009 9abc:00000002
 3 unmute; mute found; mute found > bound; 5 mute absent; all > new; mute new > bound; 5 all
 discovery: incremental, steady, 17 exchanges, 2 devices; its certificate is incomplete
 9abc:00000002 is known, but wasn't muted before the first branch
-1234:00000001 followed the rules
-9abc:00000002 followed the rules
+1234:00000001 was found, and followed the rules
+9abc:00000002 was found, and followed the rules
+5678:00000009 was known, and didn't answer five mutes: exchange 9 is the last of them
 status 0
 
 a full run that mutes known UIDs
@@ -304,8 +307,9 @@ full 1234:00000001 5678:00000009
 3 unmute; mute found; mute found > bound; 5 mute absent; all > new; mute new > bound; 5 all
 discovery: full, steady, 17 exchanges, 2 devices; its certificate is incomplete
 exchange 3 mutes a UID that no earlier branch had read
-1234:00000001 followed the rules
-9abc:00000002 followed the rules
+1234:00000001 was found, and followed the rules
+9abc:00000002 was found, and followed the rules
+5678:00000009 was known, and didn't answer five mutes: exchange 9 is the last of them
 status 0
 """
 

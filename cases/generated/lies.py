@@ -25,6 +25,8 @@ PLACES = {"alone": (), "below": (BELOW,), "next": (NEXT,), "above": (ABOVE,), "b
 # With these seeds "every other" breaks a rule in each place.
 LOSS, SEEDS, RUNS = 0.2, (28, 44), 2
 HIDDEN, UNMUTED, GARBLED = "silent branches", "silent mutes", "garbled mute"
+# What is said of a device that breaks none: it acknowledged a mute, or didn't.
+FOUND, MISSED = "found", "not found"
 # What each lie shows without losses: the rule that its fixture breaks, and where bytes come that no honest line allows.
 TABLE: Dict[str, Tuple[str, Sequence[str]]] = {
     "hides": (HIDDEN, ()), "ignores mutes": (UNMUTED, ()), "every other": ("", ()), "unmutes late": ("", ()),
@@ -39,7 +41,10 @@ OPENING = (f'{{"entry":"opening","source":"{uid_text(SOURCE)}","budget":384008,"
 # The lines of explain that are compared, and what is left of them.
 UID = "([0-9a-f]{4}:[0-9a-f]{8})"
 SHORTENED = {re.compile(line): short for line, short in (
-    (f"{UID} followed the rules(?: in the exchanges that the log has)?", r"\1 followed"),
+    (f"{UID} was found, and followed the rules(?: in the exchanges that the log has)?", rf"\1 {FOUND}"),
+    (rf"{UID} was found, and followed the rules.*, but see exchange (\d+)", rf"\1 {FOUND} \2"),
+    (f"{UID} wasn't found(?::| yet;) .* (?:until then|that the log has)", rf"\1 {MISSED}"),
+    (rf"{UID} wasn't found(?::| yet;) .*, but see exchange (\d+)", rf"\1 {MISSED} \2"),
     (rf"{UID} (?:was never|wasn't) heard: exchange (\d+) is .*", rf"\1 {HIDDEN} \2"),
     (rf"{UID} didn't mute: exchange (\d+) is .*", rf"\1 {UNMUTED} \2"),
     (rf"{UID} was to mute, and other bytes came: exchange (\d+) has .*", rf"\1 {GARBLED} \2"),
@@ -72,13 +77,27 @@ class Exchange(NamedTuple):
             return decode_branch_reply(self.reply) == self.low and self.low not in muted
         return self.pid != MUTE or self.is_acknowledged
 
+    @property
+    def names(self) -> Set[int]:
+        """The UIDs that a line about such bytes names: the one that was asked alone, and the one that they read as."""
+        asked = {self.low} if self.low == self.high else set()
+        return asked | self.reads
+
+    @property
+    def reads(self) -> Set[int]:
+        """The UID that the reply to a branch reads as."""
+        found = decode_branch_reply(self.reply) if self.pid == BRANCH else None
+        return set() if found is None else {found}
+
 
 class Device:
     """Whether a device may be muted, and may be unmuted, on a line that is honest to it. If neither, it isn't."""
 
     def __init__(self, uid: str) -> None:
         self.uid = parse_uid(uid)
-        self.found = f"{uid} followed"
+        # The rule that it broke, and where.
+        self.broken = ""
+        self.is_found = False
         self.may_be_muted = self.may_be_unmuted = True
         # How many unmutes, silent branches and silent mutes came in a row.
         self.unmutes = self.branches = self.mutes = 0
@@ -89,6 +108,7 @@ class Device:
 
     def see(self, at: int, exchange: Exchange) -> None:
         """Learns from an exchange, which may be the first to break a rule."""
+        self.is_found |= exchange.is_acknowledged and exchange.low == self.uid
         was_honest = self.may_be_muted or self.may_be_unmuted
         is_silent = exchange.asks(self.uid) and not exchange.reply
         self.unmutes = self.unmutes + 1 if exchange.pid == UNMUTE else 0
@@ -105,7 +125,12 @@ class Device:
             self.may_be_unmuted &= is_lost
         if was_honest and not self.may_be_muted and not self.may_be_unmuted:
             rule = HIDDEN if exchange.pid == BRANCH else UNMUTED if is_silent else GARBLED
-            self.found = f"{uid_text(self.uid)} {rule} {at}"
+            self.broken = f"{rule} {at}"
+
+    def shown(self, named_at: Sequence[int]) -> str:
+        """What is said of it, if lines about these exchanges name it: they are looked at in this order."""
+        see = "".join(f" {at}" for at in named_at[:1])
+        return f"{uid_text(self.uid)} {self.broken or (FOUND if self.is_found else MISSED) + see}"
 
 
 def findings_of(exchanges: Sequence[Exchange], uids: Sequence[str], has_all: bool) -> Tuple[List[str], int]:
@@ -120,9 +145,15 @@ def findings_of(exchanges: Sequence[Exchange], uids: Sequence[str], has_all: boo
         muted = set() if exchange.pid == UNMUTE else muted | {exchange.low} if exchange.is_acknowledged else muted
         for device in devices:
             device.see(at, exchange)
-    is_broken = none or has_all and stray or any(not device.found.endswith("followed") for device in devices)
-    lines = [*(f"stray {at}" for at in stray[:1] if at not in none[:1]), *(f"none {at}" for at in none[:1])]
-    return [device.found for device in devices] + lines, 3 if is_broken else 0
+    is_broken = none or has_all and stray or any(device.broken for device in devices)
+    stray = [at for at in stray[:1] if at not in none[:1]]
+    shown = []
+    for device in devices:
+        named_at = [at for at in none[:1] if device.uid in exchanges[at].names]
+        named_at += [at for at in stray if device.uid in exchanges[at].reads]
+        shown.append(device.shown(named_at))
+    lines = [*(f"stray {at}" for at in stray), *(f"none {at}" for at in none[:1])]
+    return shown + lines, 3 if is_broken else 0
 
 
 @dataclass(frozen=True)
@@ -188,7 +219,7 @@ def case_of(lie: str, place: str, seed: Optional[int]) -> Case:
 
 def check(name: str, found: Sequence[str], rule: str, has_none: bool, is_lossy: bool) -> None:
     """The model blames no honest fixture, and finds what the table has, at least without losses."""
-    blamed = [line.rpartition(" ")[0] for line in found if line[4] == ":" and not line.endswith("followed")]
+    blamed = [line.rpartition(" ")[0] for line in found if line.split(" ", 1)[1].startswith((HIDDEN, UNMUTED, GARBLED))]
     is_right = blamed == ([f"{LIAR} {rule}"] if rule else []) and has_none == found[-1].startswith("none")
     if not is_right and not (is_lossy and all(line.startswith(LIAR) for line in blamed)):
         raise ValueError(f"{name}: the model finds {found}")

@@ -93,13 +93,16 @@ abbrev pub first_uid : Option ℕ → Option ℕ → Option ℕ
 first_uid None second = second
 first_uid (Some u) second = Some u
 
+-- The UID that answered a branch of it alone, and then acknowledged none of five mutes, if the last six exchanges are
+-- these. `found` has the devices that the run found
+abbrev pub never_muted : List ℕ → List Exchange → Option ℕ
+never_muted found xs = if_never_muted (last_of 5 xs) (new_alone_in found (from_end 6 xs))
+
 -- The UID with which a run of this project's agent ended as Corrupt, if these exchanges show that. `found` has the
 -- devices that the run found. The last exchange is a branch of one UID that was answered, but showed no new device. Or
 -- such a branch showed one, and the five exchanges after it are mutes of it without an acknowledgement
 abbrev pub corrupt_uid : List ℕ → List Exchange → Option ℕ
-corrupt_uid found xs =
-    first_uid (wrong_alone_in found (from_end 1 xs))
-    (if_never_muted (last_of 5 xs) (new_alone_in found (from_end 6 xs)))
+corrupt_uid found xs = first_uid (wrong_alone_in found (from_end 1 xs)) (never_muted found xs)
 
 -- the same, if the run begins by its three unmutes, and no exchange failed
 abbrev pub corrupt_end : List Device → List Exchange → RunFinding → Option ℕ

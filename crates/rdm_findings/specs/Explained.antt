@@ -1,8 +1,9 @@
 -- What is printed for a run: the findings about exactly its exchanges.
-use Rattle.std.specs.Prelude.{◌≡◌, ℕ, Bool, ◌&&◌, ◌||◌, not, List, [], ◌++◌, Option, Some, None, flat_map, filter}
-use Rattle.std.specs.Prelude.{is_some}
+use Rattle.std.specs.Prelude.{◌≡◌, ℕ, Bool, ◌&&◌, ◌||◌, not, List, [], ◌∷◌, ◌++◌, Option, Some, None, flat_map, filter}
+use Rattle.std.specs.Prelude.{is_some, if◌then◌else◌}
 use Rattle.rdm_wire.specs.Uid.{has}
 use Rattle.rdm_wire.specs.Devices.{uids_of}
+use Rattle.rdm_agent.specs.Run.{acked_in}
 use Rattle.rdm_agent.specs.declared.kind.Kind.{Kind}
 use Rattle.rdm_agent.specs.declared.kind.Kind.TheVariants.{Full, Incremental}
 use Rattle.rdm_explain.specs.declared.certificate.KnownFinding.{KnownFinding}
@@ -15,10 +16,13 @@ use Rattle.rdm_explain.specs.Rules.{AreFirstBreaches, uids_of_findings}
 use Rattle.rdm_explain.specs.Strays.{FirstStray}
 use Rattle.rdm_findings.specs.declared.explaining.Findings.{Findings}
 use Rattle.rdm_findings.specs.declared.head.RunHead.{RunHead}
-use Rattle.rdm_findings.specs.Ends.{is_whole, decides_stray}
-use Rattle.rdm_findings.specs.FindingText.{head_line, run_gaps, device_line, stray_line, garbled_line}
-use Rattle.rdm_findings.specs.FindingText.{unless_garbled, any_broke}
-use Rattle.rdm_findings.specs.HeardUids.{heard_in, in_heard}
+use Rattle.rdm_findings.specs.declared.heard.RunUids.{RunUids}
+use Rattle.rdm_findings.specs.declared.mention.RunFacts.{RunFacts}
+use Rattle.rdm_findings.specs.DeviceText.{device_line, culprit_line, gone_line}
+use Rattle.rdm_findings.specs.Ends.{is_whole, decides_stray, never_muted}
+use Rattle.rdm_findings.specs.FindingText.{head_line, run_gaps, stray_line, garbled_line, unless_garbled, any_broke}
+use Rattle.rdm_findings.specs.HeardUids.{heard_in, in_uids}
+use Rattle.rdm_findings.specs.Mentions.{garbled_mention, stray_mention}
 
 -- some UIDs, and then the others of a list
 abbrev pub with_others : List ℕ → List ℕ → List ℕ
@@ -36,6 +40,26 @@ listed reported present passing = staying passing (with_others reported present)
 abbrev pub with_passing : List ℕ → List ℕ → List ℕ → List ℕ
 with_passing reported present passing = listed reported present passing ++ passing
 
+-- a UID, unless it is in a list
+abbrev pub unless_in : List ℕ → Option ℕ → Option ℕ
+unless_in us None = None
+unless_in us (Some u) = if has us u then None else Some u
+
+-- The UID that answered alone, and then acknowledged no mute, at the end of a run that reports these devices. None if
+-- it is in the list, which has the devices that are listed, or come or leave
+abbrev pub culprit_of : List ℕ → List ℕ → List Exchange → Option ℕ
+culprit_of us reported xs = unless_in us (never_muted reported xs)
+
+-- some UIDs, and then another one, if there is one
+abbrev pub with_one : List ℕ → Option ℕ → List ℕ
+with_one us None = us
+with_one us (Some u) = us ++ u ∷ []
+
+-- the known UIDs that are neither in the set nor in the list; none if the log doesn't have the known ones
+abbrev pub gone_of : RunUids → List ℕ → Option (List ℕ) → List ℕ
+gone_of acked due None = []
+gone_of acked due (Some known) = filter (λ u. not (in_uids acked u || has due u)) known
+
 -- the UIDs that a run was to mute first, if its kind is known and, for an incremental one, the known UIDs are
 abbrev pub first_of : Option Kind → Option (List ℕ) → Option (List ℕ)
 first_of None known = None
@@ -49,37 +73,63 @@ ExplainsNames (Some first) xs None = ⊥
 ExplainsNames (Some first) xs (Some names) = ExplainsKnown first xs names
 
 -- The findings about these exchanges of a run: about its certificate of the devices whose mutes were acknowledged, and
--- about each of these and each of the list `present`, but none of `passing`, which come or leave. Then about bytes that
+-- about each of these and each of the list `present`, but none of `passing`, which come or leave. About the UID that
+-- answered alone, and then acknowledged no mute; and about each known UID that acknowledged none. Then about bytes that
 -- came though none of all these was due; and about bytes that no honest line allows, whichever devices are on it
-pub record Finds (first : Option (List ℕ)) (present passing : List ℕ) (xs : List Exchange) (f : Findings) : Type 0 where
+pub record Finds (kind : Option Kind) (known : Option (List ℕ)) (present passing : List ℕ) (xs : List Exchange)
+    (f : Findings) : Type 0 where
   pub acknowledged : f.reported ≡ reported_in (seen_all xs)
   pub certifies : ExplainsRun f.reported xs f.certificate
-  pub named : ExplainsNames first xs f.names
+  pub named : ExplainsNames (first_of kind known) xs f.names
   pub all : uids_of_findings f.devices.items ≡ listed (uids_of f.reported) present passing
   pub first_breaches : AreFirstBreaches xs f.devices.items
-  pub due : f.due.items ≡ with_passing (uids_of f.reported) present passing
+  pub unmuted : f.culprit ≡ culprit_of (with_passing (uids_of f.reported) present passing) (uids_of f.reported) xs
+  pub due : f.due.items ≡ with_one (with_passing (uids_of f.reported) present passing) f.culprit
+  pub all_gone : uids_of_findings f.gone.items ≡ gone_of f.acked f.due.items known
+  pub gone_breaches : AreFirstBreaches xs f.gone.items
   pub first_stray : FirstStray f.due.items xs f.stray
   pub first_garbled : FirstGarbled xs f.garbled
-  -- the UIDs that were heard
-  pub heard : (u : ℕ) → in_heard f.heard u ≡ has (heard_in (seen_all xs)) u
+  -- the UIDs that were heard, and those that acknowledged a mute
+  pub heard : (u : ℕ) → in_uids f.heard u ≡ has (heard_in (seen_all xs)) u
+  pub acked : (u : ℕ) → in_uids f.acked u ≡ has (acked_in (seen_all xs)) u
 
 -- whether the log has all of the run
 abbrev pub shows_all : RunHead → List Exchange → Findings → Bool
 shows_all head xs f = is_whole head f.reported xs f.certificate
 
+-- the first stray exchange that has a line of its own
+abbrev pub stray_of : Findings → Option ℕ
+stray_of f = unless_garbled f.garbled f.stray
+
+-- what lines of devices depend on beside their findings
+abbrev pub facts_of : RunHead → List Exchange → Findings → RunFacts
+facts_of head xs f = record {
+  start = head.start;
+  whole = shows_all head xs f;
+  failure = f.certificate.failure;
+  garbled = garbled_mention head.start xs f.garbled;
+  stray = stray_mention head.start f.due.items xs (stray_of f);
+}
+
+-- the lines of devices
+abbrev pub devices_text : RunFacts → Findings → List ℕ
+devices_text r f =
+    flat_map (device_line r f.heard f.acked) f.devices.items
+    ++ culprit_line f.culprit ++ flat_map (gone_line r) f.gone.items
+
 -- their text, a finding a line
 abbrev pub findings_text : RunHead → List Exchange → Findings → List ℕ
 findings_text head xs f =
     head_line head f.reported xs f.certificate f.names ++ run_gaps head.start f.certificate f.names
-    ++ flat_map (device_line head.start (shows_all head xs f) f.certificate.failure f.heard) f.devices.items
-    ++ stray_line head.start f.due.items (decides_stray head f.certificate) xs
-    (unless_garbled f.garbled f.stray)
+    ++ devices_text (facts_of head xs f) f
+    ++ stray_line head.start f.due.items (decides_stray head f.certificate) xs (stray_of f)
     ++ garbled_line head.start xs f.garbled
 
--- whether any finding is that a rule was broken
+-- whether any finding is that a rule was broken. A known UID that is gone broke none
 abbrev pub is_broken : RunHead → Findings → Bool
 is_broken head f =
-    (any_broke f.devices.items || is_some f.garbled) || (decides_stray head f.certificate && is_some f.stray)
+    (any_broke f.devices.items || is_some f.garbled) || is_some f.culprit
+    || (decides_stray head f.certificate && is_some f.stray)
 
 -- The text has the findings about these exchanges of a run, and says whether a rule was broken. `known` has the UIDs
 -- that were known before it, if the log has them. The devices of `present` were on the line during the whole run, those
@@ -87,6 +137,6 @@ is_broken head f =
 pub record IsExplained (head : RunHead) (known : Option (List ℕ)) (present passing : List ℕ) (xs : List Exchange)
     (text : List ℕ) (broken : Bool) : Type 0 where
   pub findings : Findings
-  pub finds : Finds (first_of head.kind known) present passing xs findings
+  pub finds : Finds head.kind known present passing xs findings
   pub prints : text ≡ findings_text head xs findings
   pub breaks : broken ≡ is_broken head findings

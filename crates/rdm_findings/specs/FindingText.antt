@@ -17,18 +17,13 @@ use Rattle.rdm_explain.specs.declared.exchange.Asked.TheVariants.{Branch, Mute}
 use Rattle.rdm_explain.specs.declared.exchange.Heard.{Heard}
 use Rattle.rdm_explain.specs.declared.exchange.Heard.TheVariants.{One}
 use Rattle.rdm_explain.specs.declared.exchange.Exchange.{Exchange}
-use Rattle.rdm_explain.specs.declared.rule.Rule.{Rule}
-use Rattle.rdm_explain.specs.declared.rule.Rule.TheVariants.{SilentBranches, SilentMutes, GarbledMute}
-use Rattle.rdm_explain.specs.declared.rule.Breach.{Breach}
 use Rattle.rdm_explain.specs.declared.rule.DeviceFinding.{DeviceFinding}
 use Rattle.rdm_findings.specs.declared.head.RunHead.{RunHead}
 use Rattle.rdm_findings.specs.declared.head.Start.{Start}
 use Rattle.rdm_findings.specs.declared.head.Start.TheVariants.{At, Later, Unknown}
-use Rattle.rdm_findings.specs.declared.heard.HeardUids.{HeardUids}
 use Rattle.rdm_findings.specs.declared.stray_bytes.Sign.{Sign}
 use Rattle.rdm_findings.specs.declared.stray_bytes.Sign.TheVariants as signs
 use Rattle.rdm_findings.specs.Ends.{is_complete, is_known_complete, is_over, is_lost, end_of}
-use Rattle.rdm_findings.specs.HeardUids.{in_heard}
 use Rattle.rdm_findings.specs.Starts.{has_start, number_at}
 use Rattle.rdm_findings.specs.StrayBytes.{sign_of}
 
@@ -186,44 +181,6 @@ failure_gap start (Some at) = exchange_line (number_at start at) failed_text
 abbrev pub run_gaps : Start → RunFinding → Option KnownFinding → List ℕ
 run_gaps start f names =
     if has_start start then gaps_text f ++ known_gaps names else failure_gap start f.failure
-
--- a breach, before its exchange. The log has all of a run in which a device was never heard
-abbrev pub breach_before : Bool → Rule → List ℕ
-breach_before never SilentBranches =
-    if never then codes " was never heard: exchange " else codes " wasn't heard: exchange "
-breach_before never SilentMutes = codes " didn't mute: exchange "
-breach_before never GarbledMute = codes " was to mute, and other bytes came: exchange "
-
--- and after it. The flag says that the device was heard in the exchanges that the log has
-abbrev pub breach_after : Bool → Rule → List ℕ
-breach_after heard SilentBranches =
-    codes " is the fifth silence in a row in a range that holds it; check its power and its cable"
-breach_after true SilentMutes = codes " is the fifth mute of it in a row without an answer; try it alone on the line"
-breach_after false SilentMutes =
-    codes " is the fifth mute of it in a row without an answer; check its power and its cable"
-breach_after heard GarbledMute = codes " has no acknowledgement; try it alone on the line"
-
--- a device that followed the rules. `whole` says that the log has all of the run
-abbrev pub followed_text : Bool → List ℕ
-followed_text whole =
-    if whole then codes " followed the rules" else codes " followed the rules in the exchanges that the log has"
-
--- until when it did, if an exchange failed: what follows is never judged
-abbrev pub until_text : Start → Option ℕ → List ℕ
-until_text start None = []
-until_text start (Some at) = codes " until exchange " ++ decimal (number_at start at) ++ codes " failed"
-
--- whether a device followed the rules, or which it broke first, and where. `whole` says that the log has all of the
--- run, `failure` has the first exchange that failed, if one did, and `heard` says that the device was heard in the run
-abbrev pub verdict_text : Start → Bool → Option ℕ → Bool → Option Breach → List ℕ
-verdict_text start whole failure heard None = followed_text whole ++ until_text start failure
-verdict_text start whole failure heard (Some b) =
-    breach_before (whole && not heard) b.rule ++ decimal (number_at start b.at) ++ breach_after heard b.rule
-
--- the line of a device
-abbrev pub device_line : Start → Bool → Option ℕ → HeardUids → DeviceFinding → List ℕ
-device_line start whole failure heard f =
-    line_of (uid_text f.uid ++ verdict_text start whole failure (in_heard heard f.uid) f.breach)
 
 -- a range, from which bytes came
 abbrev pub range_text : ℕ → ℕ → List ℕ

@@ -5,7 +5,7 @@ use Rattle.std.specs.BTreeSet.{contains}
 use Rattle.rdm_wire.specs.Honest.{Asked, Heard, Seen}
 use Rattle.rdm_wire.specs.Honest.Asked.{Branch, Mute}
 use Rattle.rdm_wire.specs.Honest.Heard.{One, Acked}
-use Rattle.rdm_findings.specs.declared.heard.HeardUids.{HeardUids}
+use Rattle.rdm_findings.specs.declared.heard.RunUids.{RunUids}
 
 -- the UID that was heard: that of a reply to a branch, or of an acknowledged mute
 abbrev pub heard_uid : Asked → Heard → Option ℕ
@@ -21,6 +21,6 @@ heard_by e = heard_uid e.asked e.heard
 abbrev pub heard_in : List Seen → List ℕ
 heard_in x = filter_map heard_by x
 
--- whether a UID is among those that were heard
-abbrev pub in_heard : HeardUids → ℕ → Bool
-in_heard heard u = contains nat_cmp heard.tree u
+-- whether a UID is in a set of those that a run shows
+abbrev pub in_uids : RunUids → ℕ → Bool
+in_uids uids u = contains nat_cmp uids.tree u

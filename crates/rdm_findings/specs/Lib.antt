@@ -5,6 +5,8 @@ pub mod Ends
 pub mod HeardUids
 pub mod StrayBytes
 pub mod FindingText
+pub mod Mentions
+pub mod DeviceText
 pub mod Explained
 pub mod Runs
 pub mod Logs

@@ -1,68 +1,138 @@
 //! What is printed about devices.
 ghost use Rattle.std.specs.Prelude.{◌≡◌, ◌++◌, ◌∷◌, [], OnOk, codes, decimal, flat_map};
-ghost use Rattle.rdm_findings.specs.FindingText.{breach_before, breach_after, followed_text, until_text};
-ghost use Rattle.rdm_findings.specs.FindingText.{verdict_text, device_line};
+ghost use Rattle.rdm_findings.specs.DeviceText.{breach_before, breach_after, followed_text, until_text, over_text};
+ghost use Rattle.rdm_findings.specs.DeviceText.{yet_text, unbroken_text, see_text, verdict_text, device_line};
 
 use crate::head::Start;
-use crate::heard::HeardUids;
-use crate::writing::{write, write_number, write_uid};
+use crate::heard::RunUids;
+use crate::mention::RunFacts;
+use crate::writing::{write, write_exchange, write_number, write_uid};
 use rdm_explain::{Breach, DeviceFinding, Rule};
 use std::alloc::AllocError;
 
-/// Writes a line for each device. `whole` says that the log has all of the run, and `failure` is the first exchange
-/// that failed, if one did.
+/// Writes a line for each listed device. The sets have the UIDs that were heard, and those that acknowledged a mute.
 pub(crate) fn write_devices(
     text: &mut Vec<u8>,
-    start: Start,
-    whole: bool,
-    failure: Option<usize>,
-    heard: &HeardUids,
+    facts: &RunFacts,
+    heard: &RunUids,
+    acked: &RunUids,
     found: &[DeviceFinding],
 ) -> Result<(), AllocError>
     ensures { OnOk result (text.new.items ≡ text.old.items
-        ++ flat_map (device_line start whole failure heard.now) found.now) }
+        ++ flat_map (device_line facts.now heard.now acked.now) found.now) }
 {
     'devices: for device in found {
-        write_device(text, start, whole, failure, heard, device)?;
+        write_device(text, facts, heard, acked, device)?;
     }
     Ok(())
 }
 
 fn write_device(
     text: &mut Vec<u8>,
-    start: Start,
-    whole: bool,
-    failure: Option<usize>,
-    heard: &HeardUids,
+    facts: &RunFacts,
+    heard: &RunUids,
+    acked: &RunUids,
     found: &DeviceFinding,
 ) -> Result<(), AllocError>
-    ensures { OnOk result (text.new.items ≡ text.old.items ++ device_line start whole failure heard.now found.now) }
+    ensures { OnOk result (text.new.items ≡ text.old.items ++ device_line facts.now heard.now acked.now found.now) }
 {
     let was_heard = heard.contains(found.uid);
+    let was_acked = acked.contains(found.uid);
+    let see = facts.seen_at(found.uid);
     write_uid(text, found.uid)?;
-    write_verdict(text, start, whole, failure, was_heard, found.breach)?;
+    write_verdict(text, facts, was_heard, was_acked, see, found.breach)?;
     text.extend_from_slice(b"\n")
 }
 
 fn write_verdict(
     text: &mut Vec<u8>,
-    start: Start,
-    whole: bool,
-    failure: Option<usize>,
+    facts: &RunFacts,
     heard: bool,
+    acked: bool,
+    see: Option<u64>,
     breach: Option<Breach>,
 ) -> Result<(), AllocError>
-    ensures { OnOk result (text.new.items ≡ text.old.items ++ verdict_text start whole failure heard breach) }
+    ensures { OnOk result (text.new.items ≡ text.old.items ++ verdict_text facts.now heard acked see breach) }
 {
     match breach {
         None => {
-            write(text, followed_text(whole))?;
-            write_until(text, start, failure)
+            write_unbroken(text, facts, acked)?;
+            write_see(text, see)
         }
         Some(breach) => {
-            write(text, breach_before(whole && !heard, breach.rule))?;
-            write_number(text, start.number(breach.at))?;
+            write(text, breach_before(facts.whole && !heard, breach.rule))?;
+            write_number(text, facts.start.number(breach.at))?;
             write(text, breach_after(heard, breach.rule))
+        }
+    }
+}
+
+// A device that broke no rule.
+fn write_unbroken(text: &mut Vec<u8>, facts: &RunFacts, acked: bool) -> Result<(), AllocError>
+    ensures { OnOk result (text.new.items ≡ text.old.items ++ unbroken_text facts.now acked) }
+{
+    if acked {
+        write(text, " was found, and")?;
+        write_followed(text, facts.whole, facts.start, facts.failure)
+    } else if facts.whole {
+        write_missed(text, facts.start, facts.failure)
+    } else {
+        write(text, yet_text(facts.start.is_first()))?;
+        write_followed(text, false, facts.start, facts.failure)
+    }
+}
+
+// That it followed the rules, and until when.
+fn write_followed(
+    text: &mut Vec<u8>,
+    whole: bool,
+    start: Start,
+    failure: Option<usize>,
+) -> Result<(), AllocError>
+    ensures { OnOk result (text.new.items ≡ text.old.items ++ (followed_text whole ++ until_text start failure)) }
+{
+    write(text, followed_text(whole))?;
+    write_until(text, start, failure)
+}
+
+// That it wasn't found in a run that is over.
+fn write_missed(text: &mut Vec<u8>, start: Start, failure: Option<usize>) -> Result<(), AllocError>
+    ensures { OnOk result (text.new.items ≡ text.old.items ++ (codes " wasn't found: "
+        ++ (over_text start failure ++ codes " before it was ruled out; it broke no rule until then"))) }
+{
+    write(text, " wasn't found: ")?;
+    write_over(text, start, failure)?;
+    write(text, " before it was ruled out; it broke no rule until then")
+}
+
+// Why the run was over.
+fn write_over(text: &mut Vec<u8>, start: Start, failure: Option<usize>) -> Result<(), AllocError>
+    ensures { OnOk result (text.new.items ≡ text.old.items ++ over_text start failure) }
+{
+    match failure {
+        None => write(text, "the run ended"),
+        Some(at) => {
+            write_exchange(text, start.number(at))?;
+            write(text, " failed")
+        }
+    }
+}
+
+fn yet_text(begun: bool) -> &'static str
+    ensures { result.now ≡ yet_text begun }
+{
+    if begun { " wasn't found yet; it" } else { "" }
+}
+
+// A reference to the exchange of a line that names the device.
+fn write_see(text: &mut Vec<u8>, see: Option<u64>) -> Result<(), AllocError>
+    ensures { OnOk result (text.new.items ≡ text.old.items ++ see_text see) }
+{
+    match see {
+        None => Ok(()),
+        Some(number) => {
+            write(text, ", but see ")?;
+            write_exchange(text, number)
         }
     }
 }

@@ -6,7 +6,7 @@ ghost use Rattle.rdm_agent.specs.Run.{is_branch};
 ghost use Rattle.std.specs.List.{list_all};
 ghost use Rattle.rdm_findings.specs.Ends.{is_complete, is_known_complete, shows_new, new_alone, wrong_alone};
 ghost use Rattle.rdm_findings.specs.Ends.{new_alone_in, wrong_alone_in, from_end, last_of, is_lost_mute};
-ghost use Rattle.rdm_findings.specs.Ends.{lacks_acknowledgement, if_never_muted, corrupt_uid, corrupt_end, as_corrupt};
+ghost use Rattle.rdm_findings.specs.Ends.{lacks_acknowledgement, never_muted, corrupt_uid, corrupt_end, as_corrupt};
 ghost use Rattle.rdm_findings.specs.Ends.{shown_end, end_of, shows_end, is_over, is_whole, decides_stray, has_bytes};
 ghost use Rattle.rdm_findings.specs.Ends.{is_own, lacks_unmute, has_branch, loses_names, is_lost};
 
@@ -189,10 +189,9 @@ fn corrupt_uid(found: &DeviceSet, exchanges: &[Exchange]) -> Option<Uid>
     }
 }
 
-// The UID that a branch of it alone showed, and that then didn't acknowledge five mutes, which come last.
-fn never_muted(found: &DeviceSet, exchanges: &[Exchange]) -> Option<Uid>
-    ensures { result
-        ≡ if_never_muted (last_of 5 exchanges.now) (new_alone_in (uids_of found.now) (from_end 6 exchanges.now)) }
+/// The UID that a branch of it alone showed, and that then didn't acknowledge five mutes, if these exchanges come last.
+pub(crate) fn never_muted(found: &DeviceSet, exchanges: &[Exchange]) -> Option<Uid>
+    ensures { result ≡ never_muted (uids_of found.now) exchanges.now }
 {
     match new_alone_in(found, from_end(6, exchanges)) {
         Some(uid) => uid_if(are_lost_mutes(uid, last_of(5, exchanges)), uid),

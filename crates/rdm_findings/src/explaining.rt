@@ -1,18 +1,22 @@
 //! The findings about a run, and their text.
-ghost use Rattle.std.specs.Prelude.{◌≡◌, ◌++◌, IfOk, OnOk, flat_map, option_copied};
-ghost use Rattle.rdm_findings.specs.FindingText.{any_broke, device_line, stray_line, garbled_line, unless_garbled};
+ghost use Rattle.std.specs.Prelude.{◌≡◌, ◌++◌, IfOk, OnOk, option_copied};
+ghost use Rattle.rdm_explain.specs.Rules.{AreFirstBreaches, uids_of_findings};
+ghost use Rattle.rdm_findings.specs.FindingText.{any_broke, stray_line, garbled_line, unless_garbled};
 ghost use Rattle.rdm_findings.specs.Ends.{decides_stray};
-ghost use Rattle.rdm_findings.specs.Explained.{first_of, ExplainsNames, Finds};
-ghost use Rattle.rdm_findings.specs.Explained.{findings_text, IsExplained, shows_all, is_broken};
+ghost use Rattle.rdm_findings.specs.Explained.{first_of, ExplainsNames, Finds, gone_of};
+ghost use Rattle.rdm_findings.specs.Explained.{findings_text, IsExplained, shows_all, is_broken, stray_of, facts_of};
+ghost use Rattle.rdm_findings.specs.Explained.{devices_text};
 
 use crate::device_text::write_devices;
 use crate::ending::{decides_stray, is_whole};
 use crate::gap_text::write_run_gaps;
 use crate::garbled_text::write_garbled;
+use crate::gone_text::{write_culprit, write_gone};
 use crate::head::RunHead;
 use crate::head_text::write_head;
-use crate::heard::{HeardUids, heard_uids};
-use crate::listing::{listed, with_passing};
+use crate::heard::{RunUids, acknowledged_uids, heard_uids};
+use crate::listing::{add_one, culprit_of, gone_of, listed, with_passing};
+use crate::mention::{RunFacts, garbled_mention, stray_mention};
 use crate::stray_text::write_stray;
 use rdm_agent::Kind;
 use rdm_explain::{
@@ -29,7 +33,7 @@ pub struct Explained {
     pub text: Vec<u8>,
     /// Whether a rule was broken. That bytes came though no device was due counts only if the log has the run from its
     /// beginning and the run found all devices: else they may be those of one that it hadn't found yet. Bytes that no
-    /// honest line allows always count.
+    /// honest line allows always count, and so does a UID that answered alone and then acknowledged no mute.
     pub is_broken: bool,
 }
 
@@ -40,17 +44,23 @@ struct Findings {
     certificate: RunFinding,
     names: Option<KnownFinding>,
     devices: Vec<DeviceFinding>,
-    // The listed devices, and those that come or leave.
+    // The UID that answered alone, and then acknowledged no mute.
+    culprit: Option<Uid>,
+    // The listed devices, those that come or leave, and the one that acknowledged no mute.
     due: Vec<Uid>,
+    // The known UIDs that acknowledged no mute.
+    gone: Vec<DeviceFinding>,
     stray: Option<usize>,
     garbled: Option<usize>,
-    heard: HeardUids,
+    heard: RunUids,
+    acked: RunUids,
 }
 
 /// What the exchanges of a run show, a finding a line:
 /// - whether they certify the devices whose mutes were acknowledged;
-/// - whether each of these, and each of the list `present`, followed the rules, but none of `passing`, which come or
-///   leave;
+/// - whether each of these, and each of the list `present`, was found and followed the rules, but none of `passing`,
+///   which come or leave;
+/// - the UID that answered alone and then acknowledged no mute, and known ones that acknowledged none;
 /// - where bytes came first though none of all these was due;
 /// - where bytes came first that no honest line allows, whichever devices are on it.
 ///
@@ -85,26 +95,55 @@ fn find(
     passing: &[Uid],
     exchanges: &[Exchange],
 ) -> Result<Findings, NoMemory>
-    ensures { IfOk result (λ found. Finds (first_of kind (option_copied known.entry)) present.now passing.now
-        exchanges.now found) }
+    ensures { IfOk result (λ found. Finds kind (option_copied known.entry) present.now passing.now exchanges.now
+        found) }
 {
     let reported = acknowledged_devices(exchanges);
+    let acked = acknowledged_uids(alloc, exchanges)?;
     let Ok(uids) = listed(alloc, &reported, present, passing) else {
         return Err(NoMemory);
     };
-    let Ok(due) = with_passing(alloc, &uids, passing) else {
+    let Ok(mut due) = with_passing(alloc, &uids, passing) else {
         return Err(NoMemory);
     };
+    let culprit = culprit_of(&due, &reported, exchanges);
+    if add_one(&mut due, culprit).is_err() {
+        return Err(NoMemory);
+    }
     Ok(Findings {
         certificate: explain_run(alloc, &reported, exchanges)?,
         names: names(alloc, kind, known, exchanges)?,
         devices: first_breaches(alloc, &uids, exchanges)?,
+        culprit,
+        gone: gone(alloc, &acked, &due, known, exchanges)?,
         stray: first_stray(alloc, &due, exchanges)?,
         garbled: first_garbled(alloc, exchanges)?,
         heard: heard_uids(alloc, exchanges)?,
         due,
         reported,
+        acked,
     })
+}
+
+// The known UIDs that acknowledged no mute, and what they lack.
+fn gone(
+    alloc: Global,
+    acked: &RunUids,
+    due: &[Uid],
+    known: Option<&[Uid]>,
+    exchanges: &[Exchange],
+) -> Result<Vec<DeviceFinding>, NoMemory>
+    ensures all { IfOk result (λ gone. uids_of_findings gone.items
+        ≡ gone_of acked.now due.now (option_copied known.entry)) }
+    ensures first { IfOk result (λ gone. AreFirstBreaches exchanges.now gone.items) }
+{
+    let Ok(uids) = gone_of(alloc, acked, due, known) else {
+        return Err(NoMemory);
+    };
+    if uids.is_empty() {
+        return Ok(Vec::new(alloc));
+    }
+    first_breaches(alloc, &uids, exchanges)
 }
 
 // The findings that depend on the known UIDs, if the log has these.
@@ -144,7 +183,7 @@ fn text(
         &found.names,
     )?;
     write_run_gaps(&mut text, head.start, &found.certificate, &found.names)?;
-    write_listed(&mut text, head, exchanges, found)?;
+    write_judged(&mut text, &facts_of(head, exchanges, found), found)?;
     write_bytes(&mut text, head, exchanges, found)?;
     Ok(text)
 }
@@ -157,8 +196,8 @@ fn write_bytes(
     found: &Findings,
 ) -> Result<(), AllocError>
     ensures { OnOk result (text.new.items ≡ text.old.items
-        ++ (stray_line head.now.start found.now.due.items
-        (decides_stray head.now found.now.certificate) exchanges.now (unless_garbled found.now.garbled found.now.stray)
+        ++ (stray_line head.now.start found.now.due.items (decides_stray head.now found.now.certificate) exchanges.now
+        (stray_of found.now)
         ++ garbled_line head.now.start exchanges.now found.now.garbled)) }
 {
     write_first_stray(text, head, exchanges, found)?;
@@ -173,13 +212,25 @@ fn write_first_stray(
     found: &Findings,
 ) -> Result<(), AllocError>
     ensures { OnOk result (text.new.items ≡ text.old.items
-        ++ stray_line head.now.start found.now.due.items
-        (decides_stray head.now found.now.certificate) exchanges.now
-        (unless_garbled found.now.garbled found.now.stray)) }
+        ++ stray_line head.now.start found.now.due.items (decides_stray head.now found.now.certificate) exchanges.now
+        (stray_of found.now)) }
 {
     let decided = decides_stray(head, &found.certificate);
-    let stray = unless_garbled(found.garbled, found.stray);
-    write_stray(text, head.start, &found.due, decided, exchanges, stray)
+    write_stray(
+        text,
+        head.start,
+        &found.due,
+        decided,
+        exchanges,
+        stray_of(found),
+    )
+}
+
+// The first stray exchange that has a line of its own.
+fn stray_of(found: &Findings) -> Option<usize>
+    ensures { result ≡ stray_of found.now }
+{
+    unless_garbled(found.garbled, found.stray)
 }
 
 // The first stray exchange, unless another line is about the same one.
@@ -193,26 +244,30 @@ fn unless_garbled(garbled: Option<usize>, stray: Option<usize>) -> Option<usize>
     }
 }
 
-// Writes a line for each listed device.
-fn write_listed(
+// What lines of devices depend on beside their findings.
+fn facts_of(head: &RunHead, exchanges: &[Exchange], found: &Findings) -> RunFacts
+    ensures { result ≡ facts_of head.now exchanges.now found.now }
+{
+    RunFacts {
+        start: head.start,
+        whole: shows_all(head, exchanges, found),
+        failure: found.certificate.failure,
+        garbled: garbled_mention(head.start, exchanges, found.garbled),
+        stray: stray_mention(head.start, &found.due, exchanges, stray_of(found)),
+    }
+}
+
+// Writes a line for each device that is listed, didn't mute, or was known and is gone.
+fn write_judged(
     text: &mut Vec<u8>,
-    head: &RunHead,
-    exchanges: &[Exchange],
+    facts: &RunFacts,
     found: &Findings,
 ) -> Result<(), AllocError>
-    ensures { OnOk result (text.new.items ≡ text.old.items
-        ++ flat_map (device_line head.now.start (shows_all head.now exchanges.now found.now)
-        found.now.certificate.failure found.now.heard) found.now.devices.items) }
+    ensures { OnOk result (text.new.items ≡ text.old.items ++ devices_text facts.now found.now) }
 {
-    let whole = shows_all(head, exchanges, found);
-    write_devices(
-        text,
-        head.start,
-        whole,
-        found.certificate.failure,
-        &found.heard,
-        &found.devices,
-    )
+    write_devices(text, facts, &found.heard, &found.acked, &found.devices)?;
+    write_culprit(text, found.culprit)?;
+    write_gone(text, facts, &found.gone)
 }
 
 // Whether the log has all of the run.
@@ -227,6 +282,7 @@ fn is_broken(head: &RunHead, found: &Findings) -> bool
     ensures { result ≡ is_broken head.now found.now }
 {
     (any_broke(&found.devices) || found.garbled.is_some())
+        || found.culprit.is_some()
         || (decides_stray(head, &found.certificate) && found.stray.is_some())
 }
 

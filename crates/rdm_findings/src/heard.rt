@@ -1,30 +1,55 @@
-//! The UIDs that a run heard.
+//! The UIDs that a run heard, and those that acknowledged a mute.
 ghost use Rattle.std.specs.Prelude.{◌≡◌, ℕ, ◌||◌, ◌∷◌, [], IfOk, OnOk};
 ghost use Rattle.rdm_wire.specs.Uid.{has};
 ghost use Rattle.rdm_wire.specs.Honest.Asked.{Branch, Mute};
 ghost use Rattle.rdm_explain.specs.Exchanges.{seen_of, seen_all, heard_of};
-ghost use Rattle.rdm_findings.specs.HeardUids.{heard_uid, heard_by, heard_in, in_heard};
+ghost use Rattle.rdm_agent.specs.Run.{acked_by, acked_in, acked_uid};
+ghost use Rattle.rdm_findings.specs.HeardUids.{heard_uid, heard_by, heard_in, in_uids};
 
 use rdm_explain::{Asked, Exchange, Heard};
 use rdm_wire::{NoMemory, Uid};
 use std::alloc::Global;
 use std::collections::BTreeSet;
 
-/// The UIDs that a run heard.
+/// A set of UIDs that a run shows.
 #[derive(Drop)]
-pub(crate) struct HeardUids {
+pub(crate) struct RunUids {
     tree: BTreeSet<u64>,
 }
 
 /// The UIDs that replies to branches spelt, and those of the acknowledged mutes.
-pub(crate) fn heard_uids(alloc: Global, exchanges: &[Exchange]) -> Result<HeardUids, NoMemory>
-    ensures { IfOk result (λ heard. (u : ℕ) → in_heard heard u ≡ has (heard_in (seen_all exchanges.now)) u) }
+pub(crate) fn heard_uids(alloc: Global, exchanges: &[Exchange]) -> Result<RunUids, NoMemory>
+    ensures { IfOk result (λ heard. (u : ℕ) → in_uids heard u ≡ has (heard_in (seen_all exchanges.now)) u) }
 {
-    let mut heard = HeardUids::new(alloc);
+    let mut heard = RunUids::new(alloc);
     for exchange in exchanges {
-        heard.add_from(exchange)?;
+        heard.add_if(heard_by(exchange))?;
     }
     Ok(heard)
+}
+
+/// The UIDs that acknowledged a mute.
+pub(crate) fn acknowledged_uids(
+    alloc: Global,
+    exchanges: &[Exchange],
+) -> Result<RunUids, NoMemory>
+    ensures { IfOk result (λ acked. (u : ℕ) → in_uids acked u ≡ has (acked_in (seen_all exchanges.now)) u) }
+{
+    let mut acked = RunUids::new(alloc);
+    for exchange in exchanges {
+        acked.add_if(acked_by(exchange))?;
+    }
+    Ok(acked)
+}
+
+// The UID whose mute an exchange finds acknowledged.
+fn acked_by(exchange: &Exchange) -> Option<Uid>
+    ensures { result ≡ acked_by (seen_of exchange.now) }
+{
+    match exchange.asked {
+        Asked::Mute(uid) => acked(uid, &exchange.heard),
+        _ => None,
+    }
 }
 
 // The UID that an exchange heard.
@@ -50,7 +75,8 @@ fn spelt(heard: &Heard) -> Option<Uid>
 
 // The UID of a mute, if it was acknowledged.
 fn acked(uid: Uid, heard: &Heard) -> Option<Uid>
-    ensures { result ≡ heard_uid (Mute uid) (heard_of heard.now) }
+    ensures heard { result ≡ heard_uid (Mute uid) (heard_of heard.now) }
+    ensures acked { result ≡ acked_uid (Mute uid) (heard_of heard.now) }
 {
     match heard {
         Heard::Acked(_) => Some(uid),
@@ -58,29 +84,29 @@ fn acked(uid: Uid, heard: &Heard) -> Option<Uid>
     }
 }
 
-impl HeardUids {
-    ghost use Rattle.std.specs.Prelude.{◌≡◌, ℕ, ◌||◌, ◌==◌, ◌∷◌, [], false, OnOk};
+impl RunUids {
+    ghost use Rattle.std.specs.Prelude.{◌≡◌, ℕ, ◌||◌, ◌==◌, [], false, OnOk};
+    ghost use Rattle.core.specs.List.{cons_option};
     ghost use Rattle.rdm_wire.specs.Uid.{has};
-    ghost use Rattle.rdm_explain.specs.Exchanges.{seen_of};
-    ghost use Rattle.rdm_findings.specs.HeardUids.{heard_in, in_heard};
+    ghost use Rattle.rdm_findings.specs.HeardUids.{in_uids};
 
-    fn new(alloc: Global) -> HeardUids
-        ensures { (u : ℕ) → in_heard result u ≡ false }
+    fn new(alloc: Global) -> RunUids
+        ensures { (u : ℕ) → in_uids result u ≡ false }
     {
-        HeardUids {
+        RunUids {
             tree: BTreeSet::new(alloc),
         }
     }
 
-    /// Whether the run heard this UID.
+    /// Whether a UID is in the set.
     pub(crate) fn contains(&self, uid: Uid) -> bool
-        ensures { result ≡ in_heard self.now uid }
+        ensures { result ≡ in_uids self.now uid }
     {
         self.tree.contains(&uid.number())
     }
 
     fn add(&mut self, uid: Uid) -> Result<(), NoMemory>
-        ensures { OnOk result ((u : ℕ) → in_heard self.new u ≡ ((u == uid) || in_heard self.old u)) }
+        ensures { OnOk result ((u : ℕ) → in_uids self.new u ≡ ((u == uid) || in_uids self.old u)) }
     {
         match self.tree.insert(uid.number()) {
             Ok(_) => Ok(()),
@@ -88,12 +114,11 @@ impl HeardUids {
         }
     }
 
-    // Adds the UID that an exchange heard.
-    fn add_from(&mut self, exchange: &Exchange) -> Result<(), NoMemory>
-        ensures { OnOk result ((u : ℕ) → in_heard self.new u
-            ≡ (in_heard self.old u || has (heard_in (seen_of exchange.now ∷ [])) u)) }
+    // Adds a UID, if there is one.
+    fn add_if(&mut self, uid: Option<Uid>) -> Result<(), NoMemory>
+        ensures { OnOk result ((u : ℕ) → in_uids self.new u ≡ (in_uids self.old u || has (cons_option uid []) u)) }
     {
-        match heard_by(exchange) {
+        match uid {
             Some(uid) => self.add(uid),
             None => Ok(()),
         }

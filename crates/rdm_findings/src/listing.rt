@@ -1,9 +1,12 @@
-//! Which devices are listed.
-ghost use Rattle.std.specs.Prelude.{◌≡◌, ◌++◌, IfOk};
+//! Which devices are listed, and which others are judged.
+ghost use Rattle.std.specs.Prelude.{◌≡◌, ◌++◌, Some, IfOk, OnOk, option_copied};
 ghost use Rattle.rdm_wire.specs.Uid.{has};
 ghost use Rattle.rdm_wire.specs.Devices.{uids_of};
-ghost use Rattle.rdm_findings.specs.Explained.{listed, staying, with_others};
+ghost use Rattle.rdm_findings.specs.Explained.{listed, staying, with_others, culprit_of, unless_in, with_one, gone_of};
 
+use crate::ending::never_muted;
+use crate::heard::RunUids;
+use rdm_explain::Exchange;
 use rdm_wire::{DeviceSet, Uid};
 use std::alloc::{AllocError, Global};
 
@@ -57,6 +60,75 @@ pub(crate) fn with_passing(
     let mut due = Vec::from_slice(alloc, uids)?;
     due.extend_from_slice(passing)?;
     Ok(due)
+}
+
+/// The UID that answered alone, and then acknowledged no mute, unless it is in the list.
+pub(crate) fn culprit_of(uids: &[Uid], reported: &DeviceSet, exchanges: &[Exchange]) -> Option<Uid>
+    ensures { result ≡ culprit_of uids.now (uids_of reported.now) exchanges.now }
+{
+    unless_in(uids, never_muted(reported, exchanges))
+}
+
+// A UID, unless it is in the list.
+fn unless_in(uids: &[Uid], uid: Option<Uid>) -> Option<Uid>
+    ensures { result ≡ unless_in uids.now uid }
+{
+    match uid {
+        Some(uid) => {
+            if has(uids, uid) {
+                None
+            } else {
+                Some(uid)
+            }
+        }
+        None => None,
+    }
+}
+
+/// Adds a UID, if there is one.
+pub(crate) fn add_one(uids: &mut Vec<Uid>, uid: Option<Uid>) -> Result<(), AllocError>
+    ensures { OnOk result (uids.new.items ≡ with_one uids.old.items uid) }
+{
+    match uid {
+        Some(uid) => {
+            uids.push(uid)?;
+            Ok(())
+        }
+        None => Ok(()),
+    }
+}
+
+/// The known UIDs that acknowledged no mute and aren't due; none if the log doesn't have the known ones.
+pub(crate) fn gone_of(
+    alloc: Global,
+    acked: &RunUids,
+    due: &[Uid],
+    known: Option<&[Uid]>,
+) -> Result<Vec<Uid>, AllocError>
+    ensures { IfOk result (λ v. v.items ≡ gone_of acked.now due.now (option_copied known.entry)) }
+{
+    match known {
+        Some(known) => gone(alloc, acked, due, known),
+        None => Ok(Vec::new(alloc)),
+    }
+}
+
+// The known UIDs that acknowledged no mute and aren't due.
+fn gone(
+    alloc: Global,
+    acked: &RunUids,
+    due: &[Uid],
+    known: &[Uid],
+) -> Result<Vec<Uid>, AllocError>
+    ensures { IfOk result (λ v. v.items ≡ gone_of acked.now due.now (Some known.now)) }
+{
+    let mut gone = Vec::new(alloc);
+    'known: for uid in known {
+        if !(acked.contains(*uid) || has(due, *uid)) {
+            gone.push(*uid)?;
+        }
+    }
+    Ok(gone)
 }
 
 /// Whether a UID is in a list.

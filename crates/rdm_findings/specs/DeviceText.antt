@@ -1,0 +1,130 @@
+-- The lines of a run about devices: those that are listed, the one that didn't mute, and the known ones that are gone.
+use Rattle.std.specs.Prelude.{ℕ, Bool, true, false, ◌&&◌, ◌||◌, not, List, [], ◌++◌, Option, Some, None, codes, decimal}
+use Rattle.std.specs.Prelude.{◌==◌, if◌then◌else◌}
+use Rattle.rdm_wire.specs.UidText.{uid_text}
+use Rattle.rdm_reports.specs.Report.{line_of}
+use Rattle.rdm_explain.specs.declared.rule.Rule.{Rule}
+use Rattle.rdm_explain.specs.declared.rule.Rule.TheVariants.{SilentBranches, SilentMutes, GarbledMute}
+use Rattle.rdm_explain.specs.declared.rule.Breach.{Breach}
+use Rattle.rdm_explain.specs.declared.rule.DeviceFinding.{DeviceFinding}
+use Rattle.rdm_findings.specs.declared.head.Start.{Start}
+use Rattle.rdm_findings.specs.declared.heard.RunUids.{RunUids}
+use Rattle.rdm_findings.specs.declared.mention.Mention.{Mention}
+use Rattle.rdm_findings.specs.declared.mention.RunFacts.{RunFacts}
+use Rattle.rdm_findings.specs.FindingText.{exchange_name, uid_line}
+use Rattle.rdm_findings.specs.HeardUids.{in_uids}
+use Rattle.rdm_findings.specs.Starts.{has_start, number_at}
+
+-- a breach, before its exchange. The log has all of a run in which a device was never heard
+abbrev pub breach_before : Bool → Rule → List ℕ
+breach_before never SilentBranches =
+    if never then codes " was never heard: exchange " else codes " wasn't heard: exchange "
+breach_before never SilentMutes = codes " didn't mute: exchange "
+breach_before never GarbledMute = codes " was to mute, and other bytes came: exchange "
+
+-- and after it. The flag says that the device was heard in the exchanges that the log has
+abbrev pub breach_after : Bool → Rule → List ℕ
+breach_after heard SilentBranches =
+    codes " is the fifth silence in a row in a range that holds it; check its power and its cable"
+breach_after true SilentMutes = codes " is the fifth mute of it in a row without an answer; try it alone on the line"
+breach_after false SilentMutes =
+    codes " is the fifth mute of it in a row without an answer; check its power and its cable"
+breach_after heard GarbledMute = codes " has no acknowledgement; try it alone on the line"
+
+-- a device that followed the rules. `whole` says that the log has all of the run
+abbrev pub followed_text : Bool → List ℕ
+followed_text whole =
+    if whole then codes " followed the rules" else codes " followed the rules in the exchanges that the log has"
+
+-- until when it did, if an exchange failed: what follows is never judged
+abbrev pub until_text : Start → Option ℕ → List ℕ
+until_text start None = []
+until_text start (Some at) = codes " until exchange " ++ decimal (number_at start at) ++ codes " failed"
+
+-- a device that acknowledged a mute, and broke no rule
+abbrev pub found_text : RunFacts → List ℕ
+found_text r = codes " was found, and" ++ (followed_text r.whole ++ until_text r.start r.failure)
+
+-- why a run was over: an exchange failed, or it ended
+abbrev pub over_text : Start → Option ℕ → List ℕ
+over_text start None = codes "the run ended"
+over_text start (Some at) = exchange_name (number_at start at) ++ codes " failed"
+
+-- a device that acknowledged no mute, in a log that doesn't have all of the run. With the run's beginning, it would
+-- show such an acknowledgement
+abbrev pub yet_text : Bool → List ℕ
+yet_text begun = if begun then codes " wasn't found yet; it" else []
+
+-- a device that acknowledged no mute, and broke no rule. In a run that is over, it wasn't ruled out either: five
+-- silences in a row would have broken a rule
+abbrev pub missed_text : RunFacts → List ℕ
+missed_text r =
+    if r.whole then codes " wasn't found: "
+    ++ (over_text r.start r.failure ++ codes " before it was ruled out; it broke no rule until then")
+    else yet_text (has_start r.start) ++ (followed_text false ++ until_text r.start r.failure)
+
+-- a device that broke no rule. The flag says that it acknowledged a mute
+abbrev pub unbroken_text : RunFacts → Bool → List ℕ
+unbroken_text r acked = if acked then found_text r else missed_text r
+
+-- the number of an exchange of a line, if that line names the device
+abbrev pub mentioned : Option Mention → ℕ → Option ℕ
+mentioned None u = None
+mentioned (Some m) u = if (m.uid == u) || (m.other == u) then Some m.number else None
+
+-- the first number, or else the second
+abbrev pub first_number : Option ℕ → Option ℕ → Option ℕ
+first_number None second = second
+first_number (Some n) second = Some n
+
+-- the exchange at which a line about bytes names the device: that of the bytes that no honest line allows, or else that
+-- of bytes that nobody was due to send
+abbrev pub seen_at : RunFacts → ℕ → Option ℕ
+seen_at r u = first_number (mentioned r.garbled u) (mentioned r.stray u)
+
+-- a reference to that exchange
+abbrev pub see_text : Option ℕ → List ℕ
+see_text None = []
+see_text (Some number) = codes ", but see " ++ exchange_name number
+
+-- Whether a device was found, if it broke no rule; or which rule it broke first, and where. The flags say that it was
+-- heard in the run, and that it acknowledged a mute
+abbrev pub verdict_text : RunFacts → Bool → Bool → Option ℕ → Option Breach → List ℕ
+verdict_text r heard acked see None = unbroken_text r acked ++ see_text see
+verdict_text r heard acked see (Some b) =
+    breach_before (r.whole && not heard) b.rule ++ decimal (number_at r.start b.at) ++ breach_after heard b.rule
+
+-- the line of a listed device. The sets have the UIDs that were heard, and those that acknowledged a mute
+abbrev pub device_line : RunFacts → RunUids → RunUids → DeviceFinding → List ℕ
+device_line r heard acked f =
+    line_of (uid_text f.uid ++ verdict_text r (in_uids heard f.uid) (in_uids acked f.uid) (seen_at r f.uid) f.breach)
+
+-- the line of a device that answered a branch of it alone, and then acknowledged no mute, if there is one
+abbrev pub culprit_line : Option ℕ → List ℕ
+culprit_line None = []
+culprit_line (Some u) =
+    uid_line u
+    (codes " answered alone and then acknowledged no mute: it left, or broke a rule; try it alone on the line")
+
+-- what a known UID lacks, before its exchange
+abbrev pub gone_before : Rule → List ℕ
+gone_before SilentBranches = codes " was known, and wasn't heard: exchange "
+gone_before SilentMutes = codes " was known, and didn't answer five mutes: exchange "
+gone_before GarbledMute = codes " was known, and bytes came that don't acknowledge its mute: exchange "
+
+-- and after it
+abbrev pub gone_after : Rule → List ℕ
+gone_after SilentBranches = codes " is the fifth silence in a row in a range that holds it"
+gone_after SilentMutes = codes " is the last of them"
+gone_after GarbledMute = []
+
+-- A known UID that acknowledged no mute, by the rule that it would have broken if its device had stayed: that counts
+-- against nobody. If it would have broken none, the run must be over
+abbrev pub gone_line : RunFacts → DeviceFinding → List ℕ
+gone_line r f = elim f.breach [
+  | None ↦
+      if r.whole then uid_line f.uid (codes " was known, and wasn't found: the run ended before it was ruled out")
+      else []
+  | Some b ↦
+      line_of (uid_text f.uid ++ (gone_before b.rule ++ decimal (number_at r.start b.at) ++ gone_after b.rule))
+]

@@ -1,0 +1,107 @@
+//! What is printed about UIDs that acknowledged no mute though they answered alone, or were known.
+ghost use Rattle.std.specs.Prelude.{◌≡◌, ◌++◌, ◌∷◌, [], OnOk, decimal, flat_map};
+ghost use Rattle.rdm_wire.specs.UidText.{uid_text};
+ghost use Rattle.rdm_reports.specs.Report.{line_of};
+ghost use Rattle.rdm_findings.specs.DeviceText.{culprit_line, gone_before, gone_after, gone_line};
+ghost use Rattle.rdm_findings.specs.Starts.{number_at};
+
+use crate::head::Start;
+use crate::mention::RunFacts;
+use crate::writing::{write, write_number, write_uid, write_uid_line};
+use rdm_explain::{Breach, DeviceFinding, Rule};
+use rdm_wire::Uid;
+use std::alloc::AllocError;
+
+const CULPRIT: &str =
+    " answered alone and then acknowledged no mute: it left, or broke a rule; try it alone on the line";
+
+/// Writes the line of a UID that answered alone, and then acknowledged no mute, if there is one.
+pub(crate) fn write_culprit(text: &mut Vec<u8>, culprit: Option<Uid>) -> Result<(), AllocError>
+    ensures { OnOk result (text.new.items ≡ text.old.items ++ culprit_line culprit) }
+{
+    match culprit {
+        Some(uid) => write_uid_line(text, uid, CULPRIT),
+        None => Ok(()),
+    }
+}
+
+/// Writes a line for each known UID that acknowledged no mute.
+pub(crate) fn write_gone(
+    text: &mut Vec<u8>,
+    facts: &RunFacts,
+    gone: &[DeviceFinding],
+) -> Result<(), AllocError>
+    ensures { OnOk result (text.new.items ≡ text.old.items ++ flat_map (gone_line facts.now) gone.now) }
+{
+    'gone: for device in gone {
+        write_one(text, facts, device)?;
+    }
+    Ok(())
+}
+
+const MISSED: &str = " was known, and wasn't found: the run ended before it was ruled out";
+
+fn write_one(
+    text: &mut Vec<u8>,
+    facts: &RunFacts,
+    gone: &DeviceFinding,
+) -> Result<(), AllocError>
+    ensures { OnOk result (text.new.items ≡ text.old.items ++ gone_line facts.now gone.now) }
+{
+    match gone.breach {
+        None => {
+            if facts.whole {
+                write_uid_line(text, gone.uid, MISSED)
+            } else {
+                Ok(())
+            }
+        }
+        Some(breach) => write_lacking(text, facts.start, gone.uid, breach),
+    }
+}
+
+fn write_lacking(
+    text: &mut Vec<u8>,
+    start: Start,
+    uid: Uid,
+    breach: Breach,
+) -> Result<(), AllocError>
+    ensures { OnOk result (text.new.items ≡ text.old.items ++ line_of (uid_text uid
+        ++ (gone_before breach.rule ++ decimal (number_at start breach.at) ++ gone_after breach.rule))) }
+{
+    write_uid(text, uid)?;
+    write_what(text, breach.rule, start.number(breach.at))?;
+    text.extend_from_slice(b"\n")
+}
+
+// What it lacks, and at which exchange.
+fn write_what(text: &mut Vec<u8>, rule: Rule, number: u64) -> Result<(), AllocError>
+    ensures { OnOk result (text.new.items ≡ text.old.items
+        ++ (gone_before rule ++ decimal number ++ gone_after rule)) }
+{
+    write(text, gone_before(rule))?;
+    write_number(text, number)?;
+    write(text, gone_after(rule))
+}
+
+fn gone_before(rule: Rule) -> &'static str
+    ensures { result.now ≡ gone_before rule }
+{
+    match rule {
+        Rule::SilentBranches => " was known, and wasn't heard: exchange ",
+        Rule::SilentMutes => " was known, and didn't answer five mutes: exchange ",
+        Rule::GarbledMute => {
+            " was known, and bytes came that don't acknowledge its mute: exchange "
+        }
+    }
+}
+
+fn gone_after(rule: Rule) -> &'static str
+    ensures { result.now ≡ gone_after rule }
+{
+    match rule {
+        Rule::SilentBranches => " is the fifth silence in a row in a range that holds it",
+        Rule::SilentMutes => " is the last of them",
+        Rule::GarbledMute => "",
+    }
+}

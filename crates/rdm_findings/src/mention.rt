@@ -1,0 +1,138 @@
+//! The devices that a run's lines about bytes name.
+ghost use Rattle.std.specs.Prelude.{◌≡◌};
+ghost use Rattle.rdm_findings.specs.DeviceText.{mentioned};
+ghost use Rattle.rdm_findings.specs.Mentions.{spelt_or, named_in, garbled_mention, signed_in, stray_mention};
+
+use crate::head::Start;
+use crate::stray_bytes::{Sign, sign_of};
+use rdm_explain::{Asked, Exchange, Heard};
+use rdm_wire::Uid;
+
+/// The devices that a line about an exchange names.
+#[derive(Clone, Copy)]
+pub(crate) struct Mention {
+    /// The number of the exchange.
+    pub(crate) number: u64,
+    pub(crate) uid: Uid,
+    /// Another one, or the same.
+    pub(crate) other: Uid,
+}
+
+/// What lines of devices depend on beside their findings.
+#[derive(Clone, Copy)]
+pub(crate) struct RunFacts {
+    /// With which exchange the log begins to have the run.
+    pub(crate) start: Start,
+    /// Whether the log has all of the run.
+    pub(crate) whole: bool,
+    /// The first exchange that failed, if one did.
+    pub(crate) failure: Option<usize>,
+    /// What the line about bytes that no honest line allows names.
+    pub(crate) garbled: Option<Mention>,
+    /// What the line about bytes that nobody was due to send names.
+    pub(crate) stray: Option<Mention>,
+}
+
+impl RunFacts {
+    ghost use Rattle.std.specs.Prelude.{◌≡◌};
+    ghost use Rattle.rdm_findings.specs.DeviceText.{seen_at};
+
+    /// The exchange at which a line about bytes names the device.
+    pub(crate) fn seen_at(&self, uid: Uid) -> Option<u64>
+        ensures { result ≡ seen_at self.now uid }
+    {
+        match mentioned(&self.garbled, uid) {
+            Some(number) => Some(number),
+            None => mentioned(&self.stray, uid),
+        }
+    }
+}
+
+// The number of the exchange of a line that names the device.
+fn mentioned(mention: &Option<Mention>, uid: Uid) -> Option<u64>
+    ensures { result ≡ mentioned mention.now uid }
+{
+    match mention {
+        Some(mention) if mention.uid == uid || mention.other == uid => Some(mention.number),
+        _ => None,
+    }
+}
+
+/// What the line of the first exchange with bytes that no honest line allows names, if there is one.
+pub(crate) fn garbled_mention(
+    start: Start,
+    exchanges: &[Exchange],
+    garbled: Option<usize>,
+) -> Option<Mention>
+    ensures { result ≡ garbled_mention start exchanges.now garbled }
+{
+    let Some(at) = garbled else {
+        return None;
+    };
+    match exchanges.get(at) {
+        Some(exchange) => named_in(start.number(at), exchange.asked, &exchange.heard),
+        None => None,
+    }
+}
+
+// The UID that was asked, and the one that the bytes read as.
+fn named_in(number: u64, asked: Asked, heard: &Heard) -> Option<Mention>
+    ensures { result ≡ named_in number asked heard.now }
+{
+    match asked {
+        Asked::Branch { lo, .. } => Some(Mention {
+            number,
+            uid: lo,
+            other: spelt_or(lo, heard),
+        }),
+        Asked::Mute(uid) => Some(Mention {
+            number,
+            uid,
+            other: uid,
+        }),
+        _ => None,
+    }
+}
+
+// The UID that bytes read as, or else this one.
+fn spelt_or(uid: Uid, heard: &Heard) -> Uid
+    ensures { result ≡ spelt_or uid heard.now }
+{
+    match heard {
+        Heard::One(spelt) => *spelt,
+        _ => uid,
+    }
+}
+
+/// What the line of the first exchange with bytes that nobody was due to send names, if there is one. `listed` also has
+/// the devices that come or leave.
+pub(crate) fn stray_mention(
+    start: Start,
+    listed: &[Uid],
+    exchanges: &[Exchange],
+    stray: Option<usize>,
+) -> Option<Mention>
+    ensures { result ≡ stray_mention start listed.now exchanges.now stray }
+{
+    let Some(at) = stray else {
+        return None;
+    };
+    match exchanges.get(at) {
+        Some(exchange) => signed_in(start.number(at), sign_of(listed, exchange)),
+        None => None,
+    }
+}
+
+// The listed UID that the bytes read as.
+fn signed_in(number: u64, sign: Sign) -> Option<Mention>
+    ensures { result ≡ signed_in number sign }
+{
+    match sign {
+        Sign::Listed(uid) => Some(Mention {
+            number,
+            uid,
+            other: uid,
+        }),
+        _ => None,
+    }
+}
