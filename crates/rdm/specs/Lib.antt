@@ -13,6 +13,7 @@ pub use Rattle.rdm_wire.specs.Commands
 pub use Rattle.rdm_wire.specs.Reading
 pub use Rattle.rdm_wire.specs.Honest
 pub use Rattle.rdm_wire.specs.HonestOver
+pub use Rattle.rdm_wire.specs.Noisy
 pub use Rattle.rdm_wire.specs.Frames
 pub use Rattle.rdm_wire.specs.Lists
 pub use Rattle.rdm_join.specs.Statuses

@@ -2,6 +2,7 @@
 use Rattle.rdm_agent.proofs.Common.{◌≡◌, ℕ, ◌≤◌, Bool, true, false, cond, List, [], ◌∷◌, ◌++◌, length, Option, Some}
 use Rattle.rdm_agent.proofs.Common.{None, refl, sym, ap, ◌∙◌, subst, true≢false, arith, ◌≢◌, nat_lt, MatchOption}
 use Rattle.rdm_agent.proofs.Common.{IfNone, IfSome, has, IsDevice, Asked, Heard, Seen, HonestTrace, HonestTo}
+use Rattle.rdm_agent.proofs.Common.{NoisyTrace, NoisyTo}
 use Rattle.rdm_agent.proofs.Common.{HonestOver, Unmute, Branch, Mute, Other, asked_by, heard_by, seen_op, Certificate}
 use Rattle.rdm_agent.proofs.Common.{Cause, EndsFailed, Phase, AgentState, Runs, start_by, next_of, wanted, fed}
 use Rattle.rdm_agent.proofs.Common.{fault_of, found_uids, Unmuting, MutingKnown, Searching, MutingRead, Sweeping}
@@ -13,8 +14,9 @@ use Rattle.rdm_agent.specs.declared.fault.AgentFault.TheVariants.{Corrupt, Abort
 use Rattle.rdm_agent.specs.declared.op.OpReply.TheVariants.{Done, Mute as Muted, Branch as Branched, Failed}
 use Rattle.rdm_agent.proofs.Runs.{asks_in_order_by, ends_at_failure_by, ends_at_budget_by, ends_certified_by}
 use Rattle.rdm_agent.proofs.Runs.{finds_acknowledged_by}
-use Rattle.rdm_agent.proofs.HonestRuns.{finds_all_by, finds_each_by, finds_no_phantom_by, finds_staying_by}
-use Rattle.rdm_agent.proofs.HonestRuns.{finds_no_stranger_by}
+use Rattle.rdm_wire.proofs.NoisyLemmas.{honest_is_noisy, honest_to_is_noisy}
+use Rattle.rdm_agent.proofs.HonestRuns.{finds_all_in_noise_by, finds_each_in_noise_by, finds_no_phantom_in_noise_by}
+use Rattle.rdm_agent.proofs.HonestRuns.{finds_staying_by, finds_no_stranger_by}
 
 -- P holds of each run that the agent may stand after, part by part
 abbrev pub OfEach : Search → AgentState → (Kind → List ℕ → ℕ → Bool → List Seen → Type 0) → Type 0
@@ -150,23 +152,35 @@ module _ (a : AgentState) (end : next_op a ≡ End) (no_fault : fault_of a.phase
   end-certified {search} kind known budget true x s =
       absurd (some_none (fault_of a.phase) (aborted-fault a s.before s.is.1) no_fault)
 
+  pub end-finds_all_in_noise : {search : Search}
+      → OfEach search a
+      (λ kind known budget aborted x. (present : List ℕ) → NoisyTrace present x → (found_uids a) ≡ present)
+  end-finds_all_in_noise {search} kind known budget false x s present noisy =
+      finds_all_in_noise_by search kind known budget x a s.devices (runs-own kind known budget x a s) present
+      (next_none a end) no_fault noisy
+  end-finds_all_in_noise {search} kind known budget true x s present noisy =
+      absurd (some_none (fault_of a.phase) (aborted-fault a s.before s.is.1) no_fault)
+
   pub end-finds_all : {search : Search}
       → OfEach search a
       (λ kind known budget aborted x. (present : List ℕ) → HonestTrace present x → (found_uids a) ≡ present)
-  end-finds_all {search} kind known budget false x s present honest =
-      finds_all_by search kind known budget x a s.devices (runs-own kind known budget x a s) present (next_none a end)
-      no_fault honest
-  end-finds_all {search} kind known budget true x s present honest =
+  end-finds_all kind known budget aborted x s present honest =
+      end-finds_all_in_noise kind known budget aborted x s present (honest_is_noisy present x honest)
+
+  pub end-finds_each_in_noise : {search : Search}
+      → OfEach search a
+      (λ kind known budget aborted x. (u : ℕ) → IsDevice u → NoisyTo u x → has (found_uids a) u ≡ true)
+  end-finds_each_in_noise {search} kind known budget false x s u device noisy =
+      finds_each_in_noise_by search kind known budget x a s.devices (runs-own kind known budget x a s) u
+      (next_none a end) no_fault device noisy
+  end-finds_each_in_noise {search} kind known budget true x s u device noisy =
       absurd (some_none (fault_of a.phase) (aborted-fault a s.before s.is.1) no_fault)
 
   pub end-finds_each : {search : Search}
       → OfEach search a
       (λ kind known budget aborted x. (u : ℕ) → IsDevice u → HonestTo u x → has (found_uids a) u ≡ true)
-  end-finds_each {search} kind known budget false x s u device honest =
-      finds_each_by search kind known budget x a s.devices (runs-own kind known budget x a s) u (next_none a end)
-      no_fault device honest
-  end-finds_each {search} kind known budget true x s u device honest =
-      absurd (some_none (fault_of a.phase) (aborted-fault a s.before s.is.1) no_fault)
+  end-finds_each kind known budget aborted x s u device honest =
+      end-finds_each_in_noise kind known budget aborted x s u device (honest_to_is_noisy u x honest)
 
   pub end-finds_staying : {search : Search}
       → OfEach search a
@@ -227,13 +241,21 @@ found-report {search} a kind known budget false x s =
 found-report {search} a kind known budget true x s =
     rw s.is.1 (finds_acknowledged_by search kind known budget x s.before s.devices s.runs).0
 
+pub found-present_in_noise : {search : Search} (a : AgentState)
+    → OfEach search a (λ kind known budget aborted x. (present : List ℕ) (u : ℕ) → NoisyTrace present x
+    → has (found_uids a) u ≡ true → has present u ≡ true)
+found-present_in_noise {search} a kind known budget false x s present u noisy there =
+    finds_no_phantom_in_noise_by search kind known budget x a s.devices (runs-own kind known budget x a s) present u
+    noisy there
+found-present_in_noise {search} a kind known budget true x s present u noisy there =
+    finds_no_phantom_in_noise_by search kind known budget x s.before s.devices s.runs present u noisy
+    (rw s.is.1 at there)
+
 pub found-present : {search : Search} (a : AgentState)
     → OfEach search a (λ kind known budget aborted x. (present : List ℕ) (u : ℕ) → HonestTrace present x
     → has (found_uids a) u ≡ true → has present u ≡ true)
-found-present {search} a kind known budget false x s present u honest there =
-    finds_no_phantom_by search kind known budget x a s.devices (runs-own kind known budget x a s) present u honest there
-found-present {search} a kind known budget true x s present u honest there =
-    finds_no_phantom_by search kind known budget x s.before s.devices s.runs present u honest (rw s.is.1 at there)
+found-present a kind known budget aborted x s present u honest there =
+    found-present_in_noise a kind known budget aborted x s present u (honest_is_noisy present x honest) there
 
 pub found-no_stranger : {search : Search} (a : AgentState)
     → OfEach search a (λ kind known budget aborted x. (sets : List (List ℕ)) (u : ℕ) → HonestOver sets x

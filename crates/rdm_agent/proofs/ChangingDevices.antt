@@ -4,9 +4,11 @@ use Rattle.rdm_agent.proofs.Common.{arith, cons_option, has, IsDevice, Seen, Lin
 use Rattle.rdm_agent.proofs.Common.{before_run, HonestOver, acked_uid, acked_in, FailureIsLast, SearchShows, Kind}
 use Rattle.rdm_agent.proofs.Common.{IsInEach, IsInOne}
 use Rattle.rdm_wire.specs.HonestOver.{ComeAndLeave, ChainOver, first_set}
+use Rattle.rdm_wire.proofs.EachDevice.{IsBelow, below_step, same_below}
+use Rattle.rdm_wire.proofs.NoisyLemmas.{step_in_noise}
 use Rattle.rdm_agent.proofs.Members.{member, put-has}
 use Rattle.rdm_agent.proofs.OneDevice.{found}
-use Rattle.rdm_agent.proofs.AllDevices.{IsBelow, below_step, acked_present, failed_none}
+use Rattle.rdm_agent.proofs.AllDevices.{acked_present, failed_none}
 
 -- coming and leaving moves nothing of a device that stays
 stays_below : (u : ℕ) (earlier last present : List ℕ) (s moved t : LineState) → has last u ≡ true → has present u ≡ true
@@ -45,7 +47,7 @@ honest_over_to_each [] u (e ∷ x) each honest = absurd honest.chain
 honest_over_to_each (present ∷ sets) u x each honest = (
   honest.muted,
   to_one_over u present present (before_run honest.muted) (before_run honest.muted) (present ∷ sets) x
-      each.0 each (record { muted = refl; branches = omega arith; lost = omega arith; unmutes = refl }) honest.chain,
+      each.0 each (same_below u (before_run honest.muted)) honest.chain,
 )
 
 -- and it acknowledges only mutes of devices that were present at some exchange
@@ -60,7 +62,8 @@ present_over earlier last s (present ∷ sets) (e ∷ x) u ok c h =
           (sym (subst (λ l. has (acked_in (e ∷ l)) u ≡ true) (ok [] x e refl failed) h)
           ∙ ap (λ o. has (cons_option o []) u) (failed_none e.asked e.heard failed)))
       | inr step ↦ elim (put-has (acked_uid e.asked e.heard) (acked_in x) u h) [
-        | inl here ↦ inl (acked_present present c.0 step.0 u e.asked e.heard step.1 here)
+        | inl here ↦ inl (acked_present present c.0 step.0 u e.asked e.heard
+            (step_in_noise present c.0 e.asked e.heard step.0 step.1) here)
         | inr later ↦ inr
             (present_over (present ++ earlier) present step.0 sets x u
             (λ front back d whole failed. ok (e ∷ front) back d (ap (λ l. e ∷ l) whole) failed) step.2 later)

@@ -22,6 +22,7 @@ pub use Rattle.rdm_wire.specs.Honest.{lost_after}
 pub use Rattle.rdm_wire.specs.Honest.Asked.{Mute, Branch, Unmute, Other}
 pub use Rattle.rdm_wire.specs.Honest.Heard.{Silent, Acked, Failed, One, Noise}
 pub use Rattle.rdm_wire.specs.HonestOver.{HonestOver}
+pub use Rattle.rdm_wire.specs.Noisy.{NoisyTrace, NoisyTo, NoisyStep, NoisyToStep, MuteMovesInNoise}
 pub use Rattle.rdm_wire.specs.Lists.{once, EachAfter}
 pub use Rattle.rdm_wire.specs.Span.{Span, whole, lower_half, middle, upper_half}
 pub use Rattle.rdm_wire.specs.Uid.{has, IsDevice, IsDeviceSet, is_within, set_of, IsAscending, with_uid, is_broadcast}

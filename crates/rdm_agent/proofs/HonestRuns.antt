@@ -1,10 +1,12 @@
--- Runs on an honest line.
+-- Runs on a noisy line, and on an honest one.
 use Rattle.rdm_agent.proofs.Common.{◌≡◌, ℕ, true, List, [], ◌∷◌, take, None, sym, ap, ◌∙◌, subst, MatchOption, has}
 use Rattle.rdm_agent.proofs.Common.{IsDevice, IsDeviceSet, MOST_DEVICES, once, Seen, HonestOver, acked_in, Certificate}
 use Rattle.rdm_agent.proofs.Common.{Cause, AgentState, Runs, start_by, next_of, fault_of, found_uids, Kind, Search}
 use Rattle.rdm_agent.specs.Statements.{FindsAll, FindsEach, FindsNoPhantom, FindsStaying, FindsNoStranger}
-use Rattle.rdm_agent.proofs.OneDevice.{found}
-use Rattle.rdm_agent.proofs.Honest.{devices, no_phantom}
+use Rattle.rdm_agent.specs.Statements.{FindsAllInNoise, FindsEachInNoise, FindsNoPhantomInNoise}
+use Rattle.rdm_wire.proofs.NoisyLemmas.{honest_is_noisy, honest_to_is_noisy}
+use Rattle.rdm_agent.proofs.OneDevice.{found_in_noise}
+use Rattle.rdm_agent.proofs.Honest.{devices_in_noise, no_phantom_in_noise}
 use Rattle.rdm_agent.proofs.ChangingDevices.{honest_over_to_each, no_stranger, staying_device}
 use Rattle.rdm_agent.proofs.Sets.{has-set_of, has-once, has-take}
 use Rattle.rdm_agent.proofs.Runs.{stands_by, ends_certified_by, ends_at_failure_by}
@@ -17,17 +19,25 @@ certificate search kind known budget x b set run end fault =
     subst (λ f. MatchOption f (Certificate kind known x b.found) (λ g. Cause budget ⊥ g x)) fault
     (ends_certified_by search kind known budget x b set run end).0
 
--- on an honest line that is the devices
+-- on a noisy line that is the devices
+pub finds_all_in_noise_by : (search : Search) → FindsAllInNoise search
+finds_all_in_noise_by search kind known budget x b set run present end fault noisy =
+    devices_in_noise kind known x (found_uids b) present
+    (certificate search kind known budget x b set run end fault).search noisy
+
 pub finds_all_by : (search : Search) → FindsAll search
 finds_all_by search kind known budget x b set run present end fault honest =
-    devices kind known x (found_uids b) present (certificate search kind known budget x b set run end fault).search
-    honest
+    finds_all_in_noise_by search kind known budget x b set run present end fault (honest_is_noisy present x honest)
 
--- and it has each device to which the line was honest
+-- and it has each device that follows the rules
+pub finds_each_in_noise_by : (search : Search) → FindsEachInNoise search
+finds_each_in_noise_by search kind known budget x b set run u end fault device noisy =
+    found_in_noise kind known x (found_uids b) u device
+    (certificate search kind known budget x b set run end fault).search noisy
+
 pub finds_each_by : (search : Search) → FindsEach search
 finds_each_by search kind known budget x b set run u end fault device honest =
-    found kind known x (found_uids b) u device (certificate search kind known budget x b set run end fault).search
-    honest
+    finds_each_in_noise_by search kind known budget x b set run u end fault device (honest_to_is_noisy u x honest)
 
 -- what is found is acknowledged
 acked : (search : Search) (kind : Kind) (known : List ℕ) (budget : ℕ) (x : List Seen) (b : AgentState) (u : ℕ)
@@ -41,10 +51,14 @@ acked search kind known budget x b u set run here =
         ∙ ap (λ us. has us u) (sym (stands_by search kind known budget x b set run).reports) ∙ here
 
 -- and so a device
+pub finds_no_phantom_in_noise_by : (search : Search) → FindsNoPhantomInNoise search
+finds_no_phantom_in_noise_by search kind known budget x b set run present u noisy here =
+    no_phantom_in_noise present x u (ends_at_failure_by search kind known budget x b set run).0 noisy
+    (acked search kind known budget x b u set run here)
+
 pub finds_no_phantom_by : (search : Search) → FindsNoPhantom search
 finds_no_phantom_by search kind known budget x b set run present u honest here =
-    no_phantom present x u (ends_at_failure_by search kind known budget x b set run).0 honest
-    (acked search kind known budget x b u set run here)
+    finds_no_phantom_in_noise_by search kind known budget x b set run present u (honest_is_noisy present x honest) here
 
 -- that was present at some exchange
 pub finds_no_stranger_by : (search : Search) → FindsNoStranger search

@@ -33,5 +33,6 @@ pub mod BoundCalls
 pub mod FirstAcked
 pub mod ChangingDevices
 pub mod SampleLines
+pub mod SampleNoise
 pub mod SampleIncremental
 pub mod CertificateEnds

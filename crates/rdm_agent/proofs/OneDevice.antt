@@ -1,11 +1,13 @@
--- What a line that is honest to one device shows of a run.
+-- What a line on which one device follows the rules, noisy or not, shows of a run.
 use Rattle.rdm_agent.proofs.Common.{◌≡◌, ℕ, ◌+◌, ◌≤◌, Bool, true, false, List, [], ◌∷◌, ◌++◌, length, suc, map, take}
 use Rattle.rdm_agent.proofs.Common.{append_assoc, Some, refl, sym, ap, ◌∙◌, subst, inl, inr, true≢false, arith, ◌⊎◌}
 use Rattle.rdm_agent.proofs.Common.{◌≢◌, ◌==◌, MatchBool, AllByRecursion, eqb-true, eq-eqb, cases_Bool, has, is_within}
-use Rattle.rdm_agent.proofs.Common.{IsDevice, Asked, Heard, Seen, LineState, HonestToStep, HonestTo, Chain, Counts}
-use Rattle.rdm_agent.proofs.Common.{due_in, lost_after, KeepsMuted, MuteMoves, is_acked, before_run, Unmute, Branch}
-use Rattle.rdm_agent.proofs.Common.{Mute, Other, Failed, Silent, muted_uid, muted_by, muted_in, InSuccession}
-use Rattle.rdm_agent.proofs.Common.{IsSilentBranch, IsLostMute, SearchShows, IsTried, IsCleared, Kind, TRIES}
+use Rattle.rdm_agent.proofs.Common.{IsDevice, Asked, Heard, Seen, LineState, NoisyToStep, NoisyTo, HonestTo, Chain}
+use Rattle.rdm_agent.proofs.Common.{Counts, due_in, lost_after, KeepsMuted, MuteMovesInNoise, is_acked, before_run}
+use Rattle.rdm_agent.proofs.Common.{Unmute, Branch, Mute, Other, Failed, Silent, muted_uid, muted_by, muted_in}
+use Rattle.rdm_agent.proofs.Common.{InSuccession, IsSilentBranch, IsLostMute, SearchShows, IsTried, IsCleared, Kind}
+use Rattle.rdm_agent.proofs.Common.{TRIES}
+use Rattle.rdm_wire.proofs.NoisyLemmas.{honest_to_is_noisy}
 use Rattle.rdm_agent.proofs.Pushes.{has-front}
 use Rattle.rdm_agent.proofs.Members.{heads, tails, has-put, has-first, member, first_part, last_part}
 
@@ -14,12 +16,12 @@ NotFailed e = e.heard ≢ Failed
 
 -- a device that is muted after a step was so before it, or the step asks it
 moved-mute : (u v : ℕ) (s new : LineState) (h : Heard) (b : Bool) → (u == v) ≡ b
-    → MatchBool b (MuteMoves u s h new) (KeepsMuted u s new × Counts new 0 0 0) → new.muted u ≡ true
+    → MatchBool b (MuteMovesInNoise u s h new) (KeepsMuted u s new × Counts new 0 0 0) → new.muted u ≡ true
     → (s.muted u ≡ true) ⊎ (muted_uid (Mute v) ≡ Some u)
 moved-mute u v s new h true e step m = inr (ap Some (sym (eqb-true u v e)))
 moved-mute u v s new h false e step m = inl (sym step.0 ∙ m)
 
-moved : (u : ℕ) (s new : LineState) (a : Asked) (h : Heard) → HonestToStep u s a h new → new.muted u ≡ true
+moved : (u : ℕ) (s new : LineState) (a : Asked) (h : Heard) → NoisyToStep u s a h new → new.muted u ≡ true
     → (s.muted u ≡ true) ⊎ (muted_uid a ≡ Some u)
 moved u s new Unmute h step m = inl (step.0.fewer m)
 moved u s new (Branch lo hi) h step m = inl (sym step.0 ∙ m)
@@ -29,10 +31,10 @@ moved u s new Other h step m = inl (sym step.0 ∙ m)
 -- the state that a part of a chain leads to
 pub record Reached (u : ℕ) (s : LineState) (front rest : List Seen) : Type 0 where
   pub state : LineState
-  pub chain : Chain (HonestToStep u) state rest
+  pub chain : Chain (NoisyToStep u) state rest
   pub muted : state.muted u ≡ true → (s.muted u ≡ true) ⊎ (has (muted_in front) u ≡ true)
 
-onward : (u : ℕ) (s new : LineState) (e : Seen) (front rest : List Seen) → HonestToStep u s e.asked e.heard new
+onward : (u : ℕ) (s new : LineState) (e : Seen) (front rest : List Seen) → NoisyToStep u s e.asked e.heard new
     → Reached u new front rest → Reached u s (e ∷ front) rest
 onward u s new e front rest step r = record { state = r.state; chain = r.chain; muted = λ m. was (r.muted m) }
   where
@@ -46,7 +48,7 @@ onward u s new e front rest step r = record { state = r.state; chain = r.chain; 
     was (inr later) = inr (has-put (muted_uid e.asked) (muted_in front) u later)
 
 pub reached : (u : ℕ) (s : LineState) (front rest : List Seen) → AllByRecursion NotFailed front
-    → Chain (HonestToStep u) s (front ++ rest) → Reached u s front rest
+    → Chain (NoisyToStep u) s (front ++ rest) → Reached u s front rest
 reached u s [] rest ok c = record { state = s; chain = c; muted = λ m. inl m }
 reached u s (e ∷ front) rest ok c =
     elim c [
@@ -56,10 +58,10 @@ reached u s (e ∷ front) rest ok c =
     ]
 
 -- a step at what is known of its exchange
-step_at : (u : ℕ) (s new : LineState) (a b : Asked) (h k : Heard) → a ≡ b → h ≡ k → HonestToStep u s a h new
-    → HonestToStep u s b k new
+step_at : (u : ℕ) (s new : LineState) (a b : Asked) (h k : Heard) → a ≡ b → h ≡ k → NoisyToStep u s a h new
+    → NoisyToStep u s b k new
 step_at u s new a b h k p q step =
-    subst (λ x. HonestToStep u s x k new) p (subst (λ y. HonestToStep u s a y new) q step)
+    subst (λ x. NoisyToStep u s x k new) p (subst (λ y. NoisyToStep u s a y new) q step)
 
 -- a lost reply of an unmuted device
 pub record LostBranch (u : ℕ) (s new : LineState) : Type 0 where
@@ -68,7 +70,7 @@ pub record LostBranch (u : ℕ) (s new : LineState) : Type 0 where
   pub few : s.lost_branches + 1 ≤ 4
 
 lost_branch : (u lo hi : ℕ) (s new : LineState) → is_within lo hi u ≡ true → s.muted u ≡ false
-    → HonestToStep u s (Branch lo hi) Silent new → LostBranch u s new
+    → NoisyToStep u s (Branch lo hi) Silent new → LostBranch u s new
 lost_branch u lo hi s new within unmuted step = record {
   muted = moves.0 ∙ unmuted;
   more = moves.1.branches;
@@ -83,7 +85,7 @@ lost_branch u lo hi s new within unmuted step = record {
 
 -- no more than four are lost in a row
 pub silences : (u lo hi : ℕ) (s : LineState) (run rest : List Seen) → is_within lo hi u ≡ true → s.muted u ≡ false
-    → AllByRecursion (IsSilentBranch lo hi) run → Chain (HonestToStep u) s (run ++ rest)
+    → AllByRecursion (IsSilentBranch lo hi) run → Chain (NoisyToStep u) s (run ++ rest)
     → (length run ≡ 0) ⊎ (s.lost_branches + length run ≤ 4)
 silences u lo hi s [] rest within unmuted each c = inl refl
 silences u lo hi s (e ∷ run) rest within unmuted each c =
@@ -107,20 +109,20 @@ pub record LostMute (s new : LineState) : Type 0 where
   pub more : new.lost_mutes ≡ s.lost_mutes + 1
   pub few : s.lost_mutes + 1 ≤ 4
 
-lost_mute : (u : ℕ) (s new : LineState) (h : Heard) → is_acked h ≡ false → HonestToStep u s (Mute u) h new
+lost_mute : (u : ℕ) (s new : LineState) (h : Heard) → is_acked h ≡ false → NoisyToStep u s (Mute u) h new
     → LostMute s new
 lost_mute u s new h lost step =
-    of_moves (subst (λ b. MatchBool b (MuteMoves u s h new) (KeepsMuted u s new × Counts new 0 0 0)) (eq-eqb u u refl)
-    step)
+    of_moves (subst (λ b. MatchBool b (MuteMovesInNoise u s h new) (KeepsMuted u s new × Counts new 0 0 0))
+    (eq-eqb u u refl) step)
   where
-    of_moves : MuteMoves u s h new → LostMute s new
+    of_moves : MuteMovesInNoise u s h new → LostMute s new
     of_moves m = elim m [
       | inl acked ↦ absurd (true≢false (sym acked.0 ∙ lost))
-      | inr silent ↦ record { more = silent.2.mutes; few = silent.2.few_mutes }
+      | inr unacked ↦ record { more = unacked.2.mutes; few = unacked.2.few_mutes }
     ]
 
 pub mutes : (u : ℕ) (s : LineState) (run rest : List Seen) → AllByRecursion (IsLostMute u) run
-    → AllByRecursion NotFailed run → Chain (HonestToStep u) s (run ++ rest)
+    → AllByRecursion NotFailed run → Chain (NoisyToStep u) s (run ++ rest)
     → (length run ≡ 0) ⊎ (s.lost_mutes + length run ≤ 4)
 mutes u s [] rest each ok c = inl refl
 mutes u s (e ∷ run) rest each ok c =
@@ -140,11 +142,11 @@ mutes u s (e ∷ run) rest each ok c =
 pub record Begun (u : ℕ) (x rest : List Seen) : Type 0 where
   pub state : LineState
   pub muted : state.muted u ≡ false
-  pub chain : Chain (HonestToStep u) state rest
+  pub chain : Chain (NoisyToStep u) state rest
 
 pub begin : (u : ℕ) (m : ℕ → Bool) (a b c : Seen) (rest : List Seen) → a.asked ≡ Unmute → b.asked ≡ Unmute
     → c.asked ≡ Unmute → AllByRecursion NotFailed (a ∷ b ∷ c ∷ [])
-    → Chain (HonestToStep u) (before_run m) (a ∷ b ∷ c ∷ rest) → Begun u (a ∷ b ∷ c ∷ rest) rest
+    → Chain (NoisyToStep u) (before_run m) (a ∷ b ∷ c ∷ rest) → Begun u (a ∷ b ∷ c ∷ rest) rest
 begin u m a b c rest pa pb pc ok chain =
     elim chain [
       | inl failed ↦ absurd (ok.0 failed)
@@ -184,7 +186,7 @@ peel lo hi e xs [] (r ∷ run) back p each five whole =
 peel lo hi e xs (f ∷ front) run back p each five whole = (front, tails whole)
 
 -- five mutes of the device in a row aren't lost
-pub five_mutes : (u : ℕ) (s : LineState) (x : List Seen) → AllByRecursion NotFailed x → Chain (HonestToStep u) s x
+pub five_mutes : (u : ℕ) (s : LineState) (x : List Seen) → AllByRecursion NotFailed x → Chain (NoisyToStep u) s x
     → InSuccession TRIES (IsLostMute u) x → ⊥
 five_mutes u s x ok chain five =
     too_many (mutes u r.state five.run five.back five.each (first_part NotFailed five.run five.back after) r.chain)
@@ -200,7 +202,7 @@ five_mutes u s x ok chain five =
 
     r : Reached u s five.front (five.run ++ five.back)
     r = reached u s five.front (five.run ++ five.back) (first_part NotFailed five.front (five.run ++ five.back) all)
-        (subst (λ l. Chain (HonestToStep u) s l) whole chain)
+        (subst (λ l. Chain (NoisyToStep u) s l) whole chain)
 
     too_many : (length five.run ≡ 0) ⊎ (r.state.lost_mutes + length five.run ≤ 4) → ⊥
     too_many (inl none) = let many = five.many in omega arith
@@ -217,7 +219,7 @@ cleared_muted u x rest ok begun lo hi within front run back whole five each = by
 
     r : Reached u begun.state front (run ++ back)
     r = reached u begun.state front (run ++ back) (first_part NotFailed front (run ++ back) all)
-        (subst (λ l. Chain (HonestToStep u) begun.state l) whole begun.chain)
+        (subst (λ l. Chain (NoisyToStep u) begun.state l) whole begun.chain)
 
     too_many : (length run ≡ 0) ⊎ (r.state.lost_branches + length run ≤ 4) → ⊥
     too_many (inl none) = omega arith
@@ -234,14 +236,14 @@ cleared_muted u x rest ok begun lo hi within front run back whole five each = by
 
 -- a muted device is acknowledged
 tried_found : (u : ℕ) (s : List ℕ) (x : List Seen) (t : LineState) → AllByRecursion NotFailed x
-    → Chain (HonestToStep u) t x → IsTried s x u → has s u ≡ true
+    → Chain (NoisyToStep u) t x → IsTried s x u → has s u ≡ true
 tried_found u s x t ok chain tried =
     elim tried.tried [ inl found ↦ found | inr five ↦ absurd (five_mutes u t x ok chain five) ]
 
 -- a cleared device is in the set
 cleared_found : (u : ℕ) (s : List ℕ) (m : ℕ → Bool) (x : List Seen)
     → take 3 (map (λ (e : Seen). e.asked) x) ≡ Unmute ∷ Unmute ∷ Unmute ∷ [] → AllByRecursion NotFailed x
-    → AllByRecursion (IsTried s x) (muted_in x) → Chain (HonestToStep u) (before_run m) x → IsCleared x u
+    → AllByRecursion (IsTried s x) (muted_in x) → Chain (NoisyToStep u) (before_run m) x → IsCleared x u
     → has s u ≡ true
 cleared_found u s m [] unmutes ok tried chain cleared = absurd (short unmutes)
   where
@@ -290,11 +292,16 @@ cleared_found u s m (a ∷ b ∷ c ∷ rest) unmutes ok tried chain cleared =
     in_all = has-put (muted_uid a.asked) (muted_in (b ∷ c ∷ rest)) u
         (has-put (muted_uid b.asked) (muted_in (c ∷ rest)) u (has-put (muted_uid c.asked) (muted_in rest) u in_rest))
 
--- on a line that is honest to a device, a certificate's set has it
-pub found : (kind : Kind) (known : List ℕ) (x : List Seen) (s : List ℕ) (u : ℕ) → IsDevice u
-    → SearchShows kind known x s → HonestTo u x → has s u ≡ true
-found kind known x s u device c honest =
+-- if a device follows the rules of a noisy line, a certificate's set has it
+pub found_in_noise : (kind : Kind) (known : List ℕ) (x : List Seen) (s : List ℕ) (u : ℕ) → IsDevice u
+    → SearchShows kind known x s → NoisyTo u x → has s u ≡ true
+found_in_noise kind known x s u device c noisy =
     elim (c.cleared u device.in_range) [
       | inl h ↦ h
-      | inr cleared ↦ cleared_found u s honest.0 x c.unmutes c.no_failure c.tried honest.1 cleared
+      | inr cleared ↦ cleared_found u s noisy.0 x c.unmutes c.no_failure c.tried noisy.1 cleared
     ]
+
+-- so it has each device to which the line is honest
+pub found : (kind : Kind) (known : List ℕ) (x : List Seen) (s : List ℕ) (u : ℕ) → IsDevice u
+    → SearchShows kind known x s → HonestTo u x → has s u ≡ true
+found kind known x s u device c honest = found_in_noise kind known x s u device c (honest_to_is_noisy u x honest)

@@ -1,12 +1,14 @@
 -- The sample runs are an honest line's, but not if five replies in a row are lost.
 use Rattle.rdm_agent.proofs.Common.{◌≡◌, ℕ, zero, suc, ◌+◌, ◌≤◌, Bool, false, List, [], ◌∷◌, ◌++◌, length, take, drop}
 use Rattle.rdm_agent.proofs.Common.{refl, inl, inr, arith, ◌==◌, ◌⊎◌, AllByRecursion, Seen, LineState, HonestStep}
-use Rattle.rdm_agent.proofs.Common.{HonestTo, HonestTrace, Chain, Counts, due_in, before_run, Unmute, Branch, Mute}
-use Rattle.rdm_agent.proofs.Common.{Silent, sample_uid, sample_run, all_branch, exchange}
+use Rattle.rdm_agent.proofs.Common.{HonestTrace, NoisyTrace, NoisyTo, Chain, Counts, due_in, before_run, Unmute, Branch}
+use Rattle.rdm_agent.proofs.Common.{Mute, Heard, Silent, Failed, is_acked, ◌≢◌, sample_uid, sample_run, all_branch}
+use Rattle.rdm_agent.proofs.Common.{exchange}
 use Rattle.std.proofs.Common.{replicate}
 use Rattle.rdm_agent.specs.SampleRun.{lossy_run}
 use Rattle.rdm_agent.proofs.OneDevice.{NotFailed, Begun, begin, silences, five_mutes}
-use Rattle.rdm_agent.proofs.AllDevices.{honest_to_each}
+use Rattle.rdm_wire.proofs.EachDevice.{noisy_to_each}
+use Rattle.rdm_wire.proofs.NoisyLemmas.{honest_is_noisy}
 
 -- nobody is muted, and the device is
 abbrev pub none_muted : ℕ → Bool
@@ -119,14 +121,15 @@ sample-not_failed =
     never_failed 3 (exchange Unmute Silent) (drop 3 sample_run) (λ h. cc)
     ((λ h. cc), ((λ h. cc), never_failed 5 (exchange all_branch Silent) [] (λ h. cc) tt))
 
--- five of either kind may not
-pub five_branches_lost : HonestTrace (sample_uid ∷ []) (lossy_run 5 0) → ⊥
-five_branches_lost honest = too_many b.state.lost_branches
+-- five of either kind may not, not even on a noisy line
+
+pub five_branches_lost : NoisyTrace (sample_uid ∷ []) (lossy_run 5 0) → ⊥
+five_branches_lost noisy = too_many b.state.lost_branches
     (silences sample_uid 0 0xffffffffffff b.state (replicate 5 (exchange all_branch Silent)) (drop 8 (lossy_run 5 0))
     refl b.muted ((refl, refl), ((refl, refl), ((refl, refl), ((refl, refl), ((refl, refl), tt))))) b.chain)
   where
-    one : HonestTo sample_uid (lossy_run 5 0)
-    one = honest_to_each (sample_uid ∷ []) sample_uid (lossy_run 5 0) refl honest
+    one : NoisyTo sample_uid (lossy_run 5 0)
+    one = noisy_to_each (sample_uid ∷ []) sample_uid (lossy_run 5 0) refl noisy
 
     b : Begun sample_uid (lossy_run 5 0) (drop 3 (lossy_run 5 0))
     b = begin sample_uid one.0 (exchange Unmute Silent) (exchange Unmute Silent) (exchange Unmute Silent)
@@ -136,6 +139,26 @@ five_branches_lost honest = too_many b.state.lost_branches
         ⊎ (n + length (replicate 5 (exchange all_branch Silent)) ≤ 4) → ⊥
     too_many n (inl none) = absurd (omega (arith, none))
     too_many n (inr few) = absurd (omega (arith, few))
+
+pub five_mutes_unacked : (heard : Heard) → heard ≢ Failed → is_acked heard ≡ false
+    → NoisyTrace (sample_uid ∷ []) (replicate 5 (exchange (Mute sample_uid) heard)) → ⊥
+five_mutes_unacked heard sound unacked noisy = five_mutes sample_uid (before_run one.0) five all_sound one.1 (record {
+  front = [];
+  run = five;
+  back = [];
+  whole = refl;
+  many = refl;
+  each = ((refl, unacked), ((refl, unacked), ((refl, unacked), ((refl, unacked), ((refl, unacked), tt)))));
+})
+  where
+    five : List Seen
+    five = replicate 5 (exchange (Mute sample_uid) heard)
+
+    one : NoisyTo sample_uid five
+    one = noisy_to_each (sample_uid ∷ []) sample_uid five refl noisy
+
+    all_sound : AllByRecursion NotFailed five
+    all_sound = (sound, (sound, (sound, (sound, (sound, tt)))))
 
 pub five_mutes_lost : HonestTrace (sample_uid ∷ []) (lossy_run 0 5) → ⊥
 five_mutes_lost honest = five_mutes sample_uid (before_run one.0) (lossy_run 0 5) sound one.1 (record {
@@ -147,8 +170,9 @@ five_mutes_lost honest = five_mutes sample_uid (before_run one.0) (lossy_run 0 5
   each = ((refl, refl), ((refl, refl), ((refl, refl), ((refl, refl), ((refl, refl), tt)))));
 })
   where
-    one : HonestTo sample_uid (lossy_run 0 5)
-    one = honest_to_each (sample_uid ∷ []) sample_uid (lossy_run 0 5) refl honest
+    one : NoisyTo sample_uid (lossy_run 0 5)
+    one = noisy_to_each (sample_uid ∷ []) sample_uid (lossy_run 0 5) refl
+        (honest_is_noisy (sample_uid ∷ []) (lossy_run 0 5) honest)
 
     sound : AllByRecursion NotFailed (lossy_run 0 5)
     sound = never_failed 3 (exchange Unmute Silent) (drop 3 (lossy_run 0 5)) (λ h. cc) (

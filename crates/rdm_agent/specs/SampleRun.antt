@@ -94,3 +94,13 @@ incremental_run =
     ∷ exchange (Mute sample_uid) (Acked sample_ack) ∷ (replicate 5 (exchange (Mute absent_uid) Silent)
     ++ (exchange all_branch (One other_uid) ∷ exchange (Mute other_uid) (Acked (record { control = 0; binding = None }))
     ∷ replicate 5 (exchange all_branch Silent))))
+
+-- a run on a noisy line with the first device. Noise damages its reply to the branch of all UIDs and its first
+-- acknowledgement. In the upper half, where nobody is, it makes bytes, so both halves of that half are branched
+abbrev pub noisy_run : List Seen
+noisy_run =
+    replicate 3 (exchange Unmute Silent) ++ (exchange all_branch Noise ∷ exchange lower_branch (One sample_uid)
+    ∷ exchange (Mute sample_uid) Noise ∷ exchange (Mute sample_uid) (Acked sample_ack)
+    ∷ (replicate 5 (exchange lower_branch Silent) ++ (exchange upper_branch Noise
+    ∷ (replicate 5 (exchange (Branch 0x800000000000 0xbfffffffffff) Silent)
+    ++ replicate 5 (exchange (Branch 0xc00000000000 0xffffffffffff) Silent)))))

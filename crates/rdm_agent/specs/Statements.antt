@@ -6,6 +6,7 @@ use Rattle.rdm_wire.specs.Honest.{Asked, Seen, HonestTo, HonestTrace}
 use Rattle.rdm_wire.specs.Honest.Asked.{Unmute, Branch, Mute, Other}
 use Rattle.rdm_wire.specs.Honest.Heard.{Failed}
 use Rattle.rdm_wire.specs.HonestOver.{HonestOver}
+use Rattle.rdm_wire.specs.Noisy.{NoisyTo, NoisyTrace}
 use Rattle.rdm_wire.specs.declared.device.Device.{Device}
 use Rattle.rdm_agent.specs.Run.{IsReport, FailureIsLast}
 use Rattle.rdm_agent.specs.Certificate.{Certificate}
@@ -94,6 +95,21 @@ FindsEach search = OfEachRun search (λ kind known budget x b. (u : ℕ) → nex
 abbrev pub FindsNoPhantom : Search → Type 0
 FindsNoPhantom search = OfEachRun search (λ kind known budget x b. (present : List ℕ) (u : ℕ) →
     HonestTrace present x → has (found_uids b) u ≡ true → has present u ≡ true)
+
+-- on a noisy line a run that ends without fault finds the devices, however many exchanges were disturbed
+abbrev pub FindsAllInNoise : Search → Type 0
+FindsAllInNoise search = OfEachRun search (λ kind known budget x b. (present : List ℕ) →
+    next_of b ≡ None → fault_of b.phase ≡ None → NoisyTrace present x → found_uids b ≡ present)
+
+-- if a device follows the rules of a noisy line, it finds that device, whatever the others do
+abbrev pub FindsEachInNoise : Search → Type 0
+FindsEachInNoise search = OfEachRun search (λ kind known budget x b. (u : ℕ) → next_of b ≡ None →
+    fault_of b.phase ≡ None → IsDevice u → NoisyTo u x → has (found_uids b) u ≡ true)
+
+-- on a noisy line only devices are found, whether the run has ended or not, and whatever its fault
+abbrev pub FindsNoPhantomInNoise : Search → Type 0
+FindsNoPhantomInNoise search = OfEachRun search (λ kind known budget x b. (present : List ℕ) (u : ℕ) →
+    NoisyTrace present x → has (found_uids b) u ≡ true → has present u ≡ true)
 
 -- on an honest line whose devices come and leave, a run that ends without fault finds each that was always present
 abbrev pub FindsStaying : Search → Type 0

@@ -5,6 +5,7 @@ ghost use Rattle.rdm_wire.specs.Uid.{has, IsDevice};
 ghost use Rattle.rdm_wire.specs.Devices.{uids_of};
 ghost use Rattle.rdm_wire.specs.Honest.{HonestTrace, HonestTo};
 ghost use Rattle.rdm_wire.specs.HonestOver.{HonestOver};
+ghost use Rattle.rdm_wire.specs.Noisy.{NoisyTrace, NoisyTo};
 ghost use Rattle.rdm_agent.specs.Machine.{start, start_by, fed, fault_of, open_ranges};
 ghost use Rattle.rdm_agent.specs.Run.{asked_by, heard_by, seen_op, IsReport};
 ghost use Rattle.rdm_agent.specs.Calls.{fits, next_op, run_result, ended_by_abort, HasRun, HasRunBy, AfterEach};
@@ -198,8 +199,9 @@ impl Agent {
     /// ones if more were found than fit into a set. Each device has the control field and the binding UID of its first
     /// acknowledgement in the run.
     ///
-    /// On an honest line the result has no device that was never there, and `Ok` has each one that was always there. It
-    /// is `Ok` if at most 1,024 devices stayed, the budget suffices for them, no exchange failed and the run wasn't
+    /// On an honest line the result has no device that was never there, and `Ok` has each one that was always there. On
+    /// a noisy line whose devices stay, `Ok` has exactly these, and `Err` no others. On an honest line the result is
+    /// `Ok` if at most 1,024 devices stayed, the budget suffices for them, no exchange failed and the run wasn't
     /// aborted.
     ///
     /// The set is copied. [`Agent::found`] and [`Agent::fault`] return the same without a copy.
@@ -219,6 +221,14 @@ impl Agent {
             (u : ℕ) → IsDevice u → HonestTo u run.exchanges → IfOk result (λ s. has (uids_of s) u ≡ true)) }
         ensures no_phantom { AfterEach self (λ run. (present : List ℕ) (u : ℕ) → HonestTrace present run.exchanges
             → IfErr result (λ e. has (uids_of e.1) u ≡ true → has present u ≡ true)) }
+
+        // The same on a noisy line, however many of its exchanges are disturbed.
+        ensures finds_all_in_noise { AfterEach self (λ run.
+            (present : List ℕ) → NoisyTrace present run.exchanges → IfOk result (λ s. uids_of s ≡ present)) }
+        ensures finds_each_in_noise { AfterEach self (λ run.
+            (u : ℕ) → IsDevice u → NoisyTo u run.exchanges → IfOk result (λ s. has (uids_of s) u ≡ true)) }
+        ensures no_phantom_in_noise { AfterEach self (λ run. (present : List ℕ) (u : ℕ) →
+            NoisyTrace present run.exchanges → IfErr result (λ e. has (uids_of e.1) u ≡ true → has present u ≡ true)) }
 
         // On an honest line whose devices come and leave, each device that was always present is found. None is found
         // that was never present, not even with a fault.

@@ -5,13 +5,15 @@ ghost use Rattle.std.specs.Prelude.{◌↔◌, ◌+◌, ◌*◌, Option, Some, N
 ghost use Rattle.rdm_wire.specs.Uid.{has, IsDevice};
 ghost use Rattle.rdm_wire.specs.Devices.{uids_of};
 ghost use Rattle.rdm_wire.specs.declared.device.Device.{Device};
-ghost use Rattle.rdm_wire.specs.Honest.{Seen, HonestTo, HonestTrace};
+ghost use Rattle.rdm_wire.specs.Honest.{Heard, Seen, HonestTo, HonestTrace, is_acked};
 ghost use Rattle.rdm_wire.specs.HonestOver.{HonestOver};
-ghost use Rattle.rdm_wire.specs.Honest.Heard.{Silent, Noise};
+ghost use Rattle.rdm_wire.specs.Honest.Asked.{Mute};
+ghost use Rattle.rdm_wire.specs.Honest.Heard.{Failed, Silent, Noise};
+ghost use Rattle.rdm_wire.specs.Noisy.{NoisyTo, NoisyTrace, NoisyTraceWith};
 ghost use Rattle.rdm_wire.specs.Frames.{asked_in, seen_exchange};
 ghost use Rattle.rdm_agent.specs.SampleRun.{sample_uid, sample_device, sample_run, lossy_run};
 ghost use Rattle.rdm_agent.specs.SampleRun.{other_uid, other_device, colliding_run, failed_run, garbled_run};
-ghost use Rattle.rdm_agent.specs.SampleRun.{absent_uid, incremental_run, swept_run};
+ghost use Rattle.rdm_agent.specs.SampleRun.{absent_uid, incremental_run, swept_run, noisy_run, exchange};
 ghost use Rattle.rdm_agent.specs.Machine.{AgentState, fed, fed_all, start, start_by, next_of, fault_of};
 ghost use Rattle.rdm_agent.specs.Machine.{open_ranges, Runs};
 ghost use Rattle.rdm_agent.specs.Machine.Phase.{Ended};
@@ -19,6 +21,7 @@ ghost use Rattle.rdm_agent.specs.Statements.{AsksInOrder, EndsAtFailure, EndsAtB
 ghost use Rattle.rdm_agent.specs.Statements.{HasFewRanges, EndsCertified, FindsAll, FindsEach, FindsNoPhantom};
 ghost use Rattle.rdm_agent.specs.Statements.{FindsAcknowledged, CertificateIsTheEnd};
 ghost use Rattle.rdm_agent.specs.Statements.{FindsStaying, FindsNoStranger, IsInEach, IsInOne};
+ghost use Rattle.rdm_agent.specs.Statements.{FindsAllInNoise, FindsEachInNoise, FindsNoPhantomInNoise};
 ghost use Rattle.rdm_agent.specs.declared.limits.TheConstants.{DEFAULT_BUDGET, MOST_RANGES, TRIES, UNMUTES};
 ghost use Rattle.rdm_agent.specs.declared.kind.Kind.{Kind};
 ghost use Rattle.rdm_agent.specs.declared.kind.Kind.TheVariants.{Full, Incremental};
@@ -67,6 +70,15 @@ pub fn certificate_is_the_end()
 pub fn honest_run_finds_all()
     ensures all { (search : Search) → FindsAll search }
     ensures each { (search : Search) → FindsEach search }
+{}
+
+/// On a noisy line, however many exchanges are disturbed, a run that ends without fault finds exactly the devices. Each
+/// device that follows the rules is found, whatever the others do. Only devices are found, whether the run has ended or
+/// not, and whatever its fault.
+pub fn noisy_run_finds_all()
+    ensures all { (search : Search) → FindsAllInNoise search }
+    ensures each { (search : Search) → FindsEachInNoise search }
+    ensures no_phantom { (search : Search) → FindsNoPhantomInNoise search }
 {}
 
 /// On an honest line whose devices come and leave, a run that ends without fault finds each device that was present at
@@ -124,6 +136,17 @@ pub fn honest_certificate()
         Certificate kind known x s → HonestOver sets x → IsInEach u sets → has (uids_of s) u ≡ true }
     ensures no_stranger { (sets : List (List ℕ)) (x : List Seen) (u : ℕ) →
         FailureIsLast x → HonestOver sets x → has (acked_in x) u ≡ true → IsInOne u sets }
+{}
+
+/// The same on a noisy line: a certificate's set is that of the devices, and only devices are acknowledged.
+pub fn noisy_certificate()
+    // A device that follows the rules is found, whatever the others do.
+    ensures found { (kind : Kind) (known : List ℕ) (x : List Seen) (s : List Device) (u : ℕ) →
+        IsDevice u → Certificate kind known x s → NoisyTo u x → has (uids_of s) u ≡ true }
+    ensures devices { (kind : Kind) (known : List ℕ) (x : List Seen) (s : List Device) (present : List ℕ) →
+        Certificate kind known x s → NoisyTrace present x → uids_of s ≡ present }
+    ensures no_phantom { (present : List ℕ) (x : List Seen) (u : ℕ) →
+        FailureIsLast x → NoisyTrace present x → has (acked_in x) u ≡ true → has present u ≡ true }
 {}
 
 /// Whole runs: on an empty line, on a line that answers each branch with one byte, and with budgets of 8, 7 and 0.
@@ -200,6 +223,22 @@ pub fn honest_losses()
     }) }
     ensures five_branches { ¬ HonestTrace (sample_uid ∷ []) (lossy_run 5 0) }
     ensures five_mutes { ¬ HonestTrace (sample_uid ∷ []) (lossy_run 0 5) }
+{}
+
+/// A run on a noisy line, three of whose exchanges are disturbed: it finds the device. But no line is noisy that loses
+/// five replies to branches in a row, or five acknowledgements, whether bytes came in their place or not.
+pub fn noisy_run()
+    ensures noisy { NoisyTraceWith (sample_uid ∷ []) 3 noisy_run }
+    ensures found { Runs (start Full [] DEFAULT_BUDGET) noisy_run (record {
+      budget = DEFAULT_BUDGET;
+      frames = 23;
+      search = Steady;
+      found = sample_device ∷ [];
+      phase = Ended None;
+    }) }
+    ensures five_branches { ¬ NoisyTrace (sample_uid ∷ []) (lossy_run 5 0) }
+    ensures five_mutes { (heard : Heard) → heard ≢ Failed → is_acked heard ≡ false
+        → ¬ NoisyTrace (sample_uid ∷ []) (replicate 5 (exchange (Mute sample_uid) heard)) }
 {}
 
 /// Two devices that collide on an honest line are found. A line that fails is honest up to its failure. A line may be

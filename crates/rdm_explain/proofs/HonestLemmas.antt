@@ -9,7 +9,7 @@ use Rattle.rdm_wire.specs.Honest.{Asked, Heard, Seen, LineState, HonestStep, Hon
 use Rattle.rdm_wire.specs.Honest.{MayReply, MuteMoves, KeepsMuted, due_in, before_run}
 use Rattle.rdm_wire.specs.Honest.Asked.{Unmute, Branch, Mute, Other}
 use Rattle.rdm_wire.specs.Honest.Heard.{Silent}
-use Rattle.rdm_agent.proofs.AllDevices.{IsBelow, below_step}
+use Rattle.rdm_wire.proofs.EachDevice.{IsBelow, below_step}
 use Rattle.rdm_agent.proofs.Members.{member}
 use Rattle.rdm_agent.proofs.Sets.{has-head, has-rest}
 use Rattle.rdm_explain.specs.declared.exchange.Exchange.{Exchange}

@@ -13,8 +13,9 @@ pub use broken::{
     wrong_refusals, wrong_results,
 };
 pub use discoveries::{
-    answers_report_the_line, exactly_one_answer, first_asked_first_answered,
-    full_client_is_refused, legal_keeps_discoveries, own_discoveries, runs_answer_what_was_asked,
+    answers_report_a_noisy_line, answers_report_the_line, exactly_one_answer,
+    first_asked_first_answered, full_client_is_refused, legal_keeps_discoveries, own_discoveries,
+    runs_answer_what_was_asked,
 };
 pub use explained::{
     each_event_is_answered, not_explained, parts_are_joined, sample_is_explained,

@@ -14,4 +14,7 @@ pub mod CommandReads
 pub mod CommandAsks
 pub mod DeviceLemmas
 pub mod HonestOverLemmas
+pub mod EachDevice
+pub mod NoisyLemmas
 pub mod SampleLineLemmas
+pub mod SampleNoise

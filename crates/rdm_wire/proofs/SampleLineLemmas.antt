@@ -8,7 +8,7 @@ use Rattle.rdm_wire.specs.Honest.Heard.{Failed, One, Noise}
 use Rattle.rdm_wire.specs.HonestOver.{HonestOver, ComeAndLeave}
 use Rattle.rdm_wire.specs.SampleLines.{first_device, one_there, two_there, asked_all}
 
-one-devices : IsDeviceSet one_there
+pub one-devices : IsDeviceSet one_there
 one-devices = record { devices = (record { in_range = omega arith; own = refl }, tt); ascending = (tt, tt) }
 
 two-devices : IsDeviceSet two_there

@@ -13,6 +13,7 @@ pub mod Commands
 pub mod Reading
 pub mod Honest
 pub mod HonestOver
+pub mod Noisy
 pub mod Frames
 pub mod Lists
 pub mod SampleFrames

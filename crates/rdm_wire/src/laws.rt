@@ -1,5 +1,5 @@
 //! Laws of bytes, each the contract of a function that does nothing. The definitions are in `specs`.
-ghost use Rattle.std.specs.Prelude.{◌≡◌, ◌≢◌, ◌↔◌, ℕ, List, [], ◌∷◌, Some, Ok, ◌++◌, length, replicate};
+ghost use Rattle.std.specs.Prelude.{◌≡◌, ◌≢◌, ◌↔◌, ℕ, true, false, List, [], ◌∷◌, Some, Ok, ◌++◌, length, replicate};
 ghost use Rattle.hex.specs.Hex.{IsBytes};
 ghost use Rattle.rdm_wire.specs.BranchText.{BranchText};
 ghost use Rattle.rdm_wire.specs.Reading.{text_read, ack_read};
@@ -7,11 +7,14 @@ ghost use Rattle.rdm_wire.specs.declared.response.Response.{Response};
 ghost use Rattle.rdm_wire.specs.Frames.{asked_in};
 ghost use Rattle.rdm_wire.specs.Commands.{FitsFrame, command_frame, Writes, command_read, AsksSo, asked_by_command};
 ghost use Rattle.rdm_wire.specs.declared.command.Command.{Command};
-ghost use Rattle.rdm_wire.specs.Uid.{IsDeviceSet};
-ghost use Rattle.rdm_wire.specs.Honest.{Seen, HonestTrace};
+ghost use Rattle.rdm_wire.specs.declared.mute_ack.MuteAck.{MuteAck};
+ghost use Rattle.rdm_wire.specs.Uid.{has, IsDeviceSet};
+ghost use Rattle.rdm_wire.specs.Honest.{Seen, HonestTrace, HonestTo};
 ghost use Rattle.rdm_wire.specs.HonestOver.{HonestOver};
-ghost use Rattle.rdm_wire.specs.Honest.Heard.{Failed, One, Noise};
+ghost use Rattle.rdm_wire.specs.Noisy.{NoisyTrace, NoisyTo, NoisyTraceWith};
+ghost use Rattle.rdm_wire.specs.Honest.Heard.{Failed, One, Acked, Noise};
 ghost use Rattle.rdm_wire.specs.SampleLines.{first_device, one_there, two_there, asked_all};
+ghost use Rattle.rdm_wire.specs.SampleLines.{asked_mute, asked_alone, noisy_exchanges};
 ghost use Rattle.rdm_wire.specs.Honest.Asked.{Unmute, Branch, Mute, Other};
 ghost use Rattle.rdm_wire.specs.Packet.{Fields, Fits, fields_at, packet};
 ghost use Rattle.rdm_wire.specs.CommandFrames.{unmute_frame, branch_frame, mute_frame};
@@ -96,4 +99,27 @@ pub fn devices_come_and_leave()
     ensures leaves { HonestOver (two_there ∷ one_there ∷ []) (asked_all Noise ∷ asked_all (One first_device) ∷ []) }
     ensures comes_back { (a b c : Seen) → a.heard ≢ Failed → b.heard ≢ Failed
         → HonestOver (two_there ∷ one_there ∷ two_there ∷ []) (a ∷ b ∷ c ∷ []) → ⊥ }
+{}
+
+/// A line is honest if and only if it is a noisy one of which no exchange was disturbed. A device that follows the
+/// rules of an honest line also follows those of a noisy one.
+pub fn honest_lines_are_noisy()
+    ensures undisturbed { (present : List ℕ) (x : List Seen) → HonestTrace present x ↔ NoisyTraceWith present 0 x }
+    ensures each { (u : ℕ) (x : List Seen) → HonestTo u x → NoisyTo u x }
+{}
+
+/// On a noisy line each of its devices follows the rules.
+pub fn noisy_devices_follow_rules()
+    ensures { (present : List ℕ) (u : ℕ) (x : List Seen) → has present u ≡ true → NoisyTrace present x → NoisyTo u x }
+{}
+
+/// Noise may damage replies and acknowledgements, make a UID's text of a reply, and bring bytes from nobody. It never
+/// makes the acknowledgement of an absent UID, nor that UID's text if it alone was asked.
+pub fn what_noise_does()
+    ensures noisy { NoisyTraceWith one_there 5 noisy_exchanges }
+    ensures dishonest { HonestTrace one_there noisy_exchanges → ⊥ }
+    ensures unacked { (present : List ℕ) (u : ℕ) (ack : MuteAck) → has present u ≡ false
+        → NoisyTrace present (asked_mute u (Acked ack) ∷ []) → ⊥ }
+    ensures no_text { (present : List ℕ) (u : ℕ) → has present u ≡ false
+        → NoisyTrace present (asked_alone u (One u) ∷ []) → ⊥ }
 {}

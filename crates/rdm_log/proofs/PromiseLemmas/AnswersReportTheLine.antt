@@ -1,4 +1,4 @@
--- The devices of an Answer are those that its run showed on the line.
+-- The devices of an Answer are those that its run showed on the line, noisy or not.
 use Rattle.rdm_log.proofs.Common.{◌≡◌, ℕ, suc, zero, true, false, List, [], ◌∷◌, ◌++◌, take, drop, Option, Some, None}
 use Rattle.rdm_log.proofs.Common.{slice_get, filter_map, refl, sym, ap, ◌∙◌, inl, inr, fold, ◌⊎◌, ◌≢◌, ◌==◌, Contains}
 use Rattle.rdm_log.proofs.Common.{cons_option, cases_Bool, false≢true, eqb-true, eq-eqb, none-some, same_Some}
@@ -10,9 +10,12 @@ use Rattle.rdm_log.proofs.Common.{AnswersReportTheLine}
 use Rattle.rdm_wire.specs.Uid.{IsDevice}
 use Rattle.rdm_wire.specs.Honest.{HonestTo}
 use Rattle.rdm_wire.specs.HonestOver.{HonestOver}
+use Rattle.rdm_wire.specs.Noisy.{NoisyTo, NoisyTrace}
+use Rattle.rdm_wire.proofs.NoisyLemmas.{honest_is_noisy, honest_to_is_noisy}
+use Rattle.rdm_log.specs.promises.Discoveries.{AnswersReportANoisyLine}
 use Rattle.rdm_agent.specs.Statements.{IsInEach}
 use Rattle.rdm_agent.proofs.Honest as honest_runs
-use Rattle.rdm_agent.proofs.OneDevice.{found}
+use Rattle.rdm_agent.proofs.OneDevice.{found_in_noise}
 use Rattle.rdm_agent.proofs.ChangingDevices.{honest_over_to_each, staying_device}
 use Rattle.rdm_agent.proofs.ChangingDevices as changing
 use Rattle.rdm_log.proofs.LogLemmas.RunFacts.{run_facts}
@@ -53,22 +56,22 @@ of_run h r run = by_test (cases_Bool (r == 0))
     by_test (inl zero_) = absurd (run (eqb-true r 0 zero_))
     by_test (inr some) = rw some refl
 
-exactly : (o : Opening) (h : List Entry) → EachAfter (MayFollow o) h
+exactly_in_noise : (o : Opening) (h : List Entry) → EachAfter (MayFollow o) h
     → (front back : List Entry) (n r : ℕ) (present : List ℕ) → h ≡ front ++ Answer n r None ∷ back
-    → HonestTrace present (run_exchanges r h) → uids_of (answer_devices r h) ≡ present
-exactly o h each front back n r present is honest =
+    → NoisyTrace present (run_exchanges r h) → uids_of (answer_devices r h) ≡ present
+exactly_in_noise o h each front back n r present is noisy =
     let c = certified_at o h front back n r each is in
     ap uids_of (of_run h r c.run)
-    ∙ honest_runs.devices c.kind c.known (run_exchanges r h) (uids_of (run_devices r h)) present c.certified.search
-    honest
+    ∙ honest_runs.devices_in_noise c.kind c.known (run_exchanges r h) (uids_of (run_devices r h)) present
+    c.certified.search noisy
 
-to_each : (o : Opening) (h : List Entry) → EachAfter (MayFollow o) h → (front back : List Entry) (n r u : ℕ)
-    → h ≡ front ++ Answer n r None ∷ back → IsDevice u → HonestTo u (run_exchanges r h)
+each_in_noise : (o : Opening) (h : List Entry) → EachAfter (MayFollow o) h → (front back : List Entry) (n r u : ℕ)
+    → h ≡ front ++ Answer n r None ∷ back → IsDevice u → NoisyTo u (run_exchanges r h)
     → has (uids_of (answer_devices r h)) u ≡ true
-to_each o h each front back n r u is device honest =
+each_in_noise o h each front back n r u is device noisy =
     let c = certified_at o h front back n r each is in
     rw (of_run h r c.run)
-    (found c.kind c.known (run_exchanges r h) (uids_of (run_devices r h)) u device c.certified.search honest)
+    (found_in_noise c.kind c.known (run_exchanges r h) (uids_of (run_devices r h)) u device c.certified.search noisy)
 
 -- a device that was always present is one, since there are exchanges
 staying_is_device : (sets : List (List ℕ)) (u : ℕ) (x : List Seen) → x ≢ [] → IsInEach u sets → HonestOver sets x
@@ -89,7 +92,8 @@ staying o h each front back n r sets u is honest in_each =
     let c = certified_at o h front back n r each is in
     let device = staying_is_device sets u (run_exchanges r h)
     (has_exchanges c.kind c.known (run_exchanges r h) (run_devices r h) c.certified) in_each honest in
-    to_each o h each front back n r u is device (honest_over_to_each sets u (run_exchanges r h) in_each honest)
+    each_in_noise o h each front back n r u is device
+    (honest_to_is_noisy u (run_exchanges r h) (honest_over_to_each sets u (run_exchanges r h) in_each honest))
 
 -- each device of an Answer was acknowledged in its run
 was_acked : (h : List Entry) (r u : ℕ) → has (uids_of (answer_devices r h)) u ≡ true
@@ -183,28 +187,42 @@ known_from o h each r last =
     (split_at h at.1.index (Answer at.0 r None) at.1.stands) in
     (at.0, contains_from_get h at.1.index (Answer at.0 r None) at.1.stands, rw last (sym (of_run h r c.run)))
 
-known : (o : Opening) (h : List Entry) → EachAfter (MayFollow o) h → (r : ℕ) (present : List ℕ)
-    → last_run_without_fault h ≡ Some r → HonestTrace present (run_exchanges r h)
+known_in_noise : (o : Opening) (h : List Entry) → EachAfter (MayFollow o) h → (r : ℕ) (present : List ℕ)
+    → last_run_without_fault h ≡ Some r → NoisyTrace present (run_exchanges r h)
     → uids_of (known_devices o h) ≡ present
-known o h each r present last honest =
+known_in_noise o h each r present last noisy =
     let at = last_answer h r last in
     ap uids_of (known_from o h each r last).2
-    ∙ exactly o h each (take at.1.index h) (drop (suc at.1.index) h) at.0 r present
-    (split_at h at.1.index (Answer at.0 r None) at.1.stands) honest
+    ∙ exactly_in_noise o h each (take at.1.index h) (drop (suc at.1.index) h) at.0 r present
+    (split_at h at.1.index (Answer at.0 r None) at.1.stands) noisy
 
-pub all_report_the_line : (o : Opening) (h : List Entry) → Legal o h → AnswersReportTheLine o h
-all_report_the_line o h legal = let facts = run_facts o h legal.each in record {
-  exactly = exactly o h legal.each;
+pub all_report_a_noisy_line : (o : Opening) (h : List Entry) → Legal o h → AnswersReportANoisyLine o h
+all_report_a_noisy_line o h legal = let facts = run_facts o h legal.each in record {
+  exactly = exactly_in_noise o h legal.each;
   no_phantom =
-      λ front back n r fault present u is honest there. honest_runs.no_phantom present (run_exchanges r h) u
-      (facts.failures r) honest (was_acked h r u there);
-  each = to_each o h legal.each;
-  staying = staying o h legal.each;
-  no_stranger =
-      λ front back n r fault sets u is honest there. changing.no_stranger sets (run_exchanges r h) u (facts.failures r)
-      honest (was_acked h r u there);
-  report = λ r. reports (run_exchanges r h);
-  known_from = known_from o h legal.each;
-  known_before = λ none. rw none refl;
-  known = known o h legal.each;
+      λ front back n r fault present u is noisy there. honest_runs.no_phantom_in_noise present (run_exchanges r h) u
+      (facts.failures r) noisy (was_acked h r u there);
+  each = each_in_noise o h legal.each;
+  known = known_in_noise o h legal.each;
 }
+
+-- an honest line is a noisy one
+pub all_report_the_line : (o : Opening) (h : List Entry) → Legal o h → AnswersReportTheLine o h
+all_report_the_line o h legal =
+    let facts = run_facts o h legal.each in let in_noise = all_report_a_noisy_line o h legal in record {
+      exactly = λ front back n r present is honest. in_noise.exactly front back n r present is
+          (honest_is_noisy present (run_exchanges r h) honest);
+      no_phantom = λ front back n r fault present u is honest there. in_noise.no_phantom front back n r fault present u
+          is (honest_is_noisy present (run_exchanges r h) honest) there;
+      each = λ front back n r u is device honest. in_noise.each front back n r u is device
+          (honest_to_is_noisy u (run_exchanges r h) honest);
+      staying = staying o h legal.each;
+      no_stranger =
+          λ front back n r fault sets u is honest there. changing.no_stranger sets (run_exchanges r h) u
+          (facts.failures r) honest (was_acked h r u there);
+      report = λ r. reports (run_exchanges r h);
+      known_from = known_from o h legal.each;
+      known_before = λ none. rw none refl;
+      known = λ r present last honest. in_noise.known r present last
+          (honest_is_noisy present (run_exchanges r h) honest);
+    }

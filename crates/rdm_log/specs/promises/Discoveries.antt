@@ -6,6 +6,7 @@ use Rattle.rdm_wire.specs.Uid.{has, IsDevice}
 use Rattle.rdm_wire.specs.Devices.{uids_of}
 use Rattle.rdm_wire.specs.Honest.{HonestTo, HonestTrace}
 use Rattle.rdm_wire.specs.HonestOver.{HonestOver}
+use Rattle.rdm_wire.specs.Noisy.{NoisyTo, NoisyTrace}
 use Rattle.rdm_agent.specs.Run.{IsReport}
 use Rattle.rdm_agent.specs.Statements.{IsInEach, IsInOne}
 use Rattle.rdm_agent.specs.declared.kind.Kind.{Kind}
@@ -91,6 +92,22 @@ pub record AnswersReportTheLine (o : Opening) (h : List Entry) : Type 0 where
   pub known_before : last_run_without_fault h ≡ None → known_devices o h ≡ o.devices
   -- and so they are exactly the devices present, until another run is answered without fault
   pub known : (r : ℕ) (present : List ℕ) → last_run_without_fault h ≡ Some r → HonestTrace present (run_exchanges r h)
+      → uids_of (known_devices o h) ≡ present
+
+-- The devices of an Answer are those that a noisy line showed during its run, however many exchanges were disturbed.
+pub record AnswersReportANoisyLine (o : Opening) (h : List Entry) : Type 0 where
+  -- on a noisy line whose devices stay: without fault exactly these
+  pub exactly : (front back : List Entry) (n r : ℕ) (present : List ℕ) → h ≡ front ++ Answer n r None ∷ back
+      → NoisyTrace present (run_exchanges r h) → uids_of (answer_devices r h) ≡ present
+  -- and even with a fault, no others
+  pub no_phantom : (front back : List Entry) (n r : ℕ) (fault : Option AgentFault) (present : List ℕ) (u : ℕ)
+      → h ≡ front ++ Answer n r fault ∷ back → NoisyTrace present (run_exchanges r h)
+      → has (uids_of (answer_devices r h)) u ≡ true → has present u ≡ true
+  -- without fault each device that follows the rules of a noisy line, whatever others do
+  pub each : (front back : List Entry) (n r u : ℕ) → h ≡ front ++ Answer n r None ∷ back → IsDevice u
+      → NoisyTo u (run_exchanges r h) → has (uids_of (answer_devices r h)) u ≡ true
+  -- the known devices are exactly the devices present, until another run is answered without fault
+  pub known : (r : ℕ) (present : List ℕ) → last_run_without_fault h ≡ Some r → NoisyTrace present (run_exchanges r h)
       → uids_of (known_devices o h) ≡ present
 
 -- One run answers the discoveries that were asked for before it began, all alike, with what it shows.

@@ -4,6 +4,7 @@ ghost use Rattle.rdm_log.specs.declared.entry.Opening.{Opening};
 ghost use Rattle.rdm_log.specs.declared.entry.Entry.{Entry};
 ghost use Rattle.rdm_log.specs.log.Legal.{Legal};
 ghost use Rattle.rdm_log.specs.promises.Discoveries.{OneAnswer, AnsweredInOrder, AnswersReportTheLine, RunsAnswer};
+ghost use Rattle.rdm_log.specs.promises.Discoveries.{AnswersReportANoisyLine};
 ghost use Rattle.rdm_log.specs.promises.Discoveries.{OwnDiscoveries, FullRefusesDiscoveries, DiscoveriesPromised};
 
 /// Each discovery that is asked for has exactly one answer: never two, and one once the queue is closed and no reply is
@@ -22,6 +23,13 @@ pub fn first_asked_first_answered()
 /// present, and none that never was. This holds among requests, pauses, closes and other runs.
 pub fn answers_report_the_line()
     ensures { (o : Opening) (h : List Entry) → Legal o h → AnswersReportTheLine o h }
+{}
+
+/// A discovery that ends without fault on a noisy line reports exactly the devices present, however many exchanges were
+/// disturbed; with a fault, no others. Each device that follows the rules of a noisy line is reported without fault,
+/// whatever others do.
+pub fn answers_report_a_noisy_line()
+    ensures { (o : Opening) (h : List Entry) → Legal o h → AnswersReportANoisyLine o h }
 {}
 
 /// One run answers the discoveries that were asked for before it began, and all of them alike.

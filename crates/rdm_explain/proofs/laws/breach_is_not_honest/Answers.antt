@@ -1,4 +1,4 @@
-use Rattle.rdm_agent.proofs.AllDevices.{honest_to_each}
+use Rattle.rdm_wire.proofs.EachDevice.{honest_to_each}
 use Rattle.rdm_explain.specs.Exchanges.{seen_all}
 use Rattle.rdm_explain.proofs.laws.breach_is_not_honest.Goals as goal
 

@@ -1,7 +1,8 @@
 use Rattle.rdm_agent.proofs.Common.{◌≡◌, sym, subst, AgentState, next_op, HasRunBy, RunSoFar, End}
 use Rattle.rdm_agent.specs.contracts.agent.Agent.{the_view}
 use Rattle.rdm_agent.proofs.CallLemmas.{end-certified, end-finds_all, end-finds_each, end-finds_staying, end-caused}
-use Rattle.rdm_agent.proofs.CallLemmas.{found-present, found-no_stranger}
+use Rattle.rdm_agent.proofs.CallLemmas.{end-finds_all_in_noise, end-finds_each_in_noise, found-present}
+use Rattle.rdm_agent.proofs.CallLemmas.{found-present_in_noise, found-no_stranger}
 use Rattle.rdm_agent.proofs.BoundCalls.{end-finds, end-no_fault}
 use Rattle.rdm_agent.proofs.agent.Agent.end.Goals as goal
 
@@ -26,9 +27,21 @@ returns-in-None-clause-finds_all c = λ run s.
     (sym (c.in-None.ensures _ _)) run.kind run.known run.budget run.aborted run.exchanges
     (stands _ _ c.self.view_is run s))
 
+pub returns-in-None-clause-finds_all_in_noise : goal.returns-in-None-clause-finds_all_in_noise
+returns-in-None-clause-finds_all_in_noise c = λ run s.
+    rw c.copied.ensures (end-finds_all_in_noise (the_view c.self.inside) (ends _ _ c.self.view_is c.requires)
+    (sym (c.in-None.ensures _ _)) run.kind run.known run.budget run.aborted run.exchanges
+    (stands _ _ c.self.view_is run s))
+
 pub returns-in-None-clause-finds_each : goal.returns-in-None-clause-finds_each
 returns-in-None-clause-finds_each c = λ run s.
     rw c.copied.ensures (end-finds_each (the_view c.self.inside) (ends _ _ c.self.view_is c.requires)
+    (sym (c.in-None.ensures _ _)) run.kind run.known run.budget run.aborted run.exchanges
+    (stands _ _ c.self.view_is run s))
+
+pub returns-in-None-clause-finds_each_in_noise : goal.returns-in-None-clause-finds_each_in_noise
+returns-in-None-clause-finds_each_in_noise c = λ run s.
+    rw c.copied.ensures (end-finds_each_in_noise (the_view c.self.inside) (ends _ _ c.self.view_is c.requires)
     (sym (c.in-None.ensures _ _)) run.kind run.known run.budget run.aborted run.exchanges
     (stands _ _ c.self.view_is run s))
 
@@ -42,6 +55,12 @@ pub returns-in-Some-clause-no_phantom : goal.returns-in-Some-clause-no_phantom
 returns-in-Some-clause-no_phantom c = λ run s.
     rw c.copied-in-Some.ensures
     (found-present (the_view c.self.inside) run.kind run.known run.budget run.aborted run.exchanges
+    (stands _ _ c.self.view_is run s))
+
+pub returns-in-Some-clause-no_phantom_in_noise : goal.returns-in-Some-clause-no_phantom_in_noise
+returns-in-Some-clause-no_phantom_in_noise c = λ run s.
+    rw c.copied-in-Some.ensures
+    (found-present_in_noise (the_view c.self.inside) run.kind run.known run.budget run.aborted run.exchanges
     (stands _ _ c.self.view_is run s))
 
 pub returns-in-None-clause-finds_staying : goal.returns-in-None-clause-finds_staying
