@@ -105,6 +105,18 @@ def discovery(run: str, first: int = 0) -> str:
     )
 
 
+def mutes(count: int, first: int) -> str:
+    """The lines of so many mutes from 1234:00000001 on, all of which are acknowledged, from the exchange `first`."""
+    lines = []
+    for at in range(count):
+        number = first + at
+        command = Packet(UIDS["found"] + at, SOURCE, number % 256, PORT, 0, 0, CommandClass.DISCOVERY, Pid.DISC_MUTE)
+        reply = command.answer(command.destination, ResponseType.ACK, bytes(2)).encode()
+        lines.append(f'{{"number":{number},"operation":"mute","frame":"{command.encode().hex()}",'
+                     f'"reply":"{reply.hex()}"}}\n')
+    return "".join(lines)
+
+
 def session_run(number: int, run: str) -> str:
     """The entries of a session's run with this number."""
     return "".join(
