@@ -182,7 +182,10 @@ discovery: full, steady, 1028 exchanges, fault 2, 1024 devices; its certificate 
 1234:00000401 acknowledged a mute, but isn't reported: a run reports at most 1,024 devices
 0000:00000000 is the first UID that wasn't ruled out: it needs five silences in a row of a range that holds it
 exchange 3 mutes a UID that no earlier branch had read
-""" + "".join(f"1234:{number:08x} was found, and followed the rules\n" for number in range(1, 1025))
+""" + "".join(f"1234:{number:08x} was found, and followed the rules\n" for number in range(1, 1025)) + """\
+exchange 1027: bytes came after a mute of 1234:00000401, which isn't listed; \
+they may be those of a device that the log doesn't show
+"""
 
 # What no writer of logs writes, as the last line.
 BAD = (

@@ -3,6 +3,7 @@ ghost use Rattle.std.specs.Prelude.{◌≡◌, ◌++◌, ◌∷◌, [], Some, On
 ghost use Rattle.rdm_reports.specs.Report.{fault_text};
 ghost use Rattle.rdm_findings.specs.FindingText.{name_text, kind_text, search_text, what_text, end_text, outcome_text};
 ghost use Rattle.rdm_findings.specs.FindingText.{sound_text, gap_text, begun_text, certificate_text, decides_gaps};
+ghost use Rattle.rdm_findings.specs.Ends.{end_of};
 ghost use Rattle.rdm_findings.specs.FindingText.{head_text, head_line, because_text, cause_text, count_text};
 
 use crate::ending::{end_of, is_complete, is_known_complete, is_lost, is_over};
@@ -26,9 +27,8 @@ pub(crate) fn write_head(
         ++ head_line head.now reported.now exchanges.now certificate.now names.now) }
 {
     let ending = end_of(head, reported, exchanges, certificate);
-    let decided = decides_gaps(head, reported, exchanges, certificate, names);
     write_run(text, head, ending, exchanges.len(), reported.len())?;
-    write_certificate(text, head, decided, ending, certificate, names)?;
+    write_certificate(text, head, reported, exchanges, certificate, names)?;
     text.extend_from_slice(b"\n")
 }
 
@@ -36,15 +36,18 @@ pub(crate) fn write_head(
 fn write_certificate(
     text: &mut Vec<u8>,
     head: &RunHead,
-    decided: bool,
-    ending: Option<Option<AgentFault>>,
+    reported: &DeviceSet,
+    exchanges: &[Exchange],
     certificate: &RunFinding,
     names: &Option<KnownFinding>,
 ) -> Result<(), AllocError>
     ensures { OnOk result (text.new.items ≡ text.old.items
-        ++ (certificate_text head.now decided certificate.now names.now
-        ++ because_text head.now ending certificate.now)) }
+        ++ (certificate_text head.now (decides_gaps head.now reported.now exchanges.now certificate.now names.now)
+        certificate.now names.now
+        ++ because_text head.now (end_of head.now reported.now exchanges.now certificate.now) certificate.now)) }
 {
+    let decided = decides_gaps(head, reported, exchanges, certificate, names);
+    let ending = end_of(head, reported, exchanges, certificate);
     write(text, certificate_text(head, decided, certificate, names))?;
     write_because(text, head, ending, certificate)
 }
