@@ -2,6 +2,7 @@
 #define _FILE_OFFSET_BITS 64
 #include "log_file.hpp"
 #include "journal.hpp"
+#include <algorithm>
 #include <cerrno>
 #include <cstdio>
 #include <cstdlib>
@@ -17,6 +18,8 @@ namespace stand_in {
 // The records have the values of all parameters, so other users can't read them.
 constexpr mode_t MODE = 0640;
 constexpr int HOW = O_WRONLY | O_APPEND | O_CREAT | O_NONBLOCK | O_CLOEXEC | O_NOCTTY;
+// No line of a log of runs is longer.
+constexpr off_t MOST_LINE = 131072;
 
 LogFile::LogFile(std::string name, std::uint64_t most_bytes, Clock::duration between_messages, const char *variable)
     : name_(std::move(name)), most_bytes_(most_bytes), between_messages_(between_messages),
@@ -48,15 +51,43 @@ bool LogFile::is_open_file_at_name() const {
         && ours.st_ino == named.st_ino;
 }
 
-// Whether a file's last byte ends a line. A file that can't be read may end within one.
-static bool ends_with_newline(const char *name, off_t size) {
+// What a file has after its last newline: nothing if it isn't torn. A file that can't be read may be torn anywhere.
+struct Rest {
+    bool is_torn = true;
+    off_t at = 0;
+    std::string begin;
+};
+
+// Reads where the last line begins. If it is longer than any of a log, it isn't known.
+static Rest rest_of(const char *name, off_t size) {
+    Rest rest;
+    const off_t first = size > MOST_LINE ? size - MOST_LINE : 0;
+    std::string last(static_cast<std::size_t>(size - first), '\0');
     const int file = ::open(name, O_RDONLY | O_NONBLOCK | O_CLOEXEC | O_NOCTTY);
-    char last = 0;
-    const bool is_read = file >= 0 && pread(file, &last, 1, size - 1) == 1;
+    const bool is_read = file >= 0 && pread(file, &last[0], last.size(), first) == static_cast<ssize_t>(last.size());
     if (file >= 0) {
         ::close(file);
     }
-    return is_read && last == '\n';
+    if (!is_read) {
+        return rest;
+    }
+    const std::size_t newline = last.rfind('\n');
+    rest.is_torn = newline + 1 != last.size();
+    if (newline != std::string::npos || first == 0) {
+        const std::size_t begin = newline == std::string::npos ? 0 : newline + 1;
+        rest.at = first + static_cast<off_t>(begin);
+        rest.begin = last.substr(begin);
+    }
+    return rest;
+}
+
+// Whether this is how a line of a log of runs begins, or as much of it as there is.
+static bool is_of_runs(const std::string &line) {
+    const auto begins = [&](const std::string &text) {
+        const std::size_t count = std::min(line.size(), text.size());
+        return line.compare(0, count, text, 0, count) == 0;
+    };
+    return !line.empty() && (begins("{\"entry\":\"") || begins("{\"number\":"));
 }
 
 // Only a regular file is opened: another one may block, or may do something else than keep bytes.
@@ -74,8 +105,21 @@ bool LogFile::open() {
         close();
         return fail("it isn't a regular file");
     }
-    is_torn_ = found.st_size > 0 && !ends_with_newline(name_.c_str(), found.st_size);
+    // If there is no memory to look, it may be torn.
+    is_torn_ = found.st_size > 0;
+    is_torn_ = is_torn_ && !mend(found.st_size);
     return true;
+}
+
+// Half a line of a log of runs, which a crash has left, would end each reading of the file. It is removed, unless
+// another process has added to it meanwhile. False: the file still ends within a line.
+bool LogFile::mend(off_t size) {
+    const Rest rest = rest_of(name_.c_str(), size);
+    if (!rest.is_torn) {
+        return true;
+    }
+    struct stat now {};
+    return is_of_runs(rest.begin) && fstat(file_, &now) == 0 && now.st_size == size && ftruncate(file_, rest.at) == 0;
 }
 
 void LogFile::close() {

@@ -5,6 +5,7 @@
 #include <optional>
 #include <string>
 #include <sys/stat.h>
+#include <sys/types.h>
 
 namespace stand_in {
 
@@ -29,6 +30,7 @@ public:
 private:
     bool prepare(std::size_t bytes);
     bool open();
+    bool mend(off_t size);
     void close();
     bool is_open_file_at_name() const;
     bool make_room(std::size_t bytes);

@@ -7,7 +7,7 @@ from __future__ import annotations
 from typing import Iterator
 
 from ..checker.case import Case
-from .runs import LIAR, answer, ask, discovery, opening, refuses, session_opening, session_run, shows
+from .runs import LIAR, answer, ask, discovery, mutes, opening, refuses, session_opening, session_run, shows
 
 # A discovery that finds one device.
 FINDS = "3 unmute; all > found; mute found > ack; 5 all"
@@ -96,17 +96,21 @@ exchange 1 should be one of the three unmutes that begin a run
 GONE = "1234:00000001 was known, and wasn't found: the run ended before it was ruled out\n"
 
 OF_KINDS = f"""\
-run 1: incremental, quick, 1 exchange, fault 3, 0 devices; its certificate is incomplete
+run 1: incremental, quick, 1 exchange, fault 3, 0 devices; its certificate is incomplete: \
+its budget of 384008 frames is used up
 {GAPS}\
-run 2: full, quick, 1 exchange, fault 3, 0 devices; its certificate is incomplete
+run 2: full, quick, 1 exchange, fault 3, 0 devices; its certificate is incomplete: \
+its budget of 384008 frames is used up
 {GAPS}\
 run 3: incremental, quick, 1 exchange, 0 devices; its certificate is incomplete, or the log ends within the run
 {GAPS}"""
 
 AFTER_WAITING = f"""\
-run 2: steady, 1 exchange, fault 3, 0 devices; its certificate is incomplete
+run 2: steady, 1 exchange, fault 3, 0 devices; its certificate is incomplete: \
+its budget of 384008 frames is used up
 {GAPS}{GONE}\
-run 3: incremental, steady, 1 exchange, fault 3, 0 devices; its certificate is incomplete
+run 3: incremental, steady, 1 exchange, fault 3, 0 devices; its certificate is incomplete: \
+its budget of 384008 frames is used up
 {GAPS}\
 1234:00000001 is known, but wasn't muted before the first branch
 {GONE}"""
@@ -114,7 +118,8 @@ run 3: incremental, steady, 1 exchange, fault 3, 0 devices; its certificate is i
 FROM_WITHIN = f"""\
 run 2: steady, 1 exchange, fault 3, 0 devices; its certificate can't be decided, since the log begins within the run; \
 exchanges count from there
-run 3: incremental, steady, 1 exchange, fault 3, 0 devices; its certificate is incomplete
+run 3: incremental, steady, 1 exchange, fault 3, 0 devices; its certificate is incomplete: \
+its budget of 384008 frames is used up
 {GAPS}\
 1234:00000001 is known, but wasn't muted before the first branch
 {GONE}"""
@@ -122,19 +127,64 @@ run 3: incremental, steady, 1 exchange, fault 3, 0 devices; its certificate is i
 UNOPENED = f"""\
 run 2: 1 exchange, fault 3, 0 devices; its certificate can't be decided, since the log may begin within the run; \
 exchanges count from there
-run 3: incremental, 1 exchange, fault 3, 0 devices; its certificate is incomplete
+run 3: incremental, 1 exchange, fault 3, 0 devices; its certificate is incomplete: its budget of frames is used up
 {GAPS}"""
 
 OF_THREE_RUNS = f"""\
 run 1: full, quick, 10 exchanges, no fault, 1 device; its certificate is complete
 1234:00000001 was found, and followed the rules
-run 2: incremental, quick, 1 exchange, fault 3, 0 devices; its certificate is incomplete
+run 2: incremental, quick, 1 exchange, fault 3, 0 devices; its certificate is incomplete: \
+its budget of 384008 frames is used up
 {GAPS}\
 1234:00000001 is known, but wasn't muted before the first branch
 {GONE}\
 run 3: incremental, quick, 1 exchange, 0 devices; its certificate is incomplete, or the log ends within the run
 {GAPS}\
 1234:00000001 is known, but wasn't muted before the first branch
+"""
+
+# A device that run 1 finds is off in run 2, which is full or incremental.
+FOUND_FIRST = """\
+run 1: full, quick, 10 exchanges, no fault, 1 device; its certificate is complete
+1234:00000001 was found, and followed the rules
+"""
+QUIET = "no byte came in the whole run: check the adapter and the first cable\n"
+OFF_IN_FULL = f"""\
+{FOUND_FIRST}\
+run 2: full, quick, 8 exchanges, no fault, 0 devices; its certificate is complete
+{QUIET}\
+1234:00000001 was known, and wasn't heard: exchange 7 is the fifth silence in a row in a range that holds it
+"""
+OFF_IN_INCREMENTAL = f"""\
+{FOUND_FIRST}\
+run 2: incremental, quick, 13 exchanges, no fault, 0 devices; its certificate is complete
+{QUIET}\
+1234:00000001 was known, and didn't answer five mutes: exchange 7 is the last of them
+"""
+OFF_BUT_GIVEN = f"""\
+{FOUND_FIRST}\
+run 2: full, quick, 8 exchanges, no fault, 0 devices; its certificate is complete
+{QUIET}\
+1234:00000001 was never heard: exchange 7 is the fifth silence in a row in a range that holds it; \
+check its power and its cable
+"""
+
+# After the answer of run 1 the log has all of run 2.
+ANSWERED = answer(0, 1) + ask(1, "incremental") + session_run(2, "unmute") + answer(1, 2, fault=3)
+AFTER_ANSWER = f"""\
+run 2: incremental, 1 exchange, fault 3, 0 devices; its certificate is incomplete: its budget of frames is used up
+{GAPS}"""
+
+# 1,025 devices acknowledge mutes.
+TOO_MANY = FULL + discovery("3 unmute") + mutes(1025, first=3)
+CROWDED = """\
+discovery: full, steady, 1028 exchanges, fault 2, 1024 devices; its certificate is incomplete
+1234:00000401 acknowledged a mute, but isn't reported: a run reports at most 1,024 devices
+0000:00000000 is the first UID that wasn't ruled out: it needs five silences in a row of a range that holds it
+exchange 3 mutes a UID that no earlier branch had read
+""" + "".join(f"1234:{number:08x} was found, and followed the rules\n" for number in range(1, 1025)) + """\
+exchange 1027: bytes came after a mute of 1234:00000401, which isn't listed; \
+they may be those of a device that the log doesn't show
 """
 
 # What no writer of logs writes, as the last line.
@@ -183,3 +233,15 @@ def sessions() -> Iterator[Case]:
     yield shows("an opening within a run", WITHIN + CONTINUED, FROM_WITHIN)
     yield shows("two runs without an opening", CONTINUED, UNOPENED)
     yield shows("devices that a run without a fault made known", NEW + THREE_RUNS, OF_THREE_RUNS)
+    full, incremental = session_run(2, "3 unmute; 5 all"), session_run(2, "3 unmute; 5 mute found; 5 all")
+    yield shows("a device that is off in a second full run", NEW + off("full", full), OFF_IN_FULL)
+    yield shows("the same of a device that is given", NEW + off("full", full), OFF_BUT_GIVEN, 3, ["1234:00000001"])
+    yield shows("a device that is off in an incremental run", NEW + off("incremental", incremental),
+                OFF_IN_INCREMENTAL)
+    yield shows("a run after the answer of the one before", ANSWERED, AFTER_ANSWER)
+    yield shows("more devices than a run reports", TOO_MANY, CROWDED)
+
+
+def off(kind: str, run: str) -> str:
+    """Run 1 finds a device, and this is run 2."""
+    return ask(0, "full") + session_run(1, FINDS) + answer(0, 1) + ask(1, kind) + run + answer(1, 2)

@@ -17,6 +17,7 @@ RUNS = """\
 a device that never answers
 3 unmute; 5 all
 8 exchanges, 0 devices; its certificate is complete but for what depends on its kind, which the log doesn't have
+no byte came in the whole run: check the adapter and the first cable
 1234:00000009 was never heard: exchange 7 is the fifth silence in a row in a range that holds it; \
 check its power and its cable
 status 3
@@ -79,6 +80,7 @@ a device that is off, which an incremental run mutes first
 3 unmute; 5 mute liar; 5 all
 discovery: 13 exchanges, 0 devices; its certificate is complete but for what depends on its kind, \
 which the log doesn't have
+no byte came in the whole run: check the adapter and the first cable
 1234:00000009 didn't mute: exchange 7 is the fifth mute of it in a row without an answer; check its power and its cable
 status 3
 
@@ -104,8 +106,8 @@ discovery: 9 exchanges, fault 1 1234:00000009, 2 devices; its certificate is inc
 0000:00000000 is the first UID that wasn't ruled out: it needs five silences in a row of a range that holds it
 1234:00000008 was found, and followed the rules
 1234:00000009 was found, and followed the rules, but see exchange 7
-exchange 7: bytes came from 1234:00000009 alone, which had acknowledged its mute; \
-a rule was broken: try it alone on the line
+exchange 7: bytes came from 1234:00000009 alone, which had acknowledged its mute: \
+it restarted, or broke a rule; try it alone on the line
 status 3
 
 a device that answers alone, after an unmute and a mute that it didn't acknowledge
@@ -131,8 +133,8 @@ discovery: 11 exchanges, fault 1 1234:00000009, 2 devices; its certificate is in
 0000:00000000 is the first UID that wasn't ruled out: it needs five silences in a row of a range that holds it
 1234:00000008 was found, and followed the rules
 1234:00000009 was found, and followed the rules, but see exchange 10
-exchange 10: bytes came from 1234:00000009 alone, which had acknowledged its mute; \
-a rule was broken: try it alone on the line
+exchange 10: bytes came from 1234:00000009 alone, which had acknowledged its mute: \
+it restarted, or broke a rule; try it alone on the line
 status 3
 
 bytes from a range with a listed device
@@ -156,7 +158,8 @@ other bytes after a mute of a listed device, and silence after one of another UI
 discovery: 5 exchanges, 0 devices; its certificate is incomplete, or the log ends within the run
 exchange 3 mutes a UID that neither acknowledged nor was muted five times in a row: perhaps no device has it
 0000:00000000 is the first UID that wasn't ruled out: it needs five silences in a row of a range that holds it
-1234:00000009 was to mute, and other bytes came: exchange 3 has no acknowledgement; try it alone on the line
+1234:00000009 was to mute, and other bytes came: exchange 3 has no acknowledgement; \
+a rule was broken, by it, another device or noise: try it alone, and then the others
 exchange 3: bytes came after a mute of 1234:00000009 that don't acknowledge it; \
 a rule was broken, by it, another device or noise: try each device alone on the line
 status 3
@@ -166,7 +169,8 @@ the same, and other bytes after a mute of that UID
 discovery: 6 exchanges, 0 devices; its certificate is incomplete, or the log ends within the run
 exchange 3 mutes a UID that neither acknowledged nor was muted five times in a row: perhaps no device has it
 0000:00000000 is the first UID that wasn't ruled out: it needs five silences in a row of a range that holds it
-1234:00000009 was to mute, and other bytes came: exchange 3 has no acknowledgement; try it alone on the line
+1234:00000009 was to mute, and other bytes came: exchange 3 has no acknowledgement; \
+a rule was broken, by it, another device or noise: try it alone, and then the others
 exchange 5: bytes came after a mute of 1234:00000008, which isn't listed; \
 they may be those of a device that the log doesn't show
 exchange 3: bytes came after a mute of 1234:00000009 that don't acknowledge it; \
@@ -203,7 +207,8 @@ the same, and then one that is answered as a branch
 3 unmute; mute liar; mute liar > ack; mute liar > liar
 discovery: 6 exchanges, 1 device; its certificate is incomplete, or the log ends within the run
 0000:00000000 is the first UID that wasn't ruled out: it needs five silences in a row of a range that holds it
-1234:00000009 was to mute, and other bytes came: exchange 5 has no acknowledgement; try it alone on the line
+1234:00000009 was to mute, and other bytes came: exchange 5 has no acknowledgement; \
+a rule was broken, by it, another device or noise: try it alone, and then the others
 exchange 5: bytes came after a mute of 1234:00000009 that don't acknowledge it; \
 a rule was broken, by it, another device or noise: try each device alone on the line
 status 3
@@ -237,6 +242,7 @@ silence of the upper half, and then of the lower one
 3 unmute; 5 upper; 5 lower
 discovery: 13 exchanges, 0 devices; its certificate is complete but for what depends on its kind, \
 which the log doesn't have
+no byte came in the whole run: check the adapter and the first cable
 1234:00000009 was never heard: exchange 12 is the fifth silence in a row in a range that holds it; \
 check its power and its cable
 status 3

@@ -71,24 +71,28 @@ OPENINGS = """\
 
 # Frames of runs, and the run's number. What comes after each makes an exchange, which may be any of its run.
 SILENCE = '{"entry":"came","reply":""}\n'
+UNMUTE = "cc0118ffffffffffff7a700000010000010000001000030007de"
 SENDS = (
-    ('{"entry":"send","run":1,"frame":"cc"}\n', 1),
-    ('{"entry":"send","run":18446744073709551615,"frame":"00ff"}\n', 18446744073709551615),
+    (f'{{"entry":"send","run":1,"frame":"{UNMUTE}"}}\n', 1),
+    (f'{{"entry":"send","run":18446744073709551615,"frame":"{UNMUTE}"}}\n', 18446744073709551615),
 )
 OF_ONE = """\
 run {}: 1 exchange, 0 devices; its certificate can't be decided, since the log may begin within the run; \
 exchanges count from there
 """
 
-# Exchanges of a discovery, the text and the status: another frame in the place of an unmute, and three exchanges of
-# runs whose beginning isn't there.
+# Exchanges of a discovery, the text and the status: a mute in the place of an unmute, and three exchanges of runs whose
+# beginning isn't there.
 EXCHANGES = (
-    ('{"number":0,"operation":"unmute","frame":"","reply":""}\n', """\
+    ("""\
+{"number":0,"operation":"mute","frame":"cc01181234000000017a7000000100040100000010000200022e","reply":""}
+""", """\
 discovery: 1 exchange, 0 devices; its certificate is incomplete
 exchange 0 should be one of the three unmutes that begin a run
+exchange 0 mutes a UID that neither acknowledged nor was muted five times in a row: perhaps no device has it
 0000:00000000 is the first UID that wasn't ruled out: it needs five silences in a row of a range that holds it
 """, 0),
-    ('{"number":18446744073709551615,"operation":"unmute","frame":"cc","failed":true}\n', """\
+    (f'{{"number":18446744073709551615,"operation":"unmute","frame":"{UNMUTE}","failed":true}}\n', """\
 discovery: 1 exchange, 0 devices; its certificate can't be decided, since the log begins within the run
 exchange 18446744073709551615 failed: check the adapter and the cable
 """, 0),
@@ -110,8 +114,24 @@ a rule was broken, by it, another device or noise: try each device alone on the 
 """, 3),
 )
 
-# What no writer of logs writes.
+# One unmute, to which something may have come back.
+OF_UNMUTE = """\
+discovery: 1 exchange, 0 devices; its certificate is incomplete, or the log ends within the run
+exchange 1 should be one of the three unmutes that begin a run
+0000:00000000 is the first UID that wasn't ruled out: it needs five silences in a row of a range that holds it
+"""
+
+# What no writer of logs writes. A run's frames are unmutes, branches and mutes, each with its checksum.
 OTHERS = (
+    '{"entry":"send","run":1,"frame":""}',
+    '{"entry":"send","run":1,"frame":"cc"}',
+    '{"entry":"send","run":1,"frame":"cc01181234000000017a70000001000001000000200060000298"}',
+    f'{{"entry":"send","run":1,"frame":"{UNMUTE[:-1]}f"}}',
+    f'{{"entry":"send","run":1,"frame":"{UNMUTE}00"}}',
+    '{"number":0,"operation":"unmute","frame":"","reply":""}',
+    '{"number":0,"operation":"unmute","frame":"cc01181234000000017a70000001000001000000200060000298","reply":""}',
+    f'{{"number":0,"operation":"unmute","frame":"{UNMUTE[:-1]}f","reply":""}}',
+    f'{{"number":0,"operation":"unmute","frame":"{UNMUTE[:-1]}f","failed":true}}',
     '{"entry":"pause"',
     '{"entry":"pause"} ',
     ' {"entry":"pause"}',
@@ -139,11 +159,10 @@ ACCEPTED = '{"entry":"accept","client":0,"number":0,"set":"1234:00000001","pid":
 REFUSED = '{"entry":"refuse","client":0,"set":"1234:00000001","pid":"0060","sub":0,"param":"'
 LONGEST = (
     ('{"entry":"came","reply":"', '"}\n', 257, NO_RUN),
-    ('{"entry":"send","run":1,"frame":"', f'"}}\n{SILENCE}', 257, OF_ONE.format(1)),
     ('{"entry":"send","request":1,"frame":"', '"}\n', 257, NO_RUN),
     (ACCEPTED, '"}\n', 231, NO_RUN),
     (REFUSED, '","cause":3}\n', 231, NO_RUN),
-    ('{"number":0,"operation":"unmute","frame":"","reply":"', '"}\n', 257, EXCHANGES[0][1]),
+    (f'{{"number":0,"operation":"unmute","frame":"{UNMUTE}","reply":"', '"}\n', 257, OF_UNMUTE),
 )
 
 # The opening of a discovery with UIDs, and that of a session with devices: both have at most 1,024.

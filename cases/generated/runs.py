@@ -105,6 +105,18 @@ def discovery(run: str, first: int = 0) -> str:
     )
 
 
+def mutes(count: int, first: int) -> str:
+    """The lines of so many mutes from 1234:00000001 on, all of which are acknowledged, from the exchange `first`."""
+    lines = []
+    for at in range(count):
+        number = first + at
+        command = Packet(UIDS["found"] + at, SOURCE, number % 256, PORT, 0, 0, CommandClass.DISCOVERY, Pid.DISC_MUTE)
+        reply = command.answer(command.destination, ResponseType.ACK, bytes(2)).encode()
+        lines.append(f'{{"number":{number},"operation":"mute","frame":"{command.encode().hex()}",'
+                     f'"reply":"{reply.hex()}"}}\n')
+    return "".join(lines)
+
+
 def session_run(number: int, run: str) -> str:
     """The entries of a session's run with this number."""
     return "".join(
@@ -151,9 +163,10 @@ def shows_with_scene(name: str, log: str, scene: str, text: str) -> Case:
 
 
 def refuses(name: str, log: str, line: int) -> Case:
-    """Explain prints only that this line isn't a log's, and says how to get those before it."""
+    """Explain prints only that this line isn't a log's, and says how to get those before and after it."""
     before = f"; 'head -n {line - 1}' has those before it" if line > 1 else ""
-    reason = f'wurstlinen: line {line} of "{EXPLAINED_NAME}" isn\'t a line of a log{before}\n'
+    after = f"; 'tail -n +{line + 1}' has those after it"
+    reason = f'wurstlinen: line {line} of "{EXPLAINED_NAME}" isn\'t a line of a log{before}{after}\n'
     expected = Expected(status=1, out=f"fault: line {line}\n".encode(), err=reason.encode())
     return explained(name, log.encode(), expected)
 

@@ -1,6 +1,6 @@
 -- What a session's log shows of the kind of its next run. A run serves all earlier discoveries without an answer. If
 -- any of them is full, it is full, otherwise incremental.
-use Rattle.std.specs.Prelude.{ℕ, ◌-◌, Bool, false, ◌||◌, not, nat_lt, Option, Some, None, ◌==◌, if◌then◌else◌}
+use Rattle.std.specs.Prelude.{ℕ, ◌+◌, ◌-◌, ◌^◌, Bool, false, ◌||◌, not, nat_lt, Option, Some, None, ◌==◌, if◌then◌else◌}
 use Rattle.rdm_agent.specs.declared.kind.Kind.{Kind}
 use Rattle.rdm_agent.specs.declared.kind.Kind.TheVariants.{Full, Incremental}
 use Rattle.rdm_findings.specs.declared.asks.Asks.{Asks}
@@ -61,6 +61,11 @@ abbrev pub earlier : Option ℕ → ℕ → Option ℕ
 earlier None n = Some n
 earlier (Some first) n = Some first
 
+-- the first number, or else the second
+abbrev pub first_of_two : Option ℕ → Option ℕ → Option ℕ
+first_of_two None second = second
+first_of_two (Some first) second = Some first
+
 -- the last full discovery, after another one
 abbrev pub full_after : ℕ → Kind → Option ℕ → Option ℕ
 full_after n Full full = Some n
@@ -75,9 +80,13 @@ after_ask n kind a = record {
   answered = a.answered;
 }
 
--- a discovery was answered
-abbrev pub after_answer : ℕ → Asks → Asks
-after_answer n a = record a { answered = Some n }
+-- the number of the run after this one, which has ended. Run 0 never began, and no run comes after the last number
+abbrev pub run_after : ℕ → Option ℕ
+run_after r = if (r == 0) || (r == 2 ^ 64 - 1) then None else Some (r + 1)
+
+-- a discovery was answered by this run. The runs after it begin in the log
+abbrev pub after_answer : ℕ → ℕ → Asks → Asks
+after_answer n r a = record a { answered = Some n; first_run = first_of_two a.first_run (run_after r) }
 
 -- the log has a frame of a run. The runs after it begin in the log
 abbrev pub after_run : ℕ → Asks → Asks

@@ -29,7 +29,8 @@ breach_after heard SilentBranches =
 breach_after true SilentMutes = codes " is the fifth mute of it in a row without an answer; try it alone on the line"
 breach_after false SilentMutes =
     codes " is the fifth mute of it in a row without an answer; check its power and its cable"
-breach_after heard GarbledMute = codes " has no acknowledgement; try it alone on the line"
+breach_after heard GarbledMute =
+    codes " has no acknowledgement; a rule was broken, by it, another device or noise: try it alone, and then the others"
 
 -- a device that followed the rules. `whole` says that the log has all of the run
 abbrev pub followed_text : Bool → List ℕ

@@ -1,5 +1,5 @@
 -- Whether the log of a run shows that the run is over, how it ended, and whether it found each device.
-use Rattle.std.specs.Prelude.{ℕ, ◌-◌, Bool, true, false, ◌&&◌, ◌||◌, not, nat_lt, List, Option, Some, None, length}
+use Rattle.std.specs.Prelude.{ℕ, ◌-◌, Bool, true, false, ◌&&◌, ◌||◌, not, nat_le, nat_lt, List, Option, Some, None, length}
 use Rattle.std.specs.Prelude.{slice_get, is_some, drop, ◌==◌, if◌then◌else◌}
 use Rattle.std.specs.List.{list_any, list_all}
 use Rattle.rdm_wire.specs.Honest.{is_acked}
@@ -8,7 +8,7 @@ use Rattle.rdm_wire.specs.Devices.{uids_of}
 use Rattle.rdm_wire.specs.declared.device.Device.{Device}
 use Rattle.rdm_agent.specs.Run.{is_branch}
 use Rattle.rdm_agent.specs.declared.fault.AgentFault.{AgentFault}
-use Rattle.rdm_agent.specs.declared.fault.AgentFault.TheVariants.{Corrupt}
+use Rattle.rdm_agent.specs.declared.fault.AgentFault.TheVariants.{Corrupt, TooMany, Exhausted}
 use Rattle.rdm_explain.specs.declared.certificate.RunFinding.{RunFinding}
 use Rattle.rdm_explain.specs.declared.certificate.KnownFinding.{KnownFinding}
 use Rattle.rdm_explain.specs.declared.exchange.Asked.{Asked}
@@ -110,13 +110,43 @@ corrupt_end reported xs f =
     if is_some f.missing_unmute || is_some f.failure then None else corrupt_uid (uids_of reported) xs
 
 -- the end as Corrupt with this UID
-abbrev pub as_corrupt : Option ℕ → Option (Option AgentFault)
+abbrev pub as_corrupt : Option ℕ → Option AgentFault
 as_corrupt None = None
-as_corrupt (Some u) = Some (Some (Corrupt u))
+as_corrupt (Some u) = Some (Corrupt u)
+
+-- the end as TooMany: a device acknowledged a mute, and the report has no place for it
+abbrev pub as_too_many : RunFinding → Option AgentFault
+as_too_many f = if is_some f.misreported then Some TooMany else None
+
+-- whether this many exchanges use up the budget of a run, if that is known
+abbrev pub is_spent : ℕ → Option ℕ → Bool
+is_spent many None = false
+is_spent many (Some budget) = nat_le budget many
+
+-- the end as Exhausted: a run has used up its budget, and wasn't done
+abbrev pub as_exhausted : RunHead → List Exchange → RunFinding → Option AgentFault
+as_exhausted head xs f =
+    if is_spent (length xs) head.budget && not (is_complete f || is_some f.failure) then Some Exhausted else None
+
+-- the first fault, or else the second
+abbrev pub first_fault : Option AgentFault → Option AgentFault → Option AgentFault
+first_fault None second = second
+first_fault (Some fault) second = Some fault
+
+-- the fault with which a run ended, if its exchanges show it: what the last reply shows comes before the budget
+abbrev pub shown_fault : RunHead → List Device → List Exchange → RunFinding → Option AgentFault
+shown_fault head reported xs f =
+    first_fault (as_corrupt (corrupt_end reported xs f)) (first_fault (as_too_many f) (as_exhausted head xs f))
+
+-- an end with this fault
+abbrev pub with_fault : Option AgentFault → Option (Option AgentFault)
+with_fault None = None
+with_fault (Some fault) = Some (Some fault)
 
 -- how a run ended that the log has from its beginning, if these exchanges show it
 abbrev pub shown_end : RunHead → List Device → List Exchange → RunFinding → Option (Option AgentFault)
-shown_end head reported xs f = if has_start head.start then as_corrupt (corrupt_end reported xs f) else None
+shown_end head reported xs f =
+    if has_start head.start then with_fault (shown_fault head reported xs f) else None
 
 -- the end that the log says, or else the one that the exchanges show
 abbrev pub said_or_shown : Option (Option AgentFault) → Option (Option AgentFault) → Option (Option AgentFault)
@@ -127,14 +157,14 @@ said_or_shown (Some fault) shown = Some fault
 abbrev pub end_of : RunHead → List Device → List Exchange → RunFinding → Option (Option AgentFault)
 end_of head reported xs f = said_or_shown head.fault (shown_end head reported xs f)
 
--- Whether the exchanges of the run show that nothing came after them: no UID is left to be searched, or the run ended
--- as Corrupt
-abbrev pub shows_end : List Device → List Exchange → RunFinding → Bool
-shows_end reported xs f = is_complete f || is_some (corrupt_end reported xs f)
+-- whether exchanges show that nothing came after them, if they have all of a run up to there: no UID is left to be
+-- searched, or the run ended with a fault
+abbrev pub shows_end : RunHead → List Device → List Exchange → RunFinding → Bool
+shows_end head reported xs f = is_complete f || is_some (shown_fault head reported xs f)
 
 -- whether the run is over: the log says how it ended, or its exchanges show that nothing came after them
 abbrev pub is_over : RunHead → List Device → List Exchange → RunFinding → Bool
-is_over head reported xs f = (is_some head.fault || is_some f.failure) || shows_end reported xs f
+is_over head reported xs f = (is_some head.fault || is_some f.failure) || shows_end head reported xs f
 
 -- whether the log has all of the run
 abbrev pub is_whole : RunHead → List Device → List Exchange → RunFinding → Bool

@@ -20,7 +20,7 @@ use Rattle.rdm_findings.specs.declared.heard.RunUids.{RunUids}
 use Rattle.rdm_findings.specs.declared.mention.RunFacts.{RunFacts}
 use Rattle.rdm_findings.specs.DeviceText.{device_line, culprit_line, gone_line}
 use Rattle.rdm_findings.specs.Ends.{is_whole, decides_stray, never_muted}
-use Rattle.rdm_findings.specs.FindingText.{head_line, run_gaps, stray_line, garbled_line, unless_garbled, any_broke}
+use Rattle.rdm_findings.specs.FindingText.{head_line, run_gaps, quiet_text, stray_line, garbled_line, unless_garbled, any_broke}
 use Rattle.rdm_findings.specs.HeardUids.{heard_in, in_uids}
 use Rattle.rdm_findings.specs.Mentions.{garbled_mention, stray_mention}
 
@@ -121,7 +121,7 @@ devices_text r f =
 abbrev pub findings_text : RunHead → List Exchange → Findings → List ℕ
 findings_text head xs f =
     head_line head f.reported xs f.certificate f.names ++ run_gaps head.start f.certificate f.names
-    ++ devices_text (facts_of head xs f) f
+    ++ quiet_text head xs f.certificate ++ devices_text (facts_of head xs f) f
     ++ stray_line head.start f.due.items (decides_stray head f.certificate) xs (stray_of f)
     ++ garbled_line head.start xs f.garbled
 

@@ -1,6 +1,8 @@
 -- The text of findings about a run: one finding a line.
 use Rattle.std.specs.Prelude.{ℕ, Bool, false, ◌&&◌, ◌||◌, not, List, [], ◌∷◌, ◌++◌, Option, Some, None, codes, decimal}
 use Rattle.std.specs.Prelude.{length, slice_get, is_some, ◌==◌, if◌then◌else◌, true}
+use Rattle.std.specs.List.{list_all}
+use Rattle.rdm_wire.specs.Honest.{is_silent}
 use Rattle.rdm_wire.specs.Uid.{is_broadcast}
 use Rattle.rdm_wire.specs.UidText.{uid_text}
 use Rattle.rdm_wire.specs.declared.device.Device.{Device}
@@ -9,6 +11,7 @@ use Rattle.rdm_agent.specs.declared.kind.Kind.TheVariants.{Full, Incremental}
 use Rattle.rdm_agent.specs.declared.search.Search.{Search}
 use Rattle.rdm_agent.specs.declared.search.Search.TheVariants.{Steady, Quick}
 use Rattle.rdm_agent.specs.declared.fault.AgentFault.{AgentFault}
+use Rattle.rdm_agent.specs.declared.fault.AgentFault.TheVariants.{Exhausted, Aborted}
 use Rattle.rdm_reports.specs.Report.{line_of, fault_text}
 use Rattle.rdm_explain.specs.declared.certificate.RunFinding.{RunFinding}
 use Rattle.rdm_explain.specs.declared.certificate.KnownFinding.{KnownFinding}
@@ -18,12 +21,13 @@ use Rattle.rdm_explain.specs.declared.exchange.Heard.{Heard}
 use Rattle.rdm_explain.specs.declared.exchange.Heard.TheVariants.{One}
 use Rattle.rdm_explain.specs.declared.exchange.Exchange.{Exchange}
 use Rattle.rdm_explain.specs.declared.rule.DeviceFinding.{DeviceFinding}
+use Rattle.rdm_explain.specs.Exchanges.{heard_of}
 use Rattle.rdm_findings.specs.declared.head.RunHead.{RunHead}
 use Rattle.rdm_findings.specs.declared.head.Start.{Start}
 use Rattle.rdm_findings.specs.declared.head.Start.TheVariants.{At, Later, Unknown}
 use Rattle.rdm_findings.specs.declared.stray_bytes.Sign.{Sign}
 use Rattle.rdm_findings.specs.declared.stray_bytes.Sign.TheVariants as signs
-use Rattle.rdm_findings.specs.Ends.{is_complete, is_known_complete, is_over, is_lost, end_of}
+use Rattle.rdm_findings.specs.Ends.{is_complete, is_known_complete, is_over, is_lost, end_of, decides_stray}
 use Rattle.rdm_findings.specs.Starts.{has_start, number_at}
 use Rattle.rdm_findings.specs.StrayBytes.{sign_of}
 
@@ -82,6 +86,19 @@ gap_text decided =
     if decided then codes "; its certificate is incomplete"
     else codes "; its certificate is incomplete, or the log ends within the run"
 
+-- why a certificate is incomplete, if the run's end says more than lines about its parts do
+abbrev pub cause_text : Option ℕ → Option (Option AgentFault) → List ℕ
+cause_text None (Some (Some Exhausted)) = codes ": its budget of frames is used up"
+cause_text (Some budget) (Some (Some Exhausted)) =
+    codes ": its budget of " ++ (count_text budget (codes " frame") ++ codes " is used up")
+cause_text budget (Some (Some Aborted)) = codes ": it was aborted"
+cause_text budget _ = []
+
+-- the same, unless the certificate is complete, or can't be decided
+abbrev pub because_text : RunHead → Option (Option AgentFault) → RunFinding → List ℕ
+because_text head ending f =
+    if has_start head.start && not (is_complete f) then cause_text head.budget ending else []
+
 -- the certificate, by the findings about its parts, if the log has the run's beginning
 abbrev pub begun_text : RunHead → Bool → RunFinding → Option KnownFinding → List ℕ
 begun_text head decided f names = if is_complete f then sound_text head.kind names else gap_text decided
@@ -120,7 +137,8 @@ decides_gaps head reported xs f names = is_over head reported xs f || is_lost xs
 abbrev pub head_line : RunHead → List Device → List Exchange → RunFinding → Option KnownFinding → List ℕ
 head_line head reported xs f names =
     line_of (head_text head (end_of head reported xs f) (length xs) (length reported)
-    ++ certificate_text head (decides_gaps head reported xs f names) f names)
+    ++ (certificate_text head (decides_gaps head reported xs f names) f names
+    ++ because_text head (end_of head reported xs f) f))
 
 -- a part of the certificate that fails at an exchange
 abbrev pub exchange_gap : Option ℕ → List ℕ → List ℕ
@@ -146,7 +164,7 @@ abbrev pub start_gaps : RunFinding → List ℕ
 start_gaps f =
     exchange_gap f.missing_unmute (codes " should be one of the three unmutes that begin a run")
     ++ exchange_gap f.failure failed_text
-    ++ uid_gap f.misreported (codes " is reported without an acknowledgement, or acknowledged and not reported")
+    ++ uid_gap f.misreported (codes " acknowledged a mute, but isn't reported: a run reports at most 1,024 devices")
 
 -- the parts about mutes, UIDs that weren't ruled out, and what is reported of a device
 abbrev pub end_gaps : RunFinding → List ℕ
@@ -171,6 +189,16 @@ names_gaps f =
 abbrev pub known_gaps : Option KnownFinding → List ℕ
 known_gaps None = []
 known_gaps (Some f) = names_gaps f
+
+-- whether no byte came
+abbrev pub hears_nothing : Exchange → Bool
+hears_nothing e = is_silent (heard_of e.heard)
+
+-- a run that found all devices, but heard none
+abbrev pub quiet_text : RunHead → List Exchange → RunFinding → List ℕ
+quiet_text head xs f =
+    if decides_stray head f && list_all hears_nothing xs then
+    line_of (codes "no byte came in the whole run: check the adapter and the first cable") else []
 
 -- the first exchange that failed, by its number in the run
 abbrev pub failure_gap : Start → Option ℕ → List ℕ
@@ -198,7 +226,7 @@ place_text _ = []
 
 -- what the bytes read as
 abbrev pub sign_text : Sign → List ℕ
-sign_text (signs.Listed u) = codes "; they read as " ++ uid_text u ++ codes ", which should be silent there"
+sign_text (signs.Listed u) = codes "; they read as " ++ uid_text u ++ codes ", which should be silent there unless it restarted"
 sign_text (signs.Other u) = codes "; they read as " ++ uid_text u ++ codes ", which isn't listed"
 sign_text signs.Unread = []
 
@@ -253,7 +281,7 @@ other_bytes heard = codes " alone that aren't its text" ++ reply_text heard
 abbrev pub same_text : ℕ → List ℕ
 same_text u =
     if is_broadcast u then codes " alone, which no device may have; a rule was broken: look for one that has it"
-    else codes " alone, which had acknowledged its mute; a rule was broken: try it alone on the line"
+    else codes " alone, which had acknowledged its mute: it restarted, or broke a rule; try it alone on the line"
 
 -- the same, or other bytes
 abbrev pub own_text : ℕ → Heard → List ℕ

@@ -42,17 +42,17 @@ pub record ReadState : Type 0 where
   pub sent : Option (ArrayVec ℕ)
 
 -- a run of which this is known, before its first exchange
-abbrev pub run_of : Option ℕ → Option Kind → Option Search → Start → Option (List ℕ) → RunRead
-run_of number kind search start known = record {
-  head = record { number = number; kind = kind; search = search; start = start; fault = None };
+abbrev pub run_of : Option ℕ → Option Kind → Option Search → Start → Option ℕ → Option (List ℕ) → RunRead
+run_of number kind search start budget known = record {
+  head = record { number = number; kind = kind; search = search; start = start; budget = budget; fault = None };
   known = known;
   exchanges = [];
 }
 
 -- a log begins: of a session or of a discovery. This is known of its next run
-abbrev pub awaiting : Bool → Option Kind → Option Search → Option (List ℕ) → Asks → ReadState
-awaiting is_session kind search known asks = record {
-  run = run_of None kind search Unknown known;
+abbrev pub awaiting : Bool → Option Kind → Option Search → Option ℕ → Option (List ℕ) → Asks → ReadState
+awaiting is_session kind search budget known asks = record {
+  run = run_of None kind search Unknown budget known;
   has_run = false;
   is_session = is_session;
   asks = asks;
@@ -61,7 +61,7 @@ awaiting is_session kind search known asks = record {
 
 -- a log begins without an opening
 abbrev pub unopened : Bool → ReadState
-unopened is_session = awaiting is_session None None None no_asks
+unopened is_session = awaiting is_session None None None None no_asks
 
 -- before the first line
 abbrev pub nothing_read : ReadState
@@ -139,7 +139,7 @@ with_known known s = record s { run = record s.run { known = known } }
 -- a run of a session begins, or the log begins within it
 abbrev pub begun : ℕ → ReadState → ReadState
 begun r s = record {
-  run = run_of (Some r) (kind_of_run r s.asks) s.run.head.search (start_of r s.asks) (known_after s);
+  run = run_of (Some r) (kind_of_run r s.asks) s.run.head.search (start_of r s.asks) s.run.head.budget (known_after s);
   has_run = true;
   is_session = s.is_session;
   asks = after_run r s.asks;
@@ -205,15 +205,15 @@ after_entry (entries.Send owner frame) s = after_send owner frame s
 after_entry (entries.Came event) s = after_event s.sent event s
 after_entry (entries.Ask client number kind) s = with_asks (after_ask number kind s.asks) s
 after_entry (entries.Answer number r fault) s =
-    with_asks (after_answer number s.asks) (after_end r fault s)
+    with_asks (after_answer number r s.asks) (after_end r fault s)
 after_entry _ s = s
 
 -- after a line
 abbrev pub after_line : LogLine → ReadState → ReadState
 after_line (Discovery o) s =
-    awaiting false (Some o.value.kind) (Some o.value.search) (Some o.value.known) no_asks
+    awaiting false (Some o.value.kind) (Some o.value.search) (Some o.value.budget) (Some o.value.known) no_asks
 after_line (Session o) s =
-    awaiting true None (Some o.value.search) (Some (uids_of o.value.opening.devices))
+    awaiting true None (Some o.value.search) (Some o.value.opening.budget) (Some (uids_of o.value.opening.devices))
     (asks_from o.value.opening.next_ask o.value.opening.next_run)
 after_line (Entered entry) s =
     after_entry entry (if not s.is_session || begins_log entry s then unopened true else s)

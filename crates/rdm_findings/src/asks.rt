@@ -1,6 +1,6 @@
 //! What a session's log shows of the discoveries that its next run serves.
 ghost use Rattle.std.specs.Prelude.{◌≡◌};
-ghost use Rattle.rdm_findings.specs.Asked.{earlier};
+ghost use Rattle.rdm_findings.specs.Asked.{earlier, run_after};
 
 use crate::head::Start;
 use rdm_agent::Kind;
@@ -127,11 +127,14 @@ impl Asks {
         }
     }
 
-    /// A discovery is answered.
-    pub(crate) fn answer(&mut self, number: u64)
-        ensures { self.new ≡ after_answer number self.old }
+    /// A discovery is answered by the run with this number.
+    pub(crate) fn answer(&mut self, number: u64, run: u64)
+        ensures { self.new ≡ after_answer number run self.old }
     {
         self.answered = Some(number);
+        if self.first_run.is_none() {
+            self.first_run = run_after(run);
+        }
     }
 
     /// The first frame of a run in the log.
@@ -139,6 +142,17 @@ impl Asks {
         ensures { self.new ≡ after_run number self.old }
     {
         self.first_run = earlier(self.first_run, number);
+    }
+}
+
+// The number of the run after one that has ended, if there can be one.
+fn run_after(run: u64) -> Option<u64>
+    ensures { result ≡ run_after run }
+{
+    if run == 0 || run == u64::MAX {
+        None
+    } else {
+        Some(run + 1)
     }
 }
 

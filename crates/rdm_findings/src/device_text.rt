@@ -102,7 +102,10 @@ fn write_missed(text: &mut Vec<u8>, start: Start, failure: Option<usize>) -> Res
 {
     write(text, " wasn't found: ")?;
     write_over(text, start, failure)?;
-    write(text, " before it was ruled out; it broke no rule until then")
+    write(
+        text,
+        " before it was ruled out; it broke no rule until then",
+    )
 }
 
 // Why the run was over.
@@ -182,6 +185,9 @@ fn breach_before(never: bool, rule: Rule) -> &'static str
     }
 }
 
+const UNACKNOWLEDGED: &str =
+    " has no acknowledgement; a rule was broken, by it, another device or noise: try it alone, and then the others";
+
 fn breach_after(heard: bool, rule: Rule) -> &'static str
     ensures { result.now ≡ breach_after heard rule }
 {
@@ -196,6 +202,6 @@ fn breach_after(heard: bool, rule: Rule) -> &'static str
                 " is the fifth mute of it in a row without an answer; check its power and its cable"
             }
         }
-        Rule::GarbledMute => " has no acknowledgement; try it alone on the line",
+        Rule::GarbledMute => UNACKNOWLEDGED,
     }
 }

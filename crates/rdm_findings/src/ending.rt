@@ -6,7 +6,8 @@ ghost use Rattle.rdm_agent.specs.Run.{is_branch};
 ghost use Rattle.std.specs.List.{list_all};
 ghost use Rattle.rdm_findings.specs.Ends.{is_complete, is_known_complete, shows_new, new_alone, wrong_alone};
 ghost use Rattle.rdm_findings.specs.Ends.{new_alone_in, wrong_alone_in, from_end, last_of, is_lost_mute};
-ghost use Rattle.rdm_findings.specs.Ends.{lacks_acknowledgement, never_muted, corrupt_uid, corrupt_end, as_corrupt};
+ghost use Rattle.rdm_findings.specs.Ends.{lacks_acknowledgement, never_muted, corrupt_uid, corrupt_end};
+ghost use Rattle.rdm_findings.specs.Ends.{as_too_many, is_spent, as_exhausted, first_fault, shown_fault, with_fault};
 ghost use Rattle.rdm_findings.specs.Ends.{shown_end, end_of, shows_end, is_over, is_whole, decides_stray, has_bytes};
 ghost use Rattle.rdm_findings.specs.Ends.{is_own, lacks_unmute, has_branch, loses_names, is_lost};
 
@@ -59,19 +60,59 @@ fn shown_end(
     ensures { result ≡ shown_end head.now reported.now exchanges.now found.now }
 {
     if head.start.is_first() {
-        as_corrupt(corrupt_end(reported, exchanges, found))
+        with_fault(shown_fault(head, reported, exchanges, found))
     } else {
         None
     }
 }
 
-// The end as Corrupt with this UID.
-fn as_corrupt(uid: Option<Uid>) -> Option<Option<AgentFault>>
-    ensures { result ≡ as_corrupt uid }
+// An end with this fault.
+fn with_fault(fault: Option<AgentFault>) -> Option<Option<AgentFault>>
+    ensures { result ≡ with_fault fault }
 {
-    match uid {
-        Some(uid) => Some(Some(AgentFault::Corrupt(uid))),
+    match fault {
+        Some(fault) => Some(Some(fault)),
         None => None,
+    }
+}
+
+// The fault with which the run ended, if its exchanges show it.
+fn shown_fault(
+    head: &RunHead,
+    reported: &DeviceSet,
+    exchanges: &[Exchange],
+    found: &RunFinding,
+) -> Option<AgentFault>
+    ensures { result ≡ shown_fault head.now reported.now exchanges.now found.now }
+{
+    match corrupt_end(reported, exchanges, found) {
+        Some(uid) => Some(AgentFault::Corrupt(uid)),
+        None => shown_limit(head, exchanges, found),
+    }
+}
+
+// The end of a run with too many devices, or with too few frames.
+fn shown_limit(head: &RunHead, exchanges: &[Exchange], found: &RunFinding) -> Option<AgentFault>
+    ensures { result ≡ first_fault (as_too_many found.now) (as_exhausted head.now exchanges.now found.now) }
+{
+    if found.misreported.is_some() {
+        Some(AgentFault::TooMany)
+    } else if is_spent(exchanges.len(), head.budget)
+        && !(is_complete(found) || found.failure.is_some())
+    {
+        Some(AgentFault::Exhausted)
+    } else {
+        None
+    }
+}
+
+// Whether so many exchanges use up the budget, if that is known.
+fn is_spent(many: usize, budget: Option<u64>) -> bool
+    ensures { result ≡ is_spent many budget }
+{
+    match budget {
+        Some(budget) => budget <= many as u64,
+        None => false,
     }
 }
 
@@ -84,7 +125,7 @@ pub(crate) fn is_over(
 ) -> bool
     ensures { result ≡ is_over head.now reported.now exchanges.now found.now }
 {
-    (head.fault.is_some() || found.failure.is_some()) || shows_end(reported, exchanges, found)
+    (head.fault.is_some() || found.failure.is_some()) || shows_end(head, reported, exchanges, found)
 }
 
 /// Whether the log has all of the run.
@@ -100,10 +141,15 @@ pub(crate) fn is_whole(
 }
 
 // Whether its exchanges show that nothing came after them.
-fn shows_end(reported: &DeviceSet, exchanges: &[Exchange], found: &RunFinding) -> bool
-    ensures { result ≡ shows_end reported.now exchanges.now found.now }
+fn shows_end(
+    head: &RunHead,
+    reported: &DeviceSet,
+    exchanges: &[Exchange],
+    found: &RunFinding,
+) -> bool
+    ensures { result ≡ shows_end head.now reported.now exchanges.now found.now }
 {
-    is_complete(found) || corrupt_end(reported, exchanges, found).is_some()
+    is_complete(found) || shown_fault(head, reported, exchanges, found).is_some()
 }
 
 /// Whether stray bytes show that a rule was broken, unless their device left: the log has the run's beginning, and the

@@ -9,7 +9,7 @@ ghost use Rattle.rdm_findings.specs.Explained.{devices_text};
 
 use crate::device_text::write_devices;
 use crate::ending::{decides_stray, is_whole};
-use crate::gap_text::write_run_gaps;
+use crate::gap_text::{write_quiet, write_run_gaps};
 use crate::garbled_text::write_garbled;
 use crate::gone_text::{write_culprit, write_gone};
 use crate::head::RunHead;
@@ -183,6 +183,7 @@ fn text(
         &found.names,
     )?;
     write_run_gaps(&mut text, head.start, &found.certificate, &found.names)?;
+    write_quiet(&mut text, head, exchanges, &found.certificate)?;
     write_judged(&mut text, &facts_of(head, exchanges, found), found)?;
     write_bytes(&mut text, head, exchanges, found)?;
     Ok(text)
@@ -258,11 +259,7 @@ fn facts_of(head: &RunHead, exchanges: &[Exchange], found: &Findings) -> RunFact
 }
 
 // Writes a line for each device that is listed, didn't mute, or was known and is gone.
-fn write_judged(
-    text: &mut Vec<u8>,
-    facts: &RunFacts,
-    found: &Findings,
-) -> Result<(), AllocError>
+fn write_judged(text: &mut Vec<u8>, facts: &RunFacts, found: &Findings) -> Result<(), AllocError>
     ensures { OnOk result (text.new.items ≡ text.old.items ++ devices_text facts.now found.now) }
 {
     write_devices(text, facts, &found.heard, &found.acked, &found.devices)?;

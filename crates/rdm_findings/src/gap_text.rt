@@ -1,11 +1,14 @@
 //! The parts of a certificate that fail.
 ghost use Rattle.std.specs.Prelude.{◌≡◌, ◌++◌, [], OnOk, codes};
 ghost use Rattle.rdm_findings.specs.FindingText.{device_gap, start_gaps, end_gaps, gaps_text};
+ghost use Rattle.std.specs.List.{list_all};
+ghost use Rattle.rdm_findings.specs.FindingText.{quiet_text, hears_nothing};
 ghost use Rattle.rdm_findings.specs.FindingText.{names_gaps, known_gaps, failure_gap, run_gaps};
 
-use crate::head::Start;
-use crate::writing::{write_exchange_gap, write_exchange_line, write_uid_gap};
-use rdm_explain::{KnownFinding, RunFinding};
+use crate::ending::decides_stray;
+use crate::head::{RunHead, Start};
+use crate::writing::{write_end, write_exchange_gap, write_exchange_line, write_uid_gap};
+use rdm_explain::{Exchange, KnownFinding, RunFinding};
 use rdm_wire::Device;
 use std::alloc::AllocError;
 
@@ -24,6 +27,37 @@ pub(crate) fn write_run_gaps(
     } else {
         write_failure(text, start, found.failure)
     }
+}
+
+/// Writes a line if the run found all devices, but heard none.
+pub(crate) fn write_quiet(
+    text: &mut Vec<u8>,
+    head: &RunHead,
+    exchanges: &[Exchange],
+    found: &RunFinding,
+) -> Result<(), AllocError>
+    ensures { OnOk result (text.new.items ≡ text.old.items ++ quiet_text head.now exchanges.now found.now) }
+{
+    if decides_stray(head, found) && hear_nothing(exchanges) {
+        write_end(
+            text,
+            "no byte came in the whole run: check the adapter and the first cable",
+        )
+    } else {
+        Ok(())
+    }
+}
+
+// Whether no byte came in any exchange.
+fn hear_nothing(exchanges: &[Exchange]) -> bool
+    ensures { result ≡ list_all hears_nothing exchanges.now }
+{
+    for exchange in exchanges {
+        if !exchange.heard.is_silent() {
+            return false;
+        }
+    }
+    true
 }
 
 const FAILED: &str = " failed: check the adapter and the cable";
@@ -56,7 +90,7 @@ fn write_start_gaps(text: &mut Vec<u8>, found: &RunFinding) -> Result<(), AllocE
     write_uid_gap(
         text,
         found.misreported,
-        " is reported without an acknowledgement, or acknowledged and not reported",
+        " acknowledged a mute, but isn't reported: a run reports at most 1,024 devices",
     )
 }
 

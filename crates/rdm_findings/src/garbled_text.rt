@@ -80,7 +80,7 @@ fn same_text(uid: Uid) -> &'static str
     if uid.is_broadcast() {
         " alone, which no device may have; a rule was broken: look for one that has it"
     } else {
-        " alone, which had acknowledged its mute; a rule was broken: try it alone on the line"
+        " alone, which had acknowledged its mute: it restarted, or broke a rule; try it alone on the line"
     }
 }
 

@@ -41,11 +41,7 @@ pub(crate) fn write_gone(
 
 const MISSED: &str = " was known, and wasn't found: the run ended before it was ruled out";
 
-fn write_one(
-    text: &mut Vec<u8>,
-    facts: &RunFacts,
-    gone: &DeviceFinding,
-) -> Result<(), AllocError>
+fn write_one(text: &mut Vec<u8>, facts: &RunFacts, gone: &DeviceFinding) -> Result<(), AllocError>
     ensures { OnOk result (text.new.items ≡ text.old.items ++ gone_line facts.now gone.now) }
 {
     match gone.breach {

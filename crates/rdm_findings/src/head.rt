@@ -48,6 +48,8 @@ pub struct RunHead {
     pub search: Option<Search>,
     /// With which of its exchanges the log begins to have it.
     pub start: Start,
+    /// How many frames it may send, if that is known.
+    pub budget: Option<u64>,
     /// How it ended, if the log says so: its fault, or none.
     pub fault: Option<Option<AgentFault>>,
 }

@@ -1,9 +1,10 @@
 //! The first line of a run.
-ghost use Rattle.std.specs.Prelude.{◌≡◌, ◌++◌, ◌∷◌, [], OnOk};
+ghost use Rattle.std.specs.Prelude.{◌≡◌, ◌++◌, ◌∷◌, [], Some, OnOk, codes};
 ghost use Rattle.rdm_reports.specs.Report.{fault_text};
 ghost use Rattle.rdm_findings.specs.FindingText.{name_text, kind_text, search_text, what_text, end_text, outcome_text};
 ghost use Rattle.rdm_findings.specs.FindingText.{sound_text, gap_text, begun_text, certificate_text, decides_gaps};
-ghost use Rattle.rdm_findings.specs.FindingText.{head_text, head_line};
+ghost use Rattle.rdm_findings.specs.Ends.{end_of};
+ghost use Rattle.rdm_findings.specs.FindingText.{head_text, head_line, because_text, cause_text, count_text};
 
 use crate::ending::{end_of, is_complete, is_known_complete, is_lost, is_over};
 use crate::head::{RunHead, Start};
@@ -26,10 +27,78 @@ pub(crate) fn write_head(
         ++ head_line head.now reported.now exchanges.now certificate.now names.now) }
 {
     let ending = end_of(head, reported, exchanges, certificate);
-    let decided = decides_gaps(head, reported, exchanges, certificate, names);
     write_run(text, head, ending, exchanges.len(), reported.len())?;
-    write(text, certificate_text(head, decided, certificate, names))?;
+    write_certificate(text, head, reported, exchanges, certificate, names)?;
     text.extend_from_slice(b"\n")
+}
+
+// The certificate, and why it is incomplete.
+fn write_certificate(
+    text: &mut Vec<u8>,
+    head: &RunHead,
+    reported: &DeviceSet,
+    exchanges: &[Exchange],
+    certificate: &RunFinding,
+    names: &Option<KnownFinding>,
+) -> Result<(), AllocError>
+    ensures { OnOk result (text.new.items ≡ text.old.items
+        ++ (certificate_text head.now (decides_gaps head.now reported.now exchanges.now certificate.now names.now)
+        certificate.now names.now
+        ++ because_text head.now (end_of head.now reported.now exchanges.now certificate.now) certificate.now)) }
+{
+    let decided = decides_gaps(head, reported, exchanges, certificate, names);
+    let ending = end_of(head, reported, exchanges, certificate);
+    write(text, certificate_text(head, decided, certificate, names))?;
+    write_because(text, head, ending, certificate)
+}
+
+// Why a certificate is incomplete, unless it is complete, or can't be decided.
+fn write_because(
+    text: &mut Vec<u8>,
+    head: &RunHead,
+    ending: Option<Option<AgentFault>>,
+    certificate: &RunFinding,
+) -> Result<(), AllocError>
+    ensures { OnOk result (text.new.items ≡ text.old.items ++ because_text head.now ending certificate.now) }
+{
+    if head.start.is_first() && !is_complete(certificate) {
+        write_cause(text, head.budget, ending)
+    } else {
+        Ok(())
+    }
+}
+
+fn write_cause(
+    text: &mut Vec<u8>,
+    budget: Option<u64>,
+    ending: Option<Option<AgentFault>>,
+) -> Result<(), AllocError>
+    ensures { OnOk result (text.new.items ≡ text.old.items ++ cause_text budget ending) }
+{
+    match ending {
+        Some(Some(AgentFault::Exhausted)) => write_spent(text, budget),
+        Some(Some(AgentFault::Aborted)) => write(text, ": it was aborted"),
+        _ => Ok(()),
+    }
+}
+
+fn write_spent(text: &mut Vec<u8>, budget: Option<u64>) -> Result<(), AllocError>
+    ensures { OnOk result (text.new.items ≡ text.old.items
+        ++ cause_text budget (Some (Some AgentFault.Exhausted))) }
+{
+    match budget {
+        Some(budget) => write_budget(text, budget),
+        None => write(text, ": its budget of frames is used up"),
+    }
+}
+
+fn write_budget(text: &mut Vec<u8>, budget: u64) -> Result<(), AllocError>
+    ensures { OnOk result (text.new.items ≡ text.old.items
+        ++ (codes ": its budget of " ++ (count_text budget (codes " frame") ++ codes " is used up"))) }
+{
+    write(text, ": its budget of ")?;
+    write_count(text, budget, " frame")?;
+    write(text, " is used up")
 }
 
 // Whether no exchanges that the log doesn't have could mend the certificate.
@@ -55,7 +124,7 @@ fn write_run(
     ensures { OnOk result (text.new.items ≡ text.old.items ++ head_text head.now ending exchanges reported) }
 {
     write_what(text, head)?;
-    write_count(text, exchanges, " exchange")?;
+    write_count(text, exchanges as u64, " exchange")?;
     write_outcome(text, ending, reported)
 }
 
@@ -118,7 +187,7 @@ fn write_outcome(
 {
     write_ending(text, ending)?;
     write(text, ", ")?;
-    write_count(text, reported, " device")
+    write_count(text, reported as u64, " device")
 }
 
 fn write_ending(text: &mut Vec<u8>, ending: Option<Option<AgentFault>>) -> Result<(), AllocError>

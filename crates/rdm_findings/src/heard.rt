@@ -29,10 +29,7 @@ pub(crate) fn heard_uids(alloc: Global, exchanges: &[Exchange]) -> Result<RunUid
 }
 
 /// The UIDs that acknowledged a mute.
-pub(crate) fn acknowledged_uids(
-    alloc: Global,
-    exchanges: &[Exchange],
-) -> Result<RunUids, NoMemory>
+pub(crate) fn acknowledged_uids(alloc: Global, exchanges: &[Exchange]) -> Result<RunUids, NoMemory>
     ensures { IfOk result (λ acked. (u : ℕ) → in_uids acked u ≡ has (acked_in (seen_all exchanges.now)) u) }
 {
     let mut acked = RunUids::new(alloc);

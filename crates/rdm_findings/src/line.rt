@@ -1,13 +1,15 @@
 //! The lines of a log: read loosely, written back by the writer of logs, and compared.
-ghost use Rattle.std.specs.Prelude.{◌≡◌, IfOk, IfSome};
+ghost use Rattle.std.specs.Prelude.{◌≡◌, true, IfOk, IfSome};
+ghost use Rattle.rdm_wire.specs.Frames.{asked_in};
 ghost use Rattle.rdm_reports.specs.OpeningText.{session_opening};
-ghost use Rattle.rdm_findings.specs.Lines.{line_text};
+ghost use Rattle.rdm_findings.specs.Lines.{line_text, is_sound, asks_discovery, is_asked};
 
 use crate::fields::{bytes, has, number};
 use crate::{entry, opening};
 use rdm_agent::{Kind, Search};
+use rdm_explain::{Asked, read_exchange};
 use rdm_join::LineEvent;
-use rdm_log::{Entry, Opening};
+use rdm_log::{Entry, Opening, Owner};
 use rdm_reports::{discovery_opening, entry_line, exchange_line, session_opening};
 use rdm_wire::{Frame, NoMemory, Uid, UidSet};
 use std::alloc::{AllocError, Global};
@@ -62,11 +64,16 @@ pub enum LogLine {
 /// The line of a log that has this text, with its newline. `None`: no line that the writer of logs writes was found to
 /// have it. The only error: out of memory.
 pub fn read_line(alloc: Global, text: &[u8]) -> Result<Option<LogLine>, NoMemory>
-    ensures { IfOk result (λ found. IfSome found (λ line. line_text line ≡ text.now)) }
+    ensures text { IfOk result (λ found. IfSome found (λ line. line_text line ≡ text.now)) }
+    // Damage in a frame of a run is found by the frame's own checksum.
+    ensures sound { IfOk result (λ found. IfSome found (λ line. is_sound line ≡ true)) }
 {
     let Some(line) = seeming_line(alloc, text)? else {
         return Ok(None);
     };
+    if !is_sound(&line) {
+        return Ok(None);
+    }
     match written(alloc, &line) {
         Ok(own) => Ok(if own.as_slice() == text {
             Some(line)
@@ -75,6 +82,38 @@ pub fn read_line(alloc: Global, text: &[u8]) -> Result<Option<LogLine>, NoMemory
         }),
         Err(_) => Err(NoMemory),
     }
+}
+
+// Whether each frame of a run that the line has asks something in a discovery.
+fn is_sound(line: &LogLine) -> bool
+    ensures { result ≡ is_sound line.now }
+{
+    match line {
+        LogLine::Entered(entry) => asks_discovery(entry),
+        LogLine::Exchanged { frame, .. } => is_asked(frame),
+        LogLine::Discovery(_) | LogLine::Session(_) => true,
+    }
+}
+
+// Whether the entry has no frame of a run, or one that asks something in a discovery.
+fn asks_discovery(entry: &Entry) -> bool
+    ensures { result ≡ asks_discovery entry.now }
+{
+    match entry {
+        Entry::Send {
+            owner: Owner::Run(_),
+            frame,
+        } => is_asked(frame),
+        _ => true,
+    }
+}
+
+// Whether a frame asks something in a discovery.
+fn is_asked(frame: &Frame) -> bool
+    ensures { result ≡ is_asked (asked_in frame.now.items) }
+{
+    let exchange = read_exchange(frame, &LineEvent::Failed);
+    !matches!(exchange.asked, Asked::Other)
 }
 
 // The text of a line.

@@ -74,13 +74,7 @@ fn unless_in(uids: &[Uid], uid: Option<Uid>) -> Option<Uid>
     ensures { result ≡ unless_in uids.now uid }
 {
     match uid {
-        Some(uid) => {
-            if has(uids, uid) {
-                None
-            } else {
-                Some(uid)
-            }
-        }
+        Some(uid) => { if has(uids, uid) { None } else { Some(uid) } }
         None => None,
     }
 }
@@ -114,12 +108,7 @@ pub(crate) fn gone_of(
 }
 
 // The known UIDs that acknowledged no mute and aren't due.
-fn gone(
-    alloc: Global,
-    acked: &RunUids,
-    due: &[Uid],
-    known: &[Uid],
-) -> Result<Vec<Uid>, AllocError>
+fn gone(alloc: Global, acked: &RunUids, due: &[Uid], known: &[Uid]) -> Result<Vec<Uid>, AllocError>
     ensures { IfOk result (λ v. v.items ≡ gone_of acked.now due.now (Some known.now)) }
 {
     let mut gone = Vec::new(alloc);

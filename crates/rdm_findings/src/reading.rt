@@ -57,6 +57,7 @@ const UNKNOWN: RunHead = RunHead {
     kind: None,
     search: None,
     start: Start::Unknown,
+    budget: None,
     fault: None,
 };
 
@@ -215,22 +216,24 @@ impl Reading {
         opening: Box<DiscoveryOpening>,
     ) -> Result<(), NoMemory>
         ensures { OnOk result (self.new ≡ awaiting false (Some opening.value.kind) (Some opening.value.search)
-            (Some opening.value.known) no_asks) }
+            (Some opening.value.budget) (Some opening.value.known) no_asks) }
     {
         let known = copied(alloc, opening.known.as_slice())?;
-        self.begin_log(false, Some(opening.kind), Some(opening.search), NO_ASKS);
+        let (kind, search) = (Some(opening.kind), Some(opening.search));
+        self.begin_log(false, kind, search, Some(opening.budget), NO_ASKS);
         self.known = Some(known);
         Ok(())
     }
 
     fn open_session(&mut self, alloc: Global, opening: Box<SessionOpening>) -> Result<(), NoMemory>
         ensures { OnOk result (self.new ≡ awaiting true None (Some opening.value.search)
-            (Some (uids_of opening.value.opening.devices))
+            (Some opening.value.opening.budget) (Some (uids_of opening.value.opening.devices))
             (asks_from opening.value.opening.next_ask opening.value.opening.next_run)) }
     {
         let known = copied(alloc, opening.opening.devices.uids().as_slice())?;
         let asks = Asks::from(opening.opening.next_ask, opening.opening.next_run);
-        self.begin_log(true, None, Some(opening.search), asks);
+        let budget = Some(opening.opening.budget);
+        self.begin_log(true, None, Some(opening.search), budget, asks);
         self.known = Some(known);
         Ok(())
     }
@@ -241,15 +244,17 @@ impl Reading {
         is_session: bool,
         kind: Option<Kind>,
         search: Option<Search>,
+        budget: Option<u64>,
         asks: Asks,
     )
-        ensures { self.new ≡ awaiting is_session kind search None asks }
+        ensures { self.new ≡ awaiting is_session kind search budget None asks }
     {
         self.head = RunHead {
             number: None,
             kind,
             search,
             start: Start::Unknown,
+            budget,
             fault: None,
         };
         self.known = None;
@@ -266,7 +271,7 @@ impl Reading {
             else self.old) }
     {
         if self.begins_log(entry) {
-            self.begin_log(true, None, None, NO_ASKS);
+            self.begin_log(true, None, None, None, NO_ASKS);
         }
     }
 
@@ -278,7 +283,7 @@ impl Reading {
             return;
         }
         if self.is_session || self.has_run {
-            self.begin_log(false, None, None, NO_ASKS);
+            self.begin_log(false, None, None, None, NO_ASKS);
         }
         self.head.start = Start::At(number);
         self.has_run = true;
@@ -289,7 +294,7 @@ impl Reading {
         ensures { OnOk result (self.new ≡ begun_by run self.old) }
     {
         if self.is_anothers(run) {
-            self.begin_log(true, None, None, NO_ASKS);
+            self.begin_log(true, None, None, None, NO_ASKS);
         }
         self.begin_run(alloc, run)
     }
@@ -304,6 +309,7 @@ impl Reading {
             kind: self.asks.kind_of_run(run),
             search: self.head.search,
             start: self.asks.start_of(run),
+            budget: self.head.budget,
             fault: None,
         };
         self.asks.run(run);
@@ -349,7 +355,7 @@ impl Reading {
             }
             Entry::Answer { number, run, fault } => {
                 self.take_end(run, fault);
-                self.asks.answer(number);
+                self.asks.answer(number, run);
                 Ok(())
             }
             _ => Ok(()),

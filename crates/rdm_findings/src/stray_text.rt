@@ -85,7 +85,11 @@ fn write_sign(text: &mut Vec<u8>, sign: &Sign) -> Result<(), AllocError>
     ensures { OnOk result (text.new.items ≡ text.old.items ++ sign_text sign.now) }
 {
     match sign {
-        Sign::Listed(uid) => write_spelt(text, *uid, ", which should be silent there"),
+        Sign::Listed(uid) => write_spelt(
+            text,
+            *uid,
+            ", which should be silent there unless it restarted",
+        ),
         Sign::Other(uid) => write_spelt(text, *uid, ", which isn't listed"),
         Sign::Unread => Ok(()),
     }

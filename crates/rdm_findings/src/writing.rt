@@ -31,10 +31,10 @@ pub(crate) fn write_uid(text: &mut Vec<u8>, uid: Uid) -> Result<(), AllocError>
 }
 
 /// Writes how many there are of a thing.
-pub(crate) fn write_count(text: &mut Vec<u8>, count: usize, thing: &str) -> Result<(), AllocError>
+pub(crate) fn write_count(text: &mut Vec<u8>, count: u64, thing: &str) -> Result<(), AllocError>
     ensures { OnOk result (text.new.items ≡ text.old.items ++ count_text count thing.now) }
 {
-    write_number(text, count as u64)?;
+    write_number(text, count)?;
     write(text, thing)?;
     write(text, if count == 1 { "" } else { "s" })
 }

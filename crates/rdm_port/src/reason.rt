@@ -268,8 +268,19 @@ fn write_no_log_line<W: fmt::Write>(
 ) -> fmt::Result {
     write!(f, "line {line} of {path:?} isn't a line of a log")?;
     match line.checked_sub(1) {
-        Some(before) if before > 0 => write!(f, "; 'head -n {before}' has those before it"),
-        _ => Ok(()),
+        Some(before) if before > 0 => {
+            write!(f, "; 'head -n {before}' has those before it")?;
+        }
+        _ => {}
+    }
+    write_lines_after(f, line)
+}
+
+// How to get the lines after one that isn't a log's, such as half a line that a crash has left.
+fn write_lines_after<W: fmt::Write>(f: &mut fmt::Formatter<W>, line: u64) -> fmt::Result {
+    match line.checked_add(1) {
+        Some(after) => write!(f, "; 'tail -n +{after}' has those after it"),
+        None => Ok(()),
     }
 }
 

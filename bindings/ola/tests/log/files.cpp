@@ -108,6 +108,31 @@ void test_torn_before() {
     CHECK(whole.add(LINE) && text_of(folder.path()) == LINE + "{\"half\n" + LINE + LINE + LINE);
 }
 
+// Half a line of a log of runs is removed, since it would end each reading of the file. Any other text stays.
+void test_half_a_line_of_runs() {
+    const std::string run = "{\"number\":0,\"operation\":\"unmute\",\"frame\":\"cc\",\"reply\":\"\"}\n";
+    const std::string opening = "{\"entry\":\"opening\",\"source\":\"7a70:00000100\"}\n";
+    for (const auto &line : {run, opening}) {
+        for (std::size_t count = 1; count < line.size(); count++) {
+            const Folder folder;
+            write_text(folder.path(), run + line.substr(0, count));
+            LogFile file(folder.path(), 0);
+            CHECK(file.add(LINE) && text_of(folder.path()) == run + LINE);
+        }
+        const Folder folder;
+        write_text(folder.path(), line.substr(0, line.size() - 1));
+        LogFile file(folder.path(), 0);
+        CHECK(file.add(LINE) && text_of(folder.path()) == LINE);
+    }
+    const std::string long_line = "{\"number\":" + std::string(200000, '0');
+    for (const auto &other : {std::string("[1, 2]"), std::string("{\"scene\":{}}"), std::string("\0", 1), long_line}) {
+        const Folder folder;
+        write_text(folder.path(), other);
+        LogFile file(folder.path(), 0);
+        CHECK(file.add(LINE) && text_of(folder.path()) == other + "\n" + LINE);
+    }
+}
+
 // The system's limit of a file's size sends a signal that would end the process.
 void test_limit_of_the_system() {
     const Folder folder;
@@ -220,6 +245,7 @@ void test_files() {
     test_full_for_good();
     test_torn_line();
     test_torn_before();
+    test_half_a_line_of_runs();
     test_limit_of_the_system();
     test_other_kinds_of_files();
     test_folder_made_later();

@@ -14,6 +14,7 @@ import sys
 import time
 import unittest
 import zlib
+from dataclasses import replace
 from pathlib import Path
 from typing import Any, Dict, List, Optional
 from unittest import mock
@@ -119,9 +120,32 @@ class Frames(TestCase):
                 (get, said(get, ResponseType.ACK_OVERFLOW, b"Left"), (Came.ACKNOWLEDGED, uid)),
                 (get, said(get, ResponseType.NACK_REASON, b"\0\0"), (Came.OTHER_RESPONSE, uid)),
                 (get, said(get, ResponseType.ACK_TIMER, b"\0\x03"), (Came.OTHER_RESPONSE, uid))):
-            found = page_frames.answer_to(page_frames.command_in(command.encode()), reply)
+            frame = command.encode()
+            found = page_frames.answer_to(page_frames.command_in(frame), frame, reply)
             self.assertEqual((found.came, found.uid), wanted)
             self.assertEqual(found.text, answer_text(command.encode(), reply))
+
+    def test_only_an_acknowledgement_of_the_frame_is_shown_as_one(self) -> None:
+        # By E1.20, of a mute: from the muted device to the controller, with the frame's number, and 2 or 8 bytes.
+        mute = Packet(parse_uid(LEFT), 1, 7, 1, 0, 0, 0x10, 2)
+        right = mute.answer(parse_uid(LEFT), ResponseType.ACK, b"\0\0")
+        get = Packet(parse_uid(LEFT), 1, 7, 1, 0, 3, 0x20, 0x82)
+        value = get.answer(parse_uid(LEFT), ResponseType.ACK, b"Left")
+        queued = Packet(parse_uid(LEFT), 1, 7, 1, 0, 0, 0x20, 0x20, b"\x04")
+        for command, response, is_acknowledged in (
+                (mute, right, True), (mute, replace(right, data=bytes(8)), True),
+                (mute, replace(right, source=parse_uid(RIGHT)), False), (mute, replace(right, destination=2), False),
+                (mute, replace(right, transaction=8), False), (mute, replace(right, pid=3), False),
+                (mute, replace(right, data=b""), False), (mute, replace(right, data=bytes(3)), False),
+                (mute, replace(right, port_or_type=ResponseType.NACK_REASON), False),
+                (mute, replace(right, port_or_type=ResponseType.ACK_OVERFLOW), False),
+                (mute, replace(right, command_class=0x21), False),
+                (get, value, True), (get, replace(value, sub_device=0), False), (get, replace(value, pid=0x60), False),
+                (get, replace(value, command_class=0x31), False), (get, replace(value, transaction=6), False),
+                (replace(get, sub_device=0xffff), value, True), (queued, replace(value, command_class=0x31), True)):
+            frame = command.encode()
+            found = page_frames.answer_to(page_frames.command_in(frame), frame, response.encode())
+            self.assertEqual(found.came, Came.ACKNOWLEDGED if is_acknowledged else Came.OTHER_RESPONSE)
 
     def test_texts_do_not_depend_on_transaction_numbers(self) -> None:
         packet = Packet(parse_uid(LEFT), 1, 7, 1, 0, 0, 0x20, 0x82)
@@ -169,8 +193,8 @@ class Logs(TestCase):
             exchange_line(2, "branch", branch.encode(), None)])
         text = page_text(log, is_broken=True, name="a log")
         head = head_in(text)
-        self.assertEqual((head["name"], head["count"], head["isBroken"], head["rows"], head["clients"]),
-                         ("a log", 3, True, [LEFT], []))
+        self.assertEqual((head["name"], head["count"], head["verdict"], head["rows"], head["clients"]),
+                         ("a log", 3, ["A rule was broken."], [LEFT], []))
         self.assertEqual(head["runs"], [{"name": "discovery", "first": 0, "count": 3}])
         found = columns_in(text, head)
         uid = parse_uid(LEFT)
@@ -290,7 +314,7 @@ class Findings(TestCase):
     def test_lines(self) -> None:
         self.assertEqual(self.found(
             "run 1: full, quick, 50 exchanges, no fault, 2 devices; its certificate is complete",
-            f"{LEFT} followed the rules",
+            f"{LEFT} was found, and followed the rules",
             f"{SILENT} was never heard: exchange 12 is the fifth silence in a row in a range that holds it",
             "exchange 40: bytes came from 5000:00000000 to 5fff:ffffffff, where no listed device was due",
             "run 2: 50 exchanges, fault 1 1234:00000009, 2 devices; its certificate is incomplete",
@@ -307,6 +331,31 @@ class Findings(TestCase):
                                     "exchange 1", "run 9: x", "exchange 1", "discoverys", "discovery: x"),
                          [(False, None, None)] * 3 + [(True, None, None)] + [(False, None, None)] * 3
                          + [(True, None, None), (False, None, None)] * 2 + [(False, None, None), (True, None, None)])
+
+    def test_the_headline_is_that_of_the_worst_run(self) -> None:
+        complete = "discovery: full, steady, 10 exchanges, 1 device; its certificate is complete"
+        failed = "discovery: full, steady, 9 exchanges, fault 1 1234:00000001, 0 devices; its certificate is incomplete"
+        spent = "run 1: full, 1 exchange, fault 3, 0 devices; its certificate is incomplete: its budget is used up"
+        incomplete = "discovery: full, steady, 3 exchanges, 0 devices; its certificate is incomplete"
+        cut = f"{incomplete}, or the log ends within the run"
+        begun = "discovery: 6 exchanges, 1 device; its certificate can't be decided, since the log begins within the run"
+        unknown = "run 2: 9 exchanges, 1 device; its certificate is complete but for what depends on its kind, which"
+        line_failed = "exchange 1 failed: check the adapter and the cable"
+        unbroken, undecided = "No broken rule was seen.", "It isn't decided whether the discovery is complete."
+        for lines, wanted in (
+                (["the log has no exchange of a discovery"], ["No discovery.", unbroken]),
+                ([complete], [unbroken]), ([complete] * 2, [unbroken]),
+                ([failed], ["The discovery failed.", unbroken]), ([spent], ["The discovery failed.", unbroken]),
+                ([incomplete], ["The discovery is incomplete.", unbroken]),
+                ([incomplete, line_failed], ["The discovery failed.", unbroken]),
+                ([cut], [undecided, unbroken]), ([begun], [undecided, unbroken]), ([unknown], [undecided, unbroken]),
+                ([complete, incomplete, failed, cut, failed], ["2 of 5 discoveries failed.", unbroken]),
+                ([complete, incomplete, cut], ["1 of 3 discoveries are incomplete.", unbroken]),
+                ([cut, complete], ["It isn't decided whether 1 of 2 discoveries are complete.", unbroken])):
+            findings = page_findings.findings_in(lines, [])
+            self.assertEqual(page_findings.verdict_of(findings, False), wanted)
+            broken = [each for each in wanted if each not in (unbroken, "No discovery.")]
+            self.assertEqual(page_findings.verdict_of(findings, True), ["A rule was broken.", *broken])
 
     def test_each_line_is_shown(self) -> None:
         lines = ["discovery: x", "who knows?", f"{SILENT} was never heard: exchange 0"]
@@ -347,7 +396,8 @@ class Html(TestCase):
 class Command(TestCase):
     """The command, with a stand-in for the proved program."""
 
-    LINES = f"discovery: full, steady\n{LEFT} followed the rules\n{SILENT} was never heard: exchange 5 is the fifth\n"
+    LINES = (f"discovery: full, steady\n{LEFT} was found, and followed the rules\n"
+             f"{SILENT} was never heard: exchange 5 is the fifth\n")
 
     def setUp(self) -> None:
         context = folder()
@@ -387,7 +437,7 @@ class Command(TestCase):
             self.stand_in(self.LINES, status)
             self.assertEqual(self.called("log", "--page", "page.html"), (status, self.LINES, ""))
             head = head_in(self.page.read_text(encoding="utf-8"))
-            self.assertEqual(head["isBroken"], status == 3)
+            self.assertEqual("A rule was broken." in head["verdict"], status == 3)
             self.assertEqual([each["text"] for each in head["findings"]], self.LINES.splitlines())
             self.assertEqual(head["count"], self.log.read_text().count("\n") - 1)
         self.assertEqual(stat.S_IMODE(self.page.stat().st_mode) & 0o600, 0o600)

@@ -16,7 +16,8 @@ LEFT, SILENT = "1234:00000001", "1234:00000009"
 MANY = 100_000
 # On a quiet machine it takes one. A page that decodes all of it at once takes much longer.
 SECONDS_TO_OPEN = 10.0
-FINDINGS = ("discovery: full, steady, no fault, 1 device; its certificate is complete", f"{LEFT} followed the rules",
+FINDINGS = ("discovery: full, steady, no fault, 1 device; its certificate is complete",
+            f"{LEFT} was found, and followed the rules",
             f"{SILENT} was never heard: exchange 8 is the fifth silence in a row in a range that holds it",
             "exchange 3: bytes came from 0000:00000000 to ffff:ffffffff, where no listed device was due")
 # The place of an exchange in the window, by what the page itself computes.
@@ -65,7 +66,7 @@ class Shown(TestCase):
 
     @classmethod
     def setUpClass(cls) -> None:
-        lines = [*FINDINGS, *(f"1234:{number:08x} followed the rules" for number in range(1, 1001))]
+        lines = [*FINDINGS, *(f"1234:{number:08x} was found, and followed the rules" for number in range(1, 1001))]
         cls.many = page.page_of("log", io.BytesIO("".join(long_log(MANY)).encode()), lines, True)
 
     def tearDown(self) -> None:

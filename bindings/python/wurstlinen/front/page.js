@@ -196,8 +196,9 @@ function listen() {
 
 async function open() {
     get("title").textContent = `explain: ${log.name}`;
-    const verdict = make("b", log.isBroken ? "A rule was broken." : "Everything followed the rules.");
-    get("verdict").replaceChildren(verdict, ` ${counted(log.count, "exchange")}, ${counted(log.runs.length, "run")}.`);
+    const [worst, ...others] = log.verdict;
+    const counts = `${counted(log.count, "exchange")}, ${counted(log.runs.length, "run")}.`;
+    get("verdict").replaceChildren(make("b", worst), ` ${[...others, counts].join(" ")}`);
     get("filter").hidden = log.findings.length <= LONG_LIST;
     get("only").checked = log.findings.length > LONG_LIST;
     listFindings(false);

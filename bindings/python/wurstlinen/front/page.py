@@ -14,7 +14,7 @@ from typing import Any, BinaryIO, Dict, List, Sequence, Set
 
 from ..lines.packets import uid_text
 from .page_details import PIECE, packed
-from .page_findings import Finding, findings_in
+from .page_findings import Finding, findings_in, verdict_of
 from .page_log import Log, read_log
 
 # So many rows can be drawn at once. Devices of findings come first, then those that answered most.
@@ -62,7 +62,7 @@ def head_of(name: str, log: Log, findings: Sequence[Finding], is_broken: bool) -
     """What a page knows at once."""
     rows = rows_of(log, findings)
     return {
-        "name": name, "count": len(log), "piece": PIECE, "isBroken": is_broken,
+        "name": name, "count": len(log), "piece": PIECE, "verdict": verdict_of(findings, is_broken),
         "came": counts(log.columns.came), "asked": counts(log.columns.asked), "clients": sorted(log.clients),
         "runs": [{"name": run.name, "first": run.exchanges[0], "count": len(run.exchanges)}
                  for run in log.runs if run.exchanges],

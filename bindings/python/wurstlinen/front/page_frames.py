@@ -9,7 +9,7 @@ import functools
 from typing import NamedTuple, Optional
 
 from ..lines.numbers import CommandClass, Pid, ResponseType
-from ..lines.packets import CHECKSUM_BYTES, LEAST_PACKET_BYTES, decode_branch_reply, decode_packet
+from ..lines.packets import CHECKSUM_BYTES, LEAST_PACKET_BYTES, Packet, decode_branch_reply, decode_packet
 from . import frames
 
 UID_BYTES = 6
@@ -50,7 +50,7 @@ class Command(NamedTuple):
     high: bytes
     text: str
     is_branch: bool = False
-    pid: Optional[int] = None
+    packet: Optional[Packet] = None
 
 
 class Answer(NamedTuple):
@@ -64,6 +64,9 @@ class Answer(NamedTuple):
 FAILED = Answer(Came.FAILED, frames.LINE_FAILED)
 SILENCE = Answer(Came.SILENCE, frames.SILENCE)
 ACKNOWLEDGED = (ResponseType.ACK, ResponseType.ACK_OVERFLOW)
+# E1.20, discovery mute: a control field, and maybe a binding UID.
+MUTE_DATA_BYTES = (2, 8)
+ALL_SUB_DEVICES = 0xFFFF
 CLASSES = {CommandClass.GET: Asked.GET, CommandClass.SET: Asked.SET}
 DISCOVERY_PIDS = {Pid.DISC_MUTE: Asked.MUTE, Pid.DISC_UN_MUTE: Asked.UNMUTE}
 
@@ -73,13 +76,19 @@ def command_in(frame: bytes) -> Command:
     return _command(unnumbered(frame))
 
 
-def answer_to(command: Command, reply: Optional[bytes]) -> Answer:
-    """What came after a command. None is a line that failed."""
+def answer_to(command: Command, frame: bytes, reply: Optional[bytes]) -> Answer:
+    """What came after a command with this frame. None is a line that failed."""
     if reply is None:
         return FAILED
     if not reply:
         return SILENCE
-    return _branch_answer(reply) if command.is_branch else _answer(command.pid, unnumbered(reply))
+    if command.is_branch:
+        return _branch_answer(reply)
+    answer = _answer(command.packet, unnumbered(reply))
+    # What answers another transaction number answers another frame.
+    if answer.came is Came.ACKNOWLEDGED and frame[TRANSACTION_AT] != reply[TRANSACTION_AT]:
+        return answer._replace(came=Came.OTHER_RESPONSE)
+    return answer
 
 
 def unnumbered(data: bytes) -> bytes:
@@ -105,7 +114,7 @@ def _command(frame: bytes) -> Command:
     if packet.command_class == CommandClass.DISCOVERY:
         asked = DISCOVERY_PIDS.get(packet.pid, Asked.OTHER)
     target = packet.destination.to_bytes(UID_BYTES, "big")
-    return Command(asked, target, target, text, packet.is_branch, packet.pid)
+    return Command(asked, target, target, text, packet.is_branch, packet)
 
 
 @functools.lru_cache(maxsize=MOST_KNOWN)
@@ -118,10 +127,25 @@ def _branch_answer(reply: bytes) -> Answer:
 
 
 @functools.lru_cache(maxsize=MOST_KNOWN)
-def _answer(pid: Optional[int], reply: bytes) -> Answer:
+def _answer(command: Optional[Packet], reply: bytes) -> Answer:
     response = decode_packet(reply)
-    text = frames.bytes_text(reply, response, pid)
+    text = frames.bytes_text(reply, response, None if command is None else command.pid)
     if response is None:
         return Answer(Came.DAMAGED, text)
-    came = Came.ACKNOWLEDGED if response.port_or_type in ACKNOWLEDGED else Came.OTHER_RESPONSE
+    came = Came.ACKNOWLEDGED if command is not None and acknowledges(command, response) else Came.OTHER_RESPONSE
     return Answer(came, text, response.source.to_bytes(UID_BYTES, "big"))
+
+
+def acknowledges(command: Packet, response: Packet) -> bool:
+    """Whether a response acknowledges a command, but for its transaction number, by the rules of the proved program."""
+    if response.port_or_type not in ACKNOWLEDGED:
+        return False
+    if (response.source, response.destination) != (command.destination, command.source):
+        return False
+    if command.command_class == CommandClass.DISCOVERY:
+        is_ack = response.port_or_type == ResponseType.ACK and len(response.data) in MUTE_DATA_BYTES
+        return is_ack and (response.command_class, response.pid) == (CommandClass.DISCOVERY_RESPONSE, command.pid)
+    if command.pid == Pid.QUEUED_MESSAGE:
+        return response.command_class in frames.RESPONSES
+    is_of_sub_device = command.sub_device in (response.sub_device, ALL_SUB_DEVICES)
+    return is_of_sub_device and (response.command_class, response.pid) == (command.command_class + 1, command.pid)

@@ -217,8 +217,9 @@ class Reader:
     def _add(self, name: str, frame: str, clients: int, entry: Dict[str, Any]) -> None:
         """The next exchange, whose answer an entry has."""
         reply = None if "failed" in entry else bytes.fromhex(entry["reply"])
-        command = command_in(bytes.fromhex(frame))
-        answer = answer_to(command, reply)
+        sent = bytes.fromhex(frame)
+        command = command_in(sent)
+        answer = answer_to(command, sent, reply)
         columns = self.log.columns
         columns.asked.append(command.asked)
         columns.came.append(answer.came)

@@ -203,7 +203,9 @@ function drawExchange(at, x, width) {
     const [asked, came] = [columns.asked[at], columns.came[at]];
     const wide = width >= 3 ? width - 1 : Math.max(width, 1);
     if (asked === UNMUTES) {
-        drawUnmute(pen, x, header, wide, height() - header);
+        // Nobody answers an unmute, so what came is a failure, or shouldn't have come.
+        const draws = came === SILENCE ? drawUnmute : (...place) => drawBar(place[0], came, ...place.slice(1));
+        draws(pen, x, header, wide, height() - header);
         return;
     }
     const top = topOf(columns.low[at]);
