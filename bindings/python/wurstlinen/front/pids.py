@@ -2,13 +2,14 @@
 from __future__ import annotations
 
 import argparse
-from typing import Any, Dict, List, Optional
+from typing import Any, Dict, List, Optional, Sequence
 
 from ..parameters import STANDARD, Parameter, WordFault
 from ..parameters.encoding import valid_text
 from ..parameters.fields import Bytes, Field, Fields, Flag, Group, Ipv4, Mac, Message, Number, Text, UidField
 from ..parameters.table import standard_of
 from ..parameters.words import name_of
+from .naming import standard
 from .output import BAD_ARGUMENTS, DONE, Failure, Output
 
 PLAIN_TYPES = {Flag: "yes or no", UidField: "a UID", Ipv4: "an IPv4 address", Mac: "a hardware address"}
@@ -17,11 +18,12 @@ PLAIN_TYPES = {Flag: "yes or no", UidField: "a UID", Ipv4: "an IPv4 address", Ma
 def run_pids(chosen: argparse.Namespace, output: Output) -> int:
     """Lists the parameters whose names have a word in them, or explains one."""
     word = chosen.name or ""
-    exact = [each for each in STANDARD.parameters if each.name == name_of(word)]
-    found = exact or [each for each in STANDARD.parameters if name_of(word) in each.name]
+    known = distinct(standard().parameters)
+    exact = [each for each in known if each.name == name_of(word)]
+    found = exact or [each for each in known if name_of(word) in each.name]
     if not found:
         try:
-            exact = found = [STANDARD.named(word)] if word[:1].isalpha() else [numbered(word)]
+            exact = found = [standard().named(word)] if word[:1].isalpha() else [numbered(word)]
         except WordFault as fault:
             raise Failure(BAD_ARGUMENTS, str(fault), reason="parameter") from None
     for parameter in found:
@@ -30,9 +32,14 @@ def run_pids(chosen: argparse.Namespace, output: Output) -> int:
     return DONE
 
 
+def distinct(parameters: Sequence[Parameter]) -> List[Parameter]:
+    """The parameters in the order of their numbers, of each number the first."""
+    return [each for _, each in sorted({each.number: each for each in reversed(parameters)}.items())]
+
+
 def numbered(word: str) -> Parameter:
     """The parameter of a number. Raises WordFault."""
-    found = STANDARD.numbered(STANDARD.pid(word))
+    found = standard().numbered(STANDARD.pid(word))
     if found is None:
         raise WordFault(f"no parameter of the standards has the number {word}")
     return found
@@ -40,12 +47,13 @@ def numbered(word: str) -> Parameter:
 
 def listed(parameter: Parameter) -> str:
     """A parameter on one line."""
-    return f"0x{parameter.number:04x}  {parameter.name:<36}{parameter.commands}"
+    return f"0x{parameter.number:04x}  {standard_of(parameter.number) or '':<8} {parameter.name:<36}{parameter.commands}"
 
 
 def explained(parameter: Parameter) -> List[str]:
     """A parameter with its fields."""
-    lines = [f"{parameter.name} (0x{parameter.number:04x}, {standard_of(parameter.number)}): {parameter.about}"]
+    about = f": {parameter.about}" if parameter.about else ""
+    lines = [f"{parameter.name} (0x{parameter.number:04x}, {standard_of(parameter.number)}){about}"]
     for kind, message in (("get", parameter.get), ("set", parameter.set), ("discovery", parameter.discovery)):
         if message is not None:
             lines += message_lines(kind, message)
