@@ -15,7 +15,7 @@ from .line import Line, LineFailed
 class DiscoveryAgent(Held):
     """A single discovery run, on a line of the caller's own.
 
-    Calls may be made from any thread: each holds a lock of this object. It is a context manager, which disposes of it.
+    Calls may be made from any thread: each has its turn on this object. It is a context manager, which disposes of it.
     """
 
     _calls = Calls("wurst_agent_")
@@ -32,45 +32,38 @@ class DiscoveryAgent(Held):
     def next(self) -> Optional[Tuple[Operation, bytes]]:
         """The run's next operation, and its frame; None: the run has ended. Another call returns the same."""
         operation, frame, length = ctypes.c_uint32(), room_for(MOST_FRAME_BYTES), ctypes.c_size_t()
-        with self._lock:
-            status = self._calls.next(self._handle, operation, frame, MOST_FRAME_BYTES, length)
+        status = self._made(self._calls.next, operation, frame, MOST_FRAME_BYTES, length)
         return (Operation(operation.value), bytes(frame[:length.value])) if given(status) else None
 
     def hear(self, reply: bytes) -> None:
         """Takes the line's reply; no bytes are silence."""
         buffer, length = buffer_of(reply)
-        with self._lock:
-            check(self._calls.hear(self._handle, buffer, length))
+        check(self._made(self._calls.hear, buffer, length))
 
     def fail(self) -> None:
         """Reports that the line failed, which ends the run."""
-        with self._lock:
-            check(self._calls.fail(self._handle))
+        check(self._made(self._calls.fail))
 
     def stop(self) -> None:
         """Ends the run with the fault ABORTED."""
-        with self._lock:
-            check(self._calls.stop(self._handle))
+        check(self._made(self._calls.stop))
 
     def devices(self) -> Tuple[Device, ...]:
         """The devices found so far, ascending by UID."""
         forms, count = (DeviceForm * MOST_DEVICES)(), ctypes.c_size_t()
-        with self._lock:
-            check(self._calls.devices(self._handle, forms, MOST_DEVICES, count))
+        check(self._made(self._calls.devices, forms, MOST_DEVICES, count))
         return devices_of(forms, count.value)
 
     def fault(self) -> Optional[RunFault]:
         """Why the run ended early; None if it didn't. Raises NotEnded before the end."""
         fault, corrupt = ctypes.c_uint32(), ctypes.c_uint64()
-        with self._lock:
-            check(self._calls.fault(self._handle, fault, corrupt))
+        check(self._made(self._calls.fault, fault, corrupt))
         return run_fault(fault.value, corrupt.value)
 
     def frames(self) -> int:
         """How many exchanges the run has made."""
         frames = ctypes.c_uint64()
-        with self._lock:
-            check(self._calls.frames(self._handle, frames))
+        check(self._made(self._calls.frames, frames))
         return frames.value
 
     def run(self, line: Line) -> Tuple[Device, ...]:

@@ -69,40 +69,67 @@ class Answer:
         return delay_of(self.completion) is not None
 
 
-@dataclass(frozen=True)
 class Kept:
-    """What was collected and isn't handed out yet, as an Answer has it."""
+    """What was collected and isn't handed out yet, oldest first. All of it is one list, which is emptied in one step."""
 
-    queued: List[Completion] = field(default_factory=list)
-    earlier: List[Outcome] = field(default_factory=list)
+    def __init__(self) -> None:
+        self.outcomes: List[Outcome] = []
+        # Those of them that are messages which a device had queued.
+        self._messages: List[Outcome] = []
 
-    def take(self) -> Tuple[Tuple[Completion, ...], Tuple[Outcome, ...]]:
-        """All of it, once."""
-        taken = tuple(self.queued), tuple(self.earlier)
-        self.queued.clear()
-        self.earlier.clear()
-        return taken
+    def collect(self, client: Client) -> Optional[Outcome]:
+        """The client's next outcome. It is kept in the same step."""
+        before = len(self.outcomes)
+        self.outcomes.extend(filter(None, (client.next_outcome(),)))
+        return self.outcomes[-1] if len(self.outcomes) > before else None
+
+    def mark(self, message: Completion) -> None:
+        """One of them is a message that a device had queued."""
+        self._messages.append(message)
+
+    def drop(self, outcome: Outcome) -> None:
+        """One of them isn't handed out."""
+        self.outcomes[:] = [each for each in self.outcomes if each is not outcome]
+
+    def forget(self) -> None:
+        """Forgets which of those were messages that are handed out by now."""
+        self._messages[:] = [each for each in self._messages if is_in(each, self.outcomes)]
+
+    def queued(self, but: Optional[Completion] = None) -> Tuple[Completion, ...]:
+        """The messages of devices, except for the answer itself."""
+        return tuple(each for each in self.outcomes
+                     if isinstance(each, Completion) and each is not but and is_in(each, self._messages))
+
+    def earlier(self, but: Optional[Completion] = None) -> Tuple[Outcome, ...]:
+        """All other outcomes."""
+        return tuple(each for each in self.outcomes if each is not but and not is_in(each, self._messages))
+
+
+def is_in(outcome: Outcome, outcomes: List[Outcome]) -> bool:
+    """Whether an outcome is one of these. Others may be equal."""
+    return any(each is outcome for each in outcomes)
 
 
 class Asker:
     """Asks devices over a client that has no other requests outstanding.
 
     It waits at most `wait` seconds for each answer; what a device has queued may take 2 seconds more. `on_wait` is
-    called before each wait, with the seconds that the device asked for.
+    called before each wait, with the seconds that the device asked for. If the queue is closed meanwhile, Closed is
+    raised; at once, unless the caller has a `sleep` of its own.
     """
 
     def __init__(self, client: Client, line: Line, wait: float = DEFAULT_WAIT, *,
-                 clock: Callable[[], float] = time.monotonic, sleep: Callable[[float], None] = time.sleep,
+                 clock: Callable[[], float] = time.monotonic, sleep: Optional[Callable[[float], None]] = None,
                  on_wait: Optional[Callable[[float], None]] = None) -> None:
         self.client = client
         self.line = line
         self.wait = wait
         self.clock = clock
-        self.sleep = sleep
+        self.sleep = sleep or client.queue._sleep
         self.on_wait = on_wait
         # The newest message of each device, which GET_LAST_MESSAGE repeats.
         self.newest: Dict[Uid, Tuple[Optional[ReplyHead], bytes]] = {}
-        # What an exception has left behind.
+        # What isn't handed out, because of an exception.
         self.kept = Kept()
 
     def ask(self, request: Request) -> Answer:
@@ -133,6 +160,9 @@ class Asking:
         # A queued message that isn't ready is asked for again.
         self._has_queue = request.pid != QUEUED_MESSAGE
         self._kept = asker.kept
+        self._kept.forget()
+        # How the request has ended, each time that it was asked.
+        self._ends: List[Completion] = []
         # The newest answer among the messages of a device.
         self._found: Optional[Completion] = None
 
@@ -141,21 +171,35 @@ class Asking:
 
         After every second wait without an answer, a GET is asked again. A SET isn't, since it may do something.
         """
-        completion = self._exchange(self._request)
+        completion = self._asked()
         said = delay_of(completion)
         delay = said or 0.0
         waits = 0
         while said is not None and self._pause(delay, said):
             found = self._fetch() if self._has_queue else None
             if found is not None:
-                return Answer(found, *self._kept.take())
+                return self._answered(found)
             waits += 1
             delay = max(2 * delay, LEAST_DELAY)
             if self._request.request_class == RequestClass.GET and (waits % 2 == 0 or not self._has_queue):
-                completion = self._exchange(self._request)
+                completion = self._asked()
                 said = delay_of(completion)
                 delay = max(said or 0.0, LEAST_DELAY)
-        return Answer(completion, *self._kept.take())
+        return self._answered(completion)
+
+    def _answered(self, completion: Completion) -> Answer:
+        """The answer, with all else that is kept."""
+        for each in self._ends:
+            if each is not completion:
+                self._kept.drop(each)
+        answer = Answer(completion, self._kept.queued(completion), self._kept.earlier(completion))
+        # In one step, so that all of it is handed out now or later.
+        return (answer, self._kept.outcomes.clear())[0]
+
+    def _asked(self) -> Completion:
+        """How the request itself ends."""
+        self._ends.append(self._exchange(self._request))
+        return self._ends[-1]
 
     def _pause(self, delay: float, said: float) -> bool:
         """Waits, but not beyond the deadline. False if there is nothing left to wait or to ask with."""
@@ -172,13 +216,8 @@ class Asking:
 
         None if no answer is among them. If the line fails, that counts, and an answer from before is kept.
         """
-        try:
-            failed = self._take_messages()
-        except BaseException:
-            self._keep_found()
-            raise
-        if failed is not None:
-            self._keep_found()
+        self._found = None
+        failed = self._take_messages()
         return self._found if failed is None else failed
 
     def _take_messages(self) -> Optional[Completion]:
@@ -191,6 +230,7 @@ class Asking:
             message = self._message(GET_LAST_MESSAGE if is_lost else ERROR)
             if message.status == Status.FAILED_TO_SEND:
                 return message
+            self._keep(message)
             was_lost, is_lost = is_lost, message.head is None
             losses += is_lost
             if not is_lost and not was_lost and self._is_end(message):
@@ -211,39 +251,35 @@ class Asking:
         if head.pid == QUEUED_MESSAGE:
             self._has_queue = head.ack != AckType.NACK
             return True
-        self._keep_report(message)
-        return head.pid == STATUS_MESSAGES or head.ack == AckType.TIMER
+        if head.ack == AckType.TIMER:
+            self._kept.drop(message)
+            return True
+        return head.pid == STATUS_MESSAGES
 
-    def _keep_report(self, message: Completion) -> None:
-        """Keeps status messages."""
-        if is_report(message):
-            self._kept.queued.append(message)
+    def _keep(self, message: Completion) -> None:
+        """Keeps a message as one that is handed out, unless it only says that there is none."""
+        head = message.head
+        if head is None or (head.pid in (QUEUED_MESSAGE, STATUS_MESSAGES) and not is_report(message)):
+            self._kept.drop(message)
+        else:
+            self._kept.mark(message)
 
     def _sort(self, message: Completion, is_repeated: bool) -> None:
-        """Keeps a message, as the newest answer if it is one.
+        """Notes a message, as the newest answer if it is one.
 
         If a reply was lost, the device was asked to repeat it. The repeated message is an answer only if it is known
         not to be an older one.
         """
         if is_repeated and head_of(message).pid in (STATUS_MESSAGES, QUEUED_MESSAGE):
-            self._keep_report(message)
             return
         before = self._asker.newest.get(self._request.target)
         newest = (message.head, message.data)
         if is_repeated and newest == before:
+            self._kept.drop(message)
             return
         self._asker.newest[self._request.target] = newest
-        if not self._is_answer(message) or (is_repeated and before is None):
-            self._kept.queued.append(message)
-            return
-        self._keep_found()
-        self._found = message
-
-    def _keep_found(self) -> None:
-        """Keeps the newest answer so far as one of the other messages."""
-        found, self._found = self._found, None
-        if found is not None:
-            self._kept.queued.append(found)
+        if self._is_answer(message) and not (is_repeated and before is None):
+            self._found = message
 
     def _is_answer(self, message: Completion) -> bool:
         """Whether a message answers the request, as far as it shows."""
@@ -264,17 +300,16 @@ class Asking:
             if completion is not None:
                 return completion
             if self._asker.clock() >= until:
-                self._keep_found()
-                raise Unserved(*self._kept.take())
+                fault = Unserved(self._kept.queued(), self._kept.earlier())
+                raise (fault, self._kept.outcomes.clear())[0]
             self._asker.sleep(GLANCE)
 
     def _collected(self, number: int) -> Optional[Completion]:
         """The outcome of the request of this number; None if it isn't there yet."""
         while True:
-            outcome = self._asker.client.next_outcome()
+            outcome = self._kept.collect(self._asker.client)
             if outcome is None or (isinstance(outcome, Completion) and outcome.number == number):
                 return outcome
-            self._kept.earlier.append(outcome)
 
 
 def is_echoed(request: Request) -> bool:

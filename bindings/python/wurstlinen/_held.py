@@ -1,20 +1,22 @@
-"""What holds a handle of the C library."""
+"""What holds a handle of the C library, and what it has made."""
 
-import threading
-from typing import TypeVar
+from collections import deque
+from typing import Callable, Deque, Generic, Optional, TypeVar
 
 from ._library import Calls, Handle
+from ._turns import Turns
 
 Self = TypeVar("Self", bound="Held")
+Made = TypeVar("Made")
 
 
 class Held:
-    """A handle, with a lock that each call on it holds. It is a context manager, which disposes of it."""
+    """A handle, on which threads make calls in turn. It is a context manager, which disposes of it."""
 
     _calls: Calls
 
     def __init__(self) -> None:
-        self._lock = threading.Lock()
+        self._turns = Turns()
         self._handle = Handle()
 
     def __enter__(self: Self) -> Self:
@@ -27,7 +29,48 @@ class Held:
         if getattr(self, "_handle", None) and self._handle.is_open:
             self._calls.dispose(self._handle)
 
+    def _made(self, call: Callable[..., int], *arguments: object) -> int:
+        """Makes a call of the library, and returns its status."""
+        return self._turns.alone(lambda: call(self._handle, *arguments))
+
     def dispose(self) -> None:
         """Frees its memory. Later calls raise NotOpen."""
-        with self._lock:
-            self._calls.dispose(self._handle)
+        self._turns.alone(lambda: self._calls.dispose(self._handle))
+
+
+class Unreturned(Generic[Made]):
+    """What the library has made, until it is returned: an exception, such as an interrupt, may come between."""
+
+    def __init__(self) -> None:
+        self._kept: Deque[Made] = deque()
+
+    def __bool__(self) -> bool:
+        return bool(self._kept)
+
+    def first(self) -> Made:
+        """The first of them, which stays. Raises IndexError if there is none."""
+        return self._kept[0]
+
+    def first_or(self, make: Callable[[], bool]) -> Made:
+        """The first of them, which is returned now. If there is none, one is made; IndexError if there is none then."""
+        while self._kept or make():
+            try:
+                return self._kept.popleft()
+            except IndexError:
+                # Another thread has returned it.
+                continue
+        raise IndexError
+
+    def keep(self, work: Callable[[], object], made: Callable[[], Optional[Made]]) -> bool:
+        """Does some work, and keeps what that has made, even if an exception comes. Whether it has made something."""
+        try:
+            work()
+            return self._add(made())
+        except BaseException:
+            self._add(made())
+            raise
+
+    def _add(self, made: Optional[Made]) -> bool:
+        if made is not None and not any(each is made for each in tuple(self._kept)):
+            self._kept.append(made)
+        return made is not None

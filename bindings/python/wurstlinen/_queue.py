@@ -1,75 +1,113 @@
 """The queue of requests and discoveries on one line."""
 
+import contextlib
 import ctypes
-from typing import Optional, Tuple, Union
+import time
+from collections import defaultdict
+from typing import Callable, DefaultDict, List, Optional, Tuple, Union, cast
 
 from ._ask import DEFAULT_WAIT, Answer, Asker, Kept
-from ._faults import check, given
-from ._held import Held
-from ._library import Calls, CompletionForm, DeviceForm, EndForm, Setup, buffer_of, room_for
+from ._collecting import NO_NUMBER, Collecting, CollectingDiscovery, CollectingRequest
+from ._faults import Closed, OtherOutcome, check, given
+from ._held import Held, Unreturned
+from ._library import Calls, DeviceForm, Setup, buffer_of, room_for
 from ._types import (
-    DEFAULT_BUDGET, MOST_DEVICES, MOST_FRAME_BYTES, MOST_PARAMETER_BYTES, MOST_PLACES, AckType, Completion, Device,
-    Discovery, Kind, OutcomeKind, ReplyHead, Request, RequestClass, ResponseClass, Search, Status, Uid, data_of,
-    devices_of, run_fault, uid_of, whole)
+    DEFAULT_BUDGET, MOST_DEVICES, MOST_FRAME_BYTES, MOST_PLACES, Completion, Device, Discovery, Kind, OutcomeKind,
+    Request, RequestClass, Search, Uid, data_of, devices_of, uid_of, whole)
 from ._wire import form_of_request
 from .line import Line, LineFailed
 
-BUFFER_TOO_SMALL = 14
+NO_CLIENT = 255
+# A close ends a wait within this time.
+SLICE_SECONDS = 0.1
+Outcome = Union[Completion, Discovery]
 
 
 class Queue(Held):
     """What controllers and sessions have in common: requests and discoveries of up to sixteen clients on one RDM line.
 
-    Calls may be made from any thread: each holds a lock of this object. It is a context manager, which disposes of it.
+    Calls may be made from any thread: each has its turn on this object. It is a context manager, which disposes of it.
+
+    An exception, such as an interrupt, may come at any place. What it keeps from being returned is returned by a later
+    call of the same kind: a client, an outcome, a page or a log.
     """
 
-    # Whether an exception has left `run` after it took a frame, so that its reply may be awaited.
-    _is_left = False
+    def __init__(self) -> None:
+        super().__init__()
+        # Whether an exception has come between a frame and the report of its reply, which may be awaited for ever.
+        self._is_left = False
+        # What isn't returned so far: clients by their places, and outcomes by the client's number.
+        self._joined: DefaultDict[int, Unreturned[Client]] = defaultdict(Unreturned)
+        self._collected: DefaultDict[int, Unreturned[Outcome]] = defaultdict(Unreturned)
+        # Whether what waits for the queue has to end.
+        self._is_ending = False
 
     def join(self, places: int) -> "Client":
         """A client that may have this many requests outstanding."""
-        client = ctypes.c_uint8()
-        with self._lock:
-            check(self._calls.join(self._handle, whole(places, 8, "places"), client))
-        return Client(self, client.value)
+        kept = self._joined[whole(places, 8, "places")]
+        return kept.first_or(lambda: self._join(kept, places))
+
+    def _join(self, kept: "Unreturned[Client]", places: int) -> bool:
+        number, client = ctypes.c_uint8(NO_CLIENT), Client(self, NO_CLIENT)
+
+        def joined() -> Optional[Client]:
+            client.number = number.value
+            return client if client.number != NO_CLIENT else None
+
+        return kept.keep(lambda: check(self._made(self._calls.join, places, number)), joined)
 
     def pause(self) -> None:
         """Begins no run and sends no request until `resume`."""
-        with self._lock:
-            check(self._calls.pause(self._handle))
+        check(self._made(self._calls.pause))
 
     def resume(self) -> None:
         """Begins runs and sends requests again."""
-        with self._lock:
-            check(self._calls.resume(self._handle))
+        check(self._made(self._calls.resume))
 
     def close(self) -> None:
         """Refuses all later joins, submits and discovers, sends nothing more, and ends what waits."""
-        with self._lock:
-            check(self._calls.close(self._handle))
+        check(self._made(self._calls.close))
+        self._is_ending = True
+
+    def dispose(self) -> None:
+        """Frees its memory, and ends what waits. Later calls raise NotOpen."""
+        super().dispose()
+        self._is_ending = True
 
     def take(self) -> Optional[bytes]:
         """The next frame for the line; None while a reply is awaited, or if there is nothing to send."""
-        return self._take(ctypes.c_size_t())
+        taken: List[bytes] = []
+        try:
+            self._turns.alone(lambda: self._take(taken))
+            return taken[0] if taken else None
+        except BaseException:
+            self._leave(taken)
+            raise
 
-    def _take(self, length: ctypes.c_size_t) -> Optional[bytes]:
-        frame = room_for(MOST_FRAME_BYTES)
-        with self._lock:
-            status = self._calls.take(self._handle, frame, MOST_FRAME_BYTES, length)
-        return bytes(frame[:length.value]) if given(status) else None
+    def _take(self, taken: List[bytes]) -> None:
+        """Takes a frame, if there is one."""
+        frame, length = room_for(MOST_FRAME_BYTES), ctypes.c_size_t()
+        try:
+            if given(self._calls.take(self._handle, frame, MOST_FRAME_BYTES, length)):
+                self._is_left = False
+                taken.append(bytes(frame[:length.value]))
+        except BaseException:
+            # The library has written the length of a frame that isn't known here.
+            self._is_left = self._is_left or length.value > 0
+            raise
+
+    def _leave(self, taken: List[bytes]) -> None:
+        """An exception has come behind what was taken."""
+        if taken:
+            self._turns.alone(lambda: setattr(self, "_is_left", True))
 
     def deliver(self, reply: bytes) -> None:
         """Takes the line's reply to the last frame; no bytes are silence."""
-        buffer, length = buffer_of(reply)
-        with self._lock:
-            check(self._calls.deliver(self._handle, buffer, length))
-            self._is_left = False
+        check(self._made(self._calls.deliver, *buffer_of(reply)))
 
     def fail(self) -> None:
         """Reports that the line failed at the last frame."""
-        with self._lock:
-            check(self._calls.fail(self._handle))
-            self._is_left = False
+        check(self._made(self._calls.fail))
 
     def run(self, line: Line) -> int:
         """Sends frames on the line until there is none, and returns how many.
@@ -78,9 +116,6 @@ class Queue(Held):
         awaited. If neither `deliver` nor `fail` is called until the next call, that reports the exchange as failed, and
         goes on.
         """
-        if self._is_left and self.awaits():
-            self.fail()
-        self._is_left = False
         exchanges = 0
         while self._exchange(line):
             exchanges += 1
@@ -88,17 +123,21 @@ class Queue(Held):
 
     def _exchange(self, line: Line) -> bool:
         """Sends one frame, and reports what came. False: there is none."""
-        # An interrupt may come before the frame is returned, but its length is then known.
-        length = ctypes.c_size_t()
+        taken: List[bytes] = []
         try:
-            frame = self._take(length)
-            if frame is None:
-                return False
-            self._report(line, frame)
+            self._turns.alone(lambda: self._begin(taken))
+            if taken:
+                self._report(line, taken[0])
         except BaseException:
-            self._is_left = length.value > 0
+            self._leave(taken)
             raise
-        return True
+        return bool(taken)
+
+    def _begin(self, taken: List[bytes]) -> None:
+        """Takes a frame. One that an exception has left is reported as failed before."""
+        if self._is_left and self.awaits():
+            self.fail()
+        self._take(taken)
 
     def _report(self, line: Line, frame: bytes) -> None:
         """Sends a frame, and delivers the reply or reports the failure."""
@@ -109,29 +148,34 @@ class Queue(Held):
         else:
             self.deliver(reply)
 
+    def _sleep(self, seconds: float) -> None:
+        """Waits. Raises Closed or NotOpen when the queue is closed or disposed of."""
+        end = time.monotonic() + seconds
+        while not self._is_ending and time.monotonic() < end:
+            time.sleep(max(0.0, min(SLICE_SECONDS, end - time.monotonic())))
+        if self._is_ending and self.is_closed():
+            raise Closed()
+
     def devices(self) -> Tuple[Device, ...]:
         """The devices that the last run without fault found, ascending by UID."""
         forms, count = (DeviceForm * MOST_DEVICES)(), ctypes.c_size_t()
-        with self._lock:
-            check(self._calls.devices(self._handle, forms, MOST_DEVICES, count))
+        check(self._made(self._calls.devices, forms, MOST_DEVICES, count))
         return devices_of(forms, count.value)
 
     def devices_run(self) -> int:
         """The number of the run that found them; 0 before the first."""
         run = ctypes.c_uint64()
-        with self._lock:
-            check(self._calls.devices_run(self._handle, run))
+        check(self._made(self._calls.devices_run, run))
         return run.value
 
-    def _asks(self, call) -> bool:
+    def _asks(self, call: Callable[..., int]) -> bool:
         answer = ctypes.c_bool()
-        with self._lock:
-            check(call(self._handle, answer))
+        check(self._made(call, answer))
         return answer.value
 
     def is_idle(self) -> bool:
         """Whether nothing waits, is under way or is uncollected."""
-        return self._asks(self._calls.is_idle)
+        return self._asks(self._calls.is_idle) and not any(tuple(self._collected.values()))
 
     def is_paused(self) -> bool:
         """Whether sending is paused."""
@@ -168,14 +212,29 @@ class Client:
         self.queue = queue
         self.number = number
         self._kept = Kept()
+        # The library writes them.
+        self._last_request = ctypes.c_uint64(NO_NUMBER)
+        self._last_discovery = ctypes.c_uint64(NO_NUMBER)
+
+    @property
+    def last_request(self) -> Optional[int]:
+        """The number of the request that it submitted last, even if an exception kept it from being returned.
+
+        None if that wasn't accepted.
+        """
+        return None if self._last_request.value == NO_NUMBER else self._last_request.value
+
+    @property
+    def last_discovery(self) -> Optional[int]:
+        """The same of a discovery."""
+        return None if self._last_discovery.value == NO_NUMBER else self._last_discovery.value
 
     def submit(self, request: Request) -> int:
         """Accepts a request, and returns its number."""
         form = form_of_request(request)
-        data, length = buffer_of(request.data)
-        number = ctypes.c_uint64()
-        with self.queue._lock:
-            check(self.queue._calls.submit(self.queue._handle, self.number, form, data, length, number))
+        number = self._last_request = ctypes.c_uint64(NO_NUMBER)
+        calls = self.queue._calls
+        check(self.queue._made(calls.submit, self.number, form, *buffer_of(request.data), number))
         return number.value
 
     def get(self, target: Union[Uid, str], pid: int, data: Union[bytes, str] = b"", sub_device: int = 0) -> int:
@@ -199,49 +258,50 @@ class Client:
 
     def discover(self, kind: Kind = Kind.FULL) -> int:
         """Asks for a discovery, and returns its number."""
-        number = ctypes.c_uint64()
-        with self.queue._lock:
-            check(self.queue._calls.discover(self.queue._handle, self.number, int(kind), number))
+        number = self._last_discovery = ctypes.c_uint64(NO_NUMBER)
+        check(self.queue._made(self.queue._calls.discover, self.number, int(kind), number))
         return number.value
 
     def oldest(self) -> Optional[OutcomeKind]:
         """The kind of its oldest outcome; None if it has none."""
         kind = ctypes.c_uint32()
-        with self.queue._lock:
-            status = self.queue._calls.oldest(self.queue._handle, self.number, kind)
+        with contextlib.suppress(IndexError):
+            return kind_of(self.queue._collected[self.number].first())
+        status = self.queue._made(self.queue._calls.oldest, self.number, kind)
         return OutcomeKind(kind.value) if given(status) else None
 
     def next_completion(self) -> Optional[Completion]:
         """Collects its oldest outcome, if a request's; None if it has none. Raises OtherOutcome for a discovery's."""
-        form, room = CompletionForm(), MOST_PARAMETER_BYTES
-        buffer = room_for(room)
-        with self.queue._lock:
-            handle = self.queue._handle
-            status = self.queue._calls.next_completion(handle, self.number, form, buffer, room)
-            if status == BUFFER_TOO_SMALL:
-                room = form.len
-                buffer = room_for(room)
-                status = self.queue._calls.next_completion(handle, self.number, form, buffer, room)
-        if not given(status):
-            return None
-        head = None
-        if form.has_head:
-            head = ReplyHead(AckType(form.ack), ResponseClass(form.response_class), form.pid, form.sub_device)
-        return Completion(form.number, Status(form.status), head, bytes(buffer[:form.len]))
+        return cast(Optional[Completion], self._next(CollectingRequest, OutcomeKind.REQUEST))
 
     def next_discovery(self) -> Optional[Discovery]:
         """Collects its oldest outcome, if a discovery's; None if it has none. Raises OtherOutcome for a request's."""
-        form, forms = EndForm(), (DeviceForm * MOST_DEVICES)()
-        with self.queue._lock:
-            status = self.queue._calls.next_discovery(
-                self.queue._handle, self.number, form, forms, MOST_DEVICES)
-        if not given(status):
-            return None
-        return Discovery(form.number, form.run, run_fault(form.fault, form.corrupt), devices_of(forms, form.count))
+        return cast(Optional[Discovery], self._next(CollectingDiscovery, OutcomeKind.DISCOVERY))
 
-    def next_outcome(self) -> Union[Completion, Discovery, None]:
+    def next_outcome(self) -> Optional[Outcome]:
         """Collects its oldest outcome; None if it has none. Only one thread at a time may collect for a client."""
         kind = self.oldest()
         if kind is None:
             return None
         return self.next_completion() if kind == OutcomeKind.REQUEST else self.next_discovery()
+
+    def _next(self, collecting: Callable[[], Collecting], kind: OutcomeKind) -> Optional[Outcome]:
+        """Its oldest outcome, which has to be of this kind."""
+        kept = self.queue._collected[self.number]
+        with contextlib.suppress(IndexError):
+            if kind_of(kept.first()) != kind:
+                raise OtherOutcome()
+        try:
+            return kept.first_or(lambda: self._collect(kept, collecting()))
+        except IndexError:
+            return None
+
+    def _collect(self, kept: "Unreturned[Outcome]", collecting: Collecting) -> bool:
+        """Collects an outcome, and keeps it until it is returned. Whether there was one."""
+        queue = self.queue
+        return kept.keep(lambda: check(queue._turns.alone(lambda: collecting.collect(queue, self.number))),
+                         collecting.outcome)
+
+
+def kind_of(outcome: Outcome) -> OutcomeKind:
+    return OutcomeKind.REQUEST if isinstance(outcome, Completion) else OutcomeKind.DISCOVERY

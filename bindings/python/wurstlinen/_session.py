@@ -4,7 +4,7 @@ import ctypes
 from typing import Tuple, Union
 
 from ._faults import check
-from ._held import Held
+from ._held import Held, Unreturned
 from ._library import Calls, EntryForm, room_for
 from ._queue import Queue, setup_of
 from ._types import DEFAULT_BUDGET, MOST_FRAME_BYTES, MOST_PLACES, Search, Uid, whole
@@ -26,26 +26,23 @@ class _Entries(Held):
 
     def entry_count(self) -> int:
         """How many entries the log stores."""
-        with self._lock:
-            return self._count()
+        return self._turns.alone(self._count)
 
     def entry(self, index: int) -> Entry:
         """The entry of this index, counted from 0, oldest first. Raises NoEntry."""
         whole(index, 64, "index")
-        with self._lock:
-            return self._entry(index)
+        return self._turns.alone(lambda: self._entry(index))
 
     def entries(self, start: int = 0) -> Tuple[Entry, ...]:
         """The entries from this index on, oldest first."""
         whole(start, 64, "index")
-        with self._lock:
-            return tuple(self._entry(index) for index in range(start, self._count()))
+        return self._turns.alone(lambda: tuple(self._entry(index) for index in range(start, self._count())))
 
 
 class Log(_Entries):
     """The log of a session that continued with a fresh one. It is made by `Session.rotate`.
 
-    Calls may be made from any thread: each holds a lock of this object. It is a context manager, which disposes of it.
+    Calls may be made from any thread: each has its turn on this object. It is a context manager, which disposes of it.
     """
 
     _calls = Calls("wurst_log_")
@@ -55,30 +52,45 @@ class Page(_Entries):
     """The entries that `Session.drain` has handed out, as an iterator, oldest first.
 
     Entries are numbered from 0 at the session's first one, or the first after its last rotation; `first` is the number
-    of this page's first. The page is disposed of after its last entry. Calls may be made from any thread: each holds a
-    lock of this object. It is a context manager, which disposes of it.
+    of this page's first. The page is disposed of after its last entry. Calls may be made from any thread: each has its
+    turn on this object. It is a context manager, which disposes of it.
     """
 
     _calls = Calls("wurst_log_")
 
     def __init__(self) -> None:
         super().__init__()
-        self.first = 0
+        # The library writes it.
+        self._first = ctypes.c_uint64()
         self._read = 0
+        self._unreturned: Unreturned[Entry] = Unreturned()
+
+    @property
+    def first(self) -> int:
+        """The number of its first entry."""
+        return self._first.value
 
     def __iter__(self) -> "Page":
         return self
 
     def __next__(self) -> Entry:
-        with self._lock:
-            if not self._handle.is_open:
-                raise StopIteration
-            if self._read == self._count():
-                self._calls.dispose(self._handle)
-                raise StopIteration
-            entry = self._entry(self._read)
-            self._read += 1
-            return entry
+        try:
+            return self._unreturned.first_or(lambda: self._turns.alone(self._read_next))
+        except IndexError:
+            raise StopIteration from None
+
+    def _read_next(self) -> bool:
+        """Reads an entry, and keeps it until it is returned. Whether there was one."""
+        if not self._handle.is_open:
+            return False
+        if self._read == self._count():
+            self._calls.dispose(self._handle)
+            return False
+        entry = self._entry(self._read)
+        return self._unreturned.keep(self._advance, lambda: entry)
+
+    def _advance(self) -> None:
+        self._read += 1
 
 
 class Session(Queue, _Entries):
@@ -94,14 +106,15 @@ class Session(Queue, _Entries):
     def __init__(self, source: Union[Uid, str], entries: int = 10_000, places: int = MOST_PLACES, *,
                  budget: int = DEFAULT_BUDGET, search: Search = Search.STEADY) -> None:
         super().__init__()
+        self._logs: Unreturned[Log] = Unreturned()
+        self._pages: Unreturned[Page] = Unreturned()
         setup = setup_of(source, places, budget, search)
         check(self._calls.open(self._handle, setup, whole(entries, 64, "entries")))
 
     def free_entries(self) -> int:
         """How many entries are free: neither taken nor reserved for what has to be logged later."""
         count = ctypes.c_size_t()
-        with self._lock:
-            check(self._calls.free_entries(self._handle, count))
+        check(self._made(self._calls.free_entries, count))
         return count.value
 
     def rotate(self, entries: int = 10_000) -> Log:
@@ -109,18 +122,21 @@ class Session(Queue, _Entries):
 
         Raises NotIdle, LogFull for fewer than three entries, TooManyEntries or OutOfMemory.
         """
-        log = Log()
-        with self._lock:
-            check(self._calls.rotate(self._handle, whole(entries, 64, "entries"), log._handle))
-        return log
+        whole(entries, 64, "entries")
+        return self._logs.first_or(lambda: self._rotate(entries, Log()))
+
+    def _rotate(self, entries: int, log: Log) -> bool:
+        return self._logs.keep(lambda: check(self._made(self._calls.rotate, entries, log._handle)),
+                               lambda: log if log._handle.is_open else None)
 
     def drain(self, entries: int = 10_000) -> Page:
         """Hands out all entries that the log stores, at any time, and continues with capacity for this many.
 
         Raises LogFull if that is less than what is reserved, TooManyEntries or OutOfMemory; then nothing has changed.
         """
-        page, first = Page(), ctypes.c_uint64()
-        with self._lock:
-            check(self._calls.drain(self._handle, whole(entries, 64, "entries"), page._handle, first))
-        page.first = first.value
-        return page
+        whole(entries, 64, "entries")
+        return self._pages.first_or(lambda: self._drain(entries, Page()))
+
+    def _drain(self, entries: int, page: Page) -> bool:
+        return self._pages.keep(lambda: check(self._made(self._calls.drain, entries, page._handle, page._first)),
+                                lambda: page if page._handle.is_open else None)

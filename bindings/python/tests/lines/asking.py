@@ -1,6 +1,7 @@
 """What the tests of asking share: a clock, devices that answer as they are told, and a stand-in for the queue."""
 from __future__ import annotations
 
+import time
 from collections import deque
 from typing import Callable, Deque, List, Optional, Tuple
 
@@ -114,6 +115,10 @@ class StandInQueue:
     def pause(self) -> None:
         """Sends nothing more."""
         self._is_paused = True
+
+    def _sleep(self, seconds: float) -> None:
+        """Waits as the queue does."""
+        time.sleep(seconds)
 
     def run(self, line: Line) -> int:
         """Makes the exchanges of all requests."""

@@ -71,7 +71,7 @@ class Hostile(Emulator):
         if data and self._chance.random() < self.share:
             data = self._attack(self._chance, data)
         if data:
-            os.write(self._own, data)
+            self._files.write(data)
 
 
 class Straggler(Emulator):
@@ -92,11 +92,11 @@ class Straggler(Emulator):
 
     def _write(self, messages: List[Message]) -> None:
         with self._writing:
-            os.write(self._own, b"".join(message.encode() for message in messages))
+            self._files.write(b"".join(message.encode() for message in messages))
         if messages and messages[-1].label == Label.RECEIVED and is_whole_packet(messages[-1].data[1:]):
             threading.Timer(self._delay * (0.5 + self._chance.random()), self._end).start()
 
     def _end(self) -> None:
         with self._writing:
             if not self._is_over:
-                os.write(self._own, Message(Label.RDM_END).encode())
+                self._files.write(Message(Label.RDM_END).encode())

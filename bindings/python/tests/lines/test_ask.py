@@ -433,7 +433,7 @@ class Kept(Asks):
         with self.assertRaises(Unserved) as caught:
             asker.get(DEVICE, LABEL)
         self.assertEqual([each.data for each in caught.exception.queued], [bytes(4), b"Lamp"])
-        self.assertEqual(asker.kept.queued, [])
+        self.assertEqual(asker.kept.outcomes, [])
 
     def test_an_answer_before_the_line_fails(self) -> None:
         line = Interrupted(Queueing(1, ack(HOURS, bytes(4)), LAMP), 3, LineFailed("unplugged"))

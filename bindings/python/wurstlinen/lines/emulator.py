@@ -4,11 +4,13 @@ It behaves as OLA 0.10.9 expects of the adapter, which is all that this project 
 """
 from __future__ import annotations
 
+import contextlib
 import os
 import select
 import threading
 import time
 import tty
+import weakref
 from dataclasses import dataclass
 from types import TracebackType
 from typing import List, Optional, Tuple, Type
@@ -75,26 +77,28 @@ class Emulator:
         # How many RDM messages have come.
         self.messages = 0
         self._reader = MessageReader()
-        self._own, self._other = os.openpty()
-        # Until a driver has configured the terminal, it mustn't echo what is written to it.
-        tty.setraw(self._other)
-        self.path = os.ttyname(self._other)
-        self._wake, self._waker = os.pipe()
+        self._files = _Files()
+        # One that nobody uses any more, and that was never entered, is closed too.
+        weakref.finalize(self, self._files.close)
+        self._files.open()
+        self.path = os.ttyname(self._files.other)
         self._is_gone = False
         # The exception of the line that ended the adapter, if one did.
         self.failure: Optional[Exception] = None
         self._ended = threading.Event()
-        self._thread = threading.Thread(target=self._serve, name="emulator", daemon=True)
+        self._thread: Optional[threading.Thread] = None
 
     def __enter__(self) -> Emulator:
+        self._thread = threading.Thread(target=self._serve, name="emulator", daemon=True)
         self._thread.start()
         return self
 
     def __exit__(self, kind: Optional[Type[BaseException]], error: Optional[BaseException],
                  trace: Optional[TracebackType]) -> None:
-        os.close(self._waker)
-        # A line that hangs, or a driver that doesn't read, mustn't delay the end.
-        self._thread.join(SECONDS_TO_END)
+        self._files.wake()
+        if self._thread is not None:
+            # A line that hangs mustn't delay the end.
+            self._thread.join(SECONDS_TO_END)
 
     def wait(self) -> None:
         """Waits until the adapter has disappeared, or its line has raised something else than `LineFailed`."""
@@ -102,20 +106,14 @@ class Emulator:
 
     def _serve(self) -> None:
         """Answers messages until the `with` ends, or the adapter disappears."""
-        ready = select.poll()
-        for descriptor in (self._own, self._wake):
-            ready.register(descriptor, select.POLLIN)
         try:
-            while not self._is_gone:
-                if self._wake in dict(ready.poll()):
-                    return
-                for message in self._reader.feed(os.read(self._own, READ_BYTES)):
+            while not self._is_gone and self._files.wait(select.POLLIN):
+                for message in self._reader.feed(os.read(self._files.own, READ_BYTES)):
                     self._answer(message)
         except Exception as failure:  # A line may raise anything, and nobody else would report it.
             self.failure = failure
         finally:
-            for descriptor in (self._other, self._own, self._wake):
-                os.close(descriptor)
+            self._files.close()
             self._ended.set()
 
     def _answer(self, message: Message) -> None:
@@ -175,15 +173,59 @@ class Emulator:
         data = b"".join(self.widget.noise + message.encode() for message in messages)
         size = self.widget.piece or len(data)
         for start in range(0, len(data), size or 1):
-            os.write(self._own, data[start:start + size])
+            self._files.write(data[start:start + size])
             if self.widget.piece:
                 time.sleep(PIECE_SECONDS)
 
     def _leave(self, answers: List[Message]) -> None:
         """Disappears in the middle of its answer."""
         data = b"".join(message.encode() for message in answers) or Message(Label.RDM_END).encode()
-        os.write(self._own, data[:len(data) // 2])
+        self._files.write(data[:len(data) // 2])
         self._is_gone = True
+
+
+class _Files:
+    """Both ends of a pseudo terminal, and a pipe that ends the waits for it."""
+
+    def __init__(self) -> None:
+        self.own = self.other = self._wake = self._waker = -1
+
+    def open(self) -> None:
+        """Opens them; what an exception leaves is closed by `close`."""
+        self.own, self.other = os.openpty()
+        self._wake, self._waker = os.pipe()
+        # Until a driver has configured the terminal, it mustn't echo what is written to it.
+        tty.setraw(self.other)
+        # A driver that doesn't read mustn't hold up the end.
+        os.set_blocking(self.own, False)
+
+    def wait(self, event: int) -> bool:
+        """Waits for the emulator's end of the terminal. False: the `with` ends."""
+        ready = select.poll()
+        ready.register(self.own, event)
+        ready.register(self._wake, select.POLLIN)
+        return self._wake not in dict(ready.poll())
+
+    def write(self, data: bytes) -> None:
+        """Writes to the driver, as long as the `with` doesn't end."""
+        while data and self.wait(select.POLLOUT):
+            with contextlib.suppress(BlockingIOError):
+                data = data[os.write(self.own, data):]
+
+    def wake(self) -> None:
+        """Ends the waits, now and later."""
+        waker, self._waker = self._waker, -1
+        if waker >= 0:
+            os.close(waker)
+
+    def close(self) -> None:
+        """Closes all that is open."""
+        self.wake()
+        for name in ("other", "own", "_wake"):
+            descriptor = getattr(self, name)
+            setattr(self, name, -1)
+            if descriptor >= 0:
+                os.close(descriptor)
 
 
 def _seconds_of_exchange(frame: bytes, reply: bytes) -> float:

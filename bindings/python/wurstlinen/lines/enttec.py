@@ -5,12 +5,12 @@ which behaviour has which source.
 """
 from __future__ import annotations
 
-import threading
 import time
 from collections import deque
 from pathlib import Path
 from typing import Deque, Optional, Tuple
 
+from .._turns import Turns
 from ..line import MOST_REPLY_BYTES, LineFailed
 from .base import OpenLine
 from .ends import BranchEnd, EarlyEnds, Ends, seconds_on_wire
@@ -54,7 +54,8 @@ class EnttecPro(OpenLine):
 
     An exchange opens the device again if it was closed, or if it was unplugged. Questions about the adapter itself have
     `answer_seconds` for their answer; the first one, for its serial number, has 0.9 seconds at least, and is asked
-    twice if it has to be. Calls may be made from any thread: each waits for the one before it.
+    twice if it has to be. Calls may be made from any thread: each waits for the one before it, except that `close` ends
+    an exchange of another thread, which then fails.
     """
 
     def __init__(self, path: str, lock_folder: Path = LOCK_FOLDER, answer_seconds: float = ANSWER_SECONDS) -> None:
@@ -64,7 +65,7 @@ class EnttecPro(OpenLine):
         self.firmware: Optional[Tuple[int, int]] = None
         self._lock_folder = lock_folder
         self._answer_seconds = answer_seconds
-        self._calls = threading.RLock()
+        self._turns = Turns()
         self._terminal: Optional[Terminal] = None
         self._reader = MessageReader(LENGTHS_FROM_ADAPTER)
         self._messages: Deque[Message] = deque()
@@ -83,22 +84,39 @@ class EnttecPro(OpenLine):
 
     def open(self) -> None:
         """Opens and locks the device, and asks who it is; `LineFailed` if it isn't an adapter with RDM."""
-        with self._calls:
-            self.close()
-            self._forget()
+        self._turns.alone(self._open)
+
+    def _open(self) -> None:
+        self._close()
+        self._forget()
+        try:
             self._terminal = Terminal(self.path, self._lock_folder)
-            try:
-                self._clear()
-                self._meet()
-            except BaseException:
-                self.close()
-                raise
+            self._clear()
+            self._meet()
+        except BaseException:
+            self._close()
+            raise
 
     def close(self) -> None:
         """Closes the device, and removes its lock."""
-        with self._calls:
-            if self._terminal is not None:
-                self._terminal.close()
+        self._turns.alone(self._close, self._interrupt)
+
+    def _close(self) -> None:
+        terminal, self._terminal = self._terminal, None
+        if terminal is not None:
+            terminal.close()
+
+    def _interrupt(self) -> None:
+        """Ends what another thread waits for."""
+        terminal = self._terminal
+        if terminal is not None:
+            terminal.interrupt()
+
+    def _device(self) -> Terminal:
+        """The open device. A signal's handler may have closed it."""
+        if self._terminal is None:
+            raise LineFailed("the device was closed")
+        return self._terminal
 
     def exchange(self, frame: bytes) -> bytes:
         """Sends a frame, and waits at most two seconds for the end of its exchange.
@@ -106,21 +124,23 @@ class EnttecPro(OpenLine):
         The bytes are passed on whatever the adapter's status is: the reader checks their sum, and a collision mustn't
         look like silence.
         """
-        with self._calls:
-            if self._terminal is None or not self._terminal.is_open:
-                self.open()
+        return self._turns.alone(lambda: self._exchange(frame))
+
+    def _exchange(self, frame: bytes) -> bytes:
+        if self._terminal is None or not self._terminal.is_open:
+            self._open()
+        self._clear()
+        if self._is_in_doubt:
+            self._settle()
             self._clear()
-            if self._is_in_doubt:
-                self._settle()
-                self._clear()
-            is_branch = is_branch_frame(frame)
-            self._has_answer = is_branch or not is_broadcast_frame(frame)
-            self._open_ends = None
-            self._ended_silently = False
-            self._is_in_doubt = True
-            self._earliest_end = time.monotonic() + seconds_on_wire(frame, self._has_answer)
-            self._send(Label.SEND_BRANCH if is_branch else Label.SEND_RDM, frame)
-            return self._branch_reply() if is_branch else self._reply(frame)
+        is_branch = is_branch_frame(frame)
+        self._has_answer = is_branch or not is_broadcast_frame(frame)
+        self._open_ends = None
+        self._ended_silently = False
+        self._is_in_doubt = True
+        self._earliest_end = time.monotonic() + seconds_on_wire(frame, self._has_answer)
+        self._send(Label.SEND_BRANCH if is_branch else Label.SEND_RDM, frame)
+        return self._branch_reply() if is_branch else self._reply(frame)
 
     def _forget(self) -> None:
         """Starts from scratch, since another adapter may be there."""
@@ -296,9 +316,8 @@ class EnttecPro(OpenLine):
 
     def _clear(self) -> None:
         """Drops what has come since the last exchange, and what is left of an incomplete message."""
-        assert self._terminal is not None
         for _ in range(MOST_READS):
-            data = self._terminal.read_until(0.0)
+            data = self._device().read_until(0.0)
             if not data:
                 break
             self._messages.extend(self._reader.feed(data))
@@ -309,12 +328,10 @@ class EnttecPro(OpenLine):
         self._reader.clear()
 
     def _send(self, label: Label, data: bytes) -> None:
-        assert self._terminal is not None
-        self._terminal.write(Message(label, data).encode())
+        self._device().write(Message(label, data).encode())
 
     def _next(self, end: float) -> Optional[Message]:
         """The next message that comes before the time `end`, or soon after damaged bytes."""
-        assert self._terminal is not None
         while not self._messages:
             now = time.monotonic()
             until = min(end, self._heard_at + DAMAGED_SECONDS) if self._reader.is_damaged else end
@@ -322,7 +339,7 @@ class EnttecPro(OpenLine):
                 return None
             if self._reader.is_incomplete:
                 until = min(until, now + QUIET_SECONDS)
-            data = self._terminal.read_until(until)
+            data = self._device().read_until(until)
             if data:
                 self._heard_at = time.monotonic()
             self._messages.extend(self._reader.feed(data) if data else self._reader.rescue())

@@ -6,10 +6,10 @@ import os
 import select
 import stat
 import termios
-import time
 from typing import BinaryIO, Optional
 
 from ..line import MOST_REPLY_BYTES
+from .alarm import Alarm
 
 # The longest line: its digits, a carriage return and the newline.
 MOST_LINE_BYTES = 2 * MOST_REPLY_BYTES + 2
@@ -35,15 +35,18 @@ class Endless(OSError):
 
 
 class LineReader:
-    """Reads lines from a binary stream. A line is returned without its end, and cut off if it is too long."""
+    """Reads lines from a binary stream. A line is returned without its end, and cut off if it is too long.
 
-    def __init__(self, stream: BinaryIO) -> None:
+    An alarm, if there is one, ends its waits.
+    """
+
+    def __init__(self, stream: BinaryIO, alarm: Optional[Alarm] = None) -> None:
         self._stream = stream
+        self._alarm = alarm
         # Whether the stream's lines come one after another.
         self.is_pipe = _is_pipe(stream)
         # How many lines were read. An interrupt may keep a line that is counted from being returned.
         self.lines_read = 0
-        self._ready = _poll(stream, select.POLLIN)
         self._left = bytearray()
         # How many bytes of the line at the front were dropped.
         self._skipped = 0
@@ -59,12 +62,12 @@ class LineReader:
                 # The next call skips as much again.
                 self._skipped = 1
                 raise Endless
-            if end is not None and not _is_ready(self._ready, end):
+            if not is_ready(self._stream, select.POLLIN, end, self._alarm):
                 raise TooLate
             data = self._more()
-            if not data:
+            if data == b"":
                 return None
-            self._left += data
+            self._left += data or b""
             line = self._take()
         return line
 
@@ -72,7 +75,7 @@ class LineReader:
         """Drops all lines that are there, up to a limit; a file that isn't a pipe or a terminal has lines for later."""
         if not self.is_pipe:
             return
-        while len(self._left) < MOST_BYTES_TO_SKIP and _is_ready(self._ready, 0.0):
+        while len(self._left) < MOST_BYTES_TO_SKIP and is_ready(self._stream, select.POLLIN, 0.0, self._alarm):
             data = self._more()
             if not data:
                 break
@@ -80,10 +83,11 @@ class LineReader:
         self._left.clear()
         self._skipped = 0
 
-    def _more(self) -> bytes:
-        """What one read gives: at least one byte, or none at the end."""
+    def _more(self) -> Optional[bytes]:
+        """What one read gives: at least one byte, or none at the end; None if another one was faster."""
         read = getattr(self._stream, "read1", self._stream.read)
-        return read(READ_BYTES) or b""
+        data: Optional[bytes] = read(READ_BYTES)
+        return data
 
     def _take(self) -> Optional[bytes]:
         """Takes the first line out, if it is there."""
@@ -107,10 +111,21 @@ class LineReader:
             del self._left[MOST_LINE_BYTES:]
 
 
-def wait_to_write(stream: BinaryIO, end: Optional[float]) -> None:
+def wait_to_write(stream: BinaryIO, end: Optional[float], alarm: Alarm) -> None:
     """Waits until a stream takes a line, at most until the time `end`."""
-    if end is not None and not _is_ready(_poll(stream, select.POLLOUT), end):
+    if not is_ready(stream, select.POLLOUT, end, alarm):
         raise TooLate
+
+
+def is_ready(stream: BinaryIO, event: int, end: Optional[float], alarm: Optional[Alarm]) -> bool:
+    """Whether a stream can be read or written before the time `end`. One that is no file never waits."""
+    if alarm is None:
+        return True
+    try:
+        descriptor = stream.fileno()
+    except (OSError, ValueError):
+        return True
+    return alarm.wait(descriptor, event, end)
 
 
 def has_unread(stream: BinaryIO) -> bool:
@@ -128,19 +143,3 @@ def _is_pipe(stream: BinaryIO) -> bool:
     except (OSError, ValueError):
         return False
     return stat.S_ISFIFO(mode) or stat.S_ISSOCK(mode) or stat.S_ISCHR(mode)
-
-
-def _poll(stream: BinaryIO, event: int) -> Optional[select.poll]:
-    """What waits for a stream; None if it is no file, and never waits."""
-    try:
-        descriptor = stream.fileno()
-    except (OSError, ValueError):
-        return None
-    wait = select.poll()
-    wait.register(descriptor, event)
-    return wait
-
-
-def _is_ready(wait: Optional[select.poll], end: float) -> bool:
-    """Whether a stream can be read or written before the time `end`."""
-    return wait is None or bool(wait.poll(max(0.0, end - time.monotonic()) * 1000))

@@ -5,11 +5,11 @@ import fcntl
 import os
 import select
 import termios
-import time
 import weakref
 from pathlib import Path
 
 from ..line import LineFailed
+from .alarm import Alarm, Ended
 from .locks import LockFile
 
 LOCK_FOLDER = Path("/var/lock")
@@ -25,6 +25,7 @@ class Terminal:
     """
 
     def __init__(self, path: str, lock_folder: Path = LOCK_FOLDER) -> None:
+        self._alarm = Alarm()
         self._device = _Device(path, lock_folder)
         weakref.finalize(self, self._device.close)
         try:
@@ -44,6 +45,10 @@ class Terminal:
         """Closes the device, and removes its lock file."""
         self._device.close()
 
+    def interrupt(self) -> None:
+        """Ends a read of another thread, and all later ones. The terminal is still to be closed."""
+        self._alarm.ring()
+
     def write(self, data: bytes) -> None:
         """Writes all of it or fails, since half a message would make the other side lose its framing."""
         try:
@@ -57,12 +62,11 @@ class Terminal:
         """The next bytes that come before the time `end` of `time.monotonic`; none if none come."""
         if not self.is_open:
             raise LineFailed("the device was closed")
-        wait = select.poll()
-        wait.register(self._device.descriptor, select.POLLIN)
-        milliseconds = max(0.0, end - time.monotonic()) * 1000
-        if not wait.poll(milliseconds):
-            return b""
-        return self._read()
+        try:
+            has_come = self._alarm.wait(self._device.descriptor, select.POLLIN, end)
+        except Ended:
+            raise LineFailed("the device was closed") from None
+        return self._read() if has_come else b""
 
     def _read(self) -> bytes:
         try:

@@ -1,19 +1,21 @@
 """Lines as text (docs/FORMATS.md, "A line as text"): both the controller's end and the far end."""
 from __future__ import annotations
 
+import contextlib
 import errno
+import io
 import os
-import queue
 import shlex
 import stat
 import subprocess
 import sys
-import threading
 import time
 import tty
-from typing import BinaryIO, Optional, Sequence, Tuple, Union
+from typing import BinaryIO, List, Optional, Sequence, Tuple, cast
 
+from .._turns import Turns
 from ..line import MOST_REPLY_BYTES, Line, LineFailed
+from .alarm import Alarm, Ended
 from .base import OpenLine
 from .packets import decode_branch_reply, decode_packet, is_answer, is_branch_frame, is_broadcast_frame
 from .streams import LineReader, TooLate, has_unread, wait_to_write
@@ -23,6 +25,10 @@ MOST_FRAME_BYTES = 257
 FAILED = b"failed"
 HEX_DIGITS = frozenset(b"0123456789abcdefABCDEF")
 SECONDS_TO_END = 2.0
+# How long a program has to end if an exchange is ended too.
+SOON_SECONDS = 0.2
+# How often a FIFO without a reader is tried again.
+AGAIN_SECONDS = 0.01
 # How long a reply is awaited behind one that belongs to an earlier frame.
 LATE_SECONDS = 0.1
 
@@ -31,7 +37,8 @@ class TextLine(OpenLine):
     """A line whose far end is another program, connected by text.
 
     Frames are written to one stream, and replies are read from the other; both are binary. If `seconds` is given, an
-    exchange that takes longer fails. Calls of `exchange` may be made from any thread: each waits for the one before it.
+    exchange that takes longer fails. Calls may be made from any thread: each waits for the one before it, except that
+    `close` ends an exchange of another thread, which then fails.
 
     A line of text doesn't say which frame it answers, so it is known by its order alone. As long as the far end owes
     the line for an earlier frame, exchanges send nothing and fail.
@@ -40,12 +47,16 @@ class TextLine(OpenLine):
     def __init__(self, frames: BinaryIO, replies: BinaryIO, seconds: Optional[float] = None) -> None:
         self._frames = frames
         self._replies = replies
-        self._reader = LineReader(replies)
+        self._alarm = Alarm()
+        self._reader = LineReader(replies, self._alarm)
         self._seconds = seconds
-        self._calls = threading.Lock()
-        # How many lines had been read when the last frame was sent. Its own is owed until that number changes.
-        self._read_before: Optional[int] = None
+        self._turns = Turns()
+        # What the stream took of the last frame, and how many lines had been read before. The frame's own is owed until
+        # that number changes.
+        self._written: List[int] = []
+        self._read_before = 0
         self._program: Optional[subprocess.Popen[bytes]] = None
+        self._seconds_to_end = SECONDS_TO_END
 
     @classmethod
     def open(cls, frames: str, replies: Optional[str] = None, seconds: Optional[float] = None) -> TextLine:
@@ -56,12 +67,12 @@ class TextLine(OpenLine):
         try:
             if replies is None:
                 reader = _opened(frames, os.O_RDWR)
-                writer = os.dup(reader)
+                writer = io.FileIO(os.dup(reader.fileno()), "wb")
             else:
-                writer, reader = _opened_at_once(frames, replies)
+                writer, reader = _opened_both(frames, replies)
         except OSError as error:
             raise LineFailed(f"{error.filename} can't be opened: {error.strerror}") from error
-        return cls(os.fdopen(writer, "wb"), os.fdopen(reader, "rb"), seconds)
+        return cls(io.BufferedWriter(writer), cast(BinaryIO, reader), seconds)
 
     @classmethod
     def run(cls, command: Sequence[str], seconds: Optional[float] = None) -> TextLine:
@@ -69,27 +80,36 @@ class TextLine(OpenLine):
         if not command:
             raise ValueError("a command has at least one word")
         try:
-            program = subprocess.Popen(command, stdin=subprocess.PIPE, stdout=subprocess.PIPE)
+            program = subprocess.Popen(command, bufsize=0, stdin=subprocess.PIPE, stdout=subprocess.PIPE)
         except OSError as error:
             raise LineFailed(f"{shlex.join(command)} can't be started: {error.strerror}") from error
-        assert program.stdin is not None and program.stdout is not None
-        line = cls(program.stdin, program.stdout, seconds)
-        line._program = program
+        try:
+            assert isinstance(program.stdin, io.RawIOBase) and program.stdout is not None
+            for stream in (program.stdin, program.stdout):
+                os.set_blocking(stream.fileno(), False)
+            line = cls(io.BufferedWriter(program.stdin), cast(BinaryIO, program.stdout), seconds)
+            line._program = program
+        except BaseException:
+            _end(program, 0.0)
+            raise
         return line
 
     def exchange(self, frame: bytes) -> bytes:
         """Writes the frame's line, and reads the line that answers it."""
-        with self._calls:
-            which = "an earlier frame "
-            try:
-                self._catch_up()
-                which = ""
-                reply = self._ask(frame)
-            except TooLate:
-                raise LineFailed(f"the far end didn't answer {which}within {self._seconds:g} seconds") from None
-            except (OSError, ValueError) as error:
-                raise LineFailed(f"the far end can't be reached: {error}") from error
-        return reply
+        return self._turns.alone(lambda: self._exchange(frame))
+
+    def _exchange(self, frame: bytes) -> bytes:
+        which = "an earlier frame "
+        try:
+            self._catch_up()
+            which = ""
+            return self._ask(frame)
+        except TooLate:
+            raise LineFailed(f"the far end didn't answer {which}within {self._seconds:g} seconds") from None
+        except Ended:
+            raise LineFailed("the line was closed") from None
+        except (OSError, ValueError) as error:
+            raise LineFailed(f"the far end can't be reached: {error}") from error
 
     def _end(self) -> Optional[float]:
         """When an exchange that begins now has to be done."""
@@ -97,15 +117,14 @@ class TextLine(OpenLine):
 
     def _is_owed(self) -> bool:
         """Whether the line for an earlier frame is still to come."""
-        return self._reader.lines_read == self._read_before
+        return bool(self._written) and self._reader.lines_read == self._read_before
 
     def _catch_up(self) -> None:
         """Drops the line that answers an earlier frame, once it has come, and those that answer none."""
         if self._is_owed():
             # An interrupt may have left some of its frame in the stream's buffer.
             end = self._end()
-            wait_to_write(self._frames, end)
-            self._frames.flush()
+            self._flush(end)
             self._read(end)
         self._reader.drop()
 
@@ -113,10 +132,12 @@ class TextLine(OpenLine):
         """The reply to a frame. A line that can't be its reply is dropped if another one follows soon."""
         text = frame.hex().encode() + b"\n"
         end = self._end()
-        wait_to_write(self._frames, end)
+        wait_to_write(self._frames, end, self._alarm)
+        self._written.clear()
         self._read_before = self._reader.lines_read
-        self._frames.write(text)
-        self._frames.flush()
+        # In one step, so that an interrupt can't come between the stream's taking it and its being known.
+        self._written.extend(map(self._frames.write, (text,)))
+        self._flush(end)
         reply = parse_hex(self._read(end))
         while reply is not None and _is_late(reply, frame) and self._reader.is_pipe:
             now = time.monotonic()
@@ -130,25 +151,41 @@ class TextLine(OpenLine):
             raise LineFailed("the far end's exchange failed")
         return reply
 
+    def _flush(self, end: Optional[float]) -> None:
+        """Writes what is left in the stream's buffer."""
+        while True:
+            wait_to_write(self._frames, end, self._alarm)
+            try:
+                self._frames.flush()
+                return
+            except BlockingIOError:
+                continue
+
     def _read(self, end: Optional[float]) -> bytes:
         """The next line."""
         text = self._reader.read(end)
         if text is None:
             # A far end that has ended owes nothing. The next one may answer a frame that this one didn't read.
             if not has_unread(self._frames):
-                self._read_before = None
+                self._written.clear()
             raise LineFailed("the far end ended")
         return text
 
     def close(self) -> None:
         """Closes both streams, and ends the command if there is one."""
+        self._turns.alone(self._close, self._interrupt)
+
+    def _interrupt(self) -> None:
+        """Ends what another thread waits for. A command that doesn't answer won't end by itself."""
+        self._seconds_to_end = SOON_SECONDS
+        self._alarm.ring()
+
+    def _close(self) -> None:
         for stream in (self._frames, self._replies):
-            try:
+            with contextlib.suppress(OSError):
                 stream.close()
-            except OSError:
-                pass
         if self._program is not None:
-            _end(self._program)
+            _end(self._program, self._seconds_to_end)
 
 
 def serve_text(line: Line, frames: Optional[BinaryIO] = None, replies: Optional[BinaryIO] = None) -> int:
@@ -175,37 +212,30 @@ def parse_hex(text: bytes) -> Optional[bytes]:
     return bytes.fromhex(text.decode())
 
 
-def _opened(path: str, flags: int) -> int:
-    """Opens a file; a terminal device becomes raw, so that it doesn't echo what is written to it."""
+def _opened(path: str, flags: int) -> io.FileIO:
+    """Opens a file, which never blocks; a terminal device becomes raw, so that it doesn't echo what is written to it."""
     if flags & os.O_RDWR and stat.S_ISFIFO(os.stat(path).st_mode):
         raise OSError(errno.EINVAL, "a FIFO goes one way, so the replies need another", path)
-    file = os.open(path, flags | os.O_NOCTTY | os.O_CLOEXEC)
-    if os.isatty(file):
-        tty.setraw(file)
+    flags |= os.O_NOCTTY | os.O_CLOEXEC | os.O_NONBLOCK
+    file = io.FileIO(path, "wb" if flags & os.O_WRONLY else "rb", opener=lambda name, _: os.open(name, flags))
+    if file.isatty():
+        tty.setraw(file.fileno())
     return file
 
 
-def _opened_at_once(frames: str, replies: str) -> Tuple[int, int]:
-    """Opens both files, each of which may be a FIFO that waits for the far end to open it."""
+def _opened_both(frames: str, replies: str) -> Tuple[io.FileIO, io.FileIO]:
+    """Opens both files. A FIFO for the frames waits until the far end has opened it."""
     # A file that doesn't exist is reported before anything waits.
-    os.stat(frames)
-    os.stat(replies)
-    opened: "queue.SimpleQueue[Union[int, OSError]]" = queue.SimpleQueue()
-
-    def open_frames() -> None:
-        try:
-            opened.put(_opened(frames, os.O_WRONLY))
-        except OSError as error:
-            opened.put(error)
-
-    # An interrupt mustn't have to wait for this thread.
-    threading.Thread(target=open_frames, daemon=True).start()
+    is_fifo = stat.S_ISFIFO(os.stat(frames).st_mode)
+    # A far end that waits for this one can go on, whichever it opens first.
     reader = _opened(replies, os.O_RDONLY)
-    writer = opened.get()
-    if isinstance(writer, OSError):
-        os.close(reader)
-        raise writer
-    return writer, reader
+    while True:
+        try:
+            return _opened(frames, os.O_WRONLY), reader
+        except OSError as error:
+            if error.errno != errno.ENXIO or not is_fifo:
+                raise
+        time.sleep(AGAIN_SECONDS)
 
 
 def _is_late(reply: bytes, frame: bytes) -> bool:
@@ -247,10 +277,10 @@ def _answer(line: Line, text: bytes) -> bytes:
         return FAILED
 
 
-def _end(program: subprocess.Popen[bytes]) -> None:
+def _end(program: subprocess.Popen[bytes], seconds: float) -> None:
     """Waits for a command whose input has ended; kills it if it goes on."""
     try:
-        program.wait(SECONDS_TO_END)
+        program.wait(seconds)
     except subprocess.TimeoutExpired:
         program.kill()
         program.wait()

@@ -1,0 +1,44 @@
+"""What ends a wait of another thread."""
+from __future__ import annotations
+
+import contextlib
+import os
+import select
+import time
+from typing import List, Optional
+
+
+class Ended(OSError):
+    """A wait was ended by another thread."""
+
+    def __init__(self) -> None:
+        super().__init__("it was closed by another thread")
+
+
+class Alarm:
+    """Ends waits for a descriptor, those of other threads too, from when it is rung."""
+
+    def __init__(self) -> None:
+        self._files: List[int] = []
+        # In one step, so that an interrupt can't come before they are known.
+        self._files.extend(os.pipe())
+        os.set_blocking(self._files[1], False)
+
+    def __del__(self) -> None:
+        for descriptor in self._files:
+            os.close(descriptor)
+
+    def ring(self) -> None:
+        """Ends all waits, now and later."""
+        with contextlib.suppress(BlockingIOError):
+            os.write(self._files[1], b"!")
+
+    def wait(self, descriptor: int, event: int, end: Optional[float]) -> bool:
+        """Whether an event comes before the time `end` of `time.monotonic`. Raises Ended."""
+        ready = select.poll()
+        ready.register(descriptor, event)
+        ready.register(self._files[0], select.POLLIN)
+        found = dict(ready.poll(None if end is None else max(0.0, end - time.monotonic()) * 1000))
+        if self._files[0] in found:
+            raise Ended
+        return bool(found)
