@@ -33,9 +33,10 @@ def manufacturers() -> Mapping[int, ola.Manufacturer]:
 def standard() -> Table:
     """The parameters of the standards: of those that aren't known here, what OLA's files have."""
     try:
-        return STANDARD.with_more(ola.standard_parameters())
+        found = ola.standard_parameters()
     except (OSError, ola.FileFault):
         return STANDARD
+    return STANDARD.with_more(each for each in found if STANDARD.numbered(each.number) is None)
 
 
 def table_of(manufacturer: int, pid: int) -> Table:

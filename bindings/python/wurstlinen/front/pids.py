@@ -2,7 +2,7 @@
 from __future__ import annotations
 
 import argparse
-from typing import Any, Dict, List, Optional, Sequence
+from typing import Any, Dict, List, Optional
 
 from ..parameters import STANDARD, Parameter, WordFault
 from ..parameters.encoding import valid_text
@@ -18,7 +18,7 @@ PLAIN_TYPES = {Flag: "yes or no", UidField: "a UID", Ipv4: "an IPv4 address", Ma
 def run_pids(chosen: argparse.Namespace, output: Output) -> int:
     """Lists the parameters whose names have a word in them, or explains one."""
     word = chosen.name or ""
-    known = distinct(standard().parameters)
+    known = sorted(standard().parameters, key=lambda parameter: parameter.number)
     exact = [each for each in known if each.name == name_of(word)]
     found = exact or [each for each in known if name_of(word) in each.name]
     if not found:
@@ -32,11 +32,6 @@ def run_pids(chosen: argparse.Namespace, output: Output) -> int:
     return DONE
 
 
-def distinct(parameters: Sequence[Parameter]) -> List[Parameter]:
-    """The parameters in the order of their numbers, of each number the first."""
-    return [each for _, each in sorted({each.number: each for each in reversed(parameters)}.items())]
-
-
 def numbered(word: str) -> Parameter:
     """The parameter of a number. Raises WordFault."""
     found = standard().numbered(STANDARD.pid(word))
@@ -47,7 +42,8 @@ def numbered(word: str) -> Parameter:
 
 def listed(parameter: Parameter) -> str:
     """A parameter on one line."""
-    return f"0x{parameter.number:04x}  {standard_of(parameter.number) or '':<8} {parameter.name:<36}{parameter.commands}"
+    standard_name = standard_of(parameter.number) or ""
+    return f"0x{parameter.number:04x}  {standard_name:<9}{parameter.name:<44}{parameter.commands}"
 
 
 def explained(parameter: Parameter) -> List[str]:

@@ -9,6 +9,7 @@ from ..lines.numbers import Pid
 from ..parameters import STANDARD, Parameter, Reading
 from ..parameters.decoding import Values
 from .fixtures import Fixture
+from .naming import raw_parameter
 from .output import DONE, FAILED, REFUSED, Failure, Output, aligned, reading_keys
 from .sensors import sensor_text
 from .work import Work, open_work
@@ -112,7 +113,7 @@ class Shown:
         output = self._work.output
         if output.is_json and parameter.number != Pid.SUPPORTED_PARAMETERS:
             output.result([], section=self._section, **reading_keys(str(self._uid), parameter, reading))
-        return reading, [*reading.lines, *([reading.misfit] if reading.misfit else [])]
+        return reading, [*reading.lines, *([reading.misfit] if reading.misfit else [])] or ["none"]
 
     def _failed(self, failure: Failure) -> str:
         """Counts a failure, and says in short what it was."""
@@ -166,7 +167,7 @@ class Shown:
         """The data with which a parameter is asked for, and what that adds to its title; None if it isn't known."""
         assert parameter.get is not None
         fields = parameter.get.request
-        if not fields:
+        if not fields or parameter == raw_parameter(parameter.number):
             return [(b"", "")]
         if len(fields) == 1 and fields[0].name == INTERFACE:
             return [(number.to_bytes(4, "big"), f" {number}") for number in self._interfaces]
@@ -236,7 +237,7 @@ def title_of(parameter: Parameter) -> str:
 
 def rows_of(title: str, lines: Sequence[str]) -> List[Row]:
     """Lines under one title."""
-    return [(title if number == 0 else "", line) for number, line in enumerate(lines or ["none"])]
+    return [(title if number == 0 else "", line) for number, line in enumerate(lines)]
 
 
 def choice_text(reading: Reading) -> str:
