@@ -1,6 +1,5 @@
 """The queue of requests and discoveries on one line."""
 
-import contextlib
 import ctypes
 import time
 from collections import defaultdict
@@ -266,9 +265,9 @@ class Client:
 
     def oldest(self) -> Optional[OutcomeKind]:
         """The kind of its oldest outcome; None if it has none."""
-        kind = ctypes.c_uint32()
-        with contextlib.suppress(IndexError):
-            return kind_of(self.queue._collected[self.number].first())
+        kept, kind = self.queue._collected[self.number].first(), ctypes.c_uint32()
+        if kept is not None:
+            return kind_of(kept)
         status = self.queue._made(self.queue._calls.oldest, self.number, kind)
         return OutcomeKind(kind.value) if given(status) else None
 
@@ -290,9 +289,9 @@ class Client:
     def _next(self, collecting: Callable[[], Collecting], kind: OutcomeKind) -> Optional[Outcome]:
         """Its oldest outcome, which has to be of this kind."""
         kept = self.queue._collected[self.number]
-        with contextlib.suppress(IndexError):
-            if kind_of(kept.first()) != kind:
-                raise OtherOutcome()
+        first = kept.first()
+        if first is not None and kind_of(first) != kind:
+            raise OtherOutcome()
         try:
             return kept.first_or(lambda: self._collect(kept, collecting()))
         except IndexError:
