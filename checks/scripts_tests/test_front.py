@@ -426,7 +426,9 @@ class Repository(unittest.TestCase):
 
     def test_words_are_checked_without_an_effect(self) -> None:
         note, rows = self.clone.folder / "note", self.clone.folder / "rows"
+        rig = f"--line=rig:{FIXTURES}"
         for words in (["fixtures", "--line", f"exec:touch {note}"], ["apply", str(rows), f"--line=rig:{FIXTURES}"],
+                      ["check", str(rows), f"--line=rig:{FIXTURES}", "--log", str(note)], ["apply", "-", rig],
                       ["save", str(rows), f"--line=rig:{FIXTURES}"], ["save", str(note), f"--line=rig:{FIXTURES}"],
                       ["fixtures", "--line", f"text:{rows}"], ["fixtures", "--line", f"rig:{rows}"],
                       ["explain", str(FIXTURES), "--page", str(note)]):
@@ -492,7 +494,7 @@ class Repository(unittest.TestCase):
 
     def test_wrong_arguments_build_nothing(self) -> None:
         line = ["--line", f"rig:{FIXTURES}"]
-        for words, wanted in ((["get", "1234", "device_label", *line], "argument UID: '1234' isn't a UID"),
+        for words, wanted in ((["get", "1234", "device_label", *line], "argument UID|all: '1234' isn't a UID"),
                               (["get", "1234:00000001", "device_lable", *line], "did you mean device_label?"),
                               (["set", "1234:00000001", "dmx_start_address", "0017", *line], "in two ways"),
                               (["fixtures", "--lien", "x"], "unrecognized arguments: --lien x")):

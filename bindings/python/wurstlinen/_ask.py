@@ -7,10 +7,11 @@ from __future__ import annotations
 
 import time
 from dataclasses import dataclass, field
-from typing import TYPE_CHECKING, Callable, Dict, List, Optional, Tuple, Union
+from typing import TYPE_CHECKING, Any, Callable, Dict, List, Optional, Tuple, Union
 
 from ._types import (
-    AckType, Completion, Discovery, ReplyHead, Request, RequestClass, Status, Uid, data_of, uid_of)
+    AckType, Completion, Discovery, ReplyHead, Request, RequestClass, ResponseClass, Status, Uid, data_of, pid_of,
+    uid_of)
 from .line import Line
 
 if TYPE_CHECKING:
@@ -67,6 +68,19 @@ class Answer:
     def is_late(self) -> bool:
         """Whether the answer didn't come in time."""
         return delay_of(self.completion) is not None
+
+    @property
+    def values(self) -> Optional[Dict[str, Any]]:
+        """What an acknowledged answer says, by the fields that `wurstlinen.parameters` knows; None if it says nothing.
+
+        A manufacturer's own parameter has none, and neither has data that doesn't fit.
+        """
+        from .parameters import STANDARD, decode
+        head = self.completion.head
+        if head is None or head.ack != AckType.ACK:
+            return None
+        is_set = head.response_class == ResponseClass.SET
+        return decode(STANDARD.numbered(head.pid), is_set, self.completion.data).values
 
 
 class Kept:
@@ -140,13 +154,15 @@ class Asker:
         """
         return Asking(self, request).answer()
 
-    def get(self, target: Union[Uid, str], pid: int, data: Union[bytes, str] = b"", sub_device: int = 0) -> Answer:
+    def get(self, target: Union[Uid, str], pid: Union[int, str], data: Union[bytes, str] = b"",
+            sub_device: int = 0) -> Answer:
         """The answer to a GET."""
-        return self.ask(Request(uid_of(target), pid, data_of(data), sub_device, RequestClass.GET))
+        return self.ask(Request(uid_of(target), pid_of(pid), data_of(data), sub_device, RequestClass.GET))
 
-    def set(self, target: Union[Uid, str], pid: int, data: Union[bytes, str] = b"", sub_device: int = 0) -> Answer:
+    def set(self, target: Union[Uid, str], pid: Union[int, str], data: Union[bytes, str] = b"",
+            sub_device: int = 0) -> Answer:
         """The answer to a SET."""
-        return self.ask(Request(uid_of(target), pid, data_of(data), sub_device, RequestClass.SET))
+        return self.ask(Request(uid_of(target), pid_of(pid), data_of(data), sub_device, RequestClass.SET))
 
 
 class Asking:

@@ -47,9 +47,9 @@ class Unreturned(Generic[Made]):
     def __bool__(self) -> bool:
         return bool(self._kept)
 
-    def first(self) -> Made:
-        """The first of them, which stays. Raises IndexError if there is none."""
-        return self._kept[0]
+    def first(self) -> Optional[Made]:
+        """The first of them, which stays; None if there is none."""
+        return next(iter(tuple(self._kept)), None)
 
     def first_or(self, make: Callable[[], bool]) -> Made:
         """The first of them, which is returned now. If there is none, one is made; IndexError if there is none then."""

@@ -1,6 +1,5 @@
 """The queue of requests and discoveries on one line."""
 
-import contextlib
 import ctypes
 import time
 from collections import defaultdict
@@ -13,7 +12,7 @@ from ._held import Held, Unreturned
 from ._library import Calls, DeviceForm, Setup, buffer_of, room_for
 from ._types import (
     DEFAULT_BUDGET, MOST_DEVICES, MOST_FRAME_BYTES, MOST_PLACES, Completion, Device, Discovery, Kind, OutcomeKind,
-    Request, RequestClass, Search, Uid, data_of, devices_of, uid_of, whole)
+    Request, RequestClass, Search, Uid, data_of, devices_of, pid_of, uid_of, whole)
 from ._wire import form_of_request
 from .line import Line, LineFailed
 
@@ -237,15 +236,17 @@ class Client:
         check(self.queue._made(calls.submit, self.number, form, *buffer_of(request.data), number))
         return number.value
 
-    def get(self, target: Union[Uid, str], pid: int, data: Union[bytes, str] = b"", sub_device: int = 0) -> int:
+    def get(self, target: Union[Uid, str], pid: Union[int, str], data: Union[bytes, str] = b"",
+            sub_device: int = 0) -> int:
         """Submits a GET."""
-        return self.submit(Request(uid_of(target), pid, data_of(data), sub_device, RequestClass.GET))
+        return self.submit(Request(uid_of(target), pid_of(pid), data_of(data), sub_device, RequestClass.GET))
 
-    def set(self, target: Union[Uid, str], pid: int, data: Union[bytes, str] = b"", sub_device: int = 0) -> int:
+    def set(self, target: Union[Uid, str], pid: Union[int, str], data: Union[bytes, str] = b"",
+            sub_device: int = 0) -> int:
         """Submits a SET."""
-        return self.submit(Request(uid_of(target), pid, data_of(data), sub_device, RequestClass.SET))
+        return self.submit(Request(uid_of(target), pid_of(pid), data_of(data), sub_device, RequestClass.SET))
 
-    def ask(self, target: Union[Uid, str], pid: int, data: Union[bytes, str] = b"", sub_device: int = 0,
+    def ask(self, target: Union[Uid, str], pid: Union[int, str], data: Union[bytes, str] = b"", sub_device: int = 0,
             request_class: RequestClass = RequestClass.GET, *, line: Line, wait: float = DEFAULT_WAIT) -> Answer:
         """The answer to a request on this line, for which it waits at most `wait` seconds if the device needs time.
 
@@ -254,7 +255,7 @@ class Client:
         """
         asker = Asker(self, line, wait)
         asker.kept = self._kept
-        return asker.ask(Request(uid_of(target), pid, data_of(data), sub_device, request_class))
+        return asker.ask(Request(uid_of(target), pid_of(pid), data_of(data), sub_device, request_class))
 
     def discover(self, kind: Kind = Kind.FULL) -> int:
         """Asks for a discovery, and returns its number."""
@@ -264,9 +265,9 @@ class Client:
 
     def oldest(self) -> Optional[OutcomeKind]:
         """The kind of its oldest outcome; None if it has none."""
-        kind = ctypes.c_uint32()
-        with contextlib.suppress(IndexError):
-            return kind_of(self.queue._collected[self.number].first())
+        kept, kind = self.queue._collected[self.number].first(), ctypes.c_uint32()
+        if kept is not None:
+            return kind_of(kept)
         status = self.queue._made(self.queue._calls.oldest, self.number, kind)
         return OutcomeKind(kind.value) if given(status) else None
 
@@ -288,9 +289,9 @@ class Client:
     def _next(self, collecting: Callable[[], Collecting], kind: OutcomeKind) -> Optional[Outcome]:
         """Its oldest outcome, which has to be of this kind."""
         kept = self.queue._collected[self.number]
-        with contextlib.suppress(IndexError):
-            if kind_of(kept.first()) != kind:
-                raise OtherOutcome()
+        first = kept.first()
+        if first is not None and kind_of(first) != kind:
+            raise OtherOutcome()
         try:
             return kept.first_or(lambda: self._collect(kept, collecting()))
         except IndexError:

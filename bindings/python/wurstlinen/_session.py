@@ -86,8 +86,9 @@ class Page(_Entries):
         if self._read == self._count():
             self._calls.dispose(self._handle)
             return False
-        entry = self._entry(self._read)
-        return self._unreturned.keep(self._advance, lambda: entry)
+        index = self._read
+        entry = self._entry(index)
+        return self._unreturned.keep(self._advance, lambda: entry if self._read > index else None)
 
     def _advance(self) -> None:
         self._read += 1

@@ -195,6 +195,15 @@ def uid_of(uid: Union[Uid, str]) -> Uid:
     return Uid.parse(uid) if isinstance(uid, str) else uid
 
 
+def pid_of(pid: Union[int, str]) -> int:
+    """A parameter's number, or that of a name or a number as text. Raises ValueError if there is no such name."""
+    if isinstance(pid, str):
+        # Most programs work by numbers.
+        from .parameters import STANDARD
+        return STANDARD.pid(pid)
+    return pid
+
+
 def data_of(data: Union[bytes, str]) -> bytes:
     """Bytes, or those of a text of ASCII characters. Raises ValueError for any other text."""
     return data.encode("ascii") if isinstance(data, str) else data

@@ -38,12 +38,12 @@ class Pids(TestCase):
     def test_all(self) -> None:
         status, out, errors = called("pids")
         lines = out.splitlines()
-        self.assertEqual((status, errors, len(lines)), (0, "", len(STANDARD.parameters)))
-        self.assertIn("0x0082  device_label                        get set", lines)
-        self.assertIn("0x0002  disc_mute                           discovery", lines)
+        self.assertEqual((status, errors, len(lines)), (0, "", len(naming.standard().parameters)))
+        self.assertIn("0x0082  E1.20    device_label                                get set", lines)
+        self.assertIn("0x0002  E1.20    disc_mute                                   discovery", lines)
 
     def test_a_part_of_names(self) -> None:
-        found = [line.split()[1] for line in called("pids", "Sensor")[1].splitlines()]
+        found = [line.split()[2] for line in called("pids", "Sensor")[1].splitlines()]
         self.assertEqual(found, ["sensor_definition", "sensor_value", "record_sensors"])
 
     def test_one(self) -> None:
@@ -72,7 +72,8 @@ set, for sub-devices 0 to 512, or 65535 for all
 
     def test_json(self) -> None:
         found = [json.loads(line) for line in called("pids", "--json")[1].splitlines()]
-        self.assertEqual([each["parameter"] for each in found], [each.name for each in STANDARD.parameters])
+        self.assertEqual(sorted(each["parameter"] for each in found),
+                         sorted(each.name for each in naming.standard().parameters))
         label = next(each for each in found if each["parameter"] == "device_label")
         self.assertEqual((label["pid"], label["standard"]), ("0x0082", "E1.20"))
         self.assertEqual(label["set"], {"sub_devices": "0 to 512, or 65535 for all",
@@ -86,7 +87,7 @@ class Arguments(TestCase):
     def test_each_is_said_on_one_line(self) -> None:
         for arguments, wanted in (
                 (["gett"], "there is no command 'gett'; did you mean get?; try 'wurstlinen --help'"),
-                (["get", "1234"], "argument UID: '1234' isn't a UID, such as 7a70:00000001; "
+                (["get", "1234"], "argument UID|all: '1234' isn't a UID, such as 7a70:00000001; "
                                   "try 'wurstlinen get --help'"),
                 (["get", LEFT, "device_label", "--wait", "-1"],
                  "argument --wait: '-1' isn't a number of seconds from 0 to 3600; try 'wurstlinen get --help'"),

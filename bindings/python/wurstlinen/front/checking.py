@@ -36,7 +36,7 @@ def run_check(chosen: argparse.Namespace, output: Output) -> int:
     """Discovers the devices, and prints what differs from a file."""
     rows = read(chosen.file, output).rows
     log: List[str] = []
-    with sink_of(chosen.log) as sink, open_work(chosen, output) as work:
+    with open_work(chosen, output) as work, sink_of(chosen.log) as sink:
         devices, fault = work.discover(both(log.append, sink))
         found, failure = look_at_all(work, devices)
     differences = [*missing(rows, found, log, output), *changed(rows, found), *crowded(rows, found)]

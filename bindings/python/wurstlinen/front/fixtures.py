@@ -62,7 +62,7 @@ class Fixture:
 
 def run_fixtures(chosen: argparse.Namespace, output: Output) -> int:
     """Discovers the devices, and prints what they say of themselves."""
-    with sink_of(chosen.log) as sink, open_work(chosen, output) as work:
+    with open_work(chosen, output) as work, sink_of(chosen.log) as sink:
         devices, fault = work.discover(sink)
         found, failure = look_at_all(work, devices)
         frames = work.line.frames

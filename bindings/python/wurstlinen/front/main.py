@@ -9,7 +9,7 @@ import argparse
 import importlib
 import os
 import sys
-from typing import Any, Callable, Dict, List, NoReturn, Optional, Sequence
+from typing import Any, Callable, Dict, List, NoReturn, Optional, Sequence, Union
 
 from .. import commands
 from ..lines.opening import FORMS
@@ -20,6 +20,7 @@ PROGRAM = "wurstlinen"
 DEFAULT_WAIT = 10.0
 MOST_WAIT = 3600.0
 LAST_SLOT = 512
+ALL = "all"
 RAW_COMMANDS = ("get", "set")
 Runner = Callable[[argparse.Namespace, Output], int]
 
@@ -140,21 +141,27 @@ def loaded(run_name: str) -> Runner:
 
 def add_get(made: Any, name: str) -> None:
     """The arguments of get."""
-    command = add_command(made, name, "read a parameter of a device", "get 1234:00000001 device_label",
+    command = add_command(made, name, "read parameters of a device, or of all", "get 1234:00000001 device_label",
                           "requests.run_get")
-    add_request(command, "for parameters that are read by a number, such as a sensor's")
+    add_request(command, uid_or_all, "UID|all", "for a parameter that is read by a number, such as a sensor's; then "
+                                                "further parameters")
 
 
 def add_set(made: Any, name: str) -> None:
     """The arguments of set."""
     command = add_command(made, name, "change a parameter of a device", "set 1234:00000001 dmx_start_address 17",
                           "requests.run_set")
-    add_request(command, "the new values; numbers are decimal, or hexadecimal after 0x")
+    add_request(command, commands.uid, "UID", "the new values; numbers are decimal, or hexadecimal after 0x")
 
 
-def add_request(command: Parser, text: str) -> None:
+def uid_or_all(text: str) -> Union[int, str]:
+    """An argument that is a UID, or the word for all devices."""
+    return text if text == ALL else commands.uid(text)
+
+
+def add_request(command: Parser, kind: Callable[[str], Any], name: str, text: str) -> None:
     """What get and set have in common."""
-    command.add_argument("uid", type=commands.uid, metavar="UID")
+    command.add_argument("uid", type=kind, metavar=name)
     command.add_argument("parameter", metavar="PARAMETER", help=f"a name or a number; '{PROGRAM} pids' lists them")
     command.add_argument("values", nargs="*", default=[], metavar="VALUE", help=text)
     command.add_argument("--sub", type=commands.sub_device, default=0, metavar="N", help="the sub-device, 0 to 65535")
@@ -176,6 +183,13 @@ def add_pids(made: Any, name: str) -> None:
     command = add_command(made, name, "list the parameters, or explain one", "pids dmx_start_address",
                           "pids.run_pids", needs_line=False)
     command.add_argument("name", nargs="?", metavar="NAME", help="a parameter, or a part of names")
+
+
+def add_show(made: Any, name: str) -> None:
+    """The arguments of show."""
+    command = add_command(made, name, "show all that a device supports, or each device", "show 1234:00000001",
+                          "showing.run_show")
+    command.add_argument("uid", type=commands.device, nargs="?", metavar="UID", help="each device if absent")
 
 
 def add_fixtures(made: Any, name: str) -> None:
@@ -256,6 +270,7 @@ COMMANDS: Dict[str, Callable[[Any, str], None]] = {
     "set": add_set,
     "identify": add_identify,
     "fixtures": add_fixtures,
+    "show": add_show,
     "save": add_save,
     "check": add_check,
     "patch": add_patch,

@@ -29,11 +29,23 @@ def manufacturers() -> Mapping[int, ola.Manufacturer]:
         return {}
 
 
+@functools.lru_cache(maxsize=None)
+def standard() -> Table:
+    """The parameters of the standards: of those that aren't known here, what OLA's files have."""
+    try:
+        found = ola.standard_parameters()
+    except (OSError, ola.FileFault):
+        return STANDARD
+    return STANDARD.with_more(each for each in found if STANDARD.numbered(each.number) is None)
+
+
 def table_of(manufacturer: int, pid: int) -> Table:
     """The table in which a parameter of a manufacturer's devices is looked up."""
-    if not is_manufacturers(pid) or manufacturer not in manufacturers():
+    if STANDARD.numbered(pid) is not None:
         return STANDARD
-    return STANDARD.with_more(manufacturers()[manufacturer].parameters)
+    if not is_manufacturers(pid) or manufacturer not in manufacturers():
+        return standard()
+    return standard().with_more(manufacturers()[manufacturer].parameters)
 
 
 def pid_of(manufacturer: int, word: str) -> int:

@@ -9,6 +9,7 @@ from ..parameters.encoding import valid_text
 from ..parameters.fields import Bytes, Field, Fields, Flag, Group, Ipv4, Mac, Message, Number, Text, UidField
 from ..parameters.table import standard_of
 from ..parameters.words import name_of
+from .naming import standard
 from .output import BAD_ARGUMENTS, DONE, Failure, Output
 
 PLAIN_TYPES = {Flag: "yes or no", UidField: "a UID", Ipv4: "an IPv4 address", Mac: "a hardware address"}
@@ -17,11 +18,12 @@ PLAIN_TYPES = {Flag: "yes or no", UidField: "a UID", Ipv4: "an IPv4 address", Ma
 def run_pids(chosen: argparse.Namespace, output: Output) -> int:
     """Lists the parameters whose names have a word in them, or explains one."""
     word = chosen.name or ""
-    exact = [each for each in STANDARD.parameters if each.name == name_of(word)]
-    found = exact or [each for each in STANDARD.parameters if name_of(word) in each.name]
+    known = sorted(standard().parameters, key=lambda parameter: parameter.number)
+    exact = [each for each in known if each.name == name_of(word)]
+    found = exact or [each for each in known if name_of(word) in each.name]
     if not found:
         try:
-            exact = found = [STANDARD.named(word)] if word[:1].isalpha() else [numbered(word)]
+            exact = found = [standard().named(word)] if word[:1].isalpha() else [numbered(word)]
         except WordFault as fault:
             raise Failure(BAD_ARGUMENTS, str(fault), reason="parameter") from None
     for parameter in found:
@@ -32,7 +34,7 @@ def run_pids(chosen: argparse.Namespace, output: Output) -> int:
 
 def numbered(word: str) -> Parameter:
     """The parameter of a number. Raises WordFault."""
-    found = STANDARD.numbered(STANDARD.pid(word))
+    found = standard().numbered(STANDARD.pid(word))
     if found is None:
         raise WordFault(f"no parameter of the standards has the number {word}")
     return found
@@ -40,12 +42,14 @@ def numbered(word: str) -> Parameter:
 
 def listed(parameter: Parameter) -> str:
     """A parameter on one line."""
-    return f"0x{parameter.number:04x}  {parameter.name:<36}{parameter.commands}"
+    standard_name = standard_of(parameter.number) or ""
+    return f"0x{parameter.number:04x}  {standard_name:<9}{parameter.name:<44}{parameter.commands}"
 
 
 def explained(parameter: Parameter) -> List[str]:
     """A parameter with its fields."""
-    lines = [f"{parameter.name} (0x{parameter.number:04x}, {standard_of(parameter.number)}): {parameter.about}"]
+    about = f": {parameter.about}" if parameter.about else ""
+    lines = [f"{parameter.name} (0x{parameter.number:04x}, {standard_of(parameter.number)}){about}"]
     for kind, message in (("get", parameter.get), ("set", parameter.set), ("discovery", parameter.discovery)):
         if message is not None:
             lines += message_lines(kind, message)

@@ -5,6 +5,7 @@ import contextlib
 import os
 import select
 import time
+import weakref
 from typing import List, Optional
 
 
@@ -20,13 +21,10 @@ class Alarm:
 
     def __init__(self) -> None:
         self._files: List[int] = []
-        # In one step, so that an interrupt can't come before they are known.
+        # All that are in the list at the end are closed. They come into it in one step, which no interrupt divides.
+        weakref.finalize(self, list, map(os.close, self._files))
         self._files.extend(os.pipe())
         os.set_blocking(self._files[1], False)
-
-    def __del__(self) -> None:
-        for descriptor in self._files:
-            os.close(descriptor)
 
     def ring(self) -> None:
         """Ends all waits, now and later."""

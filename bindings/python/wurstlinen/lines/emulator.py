@@ -5,6 +5,7 @@ It behaves as OLA 0.10.9 expects of the adapter, which is all that this project 
 from __future__ import annotations
 
 import contextlib
+import io
 import os
 import select
 import threading
@@ -78,43 +79,40 @@ class Emulator:
         self.messages = 0
         self._reader = MessageReader()
         self._files = _Files()
-        # One that nobody uses any more, and that was never entered, is closed too.
-        weakref.finalize(self, self._files.close)
-        self._files.open()
-        self.path = os.ttyname(self._files.other)
+        self.path = os.ttyname(self._files.other.fileno())
         self._is_gone = False
         # The exception of the line that ended the adapter, if one did.
-        self.failure: Optional[Exception] = None
+        self.failure: Optional[BaseException] = None
         self._ended = threading.Event()
-        self._thread: Optional[threading.Thread] = None
+        # The thread doesn't keep the emulator, which may be left without an end by an exception.
+        arguments = self._files, self._ended, weakref.ref(self)
+        self._thread = threading.Thread(target=_serve, args=arguments, name="emulator", daemon=True)
+        # One that nobody uses any more is closed.
+        weakref.finalize(self, self._files.release, self._thread)
 
     def __enter__(self) -> Emulator:
-        self._thread = threading.Thread(target=self._serve, name="emulator", daemon=True)
         self._thread.start()
         return self
 
     def __exit__(self, kind: Optional[Type[BaseException]], error: Optional[BaseException],
                  trace: Optional[TracebackType]) -> None:
         self._files.wake()
-        if self._thread is not None:
-            # A line that hangs mustn't delay the end.
-            self._thread.join(SECONDS_TO_END)
+        # A line that hangs mustn't delay the end.
+        self._thread.join(SECONDS_TO_END)
 
     def wait(self) -> None:
         """Waits until the adapter has disappeared, or its line has raised something else than `LineFailed`."""
         self._ended.wait()
 
-    def _serve(self) -> None:
-        """Answers messages until the `with` ends, or the adapter disappears."""
+    def _serve(self) -> bool:
+        """Answers the messages that have come. False: the adapter has disappeared."""
         try:
-            while not self._is_gone and self._files.wait(select.POLLIN):
-                for message in self._reader.feed(os.read(self._files.own, READ_BYTES)):
-                    self._answer(message)
-        except Exception as failure:  # A line may raise anything, and nobody else would report it.
+            for message in self._reader.feed(self._files.read()):
+                self._answer(message)
+        except BaseException as failure:  # A line may raise anything, and nobody else would report it.
             self.failure = failure
-        finally:
-            self._files.close()
-            self._ended.set()
+            return False
+        return not self._is_gone
 
     def _answer(self, message: Message) -> None:
         if self._is_gone or self._hangs():
@@ -188,44 +186,60 @@ class _Files:
     """Both ends of a pseudo terminal, and a pipe that ends the waits for it."""
 
     def __init__(self) -> None:
-        self.own = self.other = self._wake = self._waker = -1
-
-    def open(self) -> None:
-        """Opens them; what an exception leaves is closed by `close`."""
-        self.own, self.other = os.openpty()
-        self._wake, self._waker = os.pipe()
+        # In one step, which no interrupt divides. Each closes itself when nobody has it.
+        files = list(map(io.FileIO, (*os.openpty(), *os.pipe()), ("rb", "rb", "rb", "wb")))
+        self.own, self.other, self._wake, self._waker = files
         # Until a driver has configured the terminal, it mustn't echo what is written to it.
-        tty.setraw(self.other)
+        tty.setraw(self.other.fileno())
         # A driver that doesn't read mustn't hold up the end.
-        os.set_blocking(self.own, False)
+        os.set_blocking(self.own.fileno(), False)
 
     def wait(self, event: int) -> bool:
         """Waits for the emulator's end of the terminal. False: the `with` ends."""
+        if self._waker.closed:
+            return False
         ready = select.poll()
         ready.register(self.own, event)
         ready.register(self._wake, select.POLLIN)
-        return self._wake not in dict(ready.poll())
+        return self._wake.fileno() not in dict(ready.poll())
+
+    def read(self) -> bytes:
+        """What the driver has written."""
+        return self.own.read(READ_BYTES) or b""
 
     def write(self, data: bytes) -> None:
         """Writes to the driver, as long as the `with` doesn't end."""
         while data and self.wait(select.POLLOUT):
             with contextlib.suppress(BlockingIOError):
-                data = data[os.write(self.own, data):]
+                data = data[os.write(self.own.fileno(), data):]
 
     def wake(self) -> None:
         """Ends the waits, now and later."""
-        waker, self._waker = self._waker, -1
-        if waker >= 0:
-            os.close(waker)
+        self._waker.close()
 
     def close(self) -> None:
         """Closes all that is open."""
+        for file in (self._waker, self.other, self.own, self._wake):
+            file.close()
+
+    def release(self, thread: threading.Thread) -> None:
+        """Closes all, or has it closed by the thread that serves it."""
         self.wake()
-        for name in ("other", "own", "_wake"):
-            descriptor = getattr(self, name)
-            setattr(self, name, -1)
-            if descriptor >= 0:
-                os.close(descriptor)
+        if thread.ident is None:
+            self.close()
+
+
+def _serve(files: _Files, ended: threading.Event, emulator: "weakref.ref[Emulator]") -> None:
+    """Answers messages until the `with` ends, or the adapter disappears."""
+    try:
+        while files.wait(select.POLLIN):
+            served = emulator()
+            if served is None or not served._serve():
+                break
+            del served
+    finally:
+        files.close()
+        ended.set()
 
 
 def _seconds_of_exchange(frame: bytes, reply: bytes) -> float:

@@ -7,11 +7,13 @@ from __future__ import annotations
 
 import errno
 import fcntl
+import io
 import os
 import re
 import secrets
 import stat
 from pathlib import Path
+from typing import List, Optional
 
 from ..line import LineFailed
 
@@ -31,7 +33,10 @@ class LockFile:
         self._path = path
         self._device = device
         self._process = os.getpid()
-        self._descriptor = -1
+        # It is closed by itself if an exception leaves it behind.
+        self._file: Optional[io.FileIO] = None
+        # Names beside the lock's own, for as long as there is a file of that name.
+        self._asides: List[Path] = []
 
     def take(self) -> None:
         """Makes the file, or replaces a stale one; `LineFailed` if the device is used, or if that can't be known."""
@@ -43,32 +48,33 @@ class LockFile:
         except OSError as error:
             raise LineFailed(f"{self._path} can't be made: {error.strerror}") from error
         finally:
-            own.unlink(missing_ok=True)
+            self._tidy()
 
     def release(self) -> None:
         """Removes the file, unless it is another's by now, or was taken by the process that this one was forked from.
 
         A file that can't be removed is a stale lock later.
         """
-        descriptor, self._descriptor = self._descriptor, -1
-        if descriptor < 0:
+        # An exception may have come before the end of `take`.
+        self._tidy()
+        if self._file is None or self._file.closed:
             return
         try:
-            if self._process == os.getpid() and self._is_at_path(os.fstat(descriptor)):
+            if self._process == os.getpid() and self._is_at_path(os.fstat(self._file.fileno())):
                 self._path.unlink()
         except OSError:
             pass
-        finally:
-            os.close(descriptor)
+        # Not before: after an interrupt another call goes on.
+        self._file.close()
 
     def _write(self, own: Path) -> None:
         flags = os.O_WRONLY | os.O_CREAT | os.O_EXCL | os.O_CLOEXEC
-        self._descriptor = os.open(own, flags, MODE_OF_LOCK)
+        self._file = io.FileIO(own, "wb", opener=lambda path, _: os.open(path, flags, MODE_OF_LOCK))
         # Other users have to read it, whatever the umask is.
-        os.fchmod(self._descriptor, MODE_OF_LOCK)
-        _try_flock(self._descriptor)
+        os.fchmod(self._file.fileno(), MODE_OF_LOCK)
+        _try_flock(self._file.fileno())
         text = LOCK_FORMAT.format(self._process).encode()
-        if os.write(self._descriptor, text) != len(text):
+        if os.write(self._file.fileno(), text) != len(text):
             raise OSError(errno.ENOSPC, os.strerror(errno.ENOSPC))
 
     def _link(self, own: Path) -> None:
@@ -82,23 +88,22 @@ class LockFile:
 
     def _remove_stale(self) -> None:
         """Removes a lock file whose process has ended; `LineFailed` if it hasn't, or if the file doesn't say."""
+        flags = os.O_RDONLY | os.O_NOFOLLOW | os.O_NONBLOCK | os.O_CLOEXEC
         try:
-            descriptor = os.open(self._path, os.O_RDONLY | os.O_NOFOLLOW | os.O_NONBLOCK | os.O_CLOEXEC)
+            found = open(self._path, "rb", 0, opener=lambda path, _: os.open(path, flags))
         except FileNotFoundError:
             return
         except OSError as error:
             raise self._unclear() from error
-        try:
-            process = self._owner(descriptor)
-            is_free = _try_flock(descriptor)
+        with found:
+            process = self._owner(found.fileno())
+            is_free = _try_flock(found.fileno())
             # A lock with this process's own number that nobody holds is from a process before.
             if _is_alive(process) and not (is_free and process == os.getpid()):
                 raise LineFailed(f"{self._device} is used by process {process}: {self._path}")
             if not is_free:
                 raise self._being_opened()
-            self._move_away(os.fstat(descriptor))
-        finally:
-            os.close(descriptor)
+            self._move_away(os.fstat(found.fileno()))
 
     def _owner(self, descriptor: int) -> int:
         """The process that a lock file names."""
@@ -123,7 +128,7 @@ class LockFile:
         except FileNotFoundError:
             pass
         finally:
-            aside.unlink(missing_ok=True)
+            self._drop(aside)
 
     def _is_at_path(self, status: os.stat_result) -> bool:
         try:
@@ -133,7 +138,18 @@ class LockFile:
 
     def _aside(self) -> Path:
         """A name that nobody else uses."""
-        return self._path.with_name(f".{self._path.name}.{self._process}.{secrets.token_hex(8)}")
+        aside = self._path.with_name(f".{self._path.name}.{self._process}.{secrets.token_hex(8)}")
+        self._asides.append(aside)
+        return aside
+
+    def _tidy(self) -> None:
+        """Removes the files of all such names."""
+        for aside in tuple(self._asides):
+            self._drop(aside)
+
+    def _drop(self, aside: Path) -> None:
+        aside.unlink(missing_ok=True)
+        self._asides.remove(aside)
 
     def _being_opened(self) -> LineFailed:
         return LineFailed(f"{self._device} is being opened by another program: {self._path}")

@@ -12,8 +12,8 @@ from .scene import FixtureKeys, Sensor
 Handler = Callable[[bytes], bytes]
 
 ALL_SENSORS = 0xFF
-LOWEST_AND_HIGHEST = 0x01
-RECORDED = 0x02
+RECORDED = 0x01
+LOWEST_AND_HIGHEST = 0x02
 
 
 class Refused(Exception):

@@ -6,6 +6,7 @@ import os
 import select
 import stat
 import termios
+from collections import deque
 from typing import BinaryIO, Optional
 
 from ..line import MOST_REPLY_BYTES
@@ -64,10 +65,8 @@ class LineReader:
                 raise Endless
             if not is_ready(self._stream, select.POLLIN, end, self._alarm):
                 raise TooLate
-            data = self._more()
-            if data == b"":
+            if not self._more():
                 return None
-            self._left += data or b""
             line = self._take()
         return line
 
@@ -76,18 +75,22 @@ class LineReader:
         if not self.is_pipe:
             return
         while len(self._left) < MOST_BYTES_TO_SKIP and is_ready(self._stream, select.POLLIN, 0.0, self._alarm):
-            data = self._more()
-            if not data:
+            if not self._more():
                 break
-            self._left += data
         self._left.clear()
         self._skipped = 0
 
-    def _more(self) -> Optional[bytes]:
-        """What one read gives: at least one byte, or none at the end; None if another one was faster."""
+    def _more(self) -> bool:
+        """Reads once: at least one byte, except at the end. Whether this isn't the end."""
+        before = len(self._left)
         read = getattr(self._stream, "read1", self._stream.read)
-        data: Optional[bytes] = read(READ_BYTES)
-        return data
+        try:
+            # In one step, so that an interrupt loses nothing that was read.
+            deque(map(self._left.extend, map(read, (READ_BYTES,))), 0)
+        except TypeError:
+            # It is None if another reader was faster.
+            return True
+        return len(self._left) > before
 
     def _take(self) -> Optional[bytes]:
         """Takes the first line out, if it is there."""

@@ -2,11 +2,13 @@
 from __future__ import annotations
 
 import fcntl
+import io
 import os
 import select
 import termios
 import weakref
 from pathlib import Path
+from typing import Optional
 
 from ..line import LineFailed
 from .alarm import Alarm, Ended
@@ -93,12 +95,19 @@ class _Device:
         self._lock = LockFile(lock_folder / f"LCK..{os.path.basename(os.path.realpath(path))}", path)
         self._process = os.getpid()
         self._is_exclusive = False
-        self.descriptor = -1
+        # It is closed by itself if an exception leaves it behind.
+        self._file: Optional[io.FileIO] = None
+
+    @property
+    def descriptor(self) -> int:
+        """The open device; -1 if it isn't open."""
+        return -1 if self._file is None or self._file.closed else self._file.fileno()
 
     def open(self) -> None:
         """Takes all locks; what an exception leaves is released by `close`."""
         self._lock.take()
-        self.descriptor = os.open(self._path, os.O_RDWR | os.O_NOCTTY | os.O_NONBLOCK | os.O_CLOEXEC)
+        flags = os.O_RDWR | os.O_NOCTTY | os.O_NONBLOCK | os.O_CLOEXEC
+        self._file = io.FileIO(self._path, "rb", opener=lambda path, _: os.open(path, flags))
         try:
             fcntl.flock(self.descriptor, fcntl.LOCK_EX | fcntl.LOCK_NB)
         except BlockingIOError:
@@ -109,13 +118,12 @@ class _Device:
 
     def close(self) -> None:
         """Releases it. What a fork has copied is closed, and stays its parent's."""
-        descriptor, self.descriptor = self.descriptor, -1
         try:
-            if descriptor >= 0 and self._is_exclusive and self._process == os.getpid():
-                _unlock_terminal(descriptor)
+            if self.descriptor >= 0 and self._is_exclusive and self._process == os.getpid():
+                _unlock_terminal(self.descriptor)
         finally:
-            if descriptor >= 0:
-                os.close(descriptor)
+            if self._file is not None:
+                self._file.close()
             self._lock.release()
 
 

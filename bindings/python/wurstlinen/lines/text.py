@@ -79,19 +79,27 @@ class TextLine(OpenLine):
         """A line over the standard streams of a command, which is started here and ended by `close`."""
         if not command:
             raise ValueError("a command has at least one word")
+        program = None
         try:
             program = subprocess.Popen(command, bufsize=0, stdin=subprocess.PIPE, stdout=subprocess.PIPE)
-        except OSError as error:
-            raise LineFailed(f"{shlex.join(command)} can't be started: {error.strerror}") from error
-        try:
-            assert isinstance(program.stdin, io.RawIOBase) and program.stdout is not None
-            for stream in (program.stdin, program.stdout):
-                os.set_blocking(stream.fileno(), False)
-            line = cls(io.BufferedWriter(program.stdin), cast(BinaryIO, program.stdout), seconds)
-            line._program = program
-        except BaseException:
-            _end(program, 0.0)
+            return cls._with(program, seconds)
+        except BaseException as error:
+            if program is not None:
+                _end(program, 0.0)
+            elif isinstance(error, OSError):
+                raise LineFailed(f"{shlex.join(command)} can't be started: {error.strerror}") from error
             raise
+
+    @classmethod
+    def _with(cls, program: subprocess.Popen[bytes], seconds: Optional[float]) -> TextLine:
+        """A line over the streams of a program, which never block."""
+        assert isinstance(program.stdin, io.RawIOBase) and program.stdout is not None
+        for stream in (program.stdin, program.stdout):
+            os.set_blocking(stream.fileno(), False)
+        line = cls(io.BufferedWriter(program.stdin), cast(BinaryIO, program.stdout), seconds)
+        # The line alone has them, so that a line that is left behind closes them.
+        program.stdin = program.stdout = None
+        line._program = program
         return line
 
     def exchange(self, frame: bytes) -> bytes:

@@ -13,6 +13,8 @@ STANDARDS: Mapping[str, Tuple[Parameter, ...]] = {
     "E1.37-2": e1_37_2.PARAMETERS,
 }
 MOST_PID = 0xFFFF
+# Standards whose parameters aren't known here, with the first and the last number that they use.
+OTHERS: Mapping[str, Tuple[int, int]] = {"E1.33": (0x0800, 0x08FF), "E1.37-7": (0x0900, 0x09FF)}
 
 
 class Table:
@@ -63,4 +65,4 @@ def standard_of(number: int) -> Optional[str]:
     for standard, parameters in STANDARDS.items():
         if any(parameter.number == number for parameter in parameters):
             return standard
-    return None
+    return next((standard for standard, (first, last) in OTHERS.items() if first <= number <= last), None)
