@@ -75,9 +75,9 @@ impl<'a, R: Clock + Eprint> Progress for Progressing<'a, R> {
     }
 
     fn report_exchanges(&mut self, exchanges: usize) {
-        if !exchanges.is_multiple_of(self.every) {
+        let Some(0) = exchanges.checked_rem(self.every) else {
             return;
-        }
+        };
         let Some(seconds) = self.seconds() else {
             return;
         };

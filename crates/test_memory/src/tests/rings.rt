@@ -14,7 +14,7 @@ use test_stage::{Failed, LanesOver, Setup, drive_lanes};
 const TURN: Move = (Act::Work(1), Heard::Worked(Stop::Turns));
 
 // Lanes with rings of one slot.
-fn setup(places: &[u8]) -> Setup {
+fn setup(places: &[u8]) -> Setup<'_> {
     Setup {
         greatest: 4,
         ..Setup::new(100, 1, places)

@@ -18,7 +18,7 @@ use test_stage::{
 const TIMES: u64 = 100;
 
 // Clients with these queue depths and with rings of one slot.
-fn setup(places: &[u8]) -> Setup {
+fn setup(places: &[u8]) -> Setup<'_> {
     Setup {
         greatest: 4,
         ..Setup::new(1000, 1, places)

@@ -1,0 +1,5 @@
+//! The C library. `wurstlinen.h` declares each call.
+
+mod calls;
+mod handles;
+mod heap;

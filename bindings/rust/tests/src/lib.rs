@@ -1,0 +1,8 @@
+//! Tests of the library and of the program, and the rigs that they share.
+mod core_tests;
+mod memory;
+mod port;
+pub mod rig;
+pub mod stage;
+mod threads;
+mod trials;

@@ -1,0 +1,44 @@
+//! The runtime, and what it may do. Here any value may do everything.
+use super::alloc::Global;
+use super::fs::File;
+
+/// May read the clock.
+pub trait Clock {}
+
+/// May write to standard error.
+pub trait Eprint {}
+
+/// May write to standard output.
+pub trait Print {}
+
+/// May do all of it.
+pub trait Runtime {}
+
+/// May read and write files.
+pub trait Files {
+    /// An open file.
+    type File;
+}
+
+impl<T> Clock for T {}
+
+impl<T> Eprint for T {}
+
+impl<T> Print for T {}
+
+impl<T> Runtime for T {}
+
+impl<T> Files for T {
+    type File = File;
+}
+
+/// The runtime of the program.
+#[derive(Clone, Copy, Debug)]
+pub struct HostRuntime;
+
+impl HostRuntime {
+    /// The allocator.
+    pub fn alloc(&self) -> Global {
+        Global
+    }
+}

@@ -1,0 +1,92 @@
+//! Threads, and waiting for them. A handle is a runtime that may do so.
+pub use std::sync::atomic;
+use super::alloc::{AllocError, AllocFailed, Global};
+use core::ops::Deref;
+use std::sync;
+
+/// May wait for other threads.
+pub trait Wait {}
+
+impl<T> Wait for T {}
+
+/// A value with several owners.
+#[derive(Debug)]
+pub struct Arc<T>(sync::Arc<T>);
+
+impl<T> Arc<T> {
+    pub fn new(_: Global, value: T) -> Result<Arc<T>, AllocFailed<T>> {
+        Ok(Arc(sync::Arc::new(value)))
+    }
+
+    pub fn get_mut(this: &mut Arc<T>) -> Option<&mut T> {
+        sync::Arc::get_mut(&mut this.0)
+    }
+
+    pub fn try_clone(this: &Arc<T>) -> Result<Arc<T>, AllocError> {
+        Ok(Arc(this.0.clone()))
+    }
+}
+
+impl<T> Deref for Arc<T> {
+    type Target = T;
+
+    fn deref(&self) -> &T {
+        &self.0
+    }
+}
+
+#[derive(Debug)]
+pub struct Mutex<T>(sync::Mutex<T>);
+
+impl<T> Mutex<T> {
+    pub fn new(value: T) -> Mutex<T> {
+        Mutex(sync::Mutex::new(value))
+    }
+
+    pub fn lock<R>(&self, _: &R) -> sync::MutexGuard<'_, T> {
+        self.0.lock().unwrap_or_else(|poisoned| poisoned.into_inner())
+    }
+
+    pub fn into_inner(self) -> T {
+        self.0.into_inner().unwrap_or_else(|poisoned| poisoned.into_inner())
+    }
+}
+
+pub mod ledger {
+    //! Tokens that count in proofs. They take no memory, and their functions do nothing.
+    use crate::rattle::marker::{Brand, PhantomData};
+
+    pub trait Ledger {}
+
+    impl Ledger for Brand {}
+
+    pub struct Blank;
+
+    pub struct Book<L>(PhantomData<fn(L)>);
+
+    pub struct Share<L>(PhantomData<fn(L)>);
+
+    impl Blank {
+        pub fn new(_: u64) -> Blank {
+            Blank
+        }
+
+        pub fn open<L>(self) -> (Book<L>, Share<L>) {
+            (Book(PhantomData), Share(PhantomData))
+        }
+    }
+
+    impl<L> Book<L> {
+        pub fn add(&mut self, _: &mut Share<L>, _: u64) {}
+
+        pub fn audit(&mut self, _: &mut Share<L>) {}
+    }
+
+    impl<L> Share<L> {
+        pub fn merge(&mut self, _: Share<L>) {}
+
+        pub fn split_off(&mut self, _: u64, _: u64) -> Share<L> {
+            Share(PhantomData)
+        }
+    }
+}
