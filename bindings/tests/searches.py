@@ -37,7 +37,7 @@ HONEST: List[Wrong] = [("Nothing",), ("Lost", 100), ("Lost", 20), ("Lost", 10), 
 DISHONEST: List[Wrong] = [("Burst", 5), ("Burst", 10), ("Burst", 20), ("Noise", 1000), ("Noise", 10)]
 # A device that breaks the rules has the first UID, one in the middle, or the last.
 ODD: List[Wrong] = [("Odd", breach, uid) for uid in (0, 0x7FFF_FFFF_FFFE, 0xFFFF_FFFF_FFFE)
-                    for breach in ("NeverMutes", "TenBytes", "GoesOn")]
+                    for breach in ("NeverMutes", "TenBytes", "GoesOn", "AnswersAll")]
 # For each subject: the most devices, and its rows, each with the spread of the devices and what is wrong.
 SUBJECTS: Dict[str, Tuple[int, List[Tuple[str, Wrong]]]] = {
     "frames": (1024, list(itertools.product(SPREADS, HONEST))),
@@ -146,23 +146,28 @@ class SimulatedLine:
 
 
 class OddLine(SimulatedLine):
-    """A line with one more device, which breaks the rules. It replies to each branch that it is in."""
+    """A line with one more device, which breaks the rules. It replies to each branch that it is in, or to all branches
+    until it is muted."""
 
     def __init__(self, devices: FrozenSet[int], breach: str, uid: int) -> None:
         super().__init__(devices, odd=frozenset([uid]))
         self.uid = uid
         self.text = encode_branch_reply(uid)[:10 if breach == "TenBytes" else None]
-        self.acknowledges = breach == "GoesOn"
+        self.acknowledges = breach in ("GoesOn", "AnswersAll")
+        self.answers_all = breach == "AnswersAll"
+        self.is_muted = False
 
     def branch(self, low: int, high: int) -> bytes:
         others = super().branch(low, high)
-        if not low <= self.uid <= high:
+        if self.is_muted or not (self.answers_all or low <= self.uid <= high):
             return others
         return NOISE if others else self.text
 
     def mute(self, command: Packet) -> bytes:
-        is_answered = self.acknowledges and command.destination == self.uid
-        return acknowledge(command) if is_answered else super().mute(command)
+        if not self.acknowledges or command.destination != self.uid:
+            return super().mute(command)
+        self.is_muted = self.answers_all
+        return acknowledge(command)
 
 
 def acknowledge(command: Packet) -> bytes:

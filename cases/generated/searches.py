@@ -75,8 +75,10 @@ FIRST = 0x123400000000
 CORRUPT = "the branch of one UID alone was answered, but showed no new device"
 TOO_MANY = "more devices were found than a set has room for"
 
-# The lies of fixtures at the far end, and which of them still acknowledge their mute.
+# The lies of fixtures at the far end that end a run, and which of them still acknowledge their mute.
 LIES = {"ignores mutes": False, "answers short": False, "stays unmuted": True}
+# A lie that ends no quick run.
+ANSWERS_ALL = "answers all"
 FIXTURES, BAD = 11, (0, 5, 10)
 
 
@@ -94,6 +96,7 @@ def cases() -> Iterator[Case]:
     for search in ("--quick", ""):
         for apart in (False, True):
             yield from (lied(search, apart, lie, bad) for lie in LIES for bad in BAD)
+    yield from (answered_all(apart, bad) for apart in (False, True) for bad in BAD)
 
 
 def searched(it: Run) -> Case:
@@ -196,22 +199,37 @@ class Liar:
     def _branched(self, low: int, high: int) -> bytes:
         """What the unmuted ones from `low` to `high` reply together."""
         muted = self.muted - ({self.bad} if self.lie == "stays unmuted" else set())
-        due = [uid for uid in self.uids if low <= uid <= high and uid not in muted]
+        everywhere = self.bad if self.lie == ANSWERS_ALL else None
+        due = [uid for uid in self.uids if (low <= uid <= high or uid == everywhere) and uid not in muted]
         if len(due) == 1 and (due[0], self.lie) != (self.bad, "answers short"):
             return encode_branch_reply(due[0])
         return b"\xff" if due else b""
 
 
+def fixtures(apart: bool, first: int = 0) -> Tuple[int, ...]:
+    """The UIDs of all fixtures, far apart or in a row."""
+    return tuple(at * 0x1234 << 32 | 0x01020304 if apart else first + at for at in range(FIXTURES))
+
+
+def answered_all(apart: bool, index: int) -> Case:
+    """A quick search finds all fixtures, one of which also answers the branches of ranges that it isn't in."""
+    uids = fixtures(apart, FIRST)
+    expected = Expected(form=Finds(tuple(map(uid_text, uids))), err=b"")
+    name = f"{uid_text(uids[index])} {ANSWERS_ALL}, quick{', UIDs far apart' if apart else ''}"
+    far_end = FarEnd(Streams.PIPES, rig=partial(Liar, uids, uids[index], ANSWERS_ALL))
+    return Case(name, (arguments_of(*PIPES, "--quick"),), expected, far_end=far_end)
+
+
 def lied(search: str, apart: bool, lie: str, index: int) -> Case:
     """A quick search finds all honest fixtures, a steady one those below the one that lies."""
-    uids = [at * 0x1234 << 32 | 0x01020304 if apart else at for at in range(FIXTURES)]
+    uids = fixtures(apart)
     bad = uids[index]
     found = [uid for at, uid in enumerate(uids) if (LIES[lie] if at == index else search or at < index)]
     devices = "".join(f"\n{uid_text(uid)}" for uid in found)
     err = f"{CORRUPT}; found until then:{devices}\n" if found else f"{CORRUPT}; {NONE}\n"
     expected = Expected(1, form=Corrupt(uid_text(bad)), err_ends=err.encode())
     name = f"{uid_text(bad)} {lie}{', quick' if search else ''}{', UIDs far apart' if apart else ''}"
-    far_end = FarEnd(Streams.PIPES, rig=partial(Liar, tuple(uids), bad, lie))
+    far_end = FarEnd(Streams.PIPES, rig=partial(Liar, uids, bad, lie))
     return Case(name, (arguments_of(*PIPES, *search.split()),), expected, far_end=far_end)
 
 

@@ -6,7 +6,7 @@ use Rattle.rdm_agent.proofs.Common.{Heard, Seen, LineState, HonestStep, Chain, b
 use Rattle.rdm_agent.proofs.Common.{Noise, known_of, Phase, AgentState, Runs, start_by, wanted, fed, found_uids}
 use Rattle.rdm_agent.proofs.Common.{fault_of, heard_by_phase, Unmuting, MutingKnown, Searching, MutingRead, Sweeping}
 use Rattle.rdm_agent.proofs.Common.{MutingSwept, Ended, enough_by, EndsWithin, Kind, Search, Steady, Quick}
-use Rattle.rdm_agent.proofs.Common.{DEFAULT_BUDGET, Full, Incremental}
+use Rattle.rdm_agent.proofs.Common.{DEFAULT_BUDGET, Full, Incremental, Checking, MutingStray}
 use Rattle.rdm_agent.proofs.Potential.{is_left, left_in, worth, Ahead, Costs, Affords}
 use Rattle.rdm_agent.specs.Bound.{enough_for, EndsInBoundBy, EndsInBound, EndsByDefault}
 use Rattle.rdm_agent.proofs.OneDevice.{NotFailed}
@@ -14,6 +14,7 @@ use Rattle.rdm_agent.proofs.LeftLemmas.{no_more_than}
 use Rattle.rdm_agent.proofs.CoverLemmas.{Covers-some, worth-fewer}
 use Rattle.rdm_agent.proofs.PaidLemmas.{unmuting-affords, known-affords, searching-affords, read-affords, read-some}
 use Rattle.rdm_agent.proofs.SweepPaid.{sweeping-affords, swept-affords}
+use Rattle.rdm_agent.proofs.StrayPaid.{checking-affords, stray-affords}
 use Rattle.rdm_agent.proofs.Runs.{stands_by, wanted_next}
 
 module _ (present : List ℕ) (set : IsDeviceSet present) (few : length present ≤ MOST_DEVICES) (total : ℕ) where
@@ -47,6 +48,12 @@ module _ (present : List ℕ) (set : IsDeviceSet present) (few : length present 
           step costs
       by_phase (MutingSwept u tries sweep) h sound costs =
           λ step. swept-affords present set few total affords.cost s new a affords.within u tries sweep h sound
+          affords.finds step costs
+      by_phase (Checking u silences sweep) h sound costs =
+          λ step. checking-affords present set few total affords.cost s new a affords.within u silences sweep h sound
+          affords.finds step costs
+      by_phase (MutingStray u tries sweep) h sound costs =
+          λ step. stray-affords present set few total affords.cost s new a affords.within u tries sweep h sound
           affords.finds step costs
       by_phase (Ended fault) h sound costs = tt
 
@@ -90,6 +97,10 @@ ended_or_pays search present s found (MutingRead u tries top below) cost c = let
 ended_or_pays search present s found (Sweeping sweep) cost c =
     let below = c.below in let enough = c.enough in inr (omega arith, λ p. cc)
 ended_or_pays search present s found (MutingSwept u tries sweep) cost c =
+    let few = c.few in let below = c.below in let enough = c.enough in inr (omega arith, λ p. cc)
+ended_or_pays search present s found (Checking u silences sweep) cost c =
+    let few = c.few in let below = c.below in let enough = c.enough in inr (omega arith, λ p. cc)
+ended_or_pays search present s found (MutingStray u tries sweep) cost c =
     let few = c.few in let below = c.below in let enough = c.enough in inr (omega arith, λ p. cc)
 ended_or_pays search present s found (Ended fault) cost c = inl (ap Ended c)
 

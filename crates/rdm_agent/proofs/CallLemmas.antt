@@ -8,6 +8,7 @@ use Rattle.rdm_agent.proofs.Common.{Cause, EndsFailed, Phase, AgentState, Runs, 
 use Rattle.rdm_agent.proofs.Common.{fault_of, found_uids, Unmuting, MutingKnown, Searching, MutingRead, Sweeping}
 use Rattle.rdm_agent.proofs.Common.{MutingSwept, Ended, IsInOrder, IsInEach, IsInOne, op_of, next_op, HasRunBy, Kind}
 use Rattle.rdm_agent.proofs.Common.{Search, AgentFault, TooMany, Exhausted, LineFailed, Op, End, OpReply}
+use Rattle.rdm_agent.proofs.Common.{Checking, MutingStray}
 use Rattle.rdm_agent.specs.Run.{IsReport}
 use Rattle.rdm_agent.specs.Calls.{fits, ended_by_abort}
 use Rattle.rdm_agent.specs.declared.fault.AgentFault.TheVariants.{Corrupt, Aborted}
@@ -43,6 +44,8 @@ wanted_none (Searching silences top below) end = cc
 wanted_none (MutingRead u tries top below) end = cc
 wanted_none (Sweeping sweep) end = cc
 wanted_none (MutingSwept u tries sweep) end = cc
+wanted_none (Checking u silences sweep) end = cc
+wanted_none (MutingStray u tries sweep) end = cc
 wanted_none (Ended fault) end = refl
 
 pub next_none : (a : AgentState) → next_op a ≡ End → next_of a ≡ None

@@ -3,6 +3,7 @@ use Rattle.rdm_agent.proofs.Common.{◌≡◌, ℕ, ◌<◌, ◌^◌, Bool, true
 use Rattle.rdm_agent.proofs.Common.{bytes_eq, refl, sym, ap, ◌∙◌, subst, arith, ◌↔◌, nat_lt, Span, Asked, Heard, Seen}
 use Rattle.rdm_agent.proofs.Common.{Silent, Acked, Noise, MuteAck, BranchReply, Phase, AgentState, fed, heard_by_phase}
 use Rattle.rdm_agent.proofs.Common.{wanted, Unmuting, MutingKnown, Searching, MutingRead, Sweeping, MutingSwept, Ended}
+use Rattle.rdm_agent.proofs.Common.{Checking, MutingStray, unassigned}
 use Rattle.rdm_agent.proofs.Common.{asked_by, heard_by, heard_of_mute, seen_op, next_op, op_of, op_frame, Op, OpReply}
 use Rattle.std.proofs.lemmas.Slice.Eq.{bytes_eq-Decides}
 use Rattle.rdm_wire.specs.BranchText.{ReadsAs}
@@ -197,6 +198,8 @@ noise_is_silence a (Searching silences top below) other = absurd (other top refl
 noise_is_silence a (MutingRead u tries top below) other = refl
 noise_is_silence a (Sweeping sweep) other = absurd (other sweep.question.range refl)
 noise_is_silence a (MutingSwept u tries sweep) other = refl
+noise_is_silence a (Checking u silences sweep) other = absurd (other unassigned refl)
+noise_is_silence a (MutingStray u tries sweep) other = refl
 noise_is_silence a (Ended fault) other = refl
 
 -- what an agent that goes on wants

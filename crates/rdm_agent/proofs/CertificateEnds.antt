@@ -7,7 +7,9 @@ use Rattle.rdm_agent.proofs.Common.{IsDeviceSet, uids_of, Span, whole, Asked, He
 use Rattle.rdm_agent.proofs.Common.{Acked, Failed, Silent, One, Noise, acked_uid, muted_uid, acked_in, muted_in}
 use Rattle.rdm_agent.proofs.Common.{InSuccession, IsSilentBranch, SearchShows, Phase, AgentState, Runs, start_by}
 use Rattle.rdm_agent.proofs.Common.{wanted, fed, fault_of, heard_by_phase, search_below, found_uids, is_whole, choose}
-use Rattle.rdm_agent.proofs.Common.{counted, sweep_on, sweep_silent, believed_silent, Belief, Sweep, Unmuting}
+use Rattle.rdm_agent.proofs.Common.{sweep_on_after, sweep_silent, believed_silent, Belief, Sweep, Unmuting}
+use Rattle.rdm_agent.proofs.Common.{counted_silent, hushing, check_silent, is_checked_again, is_last, believed_apart}
+use Rattle.rdm_agent.proofs.Common.{unassigned, Checking, MutingStray, ◌&&◌}
 use Rattle.rdm_agent.proofs.Common.{MutingKnown, Searching, MutingRead, Sweeping, MutingSwept, Ended, IsStack, Kind}
 use Rattle.rdm_agent.proofs.Common.{Search, Steady, TRIES}
 use Rattle.std.proofs.lemmas.List.{length-append}
@@ -110,6 +112,9 @@ FewSilent (MutingRead u tries top below) x = Unit {0}
 FewSilent (Sweeping sweep) x =
     (n : ℕ) → EndsWith n (IsSilentBranch sweep.question.range.lo sweep.question.range.hi) x → n ≤ sweep.silences
 FewSilent (MutingSwept u tries sweep) x = Unit {0}
+FewSilent (Checking u silences sweep) x =
+    (n : ℕ) → EndsWith n (IsSilentBranch unassigned.lo unassigned.hi) x → n ≤ silences
+FewSilent (MutingStray u tries sweep) x = Unit {0}
 FewSilent (Ended fault) x = Unit {0}
 
 -- and no range with the greatest UID was silent five times in a row, unless the run has ended without fault
@@ -139,6 +144,8 @@ other_exchange phase new x e goes loud k = record {
     of_phase (MutingRead u tries top below) = tt
     of_phase (Sweeping sweep) = none sweep.question.range.lo sweep.question.range.hi sweep.silences
     of_phase (MutingSwept u tries sweep) = tt
+    of_phase (Checking u silences sweep) = none unassigned.lo unassigned.hi silences
+    of_phase (MutingStray u tries sweep) = tt
     of_phase (Ended fault) = tt
 
 -- the top range is silent once more
@@ -211,12 +218,10 @@ module _ (silences : ℕ) (top : Span) (below : List Span) (x : List Seen) (stac
       cond_both ((silences + 1) == TRIES) _ _ (λ p. IsUncleared p (x ++ again ∷ [])) (λ five. popped below stack)
       (λ not. silent_again (eqb-false (silences + 1) TRIES not))
 
--- what a sweep asks is silent once more
-module _ (sweep : Sweep) (n : ℕ) (x : List Seen) (fewer : sweep.silences < TRIES)
-    (k : IsUncleared (Sweeping sweep) x) where
-  abbrev range : Span
-  range = sweep.question.range
-
+-- a range that a sweep asks is silent once more
+module _ (phase : Phase) (range : Span) (silences : ℕ) (x : List Seen) (fewer : silences < TRIES)
+    (not_over : phase ≢ Ended None) (k : IsUncleared phase x)
+    (so_few : (n : ℕ) → EndsWith n (IsSilentBranch range.lo range.hi) x → n ≤ silences) where
   abbrev swept_again : Seen
   swept_again = record { asked = Branch range.lo range.hi; heard = Silent }
 
@@ -229,17 +234,14 @@ module _ (sweep : Sweep) (n : ℕ) (x : List Seen) (fewer : sweep.silences < TRI
       high : Branch range.lo range.hi ≡ Branch lo hi → range.hi ≡ hi
       high e = cc
 
-  sweep_goes : Sweeping sweep ≢ Ended None
-  sweep_goes e = cc
-
   -- it was silent no more often than is counted now
-  more : (m : ℕ) → EndsWith m (IsSilentBranch range.lo range.hi) (x ++ swept_again ∷ []) → m ≤ sweep.silences + 1
+  more : (m : ℕ) → EndsWith m (IsSilentBranch range.lo range.hi) (x ++ swept_again ∷ []) → m ≤ silences + 1
   more zero ends = omega arith
   more (suc m) ends =
-      let before : m ≤ sweep.silences = k.few m (grown_end m x swept_again ends).1 in omega (arith, before)
+      let before : m ≤ silences = so_few m (grown_end m x swept_again ends).1 in omega (arith, before)
 
   -- and no other range was
-  so_often : (r : Span) (count : ℕ) → (r ≡ range → count ≡ sweep.silences + 1) → (m : ℕ)
+  so_often : (r : Span) (count : ℕ) → (r ≡ range → count ≡ silences + 1) → (m : ℕ)
       → EndsWith m (IsSilentBranch r.lo r.hi) (x ++ swept_again ∷ []) → m ≤ count
   so_often r count counts zero ends = omega arith
   so_often r count counts (suc m) ends = by (swept_ends r.lo r.hi (grown_end m x swept_again ends).0)
@@ -251,61 +253,108 @@ module _ (sweep : Sweep) (n : ℕ) (x : List Seen) (fewer : sweep.silences < TRI
       by same =
           let is : r ≡ range = ap (λ l. from_to l r.hi) (sym same.0) ∙ ap (λ h. from_to range.lo h) (sym same.1) in
           let is_count = counts is in
-          let most : suc m ≤ sweep.silences + 1 = more (suc m)
+          let most : suc m ≤ silences + 1 = more (suc m)
           (subst (λ (q : Span). EndsWith (suc m) (IsSilentBranch q.lo q.hi) (x ++ swept_again ∷ [])) is ends) in
           omega (arith, is_count, most)
 
-  module _ (not_five : sweep.silences + 1 ≡ TRIES → ⊥) where
+  module _ (not_five : silences + 1 ≡ TRIES → ⊥) where
     five_before : (lo hi : ℕ) → greatest ≤ hi → InSuccession TRIES (IsSilentBranch lo hi) (x ++ swept_again ∷ []) → ⊥
     five_before lo hi far five = elim (grown_succession TRIES x swept_again five) [
-      | inl before ↦ sweep_goes (k.cleared_last lo hi far before)
+      | inl before ↦ not_over (k.cleared_last lo hi far before)
       | inr ends ↦ no_five (grown_end 4 x swept_again ends)
     ]
       where
         no_five : IsSilentBranch lo hi swept_again × EndsWith 4 (IsSilentBranch lo hi) x → ⊥
         no_five g =
             let same = swept_ends lo hi g.0 in
-            let four : 4 ≤ sweep.silences = k.few 4
+            let four : 4 ≤ silences = so_few 4
             (subst (λ l. EndsWith 4 (IsSilentBranch l range.hi) x) (sym same.0)
             (subst (λ h. EndsWith 4 (IsSilentBranch lo h) x) (sym same.1) g.1)) in
             not_five (omega (arith, four, fewer))
 
+    -- the steady search begins
+    begins_again : (count : ℕ) → (whole ≡ range → count ≡ silences + 1)
+        → IsUncleared (Searching count whole []) (x ++ swept_again ∷ [])
+    begins_again count counts = record {
+      cleared_last = λ lo hi far five. absurd (five_before lo hi far five);
+      few = so_often whole count counts;
+    }
+
     -- the sweep goes on, or the steady search begins
-    goes_to : (b : Belief) → IsUncleared (sweep_on (counted sweep) (sweep.silences + 1) n b) (x ++ swept_again ∷ [])
-    goes_to b =
-        cond_both (nat_lt (sweep.made + 1) (100 * (n + 2))) _ _ (λ p. IsUncleared p (x ++ swept_again ∷ []))
-        (λ goes. next (choose (sweep.made + 1) (sweep.silences + 1) range b)
-        (chosen (sweep.made + 1) (sweep.silences + 1) range b (omega (arith, fewer, not_five_less))))
-        (λ out. cond_both (is_whole range) (sweep.silences + 1) 0
+    goes_to : (sweep : Sweep) (n : ℕ) (b : Belief)
+        → IsUncleared (sweep_on_after sweep range (silences + 1) n b) (x ++ swept_again ∷ [])
+    goes_to sweep n b =
+        cond_both (nat_lt sweep.made (100 * (n + 2))) _ _ (λ p. IsUncleared p (x ++ swept_again ∷ []))
+        (λ goes. next (choose sweep.made (silences + 1) range b)
+        (chosen sweep.made (silences + 1) range b (omega (arith, fewer, not_five_less))))
+        (λ out. cond_both (is_whole range) (silences + 1) 0
         (λ c. IsUncleared (Searching c whole []) (x ++ swept_again ∷ []))
-        (λ all. record {
-          cleared_last = λ lo hi far five. absurd (five_before lo hi far five);
-          few = so_often whole (sweep.silences + 1) (λ is. refl);
-        })
-        (λ other. record {
-          cleared_last = λ lo hi far five. absurd (five_before lo hi far five);
-          few = so_often whole 0 (λ is. absurd (true≢false (sym (whole_is is) ∙ other)));
-        }))
+        (λ all. begins_again (silences + 1) (λ is. refl))
+        (λ other. begins_again 0 (λ is. absurd (true≢false (sym (whole_is is) ∙ other)))))
       where
-        not_five_less : sweep.silences + 1 < TRIES
+        not_five_less : silences + 1 < TRIES
         not_five_less = grind (arith, fewer, not_five)
 
         whole_is : whole ≡ range → is_whole range ≡ true
         whole_is is = subst (λ (r : Span). is_whole r ≡ true) is refl
 
-        next : (c : Sweep) → IsChosen (sweep.made + 1) (sweep.silences + 1) range c
+        next : (c : Sweep) → IsChosen sweep.made (silences + 1) range c
             → IsUncleared (Sweeping c) (x ++ swept_again ∷ [])
         next c is = record {
           cleared_last = λ lo hi far five. absurd (five_before lo hi far five);
           few = so_often c.question.range c.silences is.counted;
         }
 
-  swept_silent : IsUncleared (sweep_silent (counted sweep) n) (x ++ swept_again ∷ [])
-  swept_silent =
-      cond_both ((sweep.silences + 1) == TRIES) _ _ (λ p. IsUncleared p (x ++ swept_again ∷ []))
-      (λ five. record { cleared_last = λ lo hi far s. refl; few = tt })
-      (λ other. goes_to (eqb-false (sweep.silences + 1) TRIES other)
-      (believed_silent sweep.question.part sweep.question.range sweep.belief))
+-- what a sweep asks is silent once more
+swept_silent : (sweep : Sweep) (n : ℕ) (x : List Seen) → sweep.silences < TRIES → IsUncleared (Sweeping sweep) x
+    → IsUncleared (sweep_silent (counted_silent sweep) n)
+    (x ++ record { asked = Branch sweep.question.range.lo sweep.question.range.hi; heard = Silent } ∷ [])
+swept_silent sweep n x fewer k =
+    cond_both ((sweep.silences + 1) == TRIES) _ _ (λ p. IsUncleared p (x ++ e ∷ []))
+    (λ five. record { cleared_last = λ lo hi far s. refl; few = tt })
+    (λ other. goes_to (Sweeping sweep) sweep.question.range sweep.silences x fewer (λ p. cc) k k.few
+    (eqb-false (sweep.silences + 1) TRIES other) (counted_silent sweep) n
+    (believed_silent sweep.question.part sweep.question.range (hushing sweep.belief)))
+  where
+    e : Seen
+    e = record { asked = Branch sweep.question.range.lo sweep.question.range.hi; heard = Silent }
+
+-- the range without devices is silent once more
+checked_silent : (u silences : ℕ) (sweep : Sweep) (n : ℕ) (x : List Seen) → silences < 2
+    → IsUncleared (Checking u silences sweep) x
+    → IsUncleared (check_silent u silences (counted_silent sweep) n)
+    (x ++ record { asked = Branch unassigned.lo unassigned.hi; heard = Silent } ∷ [])
+checked_silent u silences sweep n x few k =
+    cond_both (is_checked_again (counted_silent sweep).belief silences) _ _ (λ p. IsUncleared p (x ++ e ∷ []))
+    (λ again. record {
+      cleared_last = λ lo hi far five.
+          absurd (five_before phase unassigned silences x fewer goes k k.few not_five lo hi far five);
+      few = more phase unassigned silences x fewer goes k k.few;
+    })
+    (λ split. cond_both (is_last sweep.question.part && sweep.belief.found_nothing) _ _
+    (λ p. IsUncleared p (x ++ e ∷ []))
+    (λ found_nothing. begins_again phase unassigned silences x fewer goes k k.few not_five 0
+    (λ is. absurd (not_whole (ap (λ (r : Span). r.lo) is))))
+    (λ other. goes_to phase unassigned silences x fewer goes k k.few not_five (counted_silent sweep) n
+    (believed_apart sweep.question.part sweep.question.range (hushing sweep.belief))))
+  where
+    e : Seen
+    e = record { asked = Branch unassigned.lo unassigned.hi; heard = Silent }
+
+    phase : Phase
+    phase = Checking u silences sweep
+
+    goes : phase ≢ Ended None
+    goes p = cc
+
+    fewer : silences < TRIES
+    fewer = omega (arith, few)
+
+    not_five : silences + 1 ≡ TRIES → ⊥
+    not_five five = omega (arith, few, five)
+
+    not_whole : whole.lo ≡ unassigned.lo → ⊥
+    not_whole same = omega (arith, same)
 
 module _ (kind : Kind) (known : List ℕ) (budget : ℕ) where
   -- what is asked but a branch is no silent branch, and so is what is heard but silence
@@ -354,6 +403,19 @@ module _ (kind : Kind) (known : List ℕ) (budget : ℕ) where
     by_phase (Sweeping sweep) Failed sound p k = absurd (sound refl)
     by_phase (MutingSwept u tries sweep) h sound p k =
         other_exchange (MutingSwept u tries sweep) _ x _ (λ e. cc) (loud (Mute u) h (λ lo hi e s. cc)) k
+    by_phase (Checking u silences sweep) Silent sound p k = checked_silent u silences sweep (length a.found) x p.few k
+    by_phase (Checking u silences sweep) (One v) sound p k =
+        other_exchange (Checking u silences sweep) _ x _ (λ e. cc)
+        (loud (Branch unassigned.lo unassigned.hi) (One v) (λ lo hi e s. cc)) k
+    by_phase (Checking u silences sweep) (Acked ack) sound p k =
+        other_exchange (Checking u silences sweep) _ x _ (λ e. cc)
+        (loud (Branch unassigned.lo unassigned.hi) (Acked ack) (λ lo hi e s. cc)) k
+    by_phase (Checking u silences sweep) Noise sound p k =
+        other_exchange (Checking u silences sweep) _ x _ (λ e. cc)
+        (loud (Branch unassigned.lo unassigned.hi) Noise (λ lo hi e s. cc)) k
+    by_phase (Checking u silences sweep) Failed sound p k = absurd (sound refl)
+    by_phase (MutingStray u tries sweep) h sound p k =
+        other_exchange (MutingStray u tries sweep) _ x _ (λ e. cc) (loud (Mute u) h (λ lo hi e s. cc)) k
     by_phase (Ended fault) h sound p k = tt
 
     goes_on : (phase : Phase) (asked : Asked) → wanted phase ≡ Some asked → phase ≢ Ended None

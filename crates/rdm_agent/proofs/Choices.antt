@@ -5,7 +5,8 @@ use Rattle.rdm_agent.proofs.Common.{eqb-true, eq-eqb, ltb-false, not-true, Span,
 use Rattle.rdm_agent.proofs.Common.{is_one, choose}
 use Rattle.std.proofs.Math.Nat.{min-le_right, le-min}
 use Rattle.rdm_agent.specs.declared.belief.Question.{Question}
-use Rattle.rdm_agent.specs.Machine.{spanning, last_uid, is_same, part_of, with_lower, question, above, ready, asking}
+use Rattle.rdm_agent.specs.Machine.{asking}
+use Rattle.rdm_agent.specs.Beliefs.{spanning, last_uid, is_same, part_of, with_lower, question, above, ready}
 
 -- a range of UIDs
 abbrev pub IsRange : Span → Type 0

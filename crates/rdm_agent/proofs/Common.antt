@@ -35,14 +35,21 @@ pub use Rattle.rdm_agent.specs.Calls.{next_op, HasRunBy, RunSoFar, op_of}
 pub use Rattle.rdm_agent.specs.Cause.{IsCorrupt, Cause, AllReported, EndsFailed}
 pub use Rattle.rdm_agent.specs.Certificate.{SearchShows, known_of, Certificate, IsTried, IsCleared, MutesNamed}
 pub use Rattle.rdm_agent.specs.Machine.{AgentState, Phase, found_uids, fed, is_new, fault_of, heard_by_phase, Runs}
-pub use Rattle.rdm_agent.specs.Machine.{start_by, sweep_on, to_phase, wanted, counted, is_whole, search_below}
-pub use Rattle.rdm_agent.specs.Machine.{sweep_silent, to_found, believed_found, believed_silent, is_one, is_wanted}
-pub use Rattle.rdm_agent.specs.Machine.{next_of, search_from, split, sweep_apart, believed_apart, branch_heard}
+pub use Rattle.rdm_agent.specs.Machine.{start_by, sweep_on, to_phase, wanted, counted, search_below}
+pub use Rattle.rdm_agent.specs.Beliefs.{is_whole}
+pub use Rattle.rdm_agent.specs.Machine.{sweep_silent, to_found, is_wanted}
+pub use Rattle.rdm_agent.specs.Beliefs.{believed_found, believed_silent, is_one}
+pub use Rattle.rdm_agent.specs.Machine.{next_of, search_from, split, sweep_apart, branch_heard}
+pub use Rattle.rdm_agent.specs.Beliefs.{believed_apart}
 pub use Rattle.rdm_agent.specs.Machine.{first_phase, is_last, known_heard, mute_heard, start, sweep_heard}
-pub use Rattle.rdm_agent.specs.Machine.{sweep_suspecting, swept_heard}
+pub use Rattle.rdm_agent.specs.Machine.{sweep_suspecting, swept_heard, unassigned, sweep_on_after, sweep_split}
+pub use Rattle.rdm_agent.specs.Machine.{counted_silent, counted_spelt, sweep_spelt, is_stray}
+pub use Rattle.rdm_agent.specs.Beliefs.{hushing, hearing}
+pub use Rattle.rdm_agent.specs.Machine.{check_silent, check_heard, stray_heard}
+pub use Rattle.rdm_agent.specs.Beliefs.{is_checked_again, stray_found}
 unfoldable pub use Rattle.rdm_agent.specs.Machine.{choose}
 pub use Rattle.rdm_agent.specs.Machine.Phase.{Searching, Ended, MutingKnown, MutingRead, MutingSwept, Sweeping}
-pub use Rattle.rdm_agent.specs.Machine.Phase.{Unmuting}
+pub use Rattle.rdm_agent.specs.Machine.Phase.{Unmuting, Checking, MutingStray}
 pub use Rattle.rdm_agent.specs.OpFrames.{op_frame}
 pub use Rattle.rdm_agent.specs.Run.{acked_in, InSuccession, IsLostMute, IsSilentBranch, is_branch, muted_by, acked_uid}
 pub use Rattle.rdm_agent.specs.Run.{muted_in, FailureIsLast, muted_uid, read_in, acked_by, device_from, heard_by}

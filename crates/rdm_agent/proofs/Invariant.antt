@@ -6,6 +6,7 @@ use Rattle.rdm_agent.proofs.Common.{muted_in, acked_in, reported, is_branch, AsF
 use Rattle.rdm_agent.proofs.Common.{SearchShows, IsTried, IsCleared, MutesNamed, known_of, Cause, IsCorrupt, Phase}
 use Rattle.rdm_agent.proofs.Common.{AgentState, is_new, found_uids, Unmuting, MutingKnown, Searching, MutingRead}
 use Rattle.rdm_agent.proofs.Common.{Sweeping, MutingSwept, Ended, Kind, AgentFault, Sweep, IsStack, TRIES, UNMUTES}
+use Rattle.rdm_agent.proofs.Common.{Checking, MutingStray, unassigned}
 use Rattle.rdm_agent.proofs.OneDevice.{NotFailed}
 use Rattle.rdm_agent.proofs.Choices.{IsRange, Asks}
 
@@ -101,6 +102,21 @@ pub record IsMutingSwept (known : List ℕ) (u tries : ℕ) (sweep : Sweep) (x :
   pub new : is_new found sweep.question.range u ≡ true
   pub spelt : WasSpelt u tries sweep.question.range x
 
+-- the range without devices is branched, so often in silence, after a UID was spelt by a range that it isn't in
+pub record IsChecking (known : List ℕ) (u silences : ℕ) (x : List Seen) (found : List ℕ) : Type 0 where
+  pub searches : Searches known None whole [] x found
+  pub device : IsDevice u
+  pub few : silences < 2
+  pub silent : EndsWith silences (IsSilentBranch unassigned.lo unassigned.hi) x
+  pub not_corrupt : (u : ℕ) → IsCorrupt u x → ⊥
+
+-- the UID that this range spelt is muted, so far in vain
+pub record IsMutingStray (known : List ℕ) (u tries : ℕ) (x : List Seen) (found : List ℕ) : Type 0 where
+  pub searches : Searches known (Some u) whole [] x found
+  pub device : IsDevice u
+  pub few : tries < TRIES
+  pub spelt : WasSpelt u tries unassigned x
+
 -- a run without fault has its certificate, one with a fault its cause; a failure is last
 pub record HasEnded (kind : Kind) (known : List ℕ) (budget : ℕ) (fault : Option AgentFault) (x : List Seen)
     (found : List ℕ) : Type 0 where
@@ -121,6 +137,8 @@ InPhase kind known budget (MutingRead u tries top below) x found =
 InPhase kind known budget (Sweeping sweep) x found = IsSweeping (known_of kind known) sweep x found
 InPhase kind known budget (MutingSwept u tries sweep) x found =
     IsMutingSwept (known_of kind known) u tries sweep x found
+InPhase kind known budget (Checking u silences sweep) x found = IsChecking (known_of kind known) u silences x found
+InPhase kind known budget (MutingStray u tries sweep) x found = IsMutingStray (known_of kind known) u tries x found
 InPhase kind known budget (Ended fault) x found = HasEnded kind known budget fault x found
 
 -- the agent stands after these exchanges

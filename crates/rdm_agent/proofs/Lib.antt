@@ -20,6 +20,7 @@ pub mod UnmutePhase
 pub mod RunLemmas
 pub mod SweepPhase
 pub mod SweepRuns
+pub mod StrayRuns
 pub mod Runs
 pub mod HonestRuns
 pub mod Carried
@@ -28,6 +29,7 @@ pub mod LeftLemmas
 pub mod CoverLemmas
 pub mod PaidLemmas
 pub mod SweepPaid
+pub mod StrayPaid
 pub mod BoundRuns
 pub mod BoundCalls
 pub mod FirstAcked

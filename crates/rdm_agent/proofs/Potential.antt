@@ -1,8 +1,9 @@
 -- What a run on an honest line still costs at most, in half exchanges: half of one is the least that a level adds.
 use Rattle.rdm_agent.proofs.Common.{◌⊎◌, filter, has, is_within, Span, whole, LineState, Phase, AgentState, found_uids}
 use Rattle.rdm_agent.proofs.Common.{is_new, Sweep, Unmuting, MutingKnown, Searching, MutingRead, Sweeping, MutingSwept}
-use Rattle.rdm_agent.proofs.Common.{Ended, Search, Steady, Quick}
-use Rattle.std.specs.Prelude.{◌≡◌, ℕ, ◌+◌, ◌*◌, ◌^◌, ◌<◌, ◌≤◌, Bool, true, ◌&&◌, not, List, [], ◌∷◌, length, None}
+use Rattle.rdm_agent.proofs.Common.{Ended, Search, Steady, Quick, Checking, MutingStray}
+use Rattle.std.specs.Prelude.{◌≡◌, ℕ, ◌+◌, ◌*◌, ◌^◌, ◌<◌, ◌≤◌, Bool, true, false, ◌&&◌, not, List, [], ◌∷◌, length}
+use Rattle.std.specs.Prelude.{None}
 
 -- the present devices that aren't found, and those of them in a range
 abbrev pub unfound : List ℕ → List ℕ → List ℕ
@@ -87,6 +88,22 @@ pub record CostsSwept (present : List ℕ) (line : LineState) (found : List ℕ)
   pub lost : has present u ≡ true → tries ≤ line.lost_mutes
   pub spelt : (has present u ≡ true) ⊎ (2 ≤ left_in present found sweep.question.range)
 
+-- the same while a check is silent: at most twice
+pub record CostsChecking (present found : List ℕ) (silences : ℕ) (sweep : Sweep) (cost : ℕ) : Type 0 where
+  pub few : silences ≤ 1
+  pub below : sweep.made ≤ 100 * (length found + 2) + silences
+  pub enough : sweep_cost present found ≤ cost + 2 * sweep.made
+
+-- the same in the midst of a series of mutes after a check, which only a device answers
+pub record CostsStray (present : List ℕ) (line : LineState) (found : List ℕ) (u tries : ℕ) (sweep : Sweep)
+    (cost : ℕ) : Type 0 where
+  pub few : tries ≤ 4
+  pub below : sweep.made ≤ 100 * (length found + 2) + 2 + tries
+  pub enough : sweep_cost present found ≤ cost + 2 * sweep.made
+  pub new : has found u ≡ false
+  pub here : has present u ≡ true
+  pub lost : tries ≤ line.lost_mutes
+
 -- a phase still costs this many half exchanges at most; a run that has ended costs nothing, and has no fault
 abbrev pub Costs : Search → List ℕ → LineState → List ℕ → Phase → ℕ → Type 0
 Costs search present line found (Unmuting more known) cost = CostsUnmuting search present found more known cost
@@ -97,6 +114,8 @@ Costs search present line found (MutingRead u tries top below) cost =
     CostsRead present line found u tries top below cost
 Costs search present line found (Sweeping sweep) cost = CostsSweeping present found sweep cost
 Costs search present line found (MutingSwept u tries sweep) cost = CostsSwept present line found u tries sweep cost
+Costs search present line found (Checking u silences sweep) cost = CostsChecking present found silences sweep cost
+Costs search present line found (MutingStray u tries sweep) cost = CostsStray present line found u tries sweep cost
 Costs search present line found (Ended fault) cost = fault ≡ None
 
 -- the found UIDs are muted devices, and there are no more than devices

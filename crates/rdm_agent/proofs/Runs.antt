@@ -7,7 +7,8 @@ use Rattle.rdm_agent.proofs.Common.{Noise, FailureIsLast, Certificate, SearchSho
 use Rattle.rdm_agent.proofs.Common.{EndsFailed, AllReported, Phase, AgentState, Runs, start_by, next_of, wanted}
 use Rattle.rdm_agent.proofs.Common.{fed, fault_of, heard_by_phase, to_phase, found_uids, Unmuting, MutingKnown}
 use Rattle.rdm_agent.proofs.Common.{Searching, MutingRead, Sweeping, MutingSwept, Ended, IsInOrder, Kind, Search}
-use Rattle.rdm_agent.proofs.Common.{Full, Incremental, AgentFault, LineFailed, Exhausted, UNMUTES}
+use Rattle.rdm_agent.proofs.Common.{Full, Incremental, AgentFault, LineFailed, Exhausted, UNMUTES, Checking}
+use Rattle.rdm_agent.proofs.Common.{MutingStray, unassigned}
 use Rattle.std.proofs.lemmas.Bool.{le-ltb}
 use Rattle.std.proofs.lemmas.List.{length-take}
 use Rattle.rdm_agent.specs.Machine.{open_ranges}
@@ -19,11 +20,13 @@ use Rattle.rdm_agent.proofs.AllDevices.{failed_none}
 use Rattle.rdm_agent.proofs.Pushes.{All-at}
 use Rattle.rdm_agent.proofs.FoundLemmas.{IsFound-all_reported, found-same}
 use Rattle.rdm_agent.proofs.CorruptLemmas.{is_new-device, not_corrupt-no_branch, not_corrupt-spelt}
+use Rattle.rdm_agent.proofs.CorruptLemmas.{not_corrupt-several, lost_no_branches}
 use Rattle.rdm_agent.proofs.UnmutePhase.{no_branches}
 use Rattle.rdm_agent.proofs.Stacks.{IsStack-length, IsStack-ends}
 use Rattle.rdm_agent.proofs.RunLemmas.{to_phase-stands, reported-same, unmuting-stands, known-stands, searching-stands}
 use Rattle.rdm_agent.proofs.RunLemmas.{muting-stands, is_muting_read-device}
 use Rattle.rdm_agent.proofs.SweepRuns.{sweeping-stands, swept-stands, is_muting_swept-device}
+use Rattle.rdm_agent.proofs.StrayRuns.{two_unassigned, checking-stands, stray-stands}
 use Rattle.rdm_agent.proofs.Invariant.{IsFound, InPhase, IsUnderWay, RunInvariant}
 
 module _ (kind : Kind) (known : List ℕ) (budget : ℕ) where
@@ -65,6 +68,15 @@ module _ (kind : Kind) (known : List ℕ) (budget : ℕ) where
     not_corrupt = λ v c. not_corrupt-spelt v u tries sweep.question.range x found w.is_found p.range.1
         (is_new-device found sweep.question.range u p.new) p.spelt p.few c;
   }
+  is_open (Checking u silences sweep) x found p =
+      let w = p.searches.under_way in
+      record { no_failure = w.no_failure; is_found = w.is_found; not_corrupt = p.not_corrupt }
+  is_open (MutingStray u tries sweep) x found p = let w = p.searches.under_way in record {
+    no_failure = w.no_failure;
+    is_found = w.is_found;
+    not_corrupt = λ v c. not_corrupt-several v x p.spelt.before p.spelt.mutes unassigned.lo unassigned.hi (One u)
+        p.spelt.whole (lost_no_branches u p.spelt.mutes p.spelt.lost) two_unassigned c;
+  }
   is_open (Ended fault) x found p = tt
 
   module _ (x : List Seen) (a : AgentState) (s : RunInvariant kind known budget x a)
@@ -86,6 +98,9 @@ module _ (kind : Kind) (known : List ℕ) (budget : ℕ) where
         muting-stands kind known budget x a s goes u tries top below h sound p
     by_phase (Sweeping sweep) h sound p = sweeping-stands kind known budget x a s goes sweep h sound p
     by_phase (MutingSwept u tries sweep) h sound p = swept-stands kind known budget x a s goes u tries sweep h sound p
+    by_phase (Checking u silences sweep) h sound p =
+        checking-stands kind known budget x a s goes u silences sweep h sound p
+    by_phase (MutingStray u tries sweep) h sound p = stray-stands kind known budget x a s goes u tries sweep h sound p
     by_phase (Ended fault) h sound p = tt
 
     failed-stands : (asked : Asked) → wanted a.phase ≡ Some asked
@@ -225,6 +240,14 @@ wants_in_order kind known budget (MutingSwept u tries sweep) x found p = (
   (λ early. absurd (too_early (begun-length (known_of kind known) (Some u) x found p.searches.under_way) early)),
   λ late. is_muting_swept-device (known_of kind known) u tries sweep x found p,
 )
+wants_in_order kind known budget (Checking u silences sweep) x found p = (
+  (λ early. absurd (too_early (begun-length (known_of kind known) None x found p.searches.under_way) early)),
+  λ late. (omega arith, omega arith),
+)
+wants_in_order kind known budget (MutingStray u tries sweep) x found p = (
+  (λ early. absurd (too_early (begun-length (known_of kind known) (Some u) x found p.searches.under_way) early)),
+  λ late. p.device,
+)
 wants_in_order kind known budget (Ended fault) x found p = tt
 
 -- three unmutes, then branches and mutes of devices, counted and within the budget
@@ -271,6 +294,12 @@ ended kind known budget (Sweeping sweep) x found goes p end used =
 ended kind known budget (MutingSwept u tries sweep) x found goes p end used =
     exhausted kind known budget x found (is_open kind known budget (MutingSwept u tries sweep) x found p)
     (used (not_wanted goes (Mute u) end))
+ended kind known budget (Checking u silences sweep) x found goes p end used =
+    exhausted kind known budget x found (is_open kind known budget (Checking u silences sweep) x found p)
+    (used (not_wanted goes (Branch unassigned.lo unassigned.hi) end))
+ended kind known budget (MutingStray u tries sweep) x found goes p end used =
+    exhausted kind known budget x found (is_open kind known budget (MutingStray u tries sweep) x found p)
+    (used (not_wanted goes (Mute u) end))
 ended kind known budget (MutingRead u tries top below) x found goes p end used =
     exhausted kind known budget x found (is_open kind known budget (MutingRead u tries top below) x found p)
     (used (not_wanted goes (Mute u) end))
@@ -308,6 +337,8 @@ few_open_ranges_by search kind known budget x b set run =
     few (MutingRead u tries top below) p = IsStack-length top below p.searches.stack
     few (Sweeping sweep) p = omega arith
     few (MutingSwept u tries sweep) p = omega arith
+    few (Checking u silences sweep) p = omega arith
+    few (MutingStray u tries sweep) p = omega arith
     few (Ended fault) p = omega arith
 
 -- a failure is the last exchange
@@ -346,6 +377,10 @@ failed_phase kind known budget (Sweeping sweep) x found p =
     none_failed x (is_open kind known budget (Sweeping sweep) x found p).no_failure
 failed_phase kind known budget (MutingSwept u tries sweep) x found p =
     none_failed x (is_open kind known budget (MutingSwept u tries sweep) x found p).no_failure
+failed_phase kind known budget (Checking u silences sweep) x found p =
+    none_failed x (is_open kind known budget (Checking u silences sweep) x found p).no_failure
+failed_phase kind known budget (MutingStray u tries sweep) x found p =
+    none_failed x (is_open kind known budget (MutingStray u tries sweep) x found p).no_failure
 failed_phase kind known budget (MutingRead u tries top below) x found p =
     none_failed x (is_open kind known budget (MutingRead u tries top below) x found p).no_failure
 

@@ -7,7 +7,9 @@ use Rattle.rdm_agent.proofs.Common.{Failed, Silent, One, Acked, Noise, Phase, Ag
 use Rattle.rdm_agent.proofs.Common.{is_whole, is_wanted, is_last, counted, sweep_suspecting, choose, to_phase, sweep_on}
 use Rattle.rdm_agent.proofs.Common.{sweep_silent, sweep_apart, sweep_heard, swept_heard, believed_silent}
 use Rattle.rdm_agent.proofs.Common.{believed_found, believed_apart, Searching, Sweeping, MutingSwept, Search, TRIES}
-use Rattle.rdm_agent.proofs.Common.{Belief, Sweep}
+use Rattle.rdm_agent.proofs.Common.{Belief, Sweep, sweep_on_after, sweep_split, sweep_spelt, counted_spelt}
+use Rattle.rdm_agent.proofs.Common.{counted_silent, hearing, is_stray, Checking}
+use Rattle.rdm_agent.proofs.SweepRuns.{believing}
 use Rattle.std.specs.Prelude.{◌&&◌, not}
 use Rattle.rdm_agent.proofs.Choices.{IsChosen, chosen}
 use Rattle.rdm_agent.proofs.Potential.{unfound, is_left, left_in, sweep_cost, CostsSweeping, CostsSwept, Finds, Affords}
@@ -18,9 +20,9 @@ use Rattle.rdm_agent.proofs.PaidLemmas.{Cheaper, CountsOneMore, SpellsNew, mute-
 use Rattle.rdm_agent.proofs.PaidLemmas.{Finds-keeps, answered, to_phase-affords, to_found-affords}
 
 -- what is still needed after an exchange
-record Pays (present found : List ℕ) (made cost : ℕ) : Type 0 where
-  below : made ≤ 100 * (length found + 2) + 5
-  enough : sweep_cost present found + 2 ≤ cost + 2 * made
+pub record Pays (present found : List ℕ) (made cost : ℕ) : Type 0 where
+  pub below : made ≤ 100 * (length found + 2) + 5
+  pub enough : sweep_cost present found + 2 ≤ cost + 2 * made
 
 module _ (search : Search) (present : List ℕ) (line : LineState) (found : List ℕ) (cost : ℕ) where
   -- the steady search begins
@@ -58,17 +60,28 @@ module _ (search : Search) (present : List ℕ) (line : LineState) (found : List
         };
       }
 
-  on-costs : (sweep : Sweep) (silences n : ℕ) (b : Belief) → silences ≤ 4 → n ≡ length found
+  pub on-costs : (sweep : Sweep) (last : Span) (silences n : ℕ) (b : Belief) → silences ≤ 4 → n ≡ length found
       → Pays present found sweep.made cost
-      → Cheaper search present line found cost (sweep_on sweep silences n b)
-  on-costs sweep silences n b few many pays =
+      → Cheaper search present line found cost (sweep_on_after sweep last silences n b)
+  on-costs sweep last silences n b few many pays =
       cond_both (nat_lt sweep.made (100 * (n + 2))) _ _ (Cheaper search present line found cost)
       (λ goes. let under : sweep.made < 100 * (n + 2) = ltb-true sweep.made (100 * (n + 2)) goes in
-      asks-costs sweep.made silences sweep.question.range (choose sweep.made silences sweep.question.range b)
-      (omega (arith, under, many)) pays (chosen sweep.made silences sweep.question.range b (omega (arith, few))))
-      (λ out. cond_both (is_whole sweep.question.range) silences 0
+      asks-costs sweep.made silences last (choose sweep.made silences last b)
+      (omega (arith, under, many)) pays (chosen sweep.made silences last b (omega (arith, few))))
+      (λ out. cond_both (is_whole last) silences 0
       (λ m. Cheaper search present line found cost (Searching m whole []))
       (λ all. begins-costs sweep.made silences few pays) (λ other. begins-costs sweep.made 0 (omega arith) pays))
+
+  -- what was asked collided, and then a range was silent so often
+  pub split-costs : (sweep : Sweep) (last : Span) (silences n : ℕ) → silences ≤ 4 → n ≡ length found
+      → Pays present found sweep.made cost
+      → Cheaper search present line found cost (sweep_split sweep last silences n)
+  split-costs sweep last silences n few many pays =
+      cond_both (is_last sweep.question.part && sweep.belief.found_nothing) _ _
+      (Cheaper search present line found cost)
+      (λ found_nothing. begins-costs sweep.made 0 (omega arith) pays)
+      (λ goes. on-costs sweep last silences n (believed_apart sweep.question.part sweep.question.range sweep.belief)
+      few many pays)
 
   silent-costs : (sweep : Sweep) (n : ℕ) → sweep.silences ≤ 4 → n ≡ length found → Pays present found sweep.made cost
       → Cheaper search present line found cost (sweep_silent sweep n)
@@ -77,7 +90,7 @@ module _ (search : Search) (present : List ℕ) (line : LineState) (found : List
       (λ five. let below = pays.below in let enough = pays.enough in
       record { left = 0; saves = omega arith; costs = refl })
       (λ other. let not_five = eqb-false (sweep.silences + 1) TRIES other in
-      on-costs sweep (sweep.silences + 1) n
+      on-costs sweep sweep.question.range (sweep.silences + 1) n
       (believed_silent sweep.question.part sweep.question.range sweep.belief) (grind (arith, few, not_five)) many pays)
 
   -- what was asked isn't one UID alone
@@ -86,18 +99,15 @@ module _ (search : Search) (present : List ℕ) (line : LineState) (found : List
   apart-costs sweep n several many pays =
       cond_both (is_one sweep.question.range) _ _ (Cheaper search present line found cost)
       (λ alone. absurd (several (eqb-true sweep.question.range.lo sweep.question.range.hi alone)))
-      (λ both. cond_both (is_last sweep.question.part && sweep.belief.found_nothing) _ _
-      (Cheaper search present line found cost)
-      (λ found_nothing. begins-costs sweep.made 0 (omega arith) pays)
-      (λ goes. on-costs sweep 0 n (believed_apart sweep.question.part sweep.question.range sweep.belief) (omega arith)
-      many pays))
+      (λ both. split-costs sweep sweep.question.range 0 n (omega arith) many pays)
 
 module _ (present : List ℕ) (set : IsDeviceSet present) (few : length present ≤ MOST_DEVICES) (total cost : ℕ)
     (s new : LineState) (a : AgentState) (within : 2 * a.frames + cost ≤ total) where
-  many : length a.found ≡ length (found_uids a)
+  pub many : length a.found ≡ length (found_uids a)
   many = sym (length-map a.found (λ d. d.uid))
 
-  goes_on : (phase : Phase) → Finds present new (found_uids a) → Cheaper a.search present new (found_uids a) cost phase
+  pub goes_on : (phase : Phase) → Finds present new (found_uids a)
+      → Cheaper a.search present new (found_uids a) cost phase
       → Affords present total new (to_phase a phase)
   goes_on phase f cheaper = to_phase-affords present set few total cost s new a within phase f cheaper
 
@@ -111,34 +121,46 @@ module _ (present : List ℕ) (set : IsDeviceSet present) (few : length present 
   paid sweep costs =
       let below = costs.below in let enough = costs.enough in record { below = omega arith; enough = omega arith }
 
-  collided-affords : (sweep : Sweep) → Finds present new (found_uids a)
+  collided-affords : (sweep : Sweep) (b : Belief) → Finds present new (found_uids a)
       → CostsSweeping present (found_uids a) sweep cost
       → (sweep.question.range.lo ≡ sweep.question.range.hi → ⊥)
-      → Affords present total new (to_phase a (sweep_apart (counted sweep) (length a.found)))
-  collided-affords sweep f costs several =
-      goes_on _ f (apart-costs a.search present new (found_uids a) cost (counted sweep) (length a.found) several many
-      (paid sweep costs))
+      → Affords present total new (to_phase a (sweep_apart (counted (believing b sweep)) (length a.found)))
+  collided-affords sweep b f costs several =
+      goes_on _ f (apart-costs a.search present new (found_uids a) cost (counted (believing b sweep)) (length a.found)
+      several many (paid sweep costs))
 
   spelt-affords : (sweep : Sweep) (u : ℕ) → Finds present new (found_uids a)
       → CostsSweeping present (found_uids a) sweep cost
       → SpellsNew present (found_uids a) sweep.question.range (One u)
       ⊎ (2 ≤ left_in present (found_uids a) sweep.question.range)
-      → Affords present total new (to_phase a (cond (is_wanted (found_uids a) sweep u)
-      (MutingSwept u 0 (counted sweep)) (sweep_apart (counted sweep) (length a.found))))
+      → Affords present total new (to_phase a (sweep_spelt (found_uids a) (counted_spelt u sweep) (length a.found) u))
   spelt-affords sweep u f costs answer =
-      cond_both (is_wanted (found_uids a) sweep u) _ _ (λ p. Affords present total new (to_phase a p)) muted
-      (λ refused. collided-affords sweep f costs (several refused answer))
+      cond_both (is_wanted (found_uids a) (counted_spelt u sweep) u) _ _
+      (λ p. Affords present total new (to_phase a p)) muted
+      (λ refused. cond_both (is_stray (found_uids a) (counted_spelt u sweep) u) _ _
+      (λ p. Affords present total new (to_phase a p)) checked
+      (λ split. collided-affords sweep (hearing u sweep.belief) f costs (several refused answer)))
     where
+      checked : is_stray (found_uids a) (counted_spelt u sweep) u ≡ true
+          → Affords present total new (to_phase a (Checking u 0 (counted_spelt u sweep)))
+      checked stray =
+          let under = costs.below in let enough = costs.enough in
+          goes_on (Checking u 0 (counted_spelt u sweep)) f (record {
+            left = cost - 2;
+            saves = omega arith;
+            costs = record { few = omega arith; below = omega arith; enough = omega arith };
+          })
+
       same : (v : ℕ) → One u ≡ One v → u ≡ v
       same v p = cc
 
-      several : is_wanted (found_uids a) sweep u ≡ false
+      several : is_wanted (found_uids a) (counted_spelt u sweep) u ≡ false
           → SpellsNew present (found_uids a) sweep.question.range (One u)
           ⊎ (2 ≤ left_in present (found_uids a) sweep.question.range)
           → sweep.question.range.lo ≡ sweep.question.range.hi → ⊥
       several refused (inl one) alone = true≢false (sym one.new
           ∙ ap (is_new (found_uids a) sweep.question.range) (sym (same one.uid one.heard))
-          ∙ refused-alone (found_uids a) sweep u refused alone)
+          ∙ refused-alone (found_uids a) (counted_spelt u sweep) u refused alone)
       several refused (inr two) alone = no_two sweep.question.range two alone
 
       spelt : SpellsNew present (found_uids a) sweep.question.range (One u)
@@ -147,11 +169,11 @@ module _ (present : List ℕ) (set : IsDeviceSet present) (few : length present 
       spelt (inl one) = inl (ap (has present) (same one.uid one.heard) ∙ one.here)
       spelt (inr two) = inr two
 
-      muted : is_wanted (found_uids a) sweep u ≡ true
-          → Affords present total new (to_phase a (MutingSwept u 0 (counted sweep)))
+      muted : is_wanted (found_uids a) (counted_spelt u sweep) u ≡ true
+          → Affords present total new (to_phase a (MutingSwept u 0 (counted_spelt u sweep)))
       muted wanted =
           let under = costs.below in let enough = costs.enough in
-          goes_on (MutingSwept u 0 (counted sweep)) f (record {
+          goes_on (MutingSwept u 0 (counted_spelt u sweep)) f (record {
             left = cost - 2;
             saves = omega arith;
             costs = record {
@@ -190,15 +212,17 @@ module _ (present : List ℕ) (set : IsDeviceSet present) (few : length present 
           → MayReply (due_in present s.muted sweep.question.range.lo sweep.question.range.hi) h
           → Affords present total new (sweep_heard a sweep h)
       of_heard Silent sound reply =
-          goes_on _ finds (silent-costs a.search present new (found_uids a) cost (counted sweep) (length a.found)
-          costs.few many (paid sweep costs))
+          goes_on _ finds
+          (silent-costs a.search present new (found_uids a) cost (counted_silent sweep) (length a.found) costs.few many
+          (paid sweep costs))
       of_heard (One u) sound reply =
           spelt-affords sweep u finds costs
           (answered present (found_uids a) s sweep.question.range (One u) set (λ p. cc) f reply)
       of_heard Failed sound reply = absurd (sound refl)
       of_heard (Acked ack) sound reply =
-          collided-affords sweep finds costs (noisy (Acked ack) (λ p. cc) (λ u p. cc) reply)
-      of_heard Noise sound reply = collided-affords sweep finds costs (noisy Noise (λ p. cc) (λ u p. cc) reply)
+          collided-affords sweep sweep.belief finds costs (noisy (Acked ack) (λ p. cc) (λ u p. cc) reply)
+      of_heard Noise sound reply =
+          collided-affords sweep sweep.belief finds costs (noisy Noise (λ p. cc) (λ u p. cc) reply)
 
   -- what it spelt is muted
   lost-affords : (u tries : ℕ) (sweep : Sweep) (h : Heard) → is_acked h ≡ false
@@ -261,8 +285,8 @@ module _ (present : List ℕ) (set : IsDeviceSet present) (few : length present 
       onward more (inr one_more) =
           let longer = one_more.0 in let fewer = one_more.1 in let few = costs.few in let under = costs.below in
           let enough = costs.enough in
-          on-costs a.search present new more cost (counted sweep) 0 (length a.found + 1) after (omega arith)
-          (omega (arith, many, longer)) (record { below = omega arith; enough = omega arith })
+          on-costs a.search present new more cost (counted sweep) sweep.question.range 0 (length a.found + 1) after
+          (omega arith) (omega (arith, many, longer)) (record { below = omega arith; enough = omega arith })
   swept-affords u tries sweep Failed sound f step costs = absurd (sound refl)
   swept-affords u tries sweep Silent sound f step costs = lost-affords u tries sweep Silent refl f step costs
   swept-affords u tries sweep (One v) sound f step costs = lost-affords u tries sweep (One v) refl f step costs

@@ -3,9 +3,10 @@ use Rattle.rdm_agent.proofs.Common.{◌≡◌, ℕ, ◌+◌, ◌*◌, ◌<◌, B
 use Rattle.rdm_agent.proofs.Common.{refl, sym, inl, inr, subst, true≢false, arith, ◌==◌, nat_lt, cond_both, eqb-true}
 use Rattle.rdm_agent.proofs.Common.{eqb-false, eq-eqb, Span, whole, Seen, Branch, Silent, known_of, IsSilentBranch}
 use Rattle.rdm_agent.proofs.Common.{IsCorrupt, TRIES, Belief, Sweep, Phase, is_one, is_new, is_whole, is_wanted}
-use Rattle.rdm_agent.proofs.Common.{is_last, choose, sweep_on, sweep_silent, sweep_apart, believed_silent}
+use Rattle.rdm_agent.proofs.Common.{is_last, choose, sweep_on_after, sweep_split, sweep_silent, sweep_apart}
+use Rattle.rdm_agent.proofs.Common.{believed_silent}
 use Rattle.rdm_agent.proofs.Common.{believed_apart, Searching, Sweeping, Kind}
-use Rattle.rdm_agent.specs.Machine.{is_suspect}
+use Rattle.rdm_agent.specs.Beliefs.{is_suspect}
 use Rattle.rdm_agent.proofs.Members.{first_part}
 use Rattle.rdm_agent.proofs.OneDevice.{NotFailed}
 use Rattle.rdm_agent.proofs.Choices.{Asks, IsChosen, chosen, same_range}
@@ -59,18 +60,28 @@ module _ (kind : Kind) (known : List ℕ) (budget : ℕ) where
     }
 
     -- the sweep goes on, or the steady search begins
-    pub on-phase : (sweep : Sweep) (silences n : ℕ) (b : Belief) → silences < TRIES
-        → EndsSilent silences sweep.question.range x
-        → InPhase kind known budget (sweep_on sweep silences n b) x found
-    on-phase sweep silences n b few silent =
+    pub on-phase : (sweep : Sweep) (last : Span) (silences n : ℕ) (b : Belief) → silences < TRIES
+        → EndsSilent silences last x
+        → InPhase kind known budget (sweep_on_after sweep last silences n b) x found
+    on-phase sweep last silences n b few silent =
         cond_both (nat_lt sweep.made (100 * (n + 2))) _ _ (λ p. InPhase kind known budget p x found)
-        (λ goes. asks-phase silences sweep.question.range (choose sweep.made silences sweep.question.range b) sweep.made
-        silent (chosen sweep.made silences sweep.question.range b few))
-        (λ out. cond_both (is_whole sweep.question.range) silences 0
+        (λ goes. asks-phase silences last (choose sweep.made silences last b) sweep.made silent
+        (chosen sweep.made silences last b few))
+        (λ out. cond_both (is_whole last) silences 0
         (λ m. InPhase kind known budget (Searching m whole []) x found)
         (λ all. begins-steady silences few
-        (subst (λ (r : Span). EndsSilent silences r x) (same_range sweep.question.range whole all) silent))
+        (subst (λ (r : Span). EndsSilent silences r x) (same_range last whole all) silent))
         (λ other. begins-steady 0 (omega arith) (EndsWith-none _ x)))
+
+    -- what it asked collided, and then a range was silent so often
+    pub split-phase : (sweep : Sweep) (last : Span) (silences n : ℕ) → silences < TRIES → EndsSilent silences last x
+        → InPhase kind known budget (sweep_split sweep last silences n) x found
+    split-phase sweep last silences n few silent =
+        cond_both (is_last sweep.question.part && sweep.belief.found_nothing) _ _
+        (λ p. InPhase kind known budget p x found)
+        (λ found_nothing. begins-steady 0 (omega arith) (EndsWith-none _ x))
+        (λ goes. on-phase sweep last silences n
+        (believed_apart sweep.question.part sweep.question.range sweep.belief) few silent)
 
   -- the range was silent
   pub silent-phase : (sweep : Sweep) (n : ℕ) (x : List Seen) (found : List ℕ) → Asks sweep
@@ -87,7 +98,7 @@ module _ (kind : Kind) (known : List ℕ) (budget : ℕ) where
       search-next kind known budget whole [] x e found s
       (EndsWith-succession (subst (λ m. EndsSilent m whole (x ++ e ∷ [])) (eqb-true (sweep.silences + 1) TRIES five)
       (subst (λ (r : Span). EndsSilent (sweep.silences + 1) r (x ++ e ∷ [])) all more))) not_corrupt)
-      (λ fewer. on-phase (x ++ e ∷ []) found s not_corrupt sweep (sweep.silences + 1) n
+      (λ fewer. on-phase (x ++ e ∷ []) found s not_corrupt sweep sweep.question.range (sweep.silences + 1) n
       (believed_silent sweep.question.part sweep.question.range sweep.belief)
       (let few = asks.few in let not_five = eqb-false (sweep.silences + 1) TRIES fewer in grind arith) more)
     where
@@ -114,12 +125,9 @@ module _ (kind : Kind) (known : List ℕ) (budget : ℕ) where
           IsFound-all_reported (x ++ e ∷ []) found s.under_way.is_found,
         );
       })
-      (λ several. let not = not_corrupt (eqb-false sweep.question.range.lo sweep.question.range.hi several) in
-      cond_both (is_last sweep.question.part && sweep.belief.found_nothing) _ _ P
-      (λ found_nothing. begins-steady (x ++ e ∷ []) found s not 0 (omega arith) (EndsWith-none _ (x ++ e ∷ [])))
-      (λ goes. on-phase (x ++ e ∷ []) found s not sweep 0 n
-      (believed_apart sweep.question.part sweep.question.range sweep.belief) (omega arith)
-      (EndsWith-none _ (x ++ e ∷ []))))
+      (λ several. split-phase (x ++ e ∷ []) found s
+      (not_corrupt (eqb-false sweep.question.range.lo sweep.question.range.hi several)) sweep sweep.question.range 0 n
+      (omega arith) (EndsWith-none _ (x ++ e ∷ [])))
     where
       P : Phase → Type 0
       P p = InPhase kind known budget p (x ++ e ∷ []) found

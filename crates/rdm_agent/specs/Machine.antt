@@ -1,6 +1,6 @@
 -- The agent as a machine over the replies that it gets.
-use Rattle.std.specs.Prelude.{◌≡◌, ℕ, ◌+◌, ◌-◌, ◌*◌, ◌/◌, Bool, true, false, ◌&&◌, ◌||◌, not, List, [], ◌∷◌}
-use Rattle.std.specs.Prelude.{length, fold, Option, Some, None, ◌==◌, nat_lt, if◌then◌else◌, min, max}
+use Rattle.std.specs.Prelude.{◌≡◌, ℕ, ◌+◌, ◌-◌, ◌*◌, Bool, true, false, ◌&&◌, not, List, [], ◌∷◌}
+use Rattle.std.specs.Prelude.{length, fold, Option, Some, None, ◌==◌, nat_lt, nat_le, if◌then◌else◌}
 use Rattle.rdm_wire.specs.Uid.{has, is_within, is_broadcast}
 use Rattle.rdm_wire.specs.Devices.{uids_of, with_device}
 use Rattle.rdm_wire.specs.declared.device.Device.{Device}
@@ -19,13 +19,17 @@ use Rattle.rdm_agent.specs.declared.limits.TheConstants.{TRIES, UNMUTES}
 use Rattle.rdm_agent.specs.declared.belief.Belief.{Belief}
 use Rattle.rdm_agent.specs.declared.belief.Question.{Question}
 use Rattle.rdm_agent.specs.declared.belief.Part.{Part}
-use Rattle.rdm_agent.specs.declared.belief.Part.TheVariants.{Fresh, Lower, Rest, All, Whole}
+use Rattle.rdm_agent.specs.declared.belief.Part.TheVariants.{Fresh, Whole}
 use Rattle.rdm_agent.specs.declared.sweep.Sweep.{Sweep}
 use Rattle.rdm_agent.specs.declared.fault.AgentFault.TheVariants.{Corrupt, TooMany, Exhausted, LineFailed}
+use Rattle.rdm_agent.specs.Beliefs.{is_suspect, is_one, last_uid, first_belief, is_same, is_whole, question, ready}
+use Rattle.rdm_agent.specs.Beliefs.{above, believed_silent, believed_found, believed_apart, suspecting, hushing}
+use Rattle.rdm_agent.specs.Beliefs.{hearing, is_due, is_checked_again, stray_found}
 
 -- The phases: the unmutes still to send; the mute of a known UID, with the tries made; the branch of the top range,
 -- with its silences; and the mute of a UID that was read there, with the tries made. Then the same two phases of a
--- sweep, which holds the range that it asks; and the end.
+-- sweep, which holds the range that it asks; the branch of a range without devices, which may be answered by a UID that
+-- was spelt outside the sweep's range, with its silences; the mute of that UID, with the tries made; and the end.
 pub data Phase : Type 0 where
   Unmuting : (more : ℕ) (known : List ℕ) → Phase
   MutingKnown : (u tries : ℕ) (known : List ℕ) → Phase
@@ -33,6 +37,8 @@ pub data Phase : Type 0 where
   MutingRead : (u tries : ℕ) (top : Span) (below : List Span) → Phase
   Sweeping : (sweep : Sweep) → Phase
   MutingSwept : (u tries : ℕ) (sweep : Sweep) → Phase
+  Checking : (u silences : ℕ) (sweep : Sweep) → Phase
+  MutingStray : (u tries : ℕ) (sweep : Sweep) → Phase
   Ended : (fault : Option AgentFault) → Phase
 
 -- an agent: how many exchanges it may make and how many it has made, how it searches, the devices found, its phase
@@ -61,14 +67,10 @@ start_by search kind known budget = record {
 abbrev pub start : Kind → List ℕ → ℕ → AgentState
 start kind known budget = start_by Steady kind known budget
 
--- whether a sweep remembers this UID
-abbrev pub is_suspect : Option ℕ → ℕ → Bool
-is_suspect None u = false
-is_suspect (Some v) u = v == u
-
--- whether a range is of one UID
-abbrev pub is_one : Span → Bool
-is_one r = r.lo == r.hi
+-- The range that no device is in: the manufacturer ffff isn't assigned. Only a device that breaks the rules replies to
+-- its branch. It isn't ffff:ffffffff alone, since a bad answer of one UID alone ends a run.
+abbrev pub unassigned : Span
+unassigned = record { lo = 0xfffffffffffe; hi = 0xffffffffffff }
 
 -- what a phase asks; None at the end
 abbrev pub wanted : Phase → Option Asked
@@ -78,50 +80,13 @@ wanted (Searching silences top below) = Some (Branch top.lo top.hi)
 wanted (MutingRead u tries top below) = Some (Mute u)
 wanted (Sweeping sweep) = Some (Branch sweep.question.range.lo sweep.question.range.hi)
 wanted (MutingSwept u tries sweep) = Some (Mute u)
+wanted (Checking u silences sweep) = Some (Branch unassigned.lo unassigned.hi)
+wanted (MutingStray u tries sweep) = Some (Mute u)
 wanted (Ended fault) = None
 
 -- what the agent asks next: None is the end
 abbrev pub next_of : AgentState → Option Asked
 next_of a = if nat_lt a.frames a.budget then wanted a.phase else None
-
--- how many UIDs there are
-abbrev pub all_uids : ℕ
-all_uids = 0x1000000000000
-
--- the greatest UID
-abbrev pub last_uid : ℕ
-last_uid = 0xffffffffffff
-
--- the UIDs from lo to hi, up to the greatest UID; hi alone if lo is above it
-abbrev pub spanning : ℕ → ℕ → Span
-spanning lo hi = record { lo = min lo (min hi last_uid); hi = min hi last_uid }
-
--- A sweep searches from UID 0 upward. What it believes:
--- - The UIDs from base to at - 1 were swept: they were silent, or what answered is muted.
--- - The range from lo to end answered, and has at least need devices that aren't found (0, 1 or 2). If need is 0, there
---   is no such range.
--- On an honest line an answer is certain, and a silence may be a loss. So a sweep remembers the range that answered,
--- and searches it again if silences contradict it. The definitions below say how it chooses what it asks, and what it
--- believes after a silence, after one device and after a collision. The certificate and the bound need only this of
--- them:
--- - it asks ranges of UIDs, and mutes only what a range has just shown;
--- - five silences in a row of the whole range end the run, and no other range is silent five times in a row;
--- - its exchanges are limited.
-abbrev pub first_belief : Belief
-first_belief = record {
-  base = 0;
-  lo = 0;
-  at = 0;
-  end = last_uid;
-  need = 0;
-  width = all_uids;
-  growth = 2;
-  quiet = 0;
-  begun = 0;
-  back = 1;
-  suspect = None;
-  found_nothing = false;
-}
 
 -- a sweep at its start, which asks the whole range
 abbrev pub first_sweep : Sweep
@@ -157,79 +122,6 @@ split r below =
 abbrev pub is_new : List ℕ → Span → ℕ → Bool
 is_new found r u = not (is_broadcast u) && is_within r.lo r.hi u && not (has found u)
 
--- whether two ranges are the same
-abbrev pub is_same : Span → Span → Bool
-is_same r q = (r.lo == q.lo) && (r.hi == q.hi)
-
--- whether a range is the whole one
-abbrev pub is_whole : Span → Bool
-is_whole r = is_same r whole
-
--- CHOOSE. A fresh range is the next one that wasn't swept. It also looks back as far as ahead: a device that was
--- missed just before answers now. The last one looks back to the start, so that its silence is one of the whole range
-abbrev pub fresh_range : Belief → Span
-fresh_range b =
-    spanning (if nat_lt last_uid (b.at + b.width) then b.base else max b.base (b.at - b.width)) (b.at + (b.width - 1))
-
--- If no range has answered, a fresh one is asked. If the range that answered has one more device, all of it is asked
--- again, since an answer is certain. If it has two, the lower half of what is left is asked. After three silences in a
--- row all that is left is asked
-abbrev pub part_of : Belief → Question
-part_of b =
-    if b.need == 0 then record { part = Fresh; range = fresh_range b }
-    else (if b.need == 1 then record { part = All; range = spanning b.lo b.end }
-    else (if nat_lt b.lo b.at && nat_lt 2 b.quiet then record { part = Rest; range = spanning b.at b.end }
-    else record { part = Lower; range = spanning b.at (b.at + (b.end - b.at) / 2) }))
-
--- One UID is asked together with UIDs below it, which were swept, because a bad answer of one UID alone would end the
--- run. It is asked alone if those below it were given up
-abbrev pub with_lower : Belief → Question → Question
-with_lower b q =
-    if is_one q.range
-    then record { part = q.part; range = spanning (max b.base (q.range.hi - b.back)) q.range.hi } else q
-
--- what a sweep asks; after a pass this is the whole range
-abbrev pub question : Belief → Question
-question b =
-    if nat_lt last_uid b.at then record { part = Whole; range = whole } else with_lower b (part_of b)
-
--- BEGIN AGAIN. One silence in the range that answered was a loss, so the range is swept again
-abbrev pub begin_again : Belief → Belief
-begin_again b = record b { at = b.lo; quiet = 0; begun = min (b.begun + 1) 4 }
-
--- Its last UID is given up, since it answers and can't be muted. The sweep doesn't look back to it in this pass
-abbrev pub give_up : Belief → Belief
-give_up b = record b {
-  base = b.end + 1;
-  lo = b.end + 1;
-  at = b.end + 1;
-  need = 0;
-  width = 2;
-  growth = 2;
-  quiet = 0;
-  begun = 0;
-  suspect = Some b.end;
-}
-
--- If at most one UID is left of a range that has two devices, the range is searched again, and given up the fourth time
-abbrev pub restarted : Belief → Belief
-restarted b =
-    if not (b.need == 2) || (not (nat_lt b.lo b.at) || nat_lt b.at b.end) then b
-    else (if nat_lt (b.begun + 1) 4 then begin_again b else give_up b)
-
--- UID 0 alone isn't asked, since no UID is below it. The whole range asks it at the end. It may be one of the two
-abbrev pub past_zero : Belief → Belief
-past_zero b =
-    if (question b).range.hi == 0 then record b { base = 1; lo = 1; at = 1; need = b.need / 2 } else b
-
--- what a sweep believes when it asks
-abbrev pub ready : Belief → Belief
-ready b = past_zero (restarted b)
-
--- the sweep continues above this range
-abbrev pub above : Span → Belief → Belief
-above r b = record b { lo = r.hi + 1; at = r.hi + 1; need = 0; quiet = 0; begun = 0 }
-
 -- No range but the whole one is asked for a fifth silence in a row: the sweep continues above it. With five silences of
 -- every open range a run would have its certificate, and would have to end
 abbrev pub asking : ℕ → ℕ → Question → Belief → Sweep
@@ -243,125 +135,33 @@ unfoldable pub choose : ℕ → ℕ → Span → Belief → Sweep
 choose made silences last b =
     asking made (if is_same (question (ready b)).range last then silences else 0) (question (ready b)) (ready b)
 
--- SILENT. A fresh range: the next one begins above it. It is 2, 4, 16, 256, .. times as wide, so that a gap is crossed
--- in a few frames
-abbrev pub fresh_silent : Span → Belief → Belief
-fresh_silent r b = record b {
-  at = r.hi + 1;
-  width = min (b.width * b.growth) all_uids;
-  growth = min (b.growth * b.growth) 0x100000000;
-}
-
--- a lower half: the devices are above it
-abbrev pub lower_silent : Span → Belief → Belief
-lower_silent r b = record b { at = r.hi + 1; quiet = min (b.quiet + 1) 3 }
-
--- all that is left: something was lost. From the second time on, all of the range that answered is asked first, since
--- noise may have been taken for an answer
-abbrev pub rest_silent : Belief → Belief
-rest_silent b = record (begin_again b) { need = if b.begun == 0 then b.need else 1 }
-
--- after a silence of this part and range. All of the range that answered is just asked again
-abbrev pub believed_silent : Part → Span → Belief → Belief
-believed_silent Fresh r b = fresh_silent r b
-believed_silent Lower r b = lower_silent r b
-believed_silent Rest r b = rest_silent b
-believed_silent All r b = b
-believed_silent Whole r b = b
-
--- ONE. A device was found and muted, and nothing else answered. What was counted since the last find begins at 0 again
-abbrev pub renewed : Belief → Belief
-renewed b = record b { growth = 2; quiet = 0; begun = 0; back = 1; found_nothing = false }
-
--- in a fresh range: the next one begins above it
-abbrev pub fresh_found : Span → Belief → Belief
-fresh_found r b = record b { lo = r.hi + 1; at = r.hi + 1 }
-
--- in a lower half: the range that answered has one more, above it unless something was lost below. The next width is
--- three quarters of the last one, but at least that of this find, and at most eight times that
-abbrev pub lower_found : Span → Belief → Belief
-lower_found r b = record b {
-  lo = if b.at == b.lo then r.hi + 1 else b.lo;
-  at = r.hi + 1;
-  need = 1;
-  width = max (r.hi + 1 - b.at) (min (8 * (r.hi + 1 - b.at)) (b.width / 4 * 3));
-}
-
--- in all that is left: the other one is below, where a silence was a loss
-abbrev pub rest_found : Belief → Belief
-rest_found b = record b { at = b.lo; end = b.at - 1; need = 1 }
-
--- in the range that answered: that was the last one
-abbrev pub all_found : Belief → Belief
-all_found b = record b {
-  lo = b.end + 1;
-  at = b.end + 1;
-  need = 0;
-  width = min b.width (8 * (b.end + 1 - b.lo));
-}
-
--- after a device was found in this part and range
-abbrev pub believed_found : Part → Span → Belief → Belief
-believed_found Fresh r b = fresh_found r (renewed b)
-believed_found Lower r b = lower_found r (renewed b)
-believed_found Rest r b = rest_found (renewed b)
-believed_found All r b = all_found (renewed b)
-believed_found Whole r b = renewed b
-
--- COLLISION. The range has two devices, and is searched from this UID on. What is above it is forgotten
-abbrev pub split_at : ℕ → ℕ → ℕ → Span → Belief → Belief
-split_at at begun back r b = record b {
-  lo = r.lo;
-  at = at;
-  end = r.hi;
-  need = 2;
-  growth = 2;
-  quiet = 0;
-  begun = begun;
-  back = back;
-}
-
--- a lower half or all that is left. If UIDs below it were asked too, some devices were missed there, and the next
--- single UID is asked with four times as many
-abbrev pub lower_apart : Span → Belief → Belief
-lower_apart r b =
-    split_at r.lo 0 (if nat_lt r.lo b.at then min (4 * b.back) 0x400000000000 else b.back) r b
-
--- all of the range that answered
-abbrev pub all_apart : Span → Belief → Belief
-all_apart r b = split_at (if nat_lt r.hi b.at then r.lo else b.at) b.begun b.back r b
-
--- the whole range after a pass: something was missed, and another pass begins
-abbrev pub whole_apart : Span → Belief → Belief
-whole_apart r b =
-    record (split_at 0 0 b.back r b) { base = 0; width = all_uids; suspect = None; found_nothing = true }
-
--- after a collision in this part and range
-abbrev pub believed_apart : Part → Span → Belief → Belief
-believed_apart Fresh r b = split_at b.at 0 b.back r b
-believed_apart Lower r b = lower_apart r b
-believed_apart Rest r b = lower_apart r b
-believed_apart All r b = all_apart r b
-believed_apart Whole r b = whole_apart r b
-
--- a belief that gives up this UID
-abbrev pub suspecting : ℕ → Belief → Belief
-suspecting u b = record b { suspect = Some u }
-
 -- a sweep after one more exchange
 abbrev pub counted : Sweep → Sweep
 counted sweep = record sweep { made = sweep.made + 1 }
+
+-- a sweep after one more branch, which was silent
+abbrev pub counted_silent : Sweep → Sweep
+counted_silent sweep = record sweep { made = sweep.made + 1; belief = hushing sweep.belief }
+
+-- a sweep after one more branch, which spelt this UID
+abbrev pub counted_spelt : ℕ → Sweep → Sweep
+counted_spelt u sweep = record sweep { made = sweep.made + 1; belief = hearing u sweep.belief }
 
 -- a sweep that gives up this UID
 abbrev pub sweep_suspecting : ℕ → Sweep → Sweep
 sweep_suspecting u sweep = record sweep { belief = suspecting u sweep.belief }
 
 -- a sweep that has found this many devices goes on while it has made fewer exchanges than 100 for each of them and 200
--- more. Then the steady search begins, in which the last silences of the whole range count
+-- more. Then the steady search begins, in which the last silences of the whole range count. The silences are those of
+-- the last range
+abbrev pub sweep_on_after : Sweep → Span → ℕ → ℕ → Belief → Phase
+sweep_on_after sweep last silences found b =
+    if nat_lt sweep.made (100 * (found + 2)) then Sweeping (choose sweep.made silences last b)
+    else Searching (if is_whole last then silences else 0) whole []
+
+-- the same after what it asked
 abbrev pub sweep_on : Sweep → ℕ → ℕ → Belief → Phase
-sweep_on sweep silences found b =
-    if nat_lt sweep.made (100 * (found + 2)) then Sweeping (choose sweep.made silences sweep.question.range b)
-    else Searching (if is_whole sweep.question.range then silences else 0) whole []
+sweep_on sweep silences found b = sweep_on_after sweep sweep.question.range silences found b
 
 -- what it asked was silent; the fifth silence in a row, which is one of the whole range, ends the run
 abbrev pub sweep_silent : Sweep → ℕ → Phase
@@ -375,12 +175,19 @@ abbrev pub is_last : Part → Bool
 is_last Whole = true
 is_last _ = false
 
--- what it asked collided. One UID that was asked alone is corrupt. If a pass found nothing, the steady search begins
+-- what it asked collided, and then the last range was silent so often. If a pass found nothing, the steady search
+-- begins
+abbrev pub sweep_split : Sweep → Span → ℕ → ℕ → Phase
+sweep_split sweep last silences found =
+    if is_last sweep.question.part && sweep.belief.found_nothing then Searching 0 whole []
+    else sweep_on_after sweep last silences found
+    (believed_apart sweep.question.part sweep.question.range sweep.belief)
+
+-- what it asked collided. One UID that was asked alone is corrupt
 abbrev pub sweep_apart : Sweep → ℕ → Phase
 sweep_apart sweep found =
     if is_one sweep.question.range then Ended (Some (Corrupt sweep.question.range.lo))
-    else (if is_last sweep.question.part && sweep.belief.found_nothing then Searching 0 whole []
-    else sweep_on sweep 0 found (believed_apart sweep.question.part sweep.question.range sweep.belief))
+    else sweep_split sweep sweep.question.range 0 found
 
 -- the agent after one more exchange, in this phase
 abbrev pub to_phase : AgentState → Phase → AgentState
@@ -431,12 +238,28 @@ is_wanted found sweep u =
     is_new found sweep.question.range u
     && not (is_suspect sweep.belief.suspect u && not (is_one sweep.question.range))
 
+-- whether the UID that a sweep's branch spelt may be a device's outside the range, that wasn't found or given up
+abbrev pub is_outside : List ℕ → Sweep → ℕ → Bool
+is_outside found sweep u =
+    (nat_le u last_uid && not (is_broadcast u))
+    && (not (is_within sweep.question.range.lo sweep.question.range.hi u)
+    && (not (has found u) && not (is_suspect sweep.belief.suspect u)))
+
+-- whether it is checked: it is due. A range of one UID is corrupt, whatever else it spells
+abbrev pub is_stray : List ℕ → Sweep → ℕ → Bool
+is_stray found sweep u = is_outside found sweep u && (not (is_one sweep.question.range) && is_due sweep.belief)
+
+-- what follows a branch of a sweep that spelt this UID
+abbrev pub sweep_spelt : List ℕ → Sweep → ℕ → ℕ → Phase
+sweep_spelt uids sweep found u =
+    if is_wanted uids sweep u then MutingSwept u 0 sweep
+    else (if is_stray uids sweep u then Checking u 0 sweep else sweep_apart sweep found)
+
 -- the agent after a branch of a sweep
 abbrev pub sweep_heard : AgentState → Sweep → Heard → AgentState
-sweep_heard a sweep Silent = to_phase a (sweep_silent (counted sweep) (length a.found))
+sweep_heard a sweep Silent = to_phase a (sweep_silent (counted_silent sweep) (length a.found))
 sweep_heard a sweep (One u) =
-    to_phase a (if is_wanted (found_uids a) sweep u then MutingSwept u 0 (counted sweep)
-    else sweep_apart (counted sweep) (length a.found))
+    to_phase a (sweep_spelt (found_uids a) (counted_spelt u sweep) (length a.found) u)
 sweep_heard a sweep _ = to_phase a (sweep_apart (counted sweep) (length a.found))
 
 -- the agent after the mute of a UID that a sweep read. It is found if acknowledged. After five tries the sweep gives it
@@ -450,6 +273,34 @@ swept_heard a u tries sweep _ =
     to_phase a (if (tries + 1) == TRIES then sweep_apart (sweep_suspecting u (counted sweep)) (length a.found)
     else MutingSwept u (tries + 1) (counted sweep))
 
+-- what follows a silence of the check
+abbrev pub check_silent : ℕ → ℕ → Sweep → ℕ → Phase
+check_silent u silences sweep found =
+    if is_checked_again sweep.belief silences then Checking u (silences + 1) sweep
+    else sweep_split sweep unassigned (silences + 1) found
+
+-- and what follows if it spelt another UID, or this one
+abbrev pub check_spelt : ℕ → ℕ → Sweep → ℕ → Phase
+check_spelt u v sweep found = if v == u then MutingStray u 0 sweep else sweep_split sweep unassigned 0 found
+
+-- the agent after a check whether this UID answers for others, too. If it does it is muted. Anything else means that
+-- what the sweep asked collided
+abbrev pub check_heard : AgentState → ℕ → ℕ → Sweep → Heard → AgentState
+check_heard a u silences sweep Silent = to_phase a (check_silent u silences (counted_silent sweep) (length a.found))
+check_heard a u silences sweep (One v) = to_phase a (check_spelt u v (counted sweep) (length a.found))
+check_heard a u silences sweep _ = to_phase a (sweep_split (counted sweep) unassigned 0 (length a.found))
+
+-- the agent after the mute of a UID that answers for others, too. If it is found the same is asked again. After five
+-- tries the sweep gives it up, and what it asked collided
+abbrev pub stray_heard : AgentState → ℕ → ℕ → Sweep → Heard → AgentState
+stray_heard a u tries sweep (Acked ack) =
+    to_found a (device_from u ack)
+    (sweep_on (counted sweep) 0 (length a.found + 1) (stray_found sweep.belief))
+stray_heard a u tries sweep _ =
+    to_phase a (if (tries + 1) == TRIES
+    then sweep_split (sweep_suspecting u (counted sweep)) unassigned 0 (length a.found)
+    else MutingStray u (tries + 1) (counted sweep))
+
 -- the agent after this was heard in this phase, if the line didn't fail
 abbrev pub heard_by_phase : AgentState → Phase → Heard → AgentState
 heard_by_phase a (Unmuting more known) heard =
@@ -459,6 +310,8 @@ heard_by_phase a (Searching silences top below) heard = branch_heard a silences 
 heard_by_phase a (MutingRead u tries top below) heard = mute_heard a u tries top below heard
 heard_by_phase a (Sweeping sweep) heard = sweep_heard a sweep heard
 heard_by_phase a (MutingSwept u tries sweep) heard = swept_heard a u tries sweep heard
+heard_by_phase a (Checking u silences sweep) heard = check_heard a u silences sweep heard
+heard_by_phase a (MutingStray u tries sweep) heard = stray_heard a u tries sweep heard
 heard_by_phase a (Ended fault) heard = a
 
 -- the agent after a reply
@@ -487,6 +340,8 @@ open_ranges (Searching silences top below) = length below + 1
 open_ranges (MutingRead u tries top below) = length below + 1
 open_ranges (Sweeping sweep) = 1
 open_ranges (MutingSwept u tries sweep) = 1
+open_ranges (Checking u silences sweep) = 1
+open_ranges (MutingStray u tries sweep) = 1
 open_ranges (Ended fault) = 0
 
 -- the agent after a list of replies

@@ -30,7 +30,7 @@ use std::mem::size_of;
 
 /// One discovery run by E1.20's discovery commands, between an exchange and the next.
 ///
-/// It is a plain value of 41,944 bytes, allocates nothing and stores no exchanges. Contracts see it as the state of a
+/// It is a plain value of 41,976 bytes, allocates nothing and stores no exchanges. Contracts see it as the state of a
 /// machine: its budget, how many exchanges it has made, the devices found, and its phase.
 #[derive(Debug, Drop)]
 pub struct Agent {
@@ -41,7 +41,7 @@ pub struct Agent {
 }
 
 // The size that the docs state.
-const _: () = prove!(size_of::<Agent>() == 41_944);
+const _: () = prove!(size_of::<Agent>() == 41_976);
 
 impl Model for Agent {
     ghost use Rattle.rdm_agent.specs.Machine.{AgentState};
@@ -261,7 +261,9 @@ impl Agent {
             Phase::Unmuting { .. }
             | Phase::MutingKnown { .. }
             | Phase::Sweeping { .. }
-            | Phase::MutingSwept { .. } => 1,
+            | Phase::MutingSwept { .. }
+            | Phase::Checking { .. }
+            | Phase::MutingStray { .. } => 1,
             Phase::Searching { .. } | Phase::MutingRead { .. } => self.run_state.below.len() + 1,
             Phase::Ended(_) => 0,
         }

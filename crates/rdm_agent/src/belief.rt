@@ -1,12 +1,14 @@
 //! What a sweep believes about the UIDs.
 ghost use Rattle.std.specs.Prelude.{◌≡◌, ◌≤◌, ◌<◌, ◌^◌};
 ghost use Rattle.rdm_wire.specs.Span.{Span};
-ghost use Rattle.rdm_agent.specs.Machine.{first_belief, suspecting, begin_again, give_up, restarted, past_zero, ready};
-ghost use Rattle.rdm_agent.specs.Machine.{spanning, fresh_range, question, with_lower, part_of};
-ghost use Rattle.rdm_agent.specs.Machine.{fresh_silent, lower_silent, rest_silent, renewed, fresh_found, lower_found};
-ghost use Rattle.rdm_agent.specs.Machine.{rest_found, all_found, split_at, lower_apart, all_apart, whole_apart};
-ghost use Rattle.rdm_agent.specs.Machine.{believed_silent, believed_found, believed_apart, above};
+ghost use Rattle.rdm_agent.specs.Beliefs.{first_belief, suspecting, begin_again, give_up, restarted, past_zero, ready};
+ghost use Rattle.rdm_agent.specs.Beliefs.{spanning, fresh_range, question, with_lower, part_of};
+ghost use Rattle.rdm_agent.specs.Beliefs.{fresh_silent, lower_silent, rest_silent, renewed, fresh_found, lower_found};
+ghost use Rattle.rdm_agent.specs.Beliefs.{rest_found, all_found, split_at, lower_apart, all_apart, whole_apart};
+ghost use Rattle.rdm_agent.specs.Beliefs.{believed_silent, believed_found, believed_apart, above};
 ghost use Rattle.rdm_agent.specs.body.Sound.{IsSmall};
+
+mod strays;
 
 use rdm_wire::{Uid, UidRange};
 
@@ -80,6 +82,14 @@ pub(crate) struct Belief {
     pub(crate) suspect: Option<Uid>,
     /// Whether nothing was found in this pass so far, and it isn't the first.
     pub(crate) found_nothing: bool,
+    /// The UID that a branch spelt last.
+    pub(crate) spelt: Option<Uid>,
+    /// How often in a row it was read: 2^20 at most.
+    pub(crate) times: u32,
+    /// With which reading it is due: the first, the second, the fourth, the eighth ..
+    pub(crate) due: u32,
+    /// Whether any branch was silent.
+    pub(crate) hushed: bool,
 }
 
 impl Belief {
@@ -101,6 +111,10 @@ impl Belief {
             back: 1,
             suspect: None,
             found_nothing: false,
+            spelt: None,
+            times: 0,
+            due: 0,
+            hushed: false,
         }
     }
 

@@ -6,7 +6,7 @@ ghost use Rattle.rdm_agent.specs.Calls.{op_of};
 
 use crate::fault::AgentFault;
 use crate::op::Op;
-use crate::sweep::Sweep;
+use crate::sweep::{Sweep, unassigned};
 use rdm_wire::{Uid, UidRange};
 
 /// The phase of a run. Contracts see it together with the known UIDs that are left and the ranges below the top one.
@@ -54,6 +54,25 @@ pub(crate) enum Phase {
         /// The sweep.
         sweep: Sweep,
     },
+    /// A UID was spelt by a sweep's range that it isn't in. The range without devices is branched, to see whether this
+    /// UID answers for others.
+    Checking {
+        /// The UID.
+        uid: Uid,
+        /// How often in a row that range was silent: 0 or 1.
+        silences: u8,
+        /// The sweep.
+        sweep: Sweep,
+    },
+    /// Such a UID is being muted, and this many tries had no answer.
+    MutingStray {
+        /// The UID.
+        uid: Uid,
+        /// Below [`TRIES`](crate::TRIES).
+        tries: u8,
+        /// The sweep.
+        sweep: Sweep,
+    },
     /// The run has ended.
     Ended(Option<AgentFault>),
 }
@@ -69,9 +88,11 @@ impl Phase {
             Phase::Unmuting { .. } => Op::UnmuteAll,
             Phase::MutingKnown { uid, .. }
             | Phase::MutingRead { uid, .. }
-            | Phase::MutingSwept { uid, .. } => Op::Mute(uid),
+            | Phase::MutingSwept { uid, .. }
+            | Phase::MutingStray { uid, .. } => Op::Mute(uid),
             Phase::Searching { top, .. } => Op::Branch(top),
             Phase::Sweeping { sweep } => Op::Branch(sweep.question.range),
+            Phase::Checking { .. } => Op::Branch(unassigned()),
             Phase::Ended(_) => Op::End,
         }
     }

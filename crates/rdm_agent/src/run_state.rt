@@ -15,6 +15,7 @@ ghost use Rattle.rdm_agent.specs.declared.fault.AgentFault.TheVariants.{TooMany}
 ghost use Rattle.rdm_agent.specs.body.AgentFields.{seen_phase, Steps};
 ghost use Rattle.rdm_agent.specs.body.GoesOn.{GoesOn, MovesTo, Follows, IsConsistent};
 
+mod straying;
 mod sweeping;
 
 use crate::fault::AgentFault;
@@ -77,6 +78,17 @@ impl RunState {
             (Phase::Sweeping { sweep }, OpReply::Branch(reply)) => self.swept(sweep, reply),
             (Phase::MutingSwept { uid, tries, sweep }, OpReply::Mute(ack)) => {
                 self.swept_muted(uid, tries, sweep, ack)
+            }
+            (
+                Phase::Checking {
+                    uid,
+                    silences,
+                    sweep,
+                },
+                OpReply::Branch(reply),
+            ) => self.checked(uid, silences, sweep, reply),
+            (Phase::MutingStray { uid, tries, sweep }, OpReply::Mute(ack)) => {
+                self.stray_muted(uid, tries, sweep, ack)
             }
             _ => unreachable!(),
         }

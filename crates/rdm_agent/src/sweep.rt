@@ -1,7 +1,9 @@
 //! A sweep: the part of a quick run that finds nearly all devices.
 ghost use Rattle.std.specs.Prelude.{◌≡◌, ◌<◌, ◌≤◌, ◌^◌, ◌+◌};
 ghost use Rattle.rdm_wire.specs.Span.{Span};
-ghost use Rattle.rdm_agent.specs.Machine.{first_sweep, counted, sweep_suspecting, choose, asking, is_whole, is_same};
+ghost use Rattle.rdm_agent.specs.Machine.{first_sweep, counted, sweep_suspecting, choose, asking};
+ghost use Rattle.rdm_agent.specs.Beliefs.{is_whole, is_same};
+ghost use Rattle.rdm_agent.specs.Machine.{counted_silent, counted_spelt, unassigned};
 ghost use Rattle.rdm_agent.specs.body.Sound.{IsSmall};
 
 use crate::belief::{Belief, Part, Question};
@@ -45,6 +47,34 @@ impl Sweep {
     {
         Sweep {
             made: self.made + 1,
+            ..self
+        }
+    }
+
+    /// The sweep after one more branch, which was silent.
+    pub(crate) fn counted_silent(self) -> Sweep
+        requires made { self.made < 2 ^ 32 }
+        requires small { IsSmall self.belief }
+        ensures value { result ≡ counted_silent self }
+        ensures small { IsSmall result.belief }
+    {
+        Sweep {
+            made: self.made + 1,
+            belief: self.belief.hushing(),
+            ..self
+        }
+    }
+
+    /// The sweep after one more branch, which spelt this UID.
+    pub(crate) fn counted_spelt(self, uid: Uid) -> Sweep
+        requires made { self.made < 2 ^ 32 }
+        requires small { IsSmall self.belief }
+        ensures value { result ≡ counted_spelt uid self }
+        ensures small { IsSmall result.belief }
+    {
+        Sweep {
+            made: self.made + 1,
+            belief: self.belief.hearing(uid),
             ..self
         }
     }
@@ -107,6 +137,17 @@ impl Sweep {
             question,
             belief,
         }
+    }
+}
+
+/// The range that no device is in: the manufacturer `ffff` isn't assigned. It isn't `ffff:ffffffff` alone, since a bad
+/// answer of one UID alone ends a run.
+pub(crate) fn unassigned() -> UidRange
+    ensures { result ≡ unassigned }
+{
+    UidRange {
+        lo: Uid::from_number(0xffff_ffff_fffe).unwrap(),
+        hi: Uid::ALL,
     }
 }
 

@@ -4,10 +4,11 @@ use Rattle.rdm_wire.specs.Span.{Span}
 use Rattle.rdm_agent.specs.Machine as machine
 use Rattle.rdm_agent.specs.Machine.Phase.{Unmuting as unmuting, MutingKnown as muting_known, Searching as searching}
 use Rattle.rdm_agent.specs.Machine.Phase.{MutingRead as muting_read, Ended as ended}
-use Rattle.rdm_agent.specs.Machine.Phase.{Sweeping as sweeping, MutingSwept as muting_swept}
+use Rattle.rdm_agent.specs.Machine.Phase.{Sweeping as sweeping, MutingSwept as muting_swept, Checking as checking}
+use Rattle.rdm_agent.specs.Machine.Phase.{MutingStray as muting_stray}
 use Rattle.rdm_agent.specs.declared.phase.Phase.{Phase}
 use Rattle.rdm_agent.specs.declared.phase.Phase.TheVariants.{Unmuting, MutingKnown, Searching, MutingRead, Ended}
-use Rattle.rdm_agent.specs.declared.phase.Phase.TheVariants.{Sweeping, MutingSwept}
+use Rattle.rdm_agent.specs.declared.phase.Phase.TheVariants.{Sweeping, MutingSwept, Checking, MutingStray}
 use Rattle.rdm_agent.specs.declared.run_state.RunState.{RunState}
 
 -- the machine's phase, with the known UIDs that are left and the ranges below the top one
@@ -18,6 +19,8 @@ phase_of (Searching top silences) known below = searching silences top below
 phase_of (MutingRead uid tries top) known below = muting_read uid tries top below
 phase_of (Sweeping sweep) known below = sweeping sweep
 phase_of (MutingSwept uid tries sweep) known below = muting_swept uid tries sweep
+phase_of (Checking uid silences sweep) known below = checking uid silences sweep
+phase_of (MutingStray uid tries sweep) known below = muting_stray uid tries sweep
 phase_of (Ended fault) known below = ended fault
 
 -- the same for all that a run keeps

@@ -5,7 +5,7 @@ use Rattle.rdm_wire.specs.Uid.{IsDevice}
 use Rattle.rdm_wire.specs.Span.{Span}
 use Rattle.rdm_agent.specs.Machine.{Phase}
 use Rattle.rdm_agent.specs.Machine.Phase.{Unmuting, MutingKnown, Searching, MutingRead, Ended}
-use Rattle.rdm_agent.specs.Machine.Phase.{Sweeping, MutingSwept}
+use Rattle.rdm_agent.specs.Machine.Phase.{Sweeping, MutingSwept, Checking, MutingStray}
 use Rattle.rdm_agent.specs.declared.belief.Belief.{Belief}
 use Rattle.rdm_agent.specs.declared.limits.TheConstants.{TRIES}
 
@@ -34,6 +34,8 @@ pub record IsSmall (b : Belief) : Type 0 where
   pub quiet : b.quiet ≤ 3
   pub begun : b.begun ≤ 4
   pub back : b.back ≤ 2 ^ 46
+  pub times : b.times ≤ 2 ^ 20
+  pub due : b.due ≤ 2 ^ 21
 
 -- a phase's UIDs are those of devices, its counts are below TRIES or small, and its ranges are got by halving
 abbrev pub IsSound : Phase → Type 0
@@ -44,6 +46,10 @@ IsSound (MutingRead u tries top below) = IsDevice u × (tries < TRIES) × IsStac
 IsSound (Sweeping sweep) = (sweep.made < 2 ^ 20) × (sweep.silences < TRIES) × IsSmall sweep.belief
 IsSound (MutingSwept u tries sweep) =
     IsDevice u × (tries < TRIES) × (sweep.made ≤ 2 ^ 20 + tries) × (sweep.silences < TRIES) × IsSmall sweep.belief
+IsSound (Checking u silences sweep) =
+    IsDevice u × (silences < 2) × (sweep.made ≤ 2 ^ 20 + silences) × (sweep.silences < TRIES) × IsSmall sweep.belief
+IsSound (MutingStray u tries sweep) =
+    IsDevice u × (tries < TRIES) × (sweep.made ≤ 2 ^ 20 + 2 + tries) × (sweep.silences < TRIES) × IsSmall sweep.belief
 IsSound (Ended fault) = Unit {0}
 
 -- before the steady search there is no other range
@@ -52,4 +58,6 @@ IsFresh (Unmuting more known) below = below ≡ []
 IsFresh (MutingKnown u tries known) below = below ≡ []
 IsFresh (Sweeping sweep) below = below ≡ []
 IsFresh (MutingSwept u tries sweep) below = below ≡ []
+IsFresh (Checking u silences sweep) below = below ≡ []
+IsFresh (MutingStray u tries sweep) below = below ≡ []
 IsFresh _ below = Unit {0}

@@ -1,7 +1,8 @@
 //! How a sweep goes on after a reply.
-ghost use Rattle.std.specs.Prelude.{◌≡◌, ◌<◌, ◌≤◌, []};
+ghost use Rattle.std.specs.Prelude.{◌≡◌, ◌<◌, ◌≤◌, ◌^◌, []};
 ghost use Rattle.rdm_wire.specs.Devices.{uids_of};
-ghost use Rattle.rdm_agent.specs.Machine.{sweep_on, sweep_silent, sweep_apart, is_wanted};
+ghost use Rattle.rdm_agent.specs.Machine.{sweep_on_after, sweep_on, sweep_silent, sweep_split, sweep_apart};
+ghost use Rattle.rdm_agent.specs.Machine.{is_wanted, is_stray, sweep_spelt};
 ghost use Rattle.rdm_agent.specs.Run.{heard_of_mute, heard_of_branch};
 ghost use Rattle.rdm_agent.specs.body.Sound.{IsSmall};
 ghost use Rattle.rdm_agent.specs.body.GoesOn.{GoesOn, Follows, IsConsistent};
@@ -12,7 +13,7 @@ use crate::limits::{SWEEP_FRAMES, TRIES};
 use crate::phase::Phase;
 use crate::run_state::{RunState, device_from, searching_all};
 use crate::sweep::{Sweep, is_whole};
-use rdm_wire::{BranchReply, MuteAck, Uid};
+use rdm_wire::{BranchReply, MuteAck, Uid, UidRange};
 
 impl RunState {
     // After a branch of a sweep.
@@ -22,16 +23,36 @@ impl RunState {
         ensures fresh { self.new.below ≡ [] }
     {
         let found = self.found.len();
-        let counted = sweep.counted();
         match reply {
-            BranchReply::Silent => sweep_silent(counted, found),
-            BranchReply::One(uid) if self.is_wanted(uid, &sweep) => Phase::MutingSwept {
+            BranchReply::Silent => sweep_silent(sweep.counted_silent(), found),
+            BranchReply::One(uid) => self.sweep_spelt(sweep.counted_spelt(uid), found, uid),
+            BranchReply::Collision => sweep_apart(sweep.counted(), found),
+        }
+    }
+
+    // A sweep's branch spelt this UID.
+    fn sweep_spelt(&self, sweep: Sweep, found: usize, uid: Uid) -> Phase
+        requires found { found ≤ 1025 }
+        requires silences { sweep.silences < TRIES }
+        requires small { IsSmall sweep.belief }
+        requires made { sweep.made ≤ 2 ^ 20 }
+        ensures { Follows (sweep_spelt (uids_of self.now.found) sweep found uid) result }
+    {
+        if self.is_wanted(uid, &sweep) {
+            return Phase::MutingSwept {
                 uid,
                 tries: 0,
-                sweep: counted,
-            },
-            BranchReply::One(_) | BranchReply::Collision => sweep_apart(counted, found),
+                sweep,
+            };
         }
+        if self.is_stray(uid, &sweep) {
+            return Phase::Checking {
+                uid,
+                silences: 0,
+                sweep,
+            };
+        }
+        sweep_apart(sweep, found)
     }
 
     // After the mute of a UID that a sweep's branch spelt.
@@ -70,23 +91,50 @@ impl RunState {
         let asked = sweep.question.range;
         self.is_new(uid, asked) && !(sweep.belief.suspect == Some(uid) && asked.lo != asked.hi)
     }
+
+    // Whether a UID that a sweep's branch spelt is checked: it isn't in the range that was asked, wasn't found or given
+    // up, and is due. A range of one UID is corrupt, whatever else it spells.
+    fn is_stray(&self, uid: Uid, sweep: &Sweep) -> bool
+        ensures { result ≡ is_stray (uids_of self.now.found) sweep.now uid }
+    {
+        let asked = sweep.question.range;
+        (!uid.is_broadcast() && !asked.contains(uid))
+            && (!self.found.contains(uid) && sweep.belief.suspect != Some(uid))
+            && (asked.lo != asked.hi && sweep.belief.is_due())
+    }
 }
 
 // A sweep that has found this many devices goes on with this belief, after this many silences in a row of the range
-// that it asked. At its limit the steady search begins.
-fn sweep_on(sweep: Sweep, silences: u8, found: usize, belief: Belief) -> Phase
+// `last`. At its limit the steady search begins.
+pub(super) fn sweep_on_after(
+    sweep: Sweep,
+    last: UidRange,
+    silences: u8,
+    found: usize,
+    belief: Belief,
+) -> Phase
+    requires found { found ≤ 1025 }
+    requires silences { silences < TRIES }
+    requires small { IsSmall belief }
+    ensures { Follows (sweep_on_after sweep last silences found belief) result }
+{
+    if sweep.made < SWEEP_FRAMES * (found + 2) {
+        return Phase::Sweeping {
+            sweep: Sweep::choose(sweep.made, silences, last, belief),
+        };
+    }
+    searching_all(if is_whole(last) { silences } else { 0 })
+}
+
+// The same after silences of the range that it asked.
+pub(super) fn sweep_on(sweep: Sweep, silences: u8, found: usize, belief: Belief) -> Phase
     requires found { found ≤ 1025 }
     requires silences { silences < TRIES }
     requires small { IsSmall belief }
     ensures { Follows (sweep_on sweep silences found belief) result }
 {
-    let asked = sweep.question.range;
-    if sweep.made < SWEEP_FRAMES * (found + 2) {
-        return Phase::Sweeping {
-            sweep: Sweep::choose(sweep.made, silences, asked, belief),
-        };
-    }
-    searching_all(if is_whole(asked) { silences } else { 0 })
+    let asked = sweep.question;
+    sweep_on_after(sweep, asked.range, silences, found, belief)
 }
 
 // What a sweep asked was silent. Five silences in a row of all UIDs end the run.
@@ -102,8 +150,22 @@ fn sweep_silent(sweep: Sweep, found: usize) -> Phase
     }
 }
 
-// What a sweep asked collided. One UID that was asked alone is corrupt. If all UIDs collide after a pass that found
-// nothing, the steady search begins.
+// What a sweep asked collided. Then the range `last` was silent this many times in a row. If all UIDs collide after a
+// pass that found nothing, the steady search begins.
+pub(super) fn sweep_split(sweep: Sweep, last: UidRange, silences: u8, found: usize) -> Phase
+    requires found { found ≤ 1025 }
+    requires silences { silences < TRIES }
+    requires small { IsSmall sweep.belief }
+    ensures { Follows (sweep_split sweep last silences found) result }
+{
+    let asked = sweep.question;
+    if asked.part == Part::Whole && sweep.belief.found_nothing {
+        return searching_all(0);
+    }
+    sweep_on_after(sweep, last, silences, found, sweep.belief.apart(asked))
+}
+
+// What a sweep asked collided. One UID that was asked alone is corrupt.
 fn sweep_apart(sweep: Sweep, found: usize) -> Phase
     requires found { found ≤ 1025 }
     requires small { IsSmall sweep.belief }
@@ -113,8 +175,5 @@ fn sweep_apart(sweep: Sweep, found: usize) -> Phase
     if asked.range.lo == asked.range.hi {
         return Phase::Ended(Some(AgentFault::Corrupt(asked.range.lo)));
     }
-    if asked.part == Part::Whole && sweep.belief.found_nothing {
-        return searching_all(0);
-    }
-    sweep_on(sweep, 0, found, sweep.belief.apart(asked))
+    sweep_split(sweep, asked.range, 0, found)
 }

@@ -1,0 +1,272 @@
+-- What a sweep believes about the UIDs, and what it asks.
+use Rattle.std.specs.Prelude.{ℕ, ◌+◌, ◌-◌, ◌*◌, ◌/◌, Bool, true, false, ◌&&◌, ◌||◌, not}
+use Rattle.std.specs.Prelude.{Option, Some, None, ◌==◌, nat_lt, if◌then◌else◌, min, max}
+use Rattle.rdm_wire.specs.Span.{Span, whole}
+use Rattle.rdm_agent.specs.declared.belief.Belief.{Belief}
+use Rattle.rdm_agent.specs.declared.belief.Question.{Question}
+use Rattle.rdm_agent.specs.declared.belief.Part.{Part}
+use Rattle.rdm_agent.specs.declared.belief.Part.TheVariants.{Fresh, Lower, Rest, All, Whole}
+
+-- whether a sweep remembers this UID
+abbrev pub is_suspect : Option ℕ → ℕ → Bool
+is_suspect None u = false
+is_suspect (Some v) u = v == u
+
+-- whether a range is of one UID
+abbrev pub is_one : Span → Bool
+is_one r = r.lo == r.hi
+
+-- how many UIDs there are
+abbrev pub all_uids : ℕ
+all_uids = 0x1000000000000
+
+-- the greatest UID
+abbrev pub last_uid : ℕ
+last_uid = 0xffffffffffff
+
+-- the UIDs from lo to hi, up to the greatest UID; hi alone if lo is above it
+abbrev pub spanning : ℕ → ℕ → Span
+spanning lo hi = record { lo = min lo (min hi last_uid); hi = min hi last_uid }
+
+-- A sweep searches from UID 0 upward. What it believes:
+-- - The UIDs from base to at - 1 were swept: they were silent, or what answered is muted.
+-- - The range from lo to end answered, and has at least need devices that aren't found (0, 1 or 2). If need is 0, there
+--   is no such range.
+-- On an honest line an answer is certain, and a silence may be a loss. So a sweep remembers the range that answered,
+-- and searches it again if silences contradict it. The definitions below say how it chooses what it asks, and what it
+-- believes after a silence, after one device and after a collision. The certificate and the bound need only this of
+-- them:
+-- - it asks ranges of UIDs, and mutes only what a range has just shown;
+-- - five silences in a row of the whole range end the run, and no other range is silent five times in a row;
+-- - its exchanges are limited.
+abbrev pub first_belief : Belief
+first_belief = record {
+  base = 0;
+  lo = 0;
+  at = 0;
+  end = last_uid;
+  need = 0;
+  width = all_uids;
+  growth = 2;
+  quiet = 0;
+  begun = 0;
+  back = 1;
+  suspect = None;
+  found_nothing = false;
+  spelt = None;
+  times = 0;
+  due = 0;
+  hushed = false;
+}
+
+-- whether two ranges are the same
+abbrev pub is_same : Span → Span → Bool
+is_same r q = (r.lo == q.lo) && (r.hi == q.hi)
+
+-- whether a range is the whole one
+abbrev pub is_whole : Span → Bool
+is_whole r = is_same r whole
+
+-- CHOOSE. A fresh range is the next one that wasn't swept. It also looks back as far as ahead: a device that was
+-- missed just before answers now. The last one looks back to the start, so that its silence is one of the whole range
+abbrev pub fresh_range : Belief → Span
+fresh_range b =
+    spanning (if nat_lt last_uid (b.at + b.width) then b.base else max b.base (b.at - b.width)) (b.at + (b.width - 1))
+
+-- If no range has answered, a fresh one is asked. If the range that answered has one more device, all of it is asked
+-- again, since an answer is certain. If it has two, the lower half of what is left is asked. After three silences in a
+-- row all that is left is asked
+abbrev pub part_of : Belief → Question
+part_of b =
+    if b.need == 0 then record { part = Fresh; range = fresh_range b }
+    else (if b.need == 1 then record { part = All; range = spanning b.lo b.end }
+    else (if nat_lt b.lo b.at && nat_lt 2 b.quiet then record { part = Rest; range = spanning b.at b.end }
+    else record { part = Lower; range = spanning b.at (b.at + (b.end - b.at) / 2) }))
+
+-- One UID is asked together with UIDs below it, which were swept, because a bad answer of one UID alone would end the
+-- run. It is asked alone if those below it were given up
+abbrev pub with_lower : Belief → Question → Question
+with_lower b q =
+    if is_one q.range
+    then record { part = q.part; range = spanning (max b.base (q.range.hi - b.back)) q.range.hi } else q
+
+-- what a sweep asks; after a pass this is the whole range
+abbrev pub question : Belief → Question
+question b =
+    if nat_lt last_uid b.at then record { part = Whole; range = whole } else with_lower b (part_of b)
+
+-- BEGIN AGAIN. One silence in the range that answered was a loss, so the range is swept again
+abbrev pub begin_again : Belief → Belief
+begin_again b = record b { at = b.lo; quiet = 0; begun = min (b.begun + 1) 4 }
+
+-- Its last UID is given up, since it answers and can't be muted. The sweep doesn't look back to it in this pass
+abbrev pub give_up : Belief → Belief
+give_up b = record b {
+  base = b.end + 1;
+  lo = b.end + 1;
+  at = b.end + 1;
+  need = 0;
+  width = 2;
+  growth = 2;
+  quiet = 0;
+  begun = 0;
+  suspect = Some b.end;
+}
+
+-- If at most one UID is left of a range that has two devices, the range is searched again, and given up the fourth time
+abbrev pub restarted : Belief → Belief
+restarted b =
+    if not (b.need == 2) || (not (nat_lt b.lo b.at) || nat_lt b.at b.end) then b
+    else (if nat_lt (b.begun + 1) 4 then begin_again b else give_up b)
+
+-- UID 0 alone isn't asked, since no UID is below it. The whole range asks it at the end. It may be one of the two
+abbrev pub past_zero : Belief → Belief
+past_zero b =
+    if (question b).range.hi == 0 then record b { base = 1; lo = 1; at = 1; need = b.need / 2 } else b
+
+-- what a sweep believes when it asks
+abbrev pub ready : Belief → Belief
+ready b = past_zero (restarted b)
+
+-- the sweep continues above this range
+abbrev pub above : Span → Belief → Belief
+above r b = record b { lo = r.hi + 1; at = r.hi + 1; need = 0; quiet = 0; begun = 0 }
+
+-- SILENT. A fresh range: the next one begins above it. It is 2, 4, 16, 256, .. times as wide, so that a gap is crossed
+-- in a few frames
+abbrev pub fresh_silent : Span → Belief → Belief
+fresh_silent r b = record b {
+  at = r.hi + 1;
+  width = min (b.width * b.growth) all_uids;
+  growth = min (b.growth * b.growth) 0x100000000;
+}
+
+-- a lower half: the devices are above it
+abbrev pub lower_silent : Span → Belief → Belief
+lower_silent r b = record b { at = r.hi + 1; quiet = min (b.quiet + 1) 3 }
+
+-- all that is left: something was lost. From the second time on, all of the range that answered is asked first, since
+-- noise may have been taken for an answer
+abbrev pub rest_silent : Belief → Belief
+rest_silent b = record (begin_again b) { need = if b.begun == 0 then b.need else 1 }
+
+-- after a silence of this part and range. All of the range that answered is just asked again
+abbrev pub believed_silent : Part → Span → Belief → Belief
+believed_silent Fresh r b = fresh_silent r b
+believed_silent Lower r b = lower_silent r b
+believed_silent Rest r b = rest_silent b
+believed_silent All r b = b
+believed_silent Whole r b = b
+
+-- ONE. A device was found and muted, and nothing else answered. What was counted since the last find begins at 0 again
+abbrev pub renewed : Belief → Belief
+renewed b = record b { growth = 2; quiet = 0; begun = 0; back = 1; found_nothing = false }
+
+-- in a fresh range: the next one begins above it
+abbrev pub fresh_found : Span → Belief → Belief
+fresh_found r b = record b { lo = r.hi + 1; at = r.hi + 1 }
+
+-- in a lower half: the range that answered has one more, above it unless something was lost below. The next width is
+-- three quarters of the last one, but at least that of this find, and at most eight times that
+abbrev pub lower_found : Span → Belief → Belief
+lower_found r b = record b {
+  lo = if b.at == b.lo then r.hi + 1 else b.lo;
+  at = r.hi + 1;
+  need = 1;
+  width = max (r.hi + 1 - b.at) (min (8 * (r.hi + 1 - b.at)) (b.width / 4 * 3));
+}
+
+-- in all that is left: the other one is below, where a silence was a loss
+abbrev pub rest_found : Belief → Belief
+rest_found b = record b { at = b.lo; end = b.at - 1; need = 1 }
+
+-- in the range that answered: that was the last one
+abbrev pub all_found : Belief → Belief
+all_found b = record b {
+  lo = b.end + 1;
+  at = b.end + 1;
+  need = 0;
+  width = min b.width (8 * (b.end + 1 - b.lo));
+}
+
+-- after a device was found in this part and range
+abbrev pub believed_found : Part → Span → Belief → Belief
+believed_found Fresh r b = fresh_found r (renewed b)
+believed_found Lower r b = lower_found r (renewed b)
+believed_found Rest r b = rest_found (renewed b)
+believed_found All r b = all_found (renewed b)
+believed_found Whole r b = renewed b
+
+-- COLLISION. The range has two devices, and is searched from this UID on. What is above it is forgotten
+abbrev pub split_at : ℕ → ℕ → ℕ → Span → Belief → Belief
+split_at at begun back r b = record b {
+  lo = r.lo;
+  at = at;
+  end = r.hi;
+  need = 2;
+  growth = 2;
+  quiet = 0;
+  begun = begun;
+  back = back;
+}
+
+-- a lower half or all that is left. If UIDs below it were asked too, some devices were missed there, and the next
+-- single UID is asked with four times as many
+abbrev pub lower_apart : Span → Belief → Belief
+lower_apart r b =
+    split_at r.lo 0 (if nat_lt r.lo b.at then min (4 * b.back) 0x400000000000 else b.back) r b
+
+-- all of the range that answered
+abbrev pub all_apart : Span → Belief → Belief
+all_apart r b = split_at (if nat_lt r.hi b.at then r.lo else b.at) b.begun b.back r b
+
+-- the whole range after a pass: something was missed, and another pass begins
+abbrev pub whole_apart : Span → Belief → Belief
+whole_apart r b =
+    record (split_at 0 0 b.back r b) { base = 0; width = all_uids; suspect = None; found_nothing = true }
+
+-- after a collision in this part and range
+abbrev pub believed_apart : Part → Span → Belief → Belief
+believed_apart Fresh r b = split_at b.at 0 b.back r b
+believed_apart Lower r b = lower_apart r b
+believed_apart Rest r b = lower_apart r b
+believed_apart All r b = all_apart r b
+believed_apart Whole r b = whole_apart r b
+
+-- a belief that gives up this UID
+abbrev pub suspecting : ℕ → Belief → Belief
+suspecting u b = record b { suspect = Some u }
+
+-- STRAYS. A device that breaks the rules may reply to branches of ranges that it isn't in. So a sweep counts how often
+-- in a row it read the same UID, and remembers whether any branch was silent. A UID is due at its first reading, the
+-- second, the fourth, the eighth ..
+abbrev pub most_times : ℕ
+most_times = 0x100000
+
+-- a belief after the UID that was spelt last was read once more
+abbrev pub spelt_again : Belief → Belief
+spelt_again b = record b {
+  times = min (b.times + 1) most_times;
+  due = if nat_lt b.times b.due then b.due else 2 * b.times;
+}
+
+-- a belief after a branch was silent
+abbrev pub hushing : Belief → Belief
+hushing b = record b { hushed = true }
+
+-- a belief after a branch spelt this UID
+abbrev pub hearing : ℕ → Belief → Belief
+hearing u b =
+    if is_suspect b.spelt u then spelt_again b else record b { spelt = Some u; times = 1; due = 1 }
+
+-- whether the UID that was spelt last is due; the first reading counts only if no branch was silent so far
+abbrev pub is_due : Belief → Bool
+is_due b = (b.times == b.due) && (nat_lt 1 b.times || not b.hushed)
+
+-- whether the check that was silent so often is made again: after the eighth reading, once
+abbrev pub is_checked_again : Belief → ℕ → Bool
+is_checked_again b silences = (silences == 0) && nat_lt 7 b.times
+
+-- a belief after a device was found outside of what was asked
+abbrev pub stray_found : Belief → Belief
+stray_found b = record b { found_nothing = false }

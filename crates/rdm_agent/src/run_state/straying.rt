@@ -1,0 +1,102 @@
+//! How a sweep goes on after a UID was spelt by a range that it isn't in.
+ghost use Rattle.std.specs.Prelude.{◌≡◌, ◌<◌, ◌≤◌, ◌+◌, ◌^◌, [], false};
+ghost use Rattle.rdm_wire.specs.Uid.{is_broadcast};
+ghost use Rattle.rdm_agent.specs.Machine.{check_silent, check_spelt};
+ghost use Rattle.rdm_agent.specs.Run.{heard_of_mute, heard_of_branch};
+ghost use Rattle.rdm_agent.specs.body.Sound.{IsSmall};
+ghost use Rattle.rdm_agent.specs.body.GoesOn.{GoesOn, Follows, IsConsistent};
+
+use super::sweeping::{sweep_on, sweep_split};
+use crate::limits::TRIES;
+use crate::phase::Phase;
+use crate::run_state::{RunState, device_from};
+use crate::sweep::{Sweep, unassigned};
+use rdm_wire::{BranchReply, MuteAck, Uid};
+
+impl RunState {
+    // After a branch of the range without devices. If this UID answers it, the UID answers for others, and is muted.
+    pub(super) fn checked(
+        &mut self,
+        uid: Uid,
+        silences: u8,
+        sweep: Sweep,
+        reply: BranchReply,
+    ) -> Phase
+        requires { IsConsistent (Phase.Checking uid silences sweep) self.old }
+        ensures goes_on { GoesOn (heard_of_branch reply) (Phase.Checking uid silences sweep) self.old result self.new }
+        ensures fresh { self.new.below ≡ [] }
+    {
+        let found = self.found.len();
+        match reply {
+            BranchReply::Silent => check_silent(uid, silences, sweep.counted_silent(), found),
+            BranchReply::One(other) => check_spelt(uid, other, sweep.counted(), found),
+            BranchReply::Collision => sweep_split(sweep.counted(), unassigned(), 0, found),
+        }
+    }
+
+    // After the mute of a UID that answers for others. If it is found the same is asked again.
+    pub(super) fn stray_muted(
+        &mut self,
+        uid: Uid,
+        tries: u8,
+        sweep: Sweep,
+        ack: Option<MuteAck>,
+    ) -> Phase
+        requires { IsConsistent (Phase.MutingStray uid tries sweep) self.old }
+        ensures goes_on { GoesOn (heard_of_mute ack) (Phase.MutingStray uid tries sweep) self.old result self.new }
+        ensures fresh { self.new.below ≡ [] }
+    {
+        let found = self.found.len();
+        let counted = sweep.counted();
+        if let Some(ack) = ack {
+            let belief = counted.belief.stray_found();
+            let onward = sweep_on(counted, 0, found + 1, belief);
+            return self.find(device_from(uid, ack), onward);
+        }
+        match tries + 1 {
+            TRIES => sweep_split(counted.suspecting(uid), unassigned(), 0, found),
+            tries => Phase::MutingStray {
+                uid,
+                tries,
+                sweep: counted,
+            },
+        }
+    }
+}
+
+// The range without devices spelt another UID, or this one, which is muted.
+fn check_spelt(uid: Uid, other: Uid, sweep: Sweep, found: usize) -> Phase
+    requires found { found ≤ 1025 }
+    requires device { is_broadcast uid ≡ false }
+    requires counted { (sweep.silences < TRIES) × (sweep.made ≤ 2 ^ 20 + 2) }
+    requires small { IsSmall sweep.belief }
+    ensures { Follows (check_spelt uid other sweep found) result }
+{
+    if other == uid {
+        return Phase::MutingStray {
+            uid,
+            tries: 0,
+            sweep,
+        };
+    }
+    sweep_split(sweep, unassigned(), 0, found)
+}
+
+// The range without devices was silent once more.
+fn check_silent(uid: Uid, silences: u8, sweep: Sweep, found: usize) -> Phase
+    requires found { found ≤ 1025 }
+    requires silences { silences < 2 }
+    requires device { is_broadcast uid ≡ false }
+    requires counted { (sweep.silences < TRIES) × (sweep.made ≤ 2 ^ 20 + (silences + 1)) }
+    requires small { IsSmall sweep.belief }
+    ensures { Follows (check_silent uid silences sweep found) result }
+{
+    if sweep.belief.is_checked_again(silences) {
+        return Phase::Checking {
+            uid,
+            silences: silences + 1,
+            sweep,
+        };
+    }
+    sweep_split(sweep, unassigned(), silences + 1, found)
+}
