@@ -115,6 +115,9 @@ install_front() (
     trap 'rm -rf -- "$staged"' EXIT
     mkdir "$staged/all" && copy_package "$root/bindings/python/wurstlinen" "$staged/all/wurstlinen" || exit
     front_proof > "$staged/all/wurstlinen/PROOF" || exit
+    # Another version of Python compiles the sources. The bytes don't depend on when or where they were compiled.
+    PYTHONHASHSEED=0 python3 -m compileall -q -b -j 1 --invalidation-mode unchecked-hash -s "$staged/all" \
+        "$staged/all/wurstlinen" || exit
     python3 -m zipapp --python "/usr/bin/env python3" --main wurstlinen.tool:call --output "$staged/one" \
         "$staged/all" || exit
     put "$staged/one" "$1" 755
