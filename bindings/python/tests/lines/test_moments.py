@@ -8,7 +8,7 @@ import unittest
 from typing import Any, Callable, List, Optional
 
 from asking import DEVICE, OTHER_DEVICE, Clock, Device, Queueing, ack
-from common import TestCase, needs_library, one
+from common import LongTestCase, needs_library, one
 from moments import Trace, Trial, elsewhere, raising
 from wurstlinen import (
     Answer, Asker, Completion, Controller, Discovery, DiscoveryAgent, Kind, OutcomeKind, ReplyTooLong, Session,
@@ -99,7 +99,7 @@ def check(scene: Scene, returned: List[Any]) -> None:
 
 
 @needs_library
-class Calls(TestCase):
+class Calls(LongTestCase):
     """Calls of queues and clients."""
 
     def each(self, call: Callable[[Scene], Any], *begin: Callable[[Scene], Any],
@@ -265,7 +265,7 @@ class Raising(Rig):
 
 
 @needs_library
-class Threads(TestCase):
+class Threads(LongTestCase):
     """Two threads serve one queue. The line of one raises an exception when the other one is anywhere."""
 
     def test_run(self) -> None:
@@ -304,7 +304,7 @@ class Interrupts(BaseException):
 
 
 @needs_library
-class Callables(TestCase):
+class Callables(LongTestCase):
     """Exceptions of what the caller gives."""
 
     def test_lines(self) -> None:
@@ -367,7 +367,7 @@ def check_asked(scene: Scene, asker: Asker) -> None:
 
 
 @needs_library
-class Asks(TestCase):
+class Asks(LongTestCase):
     """Asking devices, which need time and have queued messages."""
 
     def trial(self, *messages: Any) -> None:

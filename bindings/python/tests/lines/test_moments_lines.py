@@ -11,7 +11,7 @@ import unittest
 from pathlib import Path
 from typing import Any, Iterator, List, Tuple
 
-from common import ENTTEC, ListLine, TestCase, folder, one
+from common import ENTTEC, ListLine, LongTestCase, folder, one
 from moments import Trial, elsewhere, held, raising
 from test_text import FRAME, Pipes, get, line_of, response
 from wurstlinen.line import LineFailed
@@ -51,7 +51,7 @@ class EchoPipes(Pipes):
             self.replies.write(text)
 
 
-class Texts(TestCase):
+class Texts(LongTestCase):
     """Lines as text."""
 
     def test_exchanges(self) -> None:
@@ -130,7 +130,7 @@ class Texts(TestCase):
             self.assertEqual(replies.getvalue().count(b"\n"), at)
 
 
-class Adapters(TestCase):
+class Adapters(LongTestCase):
     """The driver of a USB Pro, and the emulated adapter."""
 
     def setUp(self) -> None:
@@ -204,7 +204,7 @@ class Adapters(TestCase):
                 self.assertIs(emulator.failure, fault)
 
 
-class Rigs(TestCase):
+class Rigs(LongTestCase):
     """Simulated fixtures."""
 
     def test_exchanges(self) -> None:
