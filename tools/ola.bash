@@ -77,8 +77,8 @@ built_for() {
     echo "${found:-built for an unknown OLA}"
 }
 
-# Says whether a process has the library. Status 0: it has; 1: it hasn't, or not the file that is there now, or OLA's own
-# controllers are used; 125: it can't be examined; no_process: there is none.
+# Says whether a process has the library. Status 0: it has; 1: it hasn't, or not the file that is there now, or OLA's
+# own controllers are used; 125: it can't be examined; no_process: there is none.
 check_ola_daemon() {
     local pid="$1" maps found path own
     if ! maps="$(LC_ALL=C cat "/proc/$pid/maps" 2>&1)" || [ -z "$maps" ]; then

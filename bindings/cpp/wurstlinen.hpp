@@ -424,7 +424,8 @@ public:
 
     // Sends frames until there is none. `exchange` gets a Frame and returns a std::optional of the bytes that came
     // (nullopt: the line failed). Returns how many exchanges were made. If `exchange` throws, or returns more than
-    // WURST_MOST_FRAME_BYTES, the line has failed at that frame. The exception passes through, and the next call goes on.
+    // WURST_MOST_FRAME_BYTES, the line has failed at that frame: the exception passes through, and the next call of run
+    // goes on.
     template <typename Exchange> std::uint64_t run(Exchange exchange) {
         std::uint64_t exchanges = 0;
         while (auto frame = take()) {

@@ -40,6 +40,6 @@ ola::rdm::RDMStatusCode status_of(std::uint32_t status);
 
 // The response to a client's request, with the joined data; null unless the device answered. `message_count` is that of
 // the last reply.
-std::unique_ptr<ola::rdm::RDMResponse> response_to(const ola::rdm::RDMRequest &request, const wurst::CompletionView &done,
-                                                   std::uint8_t message_count);
+std::unique_ptr<ola::rdm::RDMResponse> response_to(const ola::rdm::RDMRequest &request,
+                                                   const wurst::CompletionView &done, std::uint8_t message_count);
 } // namespace stand_in
