@@ -38,14 +38,21 @@ sys.exit(run())' "$@"
 
 # Sets `costs` to what the doctor also says: what the next steps in the repository cost.
 find_costs() {
-    local kit_found
+    local kit_found lack
     kit_found="$(kit)"
     costs=(--also kit "${kit_found:-not there: add its folder bin to PATH}")
-    is_up_to_date || costs+=(--also program "its first command proves and builds it: about 80 processor minutes")
+    lack="$(lacks_cargo)" || lack="$(rustc_version)"
+    costs+=(--also rustc "$lack")
+    is_up_to_date || costs+=(--also program "its first command $(cost "about 80 processor minutes")")
     [ -n "${WURSTLINEN_LIBRARY-}" ] || library_is_up_to_date \
-        || costs+=(--also "C library" "its first command proves and builds it: about 10 minutes")
+        || costs+=(--also "C library" "its first command $(cost "about 10 minutes")")
     command -v c++ > /dev/null && has_ola_headers \
         || costs+=(--also OLA "no headers: --install-ola needs libola-dev")
+}
+
+# What a build does, and how long it takes; $1: with proofs.
+cost() {
+    if [ "$compiler" = rustc ]; then echo "compiles it: about a minute"; else echo "proves and builds it: $1"; fi
 }
 
 # Calls the command in Python with the C library, if it needs that.
@@ -76,7 +83,7 @@ refuse_command() {
 
 # What the C library is built from.
 library_fingerprint() {
-    fingerprint rdm_c
+    fingerprint_of_build rdm_c
     sha256sum < "$root/bindings/c/heap.c"
 }
 
@@ -84,14 +91,15 @@ library_is_up_to_date() {
     [ -r "$front_folder/$soname" ] && [ "$(cat "$front_folder/built" 2> /dev/null)" = "$(library_fingerprint)" ]
 }
 
-# Proves and builds the C library for a command into the folder out/, unless it is up to date.
+# Builds the C library for a command into the folder out/, unless it is up to date.
 ensure_library() {
     local made before
     ! library_is_up_to_date || return 0
     check_words "$@"
     before="$(library_fingerprint)"
-    need_rt_and_cc
-    say "proving and building the C library, about 10 minutes; a call after an interrupt goes on"
+    need_compiler_and_cc
+    [ "$compiler" = rustc ] \
+        || say "proving and building the C library, about 10 minutes; a call after an interrupt goes on"
     ensure_folder "$front_folder"
     rm -f "$front_folder/built"
     make_c_library
@@ -107,6 +115,9 @@ install_front() (
     trap 'rm -rf -- "$staged"' EXIT
     mkdir "$staged/all" && copy_package "$root/bindings/python/wurstlinen" "$staged/all/wurstlinen" || exit
     front_proof > "$staged/all/wurstlinen/PROOF" || exit
+    # Another version of Python compiles the sources. The bytes don't depend on when or where they were compiled.
+    PYTHONHASHSEED=0 python3 -m compileall -q -b -j 1 --invalidation-mode unchecked-hash -s "$staged/all" \
+        "$staged/all/wurstlinen" || exit
     python3 -m zipapp --python "/usr/bin/env python3" --main wurstlinen.tool:call --output "$staged/one" \
         "$staged/all" || exit
     put "$staged/one" "$1" 755
@@ -114,22 +125,28 @@ install_front() (
 
 # What an installed command says of itself.
 front_proof() {
-    printf 'version: %s\ncommit: %s\nkit of the program: %s\n' "$(cat "$root/VERSION")" "$(commit)" "$(kit_of_program)"
+    printf 'version: %s\ncommit: %s\nproved with: %s\nbuilt by: %s\n' "$(cat "$root/VERSION")" "$(commit)" \
+        "$(proved_with)" "$(kit_of_program)"
 }
 
 commit() {
     git -C "$root" rev-parse HEAD 2> /dev/null || echo unknown
 }
 
-# Prints the version, the kit that proved the program, and the commit.
+# Prints the version, what proved and built the program, and the commit.
 show_version() {
     local found state="not proved here yet"
+    [ "$compiler" = kit ] || state="not compiled here yet"
     if [ -x "$program" ] && [ ! -s "$program.kit" ]; then
-        state="it isn't known what proved it"
+        state="it isn't known what built it"
     elif [ -x "$program" ]; then
-        state="changed since it was proved with $(kit_of_program)"
-        ! is_up_to_date || state="proved with $(kit_of_program)"
+        state="changed since it was $(verb) with $(kit_of_program)"
+        ! is_up_to_date || state="$(verb) with $(kit_of_program)"
     fi
     found="$(commit)"
     printf 'wurstlinen %s (%s, commit %s)\n' "$(cat "$root/VERSION")" "${state%% logic *}" "${found:0:8}"
+}
+
+verb() {
+    if [ "$compiler" = rustc ]; then echo compiled; else echo proved; fi
 }

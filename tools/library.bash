@@ -65,8 +65,8 @@ has_ola_headers() {
     echo '#include <ola/rdm/QueueingRDMController.h>' | c++ "${ola_flags[@]}" -x c++ -fsyntax-only - 2> /dev/null
 }
 
-# Makes that library in a folder that has libwurstlinen.a. It exports only the members of OLA's classes that it defines.
-# Before glibc 2.34, dlsym is in libdl.
+# Makes that library in a folder that has libwurstlinen.a. It exports only the members of OLA's classes that it
+# replaces. Before glibc 2.34, dlsym is in libdl.
 make_ola_library() {
     local root="$1" folder="$2"
     cat > "$folder/exports" << 'END'
@@ -77,12 +77,6 @@ make_ola_library() {
             ola::rdm::DiscoverableQueueingRDMController::*;
             ola::rdm::DiscoveryAgent::Abort*;
             ola::plugin::usbpro::*WidgetImpl::Stop*;
-            "vtable for ola::rdm::QueueingRDMController";
-            "vtable for ola::rdm::DiscoverableQueueingRDMController";
-            "typeinfo for ola::rdm::QueueingRDMController";
-            "typeinfo for ola::rdm::DiscoverableQueueingRDMController";
-            "typeinfo name for ola::rdm::QueueingRDMController";
-            "typeinfo name for ola::rdm::DiscoverableQueueingRDMController";
         };
     local: *;
 };

@@ -77,10 +77,10 @@ built_for() {
     echo "${found:-built for an unknown OLA}"
 }
 
-# Says whether a process has the library. Status 0: it has; 1: it hasn't, or not the file that is there now; 125: it
-# can't be examined; no_process: there is none.
+# Says whether a process has the library. Status 0: it has; 1: it hasn't, or not the file that is there now, or OLA's
+# own controllers are used; 125: it can't be examined; no_process: there is none.
 check_ola_daemon() {
-    local pid="$1" maps found path
+    local pid="$1" maps found path own
     if ! maps="$(LC_ALL=C cat "/proc/$pid/maps" 2>&1)" || [ -z "$maps" ]; then
         # One that is about to end has no memory any more.
         [[ -e "/proc/$pid" && -n "$maps" && "$maps" != *": No such process" ]] || return "$no_process"
@@ -97,7 +97,14 @@ check_ola_daemon() {
         echo "process $pid has ${path% (deleted)}, $found, but the file was replaced or removed: restart it"
         return 1
     fi
-    echo "process $pid has $path, $(built_for "$pid" "${found%% *}" "$path")"
+    found="$(built_for "$pid" "${found%% *}" "$path")"
+    # The library shows this by the name of a mapping.
+    if own="$(grep -m 1 '/memfd:wurstlinen-ola: ' <<< "$maps")"; then
+        own="${own#*/memfd:wurstlinen-ola: }"
+        echo "process $pid has $path, $found, but ${own% (deleted)}: OLA's own controllers are used"
+        return 1
+    fi
+    echo "process $pid has $path, $found"
 }
 
 # The same for this process, or for all that are called olad. The status is the greatest of theirs.

@@ -190,9 +190,10 @@ class Eraser:
             self.copy()
 
     def comment(self, word: str) -> None:
-        """Docs name a crate by its path."""
+        """Docs name a crate by its path, and by the last name of that if it stands alone."""
         if word.startswith(("///", "//!")):
-            word = re.sub(r"`(\w+)(?=::|`)", lambda it: f"`{self.paths.get(it[1], it[1])}", word)
+            word = re.sub(r"(?<=[`(])(\w+)(?=::)", lambda it: self.paths.get(it[1], it[1]), word)
+            word = re.sub(r"(?<=`)(\w+)(?=`)", lambda it: self.paths.get(it[1], it[1]).split("::")[-1], word)
         self.out.append(("comment", word))
         self.at += 1
 

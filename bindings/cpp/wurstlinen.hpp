@@ -374,12 +374,19 @@ public:
 
     // nullopt: no outcome. Throws WURST_OTHER_OUTCOME if the oldest is a request's.
     std::optional<Discovery> next_discovery(Client client) {
-        std::vector<wurst_device> forms(WURST_MOST_DEVICES);
-        const auto found = next_discovery(client, forms.data(), forms.size());
-        if (!found) {
-            return std::nullopt;
+        // A discovery without devices fits. Otherwise memory comes first, so that no outcome is lost without it.
+        wurst_device none{};
+        Discovery discovery;
+        auto status = Calls::next_discovery(handle_.get(), client, &discovery.end, &none, 0);
+        if (status == WURST_BUFFER_TOO_SMALL) {
+            std::vector<wurst_device> forms(discovery.end.count);
+            discovery.devices.reserve(forms.size());
+            status = Calls::next_discovery(handle_.get(), client, &discovery.end, forms.data(), forms.size());
+            for (const Device &each : Devices(forms.data(), status == WURST_DONE ? forms.size() : 0)) {
+                discovery.devices.push_back(each);
+            }
         }
-        return Discovery{found->end, copied(found->devices)};
+        return given(status) ? std::optional(std::move(discovery)) : std::nullopt;
     }
 
     // The same, with the devices in the caller's array. Throws WURST_BUFFER_TOO_SMALL, and the outcome stays.
@@ -416,15 +423,22 @@ public:
     bool awaits() { return asked(Calls::awaits); }
 
     // Sends frames until there is none. `exchange` gets a Frame and returns a std::optional of the bytes that came
-    // (nullopt: the line failed). Returns how many exchanges were made.
+    // (nullopt: the line failed). Returns how many exchanges were made. If `exchange` throws, or returns more than
+    // WURST_MOST_FRAME_BYTES, the line has failed at that frame: the exception passes through, and the next call of run
+    // goes on.
     template <typename Exchange> std::uint64_t run(Exchange exchange) {
         std::uint64_t exchanges = 0;
         while (auto frame = take()) {
-            auto reply = exchange(*frame);
-            if (reply) {
-                deliver(*reply);
-            } else {
-                fail();
+            try {
+                auto reply = exchange(*frame);
+                if (reply) {
+                    deliver(*reply);
+                } else {
+                    fail();
+                }
+            } catch (...) {
+                give_up();
+                throw;
             }
             exchanges++;
         }
@@ -437,6 +451,14 @@ protected:
     Handle<typename Calls::Form, Calls::dispose> handle_;
 
 private:
+    // If a reply is awaited, nobody will deliver it. Faults are ignored: the exception under way says more.
+    void give_up() noexcept {
+        bool is_awaited = false;
+        if (Calls::awaits(handle_.get(), &is_awaited) == WURST_DONE && is_awaited) {
+            Calls::fail(handle_.get());
+        }
+    }
+
     bool asked(std::uint32_t (*call)(typename Calls::Form *, bool *)) {
         bool answer = false;
         check(call(handle_.get(), &answer));

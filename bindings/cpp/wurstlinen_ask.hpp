@@ -8,6 +8,7 @@
 
 #include <algorithm>
 #include <chrono>
+#include <functional>
 #include <map>
 #include <optional>
 #include <stdexcept>
@@ -33,7 +34,7 @@ struct Answer {
     Completion completion;
     // The other messages that the device had queued, oldest first.
     std::vector<Completion> queued;
-    // The client's outcomes from before this request, oldest first.
+    // The client's outcomes from before this request, oldest first. After an exception, how that request has ended.
     std::vector<std::variant<Completion, Discovery>> earlier;
 
     // Whether the answer didn't come in time.
@@ -131,29 +132,47 @@ public:
         return ask({target.number(), WURST_SET, sub_device, pid}, data);
     }
 
-    // The answer to a request. Faults of the queue and exceptions of the line pass through, and the next answer has
-    // what was collected until then. After an exception of the line the exchange has failed. Throws Unserved.
-    // After every second wait without an answer, a GET is asked again. A SET isn't, since it may do something.
+    // The answer to a request. Faults of the queue, exceptions of the line and those of the time pass through, and the
+    // next answer has what was collected until then. After an exception of the line the exchange has failed. Throws
+    // Unserved.
     Answer ask(const wurst_request &request, Bytes data = {}) {
-        using std::chrono::milliseconds;
         begin(request, data);
-        Completion completion = exchanged(request, data);
-        auto delay = detail::delay_of(completion);
+        try {
+            return waited(request, data);
+        } catch (...) {
+            keep_ended();
+            throw;
+        }
+    }
+
+private:
+    // The answer, after waits if the device asked for them. After every second wait without an answer, a GET is asked
+    // again. A SET isn't, since it may do something.
+    Answer waited(const wurst_request &request, Bytes data) {
+        using std::chrono::milliseconds;
+        ended_ = exchanged(request, data);
+        auto delay = detail::delay_of(*ended_);
         for (int waits = 1; delay && pause(*delay); waits++) {
             if (auto found = has_queue_ ? fetched() : std::nullopt) {
                 return answer(std::move(*found));
             }
             delay = std::max(2 * *delay, detail::tenth);
             if (request.command_class == WURST_GET && (waits % 2 == 0 || !has_queue_)) {
-                completion = exchanged(request, data);
-                delay = detail::delay_of(completion);
+                ended_ = exchanged(request, data);
+                delay = detail::delay_of(*ended_);
                 delay = delay ? std::optional(std::max<milliseconds>(*delay, detail::tenth)) : std::nullopt;
             }
         }
-        return answer(std::move(completion));
+        return answer(std::move(*ended_));
     }
 
-private:
+    // Memory for so many more, so that adding them can't fail once they are collected.
+    template <typename T> static void make_room(std::vector<T> &outcomes, std::size_t more) {
+        if (outcomes.capacity() - outcomes.size() < more) {
+            outcomes.reserve(2 * outcomes.size() + more);
+        }
+    }
+
     void begin(const wurst_request &request, Bytes data) {
         request_ = request;
         data_ = data;
@@ -162,6 +181,7 @@ private:
         // A queued message that isn't ready is asked for again.
         has_queue_ = request.pid != detail::queued_message;
         has_found_ = false;
+        ended_.reset();
     }
 
     // An answer with all that was collected.
@@ -209,17 +229,29 @@ private:
             }
             const bool was_lost = std::exchange(is_lost, !message.head.has_head);
             losses += is_lost;
-            if (!is_lost && !was_lost && is_end(message)) {
+            if (!is_lost && !keep(message, was_lost)) {
                 break;
-            }
-            if (!is_lost) {
-                sort(std::move(message), was_lost);
             }
             if (losses >= detail::most_losses || exchanges_ >= detail::most_exchanges || time_.now() > until) {
                 break;
             }
         }
         return std::nullopt;
+    }
+
+    // Keeps a message. False: it was the last one.
+    bool keep(Completion &message, bool was_lost) {
+        try {
+            if (!was_lost && is_end(message)) {
+                return false;
+            }
+            sort(message, was_lost);
+            return true;
+        } catch (...) {
+            // There is no memory for a copy.
+            queued_.push_back(std::move(message));
+            throw;
+        }
     }
 
     // Keeps the newest answer so far as one of the other messages.
@@ -229,8 +261,17 @@ private:
         }
     }
 
-    // The reply to a GET of QUEUED_MESSAGE.
+    // Keeps how the request ended as an earlier outcome. There is memory for it since it was collected.
+    void keep_ended() {
+        if (ended_) {
+            earlier_.push_back(std::move(*ended_));
+            ended_.reset();
+        }
+    }
+
+    // The reply to a GET of QUEUED_MESSAGE. There is memory to keep it, and an answer from before.
     Completion queued(std::uint8_t status_type) {
+        make_room(queued_, 2);
         return exchanged({request_.target, WURST_GET, 0, detail::queued_message}, Bytes(&status_type, 1));
     }
 
@@ -254,7 +295,7 @@ private:
 
     // Keeps a message, as the newest answer if it is one. If a reply was lost, the device was asked to repeat it. The
     // repeated message is an answer only if it is known not to be an older one.
-    void sort(Completion message, bool is_repeated) {
+    void sort(Completion &message, bool is_repeated) {
         const wurst_completion &head = message.head;
         if (is_repeated && (head.pid == detail::status_messages || head.pid == detail::queued_message)) {
             keep_report(message);
@@ -266,7 +307,8 @@ private:
             return;
         }
         const bool is_answer = detail::is_answer(message, request_, data_) && (!is_repeated || is_known);
-        newest_[request_.target] = message;
+        Completion copy = message;
+        newest_.insert_or_assign(request_.target, std::move(copy));
         if (!is_answer) {
             queued_.push_back(std::move(message));
             return;
@@ -280,8 +322,10 @@ private:
     Completion exchanged(const wurst_request &request, Bytes data) {
         const std::uint64_t number = queue_.submit(client_, request, data);
         exchanges_++;
-        queue_.run([this](const Frame &frame) { return replied(frame); });
+        queue_.run(std::ref(exchange_));
         while (const auto kind = queue_.oldest(client_)) {
+            // One more than is added here, for how the request ended.
+            make_room(earlier_, 2);
             if (*kind == WURST_DISCOVERY_OUTCOME) {
                 earlier_.push_back(*queue_.next_discovery(client_));
                 continue;
@@ -293,19 +337,8 @@ private:
             earlier_.push_back(std::move(completion));
         }
         keep_found();
+        keep_ended();
         throw Unserved(std::exchange(queued_, {}), std::exchange(earlier_, {}));
-    }
-
-    // The line's reply. If it throws, nobody could deliver a reply later, so the exchange has failed.
-    auto replied(const Frame &frame) {
-        try {
-            return exchange_(frame);
-        } catch (...) {
-            if (queue_.awaits()) {
-                queue_.fail();
-            }
-            throw;
-        }
     }
 
     Queue &queue_;
@@ -321,7 +354,9 @@ private:
     std::chrono::milliseconds deadline_{};
     int exchanges_ = 0;
     bool has_queue_ = true;
-    // The newest answer among a device's messages, the other ones, and the client's earlier outcomes.
+    // How the request ended, the newest answer among a device's messages, the other ones, and the client's earlier
+    // outcomes.
+    std::optional<Completion> ended_;
     bool has_found_ = false;
     Completion found_{};
     std::vector<Completion> queued_;

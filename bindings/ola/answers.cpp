@@ -166,7 +166,7 @@ Heard hear(const RDMReply &reply, const wurst_command &sent) {
 
 RDMStatusCode status_of(std::uint32_t status) { return STATUSES.at(status); }
 
-std::unique_ptr<RDMResponse> response_to(const RDMRequest &request, const wurst::Completion &done,
+std::unique_ptr<RDMResponse> response_to(const RDMRequest &request, const wurst::CompletionView &done,
                                          std::uint8_t message_count) {
     const auto &head = done.head;
     if (done.status() != WURST_COMPLETED || !head.has_head) {
@@ -176,6 +176,7 @@ std::unique_ptr<RDMResponse> response_to(const RDMRequest &request, const wurst:
     const auto command_class = is_set ? RDMCommand::SET_COMMAND_RESPONSE : RDMCommand::GET_COMMAND_RESPONSE;
     return std::make_unique<RDMResponse>(
         request.DestinationUID(), request.SourceUID(), request.TransactionNumber(), head.ack, message_count,
-        head.sub_device, command_class, head.pid, done.data.data(), done.data.size());
+        head.sub_device, command_class, head.pid, done.data.data,
+        static_cast<unsigned int>(done.data.size));
 }
 } // namespace stand_in

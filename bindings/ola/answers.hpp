@@ -10,6 +10,7 @@ namespace stand_in {
 
 // Why the line failed, where it is said in several places.
 constexpr const char *NOT_SENT = "the adapter couldn't send a frame";
+constexpr const char *NO_MEMORY = "out of memory";
 constexpr const char *OUT_OF_STEP = "the adapter's answers may be those of earlier frames";
 // Compared by its address.
 inline constexpr char LATE[] = "the adapter didn't answer for a second";
@@ -39,6 +40,6 @@ ola::rdm::RDMStatusCode status_of(std::uint32_t status);
 
 // The response to a client's request, with the joined data; null unless the device answered. `message_count` is that of
 // the last reply.
-std::unique_ptr<ola::rdm::RDMResponse> response_to(const ola::rdm::RDMRequest &request, const wurst::Completion &done,
-                                                   std::uint8_t message_count);
+std::unique_ptr<ola::rdm::RDMResponse> response_to(const ola::rdm::RDMRequest &request,
+                                                   const wurst::CompletionView &done, std::uint8_t message_count);
 } // namespace stand_in

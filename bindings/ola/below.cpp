@@ -3,6 +3,7 @@
 #include <algorithm>
 #include <cstdlib>
 #include <cxxabi.h>
+#include <new>
 #include <typeinfo>
 
 namespace stand_in {
@@ -109,7 +110,7 @@ Bridge Below::choose() const {
 
 // The layer below keeps the exchange's callbacks until it runs one of them. So only exchanges that it has answered are
 // used again, and late: it may repeat an answer.
-Below::Exchange *Below::begin(Kind kind) {
+Below::Exchange *Below::begin() {
     if (answered_.size() > REMEMBERED) {
         awaited_ = answered_.front();
         answered_.pop_front();
@@ -117,9 +118,24 @@ Below::Exchange *Below::begin(Kind kind) {
         exchanges_.push_back(std::make_unique<Exchange>(this));
         awaited_ = exchanges_.back().get();
     }
-    kind_ = kind;
     began_ = Clock::now();
     return awaited_;
+}
+
+// Makes a call of the layer below. If that throws, the frame counts as not sent, unless it was answered before.
+template <typename Call> void Below::call(Kind kind, Call call) {
+    Exchange *exchange = nullptr;
+    kind_ = kind;
+    try {
+        exchange = begin();
+        call(exchange);
+    } catch (...) {
+        if (exchange == awaited_) {
+            awaited_ = nullptr;
+            ended_ = Clock::now();
+            fail(NOT_SENT, RDM_FAILED_TO_SEND);
+        }
+    }
 }
 
 // Passes on an exchange's answer, if it is the awaited one.
@@ -130,26 +146,58 @@ template <typename Answer> void Below::end(Exchange *exchange, Answer answer) {
     const auto self = kept();
     awaited_ = nullptr;
     ended_ = Clock::now();
-    answer(*this);
-    // Not earlier: the layer below may repeat the answer as soon as this call returns.
-    answered_.push_back(exchange);
+    try {
+        answer(*this);
+    } catch (const std::bad_alloc &) {
+        fail(NO_MEMORY, RDM_INVALID_RESPONSE);
+    }
+    remember(exchange);
+    pass_on();
+}
+
+// Not earlier than at the end of an answer: the layer below may repeat it as soon as its call returns. An exchange that
+// there is no memory for isn't used again.
+void Below::remember(Exchange *exchange) noexcept {
+    try {
+        answered_.push_back(exchange);
+    } catch (const std::bad_alloc &) {
+    }
+}
+
+// The exchange has no answer, for a reason of ours.
+void Below::fail(const char *why, RDMStatusCode status) {
+    Heard heard;
+    heard.failure = why;
+    heard.status = status;
+    RDMReply reply(status);
+    switch (kind_) {
+    case Kind::Frame:
+        return this->heard(heard, nullptr);
+    case Kind::HandedDown:
+        return handed_back(&reply);
+    case Kind::Check:
+        return checked(heard);
+    case Kind::Devices:
+        return found_none();
+    }
 }
 
 void Below::send_down(const wurst::Frame &frame, const RDMRequest *request) {
     sent_ = read(frame);
-    auto *const exchange = begin(Kind::Frame);
     const bool was_sending = std::exchange(is_sending_, true);
-    if (bridge_ == Bridge::Target && sent_.kind == WURST_UNMUTE) {
-        target_->UnMuteAll(exchange);
-    } else if (bridge_ == Bridge::Target && sent_.kind == WURST_BRANCH) {
-        target_->Branch(uid_of(sent_.lo), uid_of(sent_.hi), exchange);
-    } else {
-        const auto size = static_cast<unsigned int>(frame.size());
-        auto *const sent = sent_.kind == WURST_REQUEST
-            ? request->Duplicate() : RDMRequest::InflateFromData(frame.data() + 1, size - 1);
-        source_ = sent->SourceUID();
-        lower_->SendRDMRequest(sent, exchange);
-    }
+    call(Kind::Frame, [&](Exchange *exchange) {
+        if (bridge_ == Bridge::Target && sent_.kind == WURST_UNMUTE) {
+            target_->UnMuteAll(exchange);
+        } else if (bridge_ == Bridge::Target && sent_.kind == WURST_BRANCH) {
+            target_->Branch(uid_of(sent_.lo), uid_of(sent_.hi), exchange);
+        } else {
+            const auto size = static_cast<unsigned int>(frame.size());
+            auto *const sent = sent_.kind == WURST_REQUEST
+                ? request->Duplicate() : RDMRequest::InflateFromData(frame.data() + 1, size - 1);
+            source_ = sent->SourceUID();
+            lower_->SendRDMRequest(sent, exchange);
+        }
+    });
     is_sending_ = was_sending;
 }
 
@@ -157,7 +205,7 @@ void Below::hand_down(std::unique_ptr<RDMRequest> request) {
     sent_ = {};
     sent_.kind = WURST_REQUEST;
     source_ = request->SourceUID();
-    lower_->SendRDMRequest(request.release(), begin(Kind::HandedDown));
+    call(Kind::HandedDown, [&](Exchange *exchange) { lower_->SendRDMRequest(request.release(), exchange); });
 }
 
 bool Below::check_answers(std::vector<UID> devices) {
@@ -190,16 +238,15 @@ void Below::mute_down(const UID &uid) {
     sent_ = {};
     sent_.kind = WURST_MUTE;
     source_ = CONTROLLER;
-    lower_->SendRDMRequest(NewMuteRequest(CONTROLLER, uid, 0), begin(Kind::Check));
+    call(Kind::Check, [&](Exchange *exchange) {
+        lower_->SendRDMRequest(NewMuteRequest(CONTROLLER, uid, 0), exchange);
+    });
 }
 
 void Below::discover_below(bool is_full) {
-    auto *const exchange = begin(Kind::Devices);
-    if (is_full) {
-        discoverable_->RunFullDiscovery(exchange);
-    } else {
-        discoverable_->RunIncrementalDiscovery(exchange);
-    }
+    call(Kind::Devices, [&](Exchange *exchange) {
+        is_full ? discoverable_->RunFullDiscovery(exchange) : discoverable_->RunIncrementalDiscovery(exchange);
+    });
 }
 
 // What the time of an answer says. After a discovery's frame no bytes aren't silence if the adapter may have hung, or

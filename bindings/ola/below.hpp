@@ -51,13 +51,17 @@ protected:
     void forget() { awaited_ = nullptr; }
 
     // The answers to these calls, within the call of the layer below. `reply` is null unless a client's
-    // request was sent.
+    // request was sent. These calls throw only before they have changed anything.
     virtual void heard(const Heard &heard, const ola::rdm::RDMReply *reply) = 0;
     virtual void handed_back(ola::rdm::RDMReply *reply) = 0;
     virtual void checked(const Heard &heard) = 0;
     // A device didn't answer its check, and `check_next` sends that of another one.
     virtual void check_more() = 0;
     virtual void found(const ola::rdm::UIDSet &devices) = 0;
+    // The adapter's own discovery has no answer.
+    virtual void found_none() = 0;
+    // Passes on what a client's callback has thrown, if no other call of this object is under way.
+    virtual void pass_on() = 0;
     // Keeps this object until the call of the layer below has returned.
     virtual std::shared_ptr<void> kept() = 0;
 
@@ -67,8 +71,11 @@ private:
     class Exchange;
 
     Bridge choose() const;
-    Exchange *begin(Kind kind);
+    Exchange *begin();
+    template <typename Call> void call(Kind kind, Call call);
     template <typename Answer> void end(Exchange *exchange, Answer answer);
+    void remember(Exchange *exchange) noexcept;
+    void fail(const char *why, ola::rdm::RDMStatusCode status);
     void mute_down(const ola::rdm::UID &uid);
     Heard judged(Heard heard);
     Heard judged_check(Heard heard);

@@ -8,8 +8,13 @@
 namespace stand_in {
 
 constexpr std::chrono::seconds MOST_TO_FLUSH{1};
+// Of what OLA's logging adds to a message.
+constexpr std::size_t MOST_OWN_TEXT = 200;
 
-void tell(const std::string &adapter, Level level, const std::string &text) {
+// OLA's line is written by a destructor, from which an exception would end the process. So whether there is memory for
+// its parts is asked here.
+void write_message(std::string_view adapter, Level level, const std::string &text) {
+    std::string().reserve(8 * (adapter.size() + text.size() + MOST_OWN_TEXT));
     if (level == Level::Warn) {
         OLA_WARN << "wurstlinen: " << adapter << ": " << text;
     } else {
@@ -31,13 +36,16 @@ std::string json(wurst::Bytes bytes) {
     return json(hex);
 }
 
-std::string json(const std::vector<wurst::Device> &devices) {
+template <typename Devices> std::string list_of(const Devices &devices) {
     std::string all;
-    for (const auto &each : devices) {
+    for (const wurst::Device &each : devices) {
         all += (all.empty() ? "" : ",") + json(each.uid.text());
     }
     return '[' + all + ']';
 }
+
+std::string json(const std::vector<wurst::Device> &devices) { return list_of(devices); }
+std::string json(wurst::Devices devices) { return list_of(devices); }
 
 static std::uint64_t microseconds(clockid_t clock) {
     timespec now{};
@@ -79,4 +87,15 @@ void write_record(unsigned int controller, std::initializer_list<std::string> fi
 }
 
 void write_run(const std::string &lines) { writer<Content::Runs>().add(lines); }
+
+template <Content CONTENT> void lose() noexcept {
+    try {
+        writer<CONTENT>().lose();
+    } catch (const std::exception &) {
+        // There isn't even memory for the writer. It has no file yet, in which a number would be missing.
+    }
+}
+
+void lose_record() noexcept { lose<Content::Records>(); }
+void lose_run() noexcept { lose<Content::Runs>(); }
 } // namespace stand_in

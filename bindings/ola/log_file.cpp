@@ -179,7 +179,7 @@ void LogFile::take_back(std::size_t bytes) {
 bool LogFile::fail(const std::string &why) {
     const auto now = Clock::now();
     if (!is_told_ && (!last_told_ || now - *last_told_ >= between_messages_)) {
-        tell(setting_, Level::Warn, why + "; records are lost until it can be written");
+        tell(setting_, Level::Warn, why, "; records are lost until it can be written");
         last_told_ = now;
         is_told_ = true;
     }
@@ -187,14 +187,7 @@ bool LogFile::fail(const std::string &why) {
 }
 
 void LogFile::succeed() {
-    if (!is_told_) {
-        return;
-    }
-    try {
-        tell(setting_, Level::Inform, "it is written again");
-        is_told_ = false;
-    } catch (const std::bad_alloc &) {
-        // The lines are written. The next ones try again to report it.
-    }
+    // The lines are written. If this can't be reported, the next ones try again.
+    is_told_ = is_told_ && !tell(setting_, Level::Inform, "it is written again");
 }
 } // namespace stand_in

@@ -54,6 +54,15 @@ void LogWriter::add(const std::string &lines) {
     state.wake.notify_one();
 }
 
+void LogWriter::lose() {
+    State &state = *state_;
+    const std::lock_guard<std::mutex> locked(state.guard);
+    is_started(state);
+    state.added++;
+    state.lost++;
+    state.wake.notify_one();
+}
+
 void LogWriter::flush(std::chrono::milliseconds most) const {
     const auto end = std::chrono::steady_clock::now() + most;
     const std::uint64_t wanted = state_->added;
@@ -88,7 +97,7 @@ bool LogWriter::is_started(State &state) {
     } catch (const std::exception &fault) {
         if (!state.has_told) {
             state.has_told = true;
-            tell(state.setting, Level::Warn, "no thread to write it: " + std::string(fault.what()));
+            tell(state.setting, Level::Warn, "no thread to write it: ", fault.what());
         }
     }
     pthread_sigmask(SIG_SETMASK, &before, nullptr);
@@ -96,14 +105,6 @@ bool LogWriter::is_started(State &state) {
 }
 
 static std::string lost_record(std::uint64_t lost) { return stamp() + ",\"lost\":" + json(lost) + "}\n"; }
-
-static void tell_lost(const std::string &setting, std::uint64_t lost) {
-    try {
-        tell(setting, Level::Warn, "lost runs: " + std::to_string(lost));
-    } catch (const std::bad_alloc &) {
-        // The run is written all the same.
-    }
-}
 
 // Adds a record, a run or nothing, when so many were lost before it. A log of runs has nothing else. `text` is used for
 // that. False: the file can't be written now, or there is no memory, or the count of lost runs waits for the next one.
@@ -119,7 +120,8 @@ bool LogWriter::write(State &state, std::uint64_t lost, std::string_view lines, 
         return false;
     }
     if (lost > 0 && has_runs) {
-        tell_lost(state.setting, lost);
+        // If this can't be told, the run is written all the same.
+        tell(state.setting, Level::Warn, "lost runs: ", lost);
     }
     return true;
 }

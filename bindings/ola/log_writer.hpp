@@ -34,6 +34,8 @@ public:
     // the queue is full, or if there is no memory, it is lost and counted. The count is written as a record where
     // records are missing. That of lost runs is reported with the next one that is written.
     void add(const std::string &lines);
+    // Counts a record or a run that its maker has lost.
+    void lose();
     // Waits until what was added has been written or lost, but at most this long. It takes no lock, so it can be called
     // in each state of the process.
     void flush(std::chrono::milliseconds most) const;

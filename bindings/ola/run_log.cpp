@@ -1,5 +1,6 @@
 #include "run_log.hpp"
 #include <ola/rdm/RDMEnums.h>
+#include <exception>
 #include <utility>
 
 namespace stand_in {
@@ -20,27 +21,50 @@ static std::string operation_of(wurst::Bytes frame) {
     }
 }
 
-void RunLog::begin(const RunOpening &opening) {
-    const std::string search = opening.search == WURST_STEADY ? "steady" : "quick";
-    const std::string kind = opening.kind == WURST_FULL_DISCOVERY ? "full" : "incremental";
-    opening_ = "{\"entry\":\"opening\",\"source\":" + json(opening.source.text()) + ",\"budget\":"
-        + json(opening.budget) + ",\"search\":" + json(search) + ",\"discover\":" + json(kind) + ",\"known\":"
-        + json(opening.known) + "}\n";
-    text_ = opening_;
-    frame_.clear();
-    exchanges_ = 0;
-}
-
-void RunLog::sent(wurst::Bytes frame) {
-    if (!text_.empty()) {
-        frame_ = "{\"number\":" + json(exchanges_) + ",\"operation\":" + json(operation_of(frame))
-            + ",\"frame\":" + json(frame);
+// Without memory for a part of it, the run is lost.
+template <typename Work> void RunLog::guarded(Work work) noexcept {
+    try {
+        work();
+    } catch (const std::exception &) {
+        lose();
     }
 }
 
-void RunLog::came(wurst::Bytes reply) { add("\"reply\":" + json(reply)); }
+void RunLog::lose() noexcept {
+    text_.clear();
+    frame_.clear();
+    is_lost_ = true;
+}
 
-void RunLog::failed() { add("\"failed\":true"); }
+void RunLog::begin(const RunOpening &opening) noexcept {
+    guarded([&] {
+        const std::string search = opening.search == WURST_STEADY ? "steady" : "quick";
+        const std::string kind = opening.kind == WURST_FULL_DISCOVERY ? "full" : "incremental";
+        opening_ = "{\"entry\":\"opening\",\"source\":" + json(opening.source.text()) + ",\"budget\":"
+            + json(opening.budget) + ",\"search\":" + json(search) + ",\"discover\":" + json(kind) + ",\"known\":"
+            + json(opening.known) + "}\n";
+        text_ = opening_;
+        frame_.clear();
+        exchanges_ = 0;
+    });
+}
+
+void RunLog::sent(wurst::Bytes frame) noexcept {
+    if (!text_.empty()) {
+        guarded([&] {
+            frame_ = "{\"number\":" + json(exchanges_) + ",\"operation\":" + json(operation_of(frame))
+                + ",\"frame\":" + json(frame);
+        });
+    }
+}
+
+void RunLog::came(wurst::Bytes reply) noexcept {
+    guarded([&] { add("\"reply\":" + json(reply)); });
+}
+
+void RunLog::failed() noexcept {
+    guarded([&] { add("\"failed\":true"); });
+}
 
 void RunLog::add(const std::string &event) {
     if (frame_.empty()) {
@@ -54,9 +78,12 @@ void RunLog::add(const std::string &event) {
     exchanges_++;
 }
 
-void RunLog::end() {
+void RunLog::end() noexcept {
     if (!text_.empty()) {
-        write_(std::exchange(text_, ""));
+        guarded([&] { write_(std::exchange(text_, "")); });
+    }
+    if (std::exchange(is_lost_, false)) {
+        lose_();
     }
 }
 } // namespace stand_in

@@ -32,10 +32,10 @@ static wurst_request form_of(const RDMRequest &request) {
     return {target.number(), command_class, request.SubDevice(), request.ParamId()};
 }
 
-static UIDSet set_of(const std::vector<wurst::Device> &devices) {
-    UIDSet set;
-    for (const auto &each : devices) {
-        set.AddUID(UID(each.uid.manufacturer(), each.uid.device()));
+template <typename Devices> std::shared_ptr<const UIDSet> set_of(const Devices &devices) {
+    const auto set = std::make_shared<UIDSet>();
+    for (const wurst::Device &each : devices) {
+        set->AddUID(UID(each.uid.manufacturer(), each.uid.device()));
     }
     return set;
 }
@@ -50,15 +50,16 @@ static std::string text_of(const wurst_end &end) {
 StandIn::StandIn(RDMControllerInterface *lower, unsigned int places)
     : Below(lower), controller_(++controllers_), places_asked_(places),
       places_(std::clamp<unsigned int>(places, 1, UINT8_MAX)),
-      core_(SOURCE, places_, settings().budget, settings().search), client_(core_.join(places_)) {
+      core_(SOURCE, places_, settings().budget, settings().search), client_(core_.join(places_)),
+      data_(new std::uint8_t[WURST_MOST_JOINED_BYTES]), forms_(new wurst_device[WURST_MOST_DEVICES]),
+      given_(std::make_shared<UIDSet>()) {
     record(controller_, "call", "open", "places", places_);
 }
 
 // Many controllers are never used, and some only for requests. So they say nothing until then.
 void StandIn::introduce(bool discovers) {
     if (!std::exchange(is_used_, true) && places_ != places_asked_) {
-        tell(name(), Level::Warn, "its queue has " + std::to_string(places_) + " places, not "
-                                      + std::to_string(places_asked_));
+        tell(name(), Level::Warn, "its queue has ", int{places_}, " places, not ", places_asked_);
     }
     if (discovers && !std::exchange(has_discovered_, true)) {
         tell(name(), Level::Inform, DISCOVERY_BY_BRIDGE[static_cast<int>(bridge())]);
@@ -84,71 +85,116 @@ void StandIn::resume() {
             is_aborted_ ? fail(STOPPED) : step();
         }
     });
+    pass_on();
 }
 
 void StandIn::send(RDMRequest *taken, RDMCallback *callback) {
+    std::unique_ptr<RDMRequest> owned(taken);
     introduce(false);
-    Request request{requests_made_++, std::unique_ptr<RDMRequest>(taken), callback, {}};
+    const auto order = requests_made_++;
     const bool is_cores = is_for_core(*taken);
     const wurst_request form = form_of(*taken);
     const wurst::Bytes data(taken->ParamData(), taken->ParamDataSize());
-    record(controller_, "call", is_cores ? "request" : "handed down", "request", request.order, "target",
+    record(controller_, "call", is_cores ? "request" : "handed down", "request", order, "target",
            taken->DestinationUID(), "class", taken->CommandClass(), "sub_device", form.sub_device, "pid", form.pid,
            "data", data);
+    Requests one;
     try {
+        one.push_back({order, std::move(owned), callback, {}});
         if (is_cores) {
             core_.submit(client_, form, data);
         } else if (has_ended_ || handed_.size() >= places_) {
             throw wurst::Fault(WURST_FULL);
         }
-    } catch (const wurst::Fault &fault) {
-        return refuse(callback, fault.what());
+    } catch (const std::exception &fault) {
+        refuse(callback, fault.what());
+        return pass_on();
     }
-    (is_cores ? requests_ : handed_).push_back(std::move(request));
+    Requests &queue = is_cores ? requests_ : handed_;
+    queue.splice(queue.end(), one);
     pump();
+    pass_on();
 }
 
 void StandIn::refuse(RDMCallback *callback, const char *why) {
     record(controller_, "result", "refused", "why", why);
-    if (callback != nullptr) {
-        RunRDMCallback(callback, RDM_FAILED_TO_SEND);
-    }
+    keep_thrown([=] {
+        if (callback != nullptr) {
+            RunRDMCallback(callback, RDM_FAILED_TO_SEND);
+        }
+    });
 }
 
 void StandIn::discover(wurst_kind kind, RDMDiscoveryCallback *callback) {
     introduce(true);
     record(controller_, "call", kind == WURST_FULL_DISCOVERY ? "full discovery" : "incremental discovery");
-    asked_on_ = std::this_thread::get_id();
-    if (is_aborted_ || has_ended_) {
-        return run({callback}, UIDSet());
+    const Asked asked{callback, std::this_thread::get_id()};
+    const bool is_over = is_aborted_ || has_ended_;
+    DiscoveryList one;
+    try {
+        one.push_back({kind, {asked}, false});
+    } catch (const std::bad_alloc &) {
+        keep_thrown([&] { callback != nullptr ? callback->Run(is_over ? UIDSet() : *given_) : void(); });
+        return pass_on();
     }
-    if (bridge() == Bridge::Own || !ask({kind, {callback}, false})) {
-        waiting_.kind = kind == WURST_FULL_DISCOVERY ? kind : waiting_.kind;
-        waiting_.callbacks.push_back(callback);
+    if (is_over) {
+        run(one.front().asked, UIDSet());
+        return pass_on();
+    }
+    if (bridge() == Bridge::Own || !ask(one)) {
+        wait(one);
     }
     pump();
+    pass_on();
 }
 
 // Asks the core for a discovery. False: the client has reached the core's limit of outstanding discoveries, or the core
 // is closed.
-bool StandIn::ask(const Discoveries &discoveries) {
+bool StandIn::ask(DiscoveryList &one) {
     try {
-        core_.discover(client_, discoveries.kind);
-    } catch (const wurst::Fault &) {
+        core_.discover(client_, one.front().kind);
+    } catch (const std::exception &) {
         return false;
     }
-    discoveries_.push_back(discoveries);
+    discoveries_.splice(discoveries_.end(), one);
     return true;
+}
+
+// Adds a discovery to those that wait, which are full if one of them is.
+void StandIn::wait(DiscoveryList &one) {
+    if (waiting_.empty()) {
+        return waiting_.splice(waiting_.end(), one);
+    }
+    Discoveries &all = waiting_.front();
+    all.kind = one.front().kind == WURST_FULL_DISCOVERY ? WURST_FULL_DISCOVERY : all.kind;
+    all.asked.splice(all.asked.end(), one.front().asked);
 }
 
 // Does work that may run callbacks, and then sends what there is to send. Nested calls, from callbacks, don't send.
 template <typename Work> void StandIn::within(Work work) {
     const auto self = shared_from_this();
     const bool was_within = std::exchange(is_within_, true);
-    work();
-    while (!was_within && !has_ended_ && !is_paused_ && !is_busy() && send_next()) {
-    }
+    keep_thrown(work);
+    keep_thrown([&] {
+        while (!was_within && !has_ended_ && !is_paused_ && !is_busy() && send_next()) {
+        }
+    });
     is_within_ = was_within;
+}
+
+// Keeps the first exception, until it is passed on. The others are dropped.
+template <typename Work> void StandIn::keep_thrown(Work work) noexcept {
+    try {
+        work();
+    } catch (...) {
+        thrown_ = thrown_ ? thrown_ : std::current_exception();
+    }
+}
+
+void StandIn::pass_on() {
+    if (!is_within_ && thrown_) {
+        std::rethrow_exception(std::exchange(thrown_, nullptr));
+    }
 }
 
 void StandIn::pump() { within([] {}); }
@@ -157,11 +203,11 @@ bool StandIn::send_next() {
     if (is_handed_down_next()) {
         record(controller_, "sent", "handed down", "request", handed_.front().order);
         hand_down(std::move(handed_.front().request));
-    } else if (bridge() == Bridge::Own && is_aborted_ && !waiting_.callbacks.empty()) {
-        run(std::exchange(waiting_, {}).callbacks, UIDSet());
-    } else if (bridge() == Bridge::Own && !is_under_way_ && !waiting_.callbacks.empty()) {
+    } else if (bridge() == Bridge::Own && is_aborted_ && !waiting_.empty()) {
+        run(std::exchange(waiting_, {}).front().asked, UIDSet());
+    } else if (bridge() == Bridge::Own && !is_under_way_ && !waiting_.empty()) {
         record(controller_, "sent", "the adapter's own discovery");
-        discoveries_.push_back(std::exchange(waiting_, {}));
+        discoveries_.splice(discoveries_.end(), waiting_);
         discover_below(discoveries_.front().kind == WURST_FULL_DISCOVERY);
     } else if (const auto frame = core_.take()) {
         record(controller_, "sent", "frame", "frame", wurst::Bytes(*frame));
@@ -179,17 +225,19 @@ bool StandIn::send_next() {
 
 // Discoveries go first, and then requests in their order.
 bool StandIn::is_handed_down_next() const {
-    return !handed_.empty() && !is_under_way_ && discoveries_.empty() && waiting_.callbacks.empty()
+    return !handed_.empty() && !is_under_way_ && discoveries_.empty() && waiting_.empty()
         && (requests_.empty() || handed_.front().order < requests_.front().order);
 }
 
 void StandIn::heard(const Heard &heard, const RDMReply *reply) {
     record(controller_, "heard", heard.failure != nullptr ? "failed" : "reply", "reply", wurst::Bytes(heard.bytes),
            "status_below", heard.status);
-    if (reply != nullptr) {
+    if (sent().kind == WURST_REQUEST) {
         Request &request = requests_.front();
-        request.frames.insert(request.frames.end(), reply->Frames().begin(), reply->Frames().end());
-        request.message_count = reply->Response() != nullptr ? reply->Response()->MessageCount() : 0;
+        if (reply != nullptr) {
+            request.frames.insert(request.frames.end(), reply->Frames().begin(), reply->Frames().end());
+            request.message_count = reply->Response() != nullptr ? reply->Response()->MessageCount() : 0;
+        }
         request.status = heard.status;
         request.replies++;
     }
@@ -209,13 +257,18 @@ static std::vector<UID> some_of(const std::vector<wurst::Device> &devices) {
 void StandIn::begin_run() {
     run_ = {};
     run_.began = Clock::now();
-    if (!settings().runs.empty()) {
-        const bool is_full = std::any_of(discoveries_.begin(), discoveries_.end(), [](const Discoveries &each) {
-            return each.kind == WURST_FULL_DISCOVERY;
-        });
-        const auto kind = is_full ? WURST_FULL_DISCOVERY : WURST_INCREMENTAL;
+    if (settings().runs.empty()) {
+        return;
+    }
+    const bool is_full = std::any_of(discoveries_.begin(), discoveries_.end(), [](const Discoveries &each) {
+        return each.kind == WURST_FULL_DISCOVERY;
+    });
+    const auto kind = is_full ? WURST_FULL_DISCOVERY : WURST_INCREMENTAL;
+    try {
         const auto known = is_full ? std::vector<wurst::Device>() : core_.devices();
         run_log_.begin({SOURCE, settings().budget, settings().search, kind, known});
+    } catch (const std::bad_alloc &) {
+        run_log_.lose();
     }
 }
 
@@ -231,10 +284,21 @@ void StandIn::continue_run(const wurst::Frame &frame, bool is_first) {
         send_down(frame, nullptr);
     } else {
         run_.held_frame = frame;
-        if (!check_answers(some_of(core_.devices()))) {
-            // The run itself has to show it.
-            send_held();
-        }
+        check_line();
+    }
+}
+
+void StandIn::check_line() {
+    std::vector<UID> devices;
+    try {
+        devices = some_of(core_.devices());
+    } catch (const std::bad_alloc &) {
+        run_.held_frame.reset();
+        return fail(NO_MEMORY);
+    }
+    if (!check_answers(std::move(devices))) {
+        // The run itself has to show it.
+        send_held();
     }
 }
 
@@ -328,88 +392,123 @@ void StandIn::collect() {
     while (const auto kind = core_.oldest(client_)) {
         is_under_way_ = false;
         if (*kind == WURST_REQUEST_OUTCOME) {
-            finish(*core_.next_completion(client_));
+            finish(*core_.next_completion(client_, data_.get(), WURST_MOST_JOINED_BYTES));
         } else {
-            answer(*core_.next_discovery(client_));
+            answer(*core_.next_discovery(client_, forms_.get(), WURST_MOST_DEVICES));
         }
     }
 }
 
-void StandIn::finish(const wurst::Completion &done) {
-    const Request request = std::move(requests_.front());
-    requests_.pop_front();
-    RDMStatusCode status = status_of(done.head.status);
-    // The core can't know these three statuses.
-    if (done.status() == WURST_TIMEOUT && request.status == RDM_UNKNOWN_UID) {
-        status = RDM_UNKNOWN_UID;
-    } else if (done.status() == WURST_TIMEOUT && request.status == RDM_COMPLETED_OK && request.replies == 1) {
-        status = RDM_COMPLETED_OK;
-    } else if (done.status() == WURST_SOURCE_MISMATCH && request.replies > 1) {
-        status = RDM_INVALID_RESPONSE;
+// The status that OLA's client gets. The core can't know some of them.
+static RDMStatusCode status_of(const wurst::CompletionView &done, RDMStatusCode below, unsigned int replies) {
+    if (done.status() == WURST_TIMEOUT && below == RDM_UNKNOWN_UID) {
+        return RDM_UNKNOWN_UID;
     }
-    record(controller_, "result", "request", "request", request.order, "status", done.head.status, "status_given",
-           status, "data", wurst::Bytes(done.data));
-    RDMReply reply(status, response_to(*request.request, done, request.message_count).release(), request.frames);
-    if (request.callback != nullptr) {
-        request.callback->Run(&reply);
+    if (done.status() == WURST_TIMEOUT && below == RDM_COMPLETED_OK && replies == 1) {
+        return RDM_COMPLETED_OK;
     }
+    const bool is_later_source = done.status() == WURST_SOURCE_MISMATCH && replies > 1;
+    // There was no memory for a reply that came.
+    const bool is_lost = done.status() == WURST_FAILED_TO_SEND && below == RDM_INVALID_RESPONSE;
+    return is_later_source || is_lost ? RDM_INVALID_RESPONSE : status_of(done.head.status);
 }
 
-// OLA's callback has no argument for a fault. So after a fault, OLA gets what the last run without fault found. If
-// there was none, it gets what this run has found.
-void StandIn::answer(const wurst::Discovery &done) {
+void StandIn::finish(const wurst::CompletionView &done) {
+    const Request request = std::move(requests_.front());
+    requests_.pop_front();
+    const RDMStatusCode status = status_of(done, request.status, request.replies);
+    record(controller_, "result", "request", "request", request.order, "status", done.head.status, "status_given",
+           status, "data", done.data);
+    std::optional<RDMReply> reply;
+    try {
+        reply.emplace(status, response_to(*request.request, done, request.message_count).release(), request.frames);
+    } catch (const std::bad_alloc &) {
+        reply.emplace(status_of(WURST_NO_MEMORY));
+    }
+    keep_thrown([&] {
+        if (request.callback != nullptr) {
+            request.callback->Run(&*reply);
+        }
+    });
+}
+
+void StandIn::answer(const wurst::DiscoveryView &done) {
     run_log_.end();
     if (repeat(done)) {
         return;
     }
-    const bool is_good = done.fault() == WURST_NO_FAULT || core_.devices_run() == 0;
-    const UIDSet devices = is_aborted_ ? UIDSet() : set_of(is_good ? done.devices : core_.devices());
+    const Devices devices = devices_to_give(done);
     record(controller_, "result", "discovery", "run", done.end.run, "fault", done.end.fault, "found", done.devices,
-           "given", devices.Size());
+           "given", devices->Size());
     const bool is_told = is_aborted_ || has_ended_ || run_told_ == done.end.run;
     if (done.fault() != WURST_NO_FAULT && !is_told) {
         run_told_ = done.end.run;
-        const std::string why = done.fault() == WURST_LINE_FAILED ? failure_ : text_of(done.end);
-        tell(name(), Level::Warn, "discovery failed: " + why + "; it found " + std::to_string(done.end.count)
-                                      + " devices until then, and OLA is given " + std::to_string(devices.Size()));
+        tell_fault(done, *devices);
     }
-    answer_oldest(devices);
+    answer_oldest(*devices);
+}
+
+// OLA's callback has no argument for a fault. So after a fault, OLA gets what the last run without fault found. If
+// there was none, it gets what this run has found.
+StandIn::Devices StandIn::devices_to_give(const wurst::DiscoveryView &done) {
+    const bool is_good = done.fault() == WURST_NO_FAULT || core_.devices_run() == 0;
+    try {
+        if (is_aborted_) {
+            return std::make_shared<UIDSet>();
+        }
+        given_ = is_good ? set_of(done.devices) : set_of(core_.devices());
+    } catch (const std::bad_alloc &) {
+        tell(name(), Level::Warn, NO_MEMORY, ": OLA is given the devices of the discovery before");
+    }
+    return given_;
+}
+
+void StandIn::tell_fault(const wurst::DiscoveryView &done, const UIDSet &devices) noexcept {
+    try {
+        const std::string why = done.fault() == WURST_LINE_FAILED ? failure_ : text_of(done.end);
+        tell(name(), Level::Warn, "discovery failed: ", why, "; it found ", done.end.count,
+             " devices until then, and OLA is given ", devices.Size());
+    } catch (const std::bad_alloc &) {
+        // OLA gets the devices all the same.
+    }
 }
 
 // A daemon that stood still hears a good answer as late as that of an adapter that hangs, and nobody repeats its first
 // discovery. So if nothing else was wrong, the same discovery is asked for once more. False: it isn't.
-bool StandIn::repeat(const wurst::Discovery &done) {
+bool StandIn::repeat(const wurst::DiscoveryView &done) {
     const bool is_late = done.fault() == WURST_LINE_FAILED && failure_ == LATE && !is_aborted_ && !has_ended_;
-    const Discoveries &oldest = discoveries_.front();
-    if (!is_late || oldest.is_repeated || !ask({oldest.kind, oldest.callbacks, true})) {
+    if (!is_late || discoveries_.front().is_repeated) {
         return false;
     }
-    discoveries_.pop_front();
+    DiscoveryList oldest;
+    oldest.splice(oldest.end(), discoveries_, discoveries_.begin());
+    if (!ask(oldest)) {
+        discoveries_.splice(discoveries_.begin(), oldest);
+        return false;
+    }
+    discoveries_.back().is_repeated = true;
     record(controller_, "result", "repeated discovery", "run", done.end.run, "found", done.devices);
     if (std::exchange(run_told_, done.end.run) != done.end.run) {
-        tell(name(), Level::Warn, "discovery is repeated: " + std::string(LATE));
+        tell(name(), Level::Warn, "discovery is repeated: ", LATE);
     }
     return true;
 }
 
 void StandIn::answer_oldest(const UIDSet &devices) {
-    const Discoveries answered = std::move(discoveries_.front());
-    discoveries_.pop_front();
-    if (bridge() != Bridge::Own && !waiting_.callbacks.empty() && ask(waiting_)) {
-        waiting_ = {};
+    DiscoveryList oldest;
+    oldest.splice(oldest.end(), discoveries_, discoveries_.begin());
+    if (bridge() != Bridge::Own && !waiting_.empty()) {
+        ask(waiting_);
     }
-    run(answered.callbacks, devices);
+    run(oldest.front().asked, devices);
 }
 
 // OLA's adapters end on another thread, when its ports are gone. Some of them answer then. OLA's own class would run
 // the callbacks.
-void StandIn::run(const std::vector<RDMDiscoveryCallback *> &callbacks, const UIDSet &devices) {
-    if (asked_on_ != std::this_thread::get_id()) {
-        return;
-    }
-    for (auto *callback : callbacks) {
-        if (callback != nullptr) {
-            callback->Run(devices);
+void StandIn::run(const std::list<Asked> &asked, const UIDSet &devices) {
+    for (const Asked &each : asked) {
+        if (each.callback != nullptr && each.thread == std::this_thread::get_id()) {
+            keep_thrown([&] { each.callback->Run(devices); });
         }
     }
 }
@@ -427,7 +526,17 @@ void StandIn::handed_back(RDMReply *reply) {
 
 void StandIn::found(const UIDSet &devices) {
     record(controller_, "result", "the adapter's own discovery", "given", devices.Size());
+    try {
+        given_ = std::make_shared<UIDSet>(devices);
+    } catch (const std::bad_alloc &) {
+        // OLA gets these devices all the same.
+    }
     within([&] { answer_oldest(devices); });
+}
+
+void StandIn::found_none() {
+    const Devices before = given_;
+    found(*before);
 }
 
 void StandIn::abort() {
@@ -436,22 +545,26 @@ void StandIn::abort() {
         record(controller_, "call", "abort");
         close(true);
     }
+    pass_on();
 }
 
-void StandIn::end() {
+void StandIn::end() noexcept {
     record(controller_, "call", "close");
     close(false);
+    if (!is_within_ && std::exchange(thrown_, nullptr)) {
+        tell(name(), Level::Warn, "a client's callback has thrown an exception at the controller's end");
+    }
 }
 
 // All callbacks of discoveries, in the order of their calls. No later answer runs one of them.
-std::vector<RDMDiscoveryCallback *> StandIn::taken_callbacks() {
-    std::vector<RDMDiscoveryCallback *> all;
-    for (auto &each : discoveries_) {
-        const auto callbacks = std::exchange(each.callbacks, {});
-        all.insert(all.end(), callbacks.begin(), callbacks.end());
+std::list<StandIn::Asked> StandIn::taken_callbacks() {
+    std::list<Asked> all;
+    for (auto *discoveries : {&discoveries_, &waiting_}) {
+        for (auto &each : *discoveries) {
+            all.splice(all.end(), each.asked);
+        }
     }
-    const auto waiting = std::exchange(waiting_, {}).callbacks;
-    all.insert(all.end(), waiting.begin(), waiting.end());
+    waiting_.clear();
     return all;
 }
 
@@ -461,9 +574,9 @@ void StandIn::close(bool answers_discoveries) {
     forget();
     run_.held_step = nullptr;
     within([=] {
-        const auto callbacks = taken_callbacks();
+        const auto asked = taken_callbacks();
         if (answers_discoveries) {
-            run(callbacks, UIDSet());
+            run(asked, UIDSet());
         }
         core_.close();
         if (core_.awaits()) {

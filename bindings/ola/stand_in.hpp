@@ -3,8 +3,10 @@
 #include "below.hpp"
 #include "run_log.hpp"
 #include <atomic>
-#include <deque>
+#include <exception>
 #include <functional>
+#include <list>
+#include <memory>
 #include <optional>
 #include <thread>
 
@@ -12,7 +14,8 @@ namespace stand_in {
 
 // Calls are made one at a time, but OLA makes and ends objects on another thread than it uses them on. Each callback
 // runs once, within the layer's call that brings the answer. But as in OLA, no callback of a discovery runs from `end`,
-// since what it belongs to may be gone by then. Callbacks may call this object, and may end it.
+// since what it belongs to may be gone by then. Callbacks may call this object, and may end it. What a callback throws
+// passes through when everything else is done. What the layer below throws counts as a frame that wasn't sent.
 class StandIn : public std::enable_shared_from_this<StandIn>, private Below {
 public:
     StandIn(ola::rdm::RDMControllerInterface *lower, unsigned int places);
@@ -28,8 +31,9 @@ public:
     void abort();
     // The same if the layer below is about to answer what is under way.
     void expect_abort() { is_aborted_ = true; }
-    // Runs the callbacks of all outstanding requests, and no others, without a call of the layer below.
-    void end();
+    // Runs the callbacks of all outstanding requests, and no others, without a call of the layer below. What they throw
+    // is dropped, since a destructor calls this.
+    void end() noexcept;
 
 private:
     // A client's request, until its result.
@@ -45,27 +49,42 @@ private:
         ola::rdm::RDMStatusCode status = ola::rdm::RDM_COMPLETED_OK;
     };
 
+    // A discovery's callback, which runs on no other thread than that which asked for it.
+    struct Asked {
+        ola::rdm::RDMDiscoveryCallback *callback;
+        std::thread::id thread;
+    };
+
     // Discoveries that are answered together.
     struct Discoveries {
         wurst_kind kind = WURST_INCREMENTAL;
-        std::vector<ola::rdm::RDMDiscoveryCallback *> callbacks;
+        std::list<Asked> asked;
         // Its first run failed by a late answer alone.
         bool is_repeated = false;
     };
+
+    // Lists, whose elements move from one to the other without memory.
+    using Requests = std::list<Request>;
+    using DiscoveryList = std::list<Discoveries>;
+    using Devices = std::shared_ptr<const ola::rdm::UIDSet>;
 
     void heard(const Heard &heard, const ola::rdm::RDMReply *reply) override;
     void handed_back(ola::rdm::RDMReply *reply) override;
     void checked(const Heard &heard) override;
     void check_more() override;
     void found(const ola::rdm::UIDSet &devices) override;
+    void found_none() override;
+    void pass_on() override;
     std::shared_ptr<void> kept() override { return shared_from_this(); }
 
     template <typename Work> void within(Work work);
+    template <typename Work> void keep_thrown(Work work) noexcept;
     void pump();
     bool send_next();
     void begin_run();
     bool is_handed_down_next() const;
     void continue_run(const wurst::Frame &frame, bool is_first);
+    void check_line();
     void deliver(const Heard &heard);
     void give(wurst::Bytes bytes);
     void fail(const char *why);
@@ -75,13 +94,16 @@ private:
     void proceed(std::function<void()> step);
     void send_held();
     void collect();
-    void finish(const wurst::Completion &done);
-    void answer(const wurst::Discovery &done);
-    bool repeat(const wurst::Discovery &done);
+    void finish(const wurst::CompletionView &done);
+    void answer(const wurst::DiscoveryView &done);
+    bool repeat(const wurst::DiscoveryView &done);
+    Devices devices_to_give(const wurst::DiscoveryView &done);
+    void tell_fault(const wurst::DiscoveryView &done, const ola::rdm::UIDSet &devices) noexcept;
     void answer_oldest(const ola::rdm::UIDSet &devices);
-    void run(const std::vector<ola::rdm::RDMDiscoveryCallback *> &callbacks, const ola::rdm::UIDSet &devices);
-    bool ask(const Discoveries &discoveries);
-    std::vector<ola::rdm::RDMDiscoveryCallback *> taken_callbacks();
+    void run(const std::list<Asked> &asked, const ola::rdm::UIDSet &devices);
+    bool ask(DiscoveryList &one);
+    void wait(DiscoveryList &one);
+    std::list<Asked> taken_callbacks();
     void close(bool answers_discoveries);
     void refuse(ola::rdm::RDMCallback *callback, const char *why);
     void introduce(bool discovers);
@@ -106,17 +128,23 @@ private:
     const std::uint8_t places_;
     wurst::Controller core_;
     const wurst::Controller::Client client_;
+    // What the core's outcomes are written into, so that collecting one needs no memory.
+    const std::unique_ptr<std::uint8_t[]> data_;
+    const std::unique_ptr<wurst_device[]> forms_;
     // The core's requests, and those that are handed down, each in order.
-    std::deque<Request> requests_;
-    std::deque<Request> handed_;
+    Requests requests_;
+    Requests handed_;
     std::uint64_t requests_made_ = 0;
-    // Discoveries that the core or the adapter has begun or queued, and those that wait until they can be passed on.
-    std::deque<Discoveries> discoveries_;
-    Discoveries waiting_;
-    // OLA's thread, which asks for discoveries.
-    std::thread::id asked_on_;
+    // Discoveries that the core or the adapter has begun or queued, and those that wait until they can be passed on,
+    // which are answered together.
+    DiscoveryList discoveries_;
+    DiscoveryList waiting_;
+    // What OLA was given last. It gets that again if there is no memory for what was found.
+    Devices given_;
     Run run_;
     RunLog run_log_;
+    // The first exception of a client's callback that isn't passed on yet.
+    std::exception_ptr thrown_;
     const char *failure_ = nullptr;
     std::uint64_t run_told_ = 0;
     Clock::time_point paused_{};

@@ -258,9 +258,10 @@ static void keeps_what_was_collected() {
         CHECK(answer.completion.data == lamp && answer.queued.size() == kept);
         CHECK(kept < 1 || answer.queued[0].data == Data(4));
         CHECK(kept < 2 || answer.queued[1].data == lamp);
-        // The request that failed, after the one from before.
-        CHECK(answer.earlier.size() == 2 && std::get<wurst::Completion>(answer.earlier[0]).head.pid == hours);
-        CHECK(std::get<wurst::Completion>(answer.earlier[1]).status() == WURST_FAILED_TO_SEND);
+        // How the label's request ended, and the request that failed, after the one from before.
+        CHECK(answer.earlier.size() == 3 && std::get<wurst::Completion>(answer.earlier[0]).head.pid == hours);
+        CHECK(std::get<wurst::Completion>(answer.earlier[1]).head.ack == WURST_ACK_TIMER);
+        CHECK(std::get<wurst::Completion>(answer.earlier[2]).status() == WURST_FAILED_TO_SEND);
         const auto next = asker.get(device, label);
         CHECK(next.queued.empty() && next.earlier.empty());
     }
@@ -296,7 +297,8 @@ static void hands_over_what_was_collected() {
         CHECK(false);
     } catch (const wurst::Unserved &unserved) {
         CHECK(unserved.queued.size() == 2 && unserved.queued[1].data == lamp);
-        CHECK(unserved.earlier.size() == 1);
+        CHECK(unserved.earlier.size() == 2);
+        CHECK(std::get<wurst::Completion>(unserved.earlier[1]).head.ack == WURST_ACK_TIMER);
     }
 }
 

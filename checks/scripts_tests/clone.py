@@ -12,7 +12,7 @@ from typing import Callable, Iterator, List, Sequence
 
 ROOT = Path(__file__).resolve().parents[2]
 SCRIPTS = ("wurstlinen", "rdm_port", "tools", "VERSION", "HANDLES", "bindings/c", "bindings/cpp",
-           "bindings/python/wurstlinen", "bindings/examples", "bindings/packages",
+           "bindings/python/wurstlinen", "bindings/examples", "bindings/packages", "bindings/rust",
            "bindings/README.md", "bindings/python/ADAPTER.md", "bindings/python/COMMANDS.md",
            "bindings/python/LINES.md", "docs/FORMATS.md", "crates/rdm_arguments/src")
 CRATES = "rdm_arguments:\nrdm_wire:\nwurstlinen: rdm_arguments rdm_wire\nrdm_c staticlib: rdm_arguments\n"
@@ -29,6 +29,14 @@ case "$1 $crate" in
 esac
 {more}
 """
+# Cargo, which notes its calls and builds that program, and rustc.
+CARGO = """#!/bin/sh
+[ "$1" != --version ] || {{ echo "cargo {version}"; exit; }}
+echo "$PWD $*" >> "{calls}"
+{more}
+mkdir -p target/release && printf '%s' '{program}' > target/release/wurstlinen && chmod +x target/release/wurstlinen
+"""
+RUSTC = '#!/bin/sh\necho "rustc 1.99.0 (of the tests)"\n'
 # A busy machine may need long. Only a test that fails waits until then.
 SECONDS = 120
 
@@ -47,6 +55,8 @@ class Clone:
             (self.root / "crates" / crate / "src/lib.rt").write_text("pub fn one() {}\n")
         self.bin.mkdir()
         self.put_rt("")
+        # A cargo of the machine isn't used.
+        self.put("cargo", "#!/bin/sh\nexit 1\n")
         self.environment = {**os.environ, "PATH": f"{self.bin}:/usr/bin:/bin", "PYTHONDONTWRITEBYTECODE": "1"}
 
     def _copy(self, name: str) -> None:
@@ -59,12 +69,20 @@ class Clone:
 
     def put_rt(self, more: str) -> None:
         """The stand-in for rt, which also runs these commands."""
-        text = RT.format(calls=self.calls, program=PROGRAM, archive=self.archive, more=more)
-        (self.bin / "rt").write_text(text)
-        (self.bin / "rt").chmod(0o755)
+        self.put("rt", RT.format(calls=self.calls, program=PROGRAM, archive=self.archive, more=more))
+
+    def put_cargo(self, more: str = "", version: str = "1.99.0 (of the tests)") -> None:
+        """The stand-ins for cargo, which also runs these commands, and for rustc."""
+        self.put("cargo", CARGO.format(calls=self.calls, program=PROGRAM, version=version, more=more))
+        self.put("rustc", RUSTC)
+
+    def put(self, name: str, text: str) -> None:
+        """A command of the clone's user."""
+        (self.bin / name).write_text(text)
+        (self.bin / name).chmod(0o755)
 
     def rt_calls(self) -> List[str]:
-        """The calls of rt so far."""
+        """The calls of rt and cargo so far."""
         return self.calls.read_text().splitlines() if self.calls.exists() else []
 
     def run(self, *command: str, **options: object) -> "subprocess.CompletedProcess[str]":

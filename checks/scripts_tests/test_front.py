@@ -425,11 +425,9 @@ class Repository(unittest.TestCase):
         self.assertEqual(self.clone.rt_calls(), [])
 
     def test_words_are_checked_without_an_effect(self) -> None:
-        note, rows = self.clone.folder / "note", self.clone.folder / "rows"
-        rig = f"--line=rig:{FIXTURES}"
-        for words in (["fixtures", "--line", f"exec:touch {note}"], ["apply", str(rows), f"--line=rig:{FIXTURES}"],
-                      ["check", str(rows), f"--line=rig:{FIXTURES}", "--log", str(note)], ["apply", "-", rig],
-                      ["save", str(rows), f"--line=rig:{FIXTURES}"], ["save", str(note), f"--line=rig:{FIXTURES}"],
+        note, rows, rig = self.clone.folder / "note", self.clone.folder / "rows", f"--line=rig:{FIXTURES}"
+        for words in (["fixtures", "--line", f"exec:touch {note}"], ["apply", str(rows), rig], ["apply", "-", rig],
+                      ["check", str(rows), rig, "--log", str(note)], ["save", str(rows), rig], ["save", str(note), rig],
                       ["fixtures", "--line", f"text:{rows}"], ["fixtures", "--line", f"rig:{rows}"],
                       ["explain", str(FIXTURES), "--page", str(note)]):
             if not rows.exists():

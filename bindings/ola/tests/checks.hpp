@@ -123,6 +123,8 @@ void test_lines();
 void test_settings();
 void test_threads();
 void test_wild_layers();
+void test_moments();
+void test_own();
 void test_length(unsigned long requests);
 
 // How many blocks of the C library's heap are allocated, and whether allocations fail.

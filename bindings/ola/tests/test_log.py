@@ -278,9 +278,13 @@ def check_version(checks: Checks, files: Files) -> None:
     with start(files, scene) as daemon:
         checks.check("wurstlinen: the library: built for OLA " in daemon.messages, "the version isn't told")
         checks.check("but this is OLA" not in daemon.messages, "the same version is taken for another")
-    with start(files, scene, TEST_REVISION="99") as daemon:
-        checks.check("but this is OLA 0.10.99: build it again" in daemon.messages, "another version isn't told")
+    with start(files, scene, TEST_REVISION="99", WURSTLINEN_LOG="FOLDER/log") as daemon:
+        told = "but this is OLA 0.10.99: OLA's own controllers are used"
+        checks.check(daemon.messages.count(told) == 1, "another version isn't told")
         checks.check(daemon.discover(True) == uids_of(scene), "a discovery with another version")
+        checks.check(not (daemon.folder / "log").exists(), "OLA's own controllers aren't used")
+        status, text = script(str(daemon.pid))
+        checks.check(status == HAS_NONE and told in text, f"--check-ola, another version: {status} {text}")
 
 
 def script(*words: str, user: Optional[str] = None) -> Tuple[int, str]:

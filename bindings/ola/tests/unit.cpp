@@ -64,6 +64,8 @@ int main(int, char **arguments) {
     tests::test_lines();
     tests::test_threads();
     tests::test_wild_layers();
+    tests::test_moments();
+    tests::test_own();
     tests::forget_messages();
     const std::size_t before = tests::heap_bytes();
     CHECK(tests::blocks == 0);

@@ -10,6 +10,9 @@
             print(device.uid)
 """
 
+import importlib as _importlib
+from typing import TYPE_CHECKING as _TYPE_CHECKING, Any as _Any
+
 from ._faults import (
     AlreadyOpen, BadClass, BadKind, BadPreamble, BadRange, BadResponseType, BadSearch, BadUid, BroadcastUid,
     BufferTooSmall, Closed, DataTooLong, Fault, Full, HasEnded, InvalidClass, InvalidResponseType, LengthMismatch,
@@ -26,13 +29,28 @@ from ._types import (
 from ._wire import (
     decode_response, encode_branch, encode_mute, encode_mute_ack, encode_request, encode_response, encode_unmute,
     read_branch_reply, read_command, read_mute_ack, write_branch_reply)
-from . import entries
 from ._ask import Answer, Asker, Unserved
 from ._queue import Client, Controller
-from ._session import Log, Page, Session
-from ._agent import DiscoveryAgent
 from .line import Line, LineFailed
+
+if _TYPE_CHECKING:
+    from . import entries
+    from ._agent import DiscoveryAgent
+    from ._session import Log, Page, Session
 
 __version__ = "0.1.0"
 
-__all__ = sorted(name for name in globals() if not name.startswith("_"))
+# What the commands don't need, and is loaded when it is first used.
+_MODULES = {"DiscoveryAgent": "_agent", "Log": "_session", "Page": "_session", "Session": "_session"}
+
+__all__ = sorted({*(name for name in globals() if not name.startswith("_")), *_MODULES, "entries"})
+
+
+def __getattr__(name: str) -> _Any:
+    """Loads the module of a name when the name is first used."""
+    if name == "entries":
+        return _importlib.import_module(".entries", __name__)
+    if name not in _MODULES:
+        raise AttributeError(f"module {__name__!r} has no attribute {name!r}")
+    found = globals()[name] = getattr(_importlib.import_module(f".{_MODULES[name]}", __name__), name)
+    return found

@@ -84,7 +84,7 @@ class Answer:
 
 
 class Kept:
-    """What was collected and isn't handed out yet, oldest first. All of it is one list, which is emptied in one step."""
+    """What was collected and isn't handed out yet, oldest first. It is one list, which is emptied in one step."""
 
     def __init__(self) -> None:
         self.outcomes: List[Outcome] = []

@@ -14,13 +14,13 @@ import sys
 from typing import TYPE_CHECKING, Optional, Sequence, TextIO, Tuple
 
 from .line import Line, LineFailed
-from .lines import OpenLine, open_line, serve_text
-from .lines.emulator import Emulator, Widget
+from .lines import open_line
 from .lines.opening import FORMS
 from .lines.packets import is_broadcast, parse_uid, uid_text
 
 if TYPE_CHECKING:
     from . import Completion, Device, RunFault
+    from .lines import OpenLine
 
 DONE = 0
 FAILED = 1
@@ -211,6 +211,7 @@ def run_request(chosen: argparse.Namespace, is_set: bool) -> int:
 
 def run_bridge(chosen: argparse.Namespace) -> int:
     """Serves frames until standard input ends."""
+    from .lines import serve_text
     with open_line(chosen.line, chosen.seconds) as line:
         try:
             serve_text(line)
@@ -223,6 +224,7 @@ def run_bridge(chosen: argparse.Namespace) -> int:
 
 def run_rig(chosen: argparse.Namespace) -> int:
     """Emulates an adapter until it is interrupted."""
+    from .lines.emulator import Emulator, Widget
     if (chosen.file is None) == (chosen.line is None):
         chosen.error("one of FILE and --line is required")
     text = chosen.line or f"rig:{chosen.file}"

@@ -43,10 +43,11 @@ pub fn tape(alloc: Global, devices: &UidSet) -> Option<Vec<Taped>> {
 
 // What an agent hears of it.
 fn heard_of(alloc: Global, tape: &[Taped]) -> Option<Vec<OpReply>> {
-    tape.iter()
-        .map(|taped| taped.heard())
-        .collect::<Vec<OpReply>>(alloc)
-        .ok()
+    let mut heard = Vec::with_capacity(alloc, tape.len()).ok()?;
+    for taped in tape {
+        heard.push(taped.heard()).ok()?;
+    }
+    Some(heard)
 }
 
 // Runs over these devices that may make this many exchanges, and what they hear.

@@ -1,5 +1,6 @@
 // Settings that can be used and those that can't, and the messages about them.
 #include "../../journal.hpp"
+#include "../../own.hpp"
 #include "../../settings.hpp"
 #include "support.hpp"
 
@@ -35,7 +36,7 @@ void test_absent() {
         const Settings found = read_with((std::string("WURSTLINEN_") + name).c_str(), "");
         CHECK(messages().empty() && found.is_proved_discovery && found.search == WURST_QUICK);
         CHECK(found.budget == WURST_DEFAULT_BUDGET && found.seconds == 0);
-        CHECK(found.log.empty() && found.runs.empty() && found.log_bytes == 0);
+        CHECK(found.log.empty() && found.runs.empty() && found.log_bytes == 100000000);
     }
 }
 
@@ -45,6 +46,7 @@ void test_good() {
     CHECK(read_with("WURSTLINEN_BUDGET", "18446744073709551615").budget == UINT64_MAX && messages().empty());
     CHECK(read_with("WURSTLINEN_SECONDS", "1").seconds == 1 && messages().empty());
     CHECK(read_with("WURSTLINEN_SECONDS", "86400").seconds == MOST_SECONDS && messages().empty());
+    CHECK(read_with("WURSTLINEN_LOG_MB", "0").log_bytes == 0 && messages().empty());
     CHECK(read_with("WURSTLINEN_LOG_MB", "1").log_bytes == 1000000 && messages().empty());
     CHECK(read_with("WURSTLINEN_LOG_MB", "1000000").log_bytes == 1000000000000 && messages().empty());
     CHECK(read_with("WURSTLINEN_LOG", "/a/log").log == "/a/log" && messages().empty());
@@ -62,8 +64,8 @@ void test_bad() {
         CHECK(read_with("WURSTLINEN_SECONDS", value).seconds == 0);
         CHECK(is_only_warning("WURSTLINEN_SECONDS=" + value + ": it is a number of seconds"));
     }
-    for (const std::string value : {"0", "1000001", "1k"}) {
-        CHECK(read_with("WURSTLINEN_LOG_MB", value).log_bytes == 0);
+    for (const std::string value : {"-1", "1000001", "1k"}) {
+        CHECK(read_with("WURSTLINEN_LOG_MB", value).log_bytes == 100000000);
         CHECK(is_only_warning("WURSTLINEN_LOG_MB=" + value + ": it is a number of megabytes"));
     }
 }
@@ -93,7 +95,7 @@ void test_messages() {
 // The first call says which OLA the library was built for.
 void test_version() {
     forget_messages();
-    CHECK(stand_in::settings().log.empty() && stand_in::settings().seconds == 0);
+    CHECK(stand_in::may_replace() && stand_in::may_replace());
     CHECK(messages().size() == 1 && messages_with("INFO ") == 1);
     CHECK(messages_with("built for OLA " + ola::base::Version::GetVersion()) == 1);
 }

@@ -39,11 +39,13 @@ FIRMWARES = ((2, 4), (4, 15))
 
 
 class TestCase(unittest.TestCase):
-    """A test that takes a minute at most."""
+    """A test that takes a minute at most, or what its class says."""
+
+    seconds = SECONDS
 
     def run(self, result: Any = None) -> Any:
         before = signal.signal(signal.SIGALRM, _too_long)
-        signal.alarm(SECONDS)
+        signal.alarm(self.seconds)
         try:
             return super().run(result)
         finally:
@@ -51,8 +53,14 @@ class TestCase(unittest.TestCase):
             signal.signal(signal.SIGALRM, before)
 
 
+class LongTestCase(TestCase):
+    """A test of very many trials."""
+
+    seconds = 5 * SECONDS
+
+
 def _too_long(number: int, frame: Optional[FrameType]) -> None:
-    raise TimeoutError(f"the test takes more than {SECONDS} seconds")
+    raise TimeoutError("the test takes too long")
 
 
 def discoveries_of_examples() -> Iterator[Tuple[Path, List[str], str]]:

@@ -1,6 +1,7 @@
 """Exceptions at the worst moments: at each line of the package that a call runs."""
 from __future__ import annotations
 
+import itertools
 import os
 import sys
 import threading
@@ -32,13 +33,15 @@ class Moment:
 
 
 class Trace:
-    """Counts the lines of the package that this thread runs, and raises a fault at a moment."""
+    """Counts the package's lines that this thread runs, and raises a fault, or does something else, at a moment."""
 
-    def __init__(self, at: Optional[Moment] = None, fault: Type[BaseException] = KeyboardInterrupt) -> None:
+    def __init__(self, at: Optional[Moment] = None, fault: Type[BaseException] = KeyboardInterrupt,
+                 action: Optional[Callable[[], Any]] = None) -> None:
         self.times: "Counter[Tuple[str, int]]" = Counter()
         self.is_raised = False
         self._at = at
         self._fault = fault
+        self._action = action
 
     def run(self, call: Callable[[], Any]) -> Any:
         """The result of a call."""
@@ -56,38 +59,44 @@ class Trace:
             place = frame.f_code.co_filename, frame.f_lineno
             self.times[place] += 1
             if self._at == Moment(*place, self.times[place]):
-                self.is_raised = True
                 sys.settrace(None)
-                raise self._fault(str(self._at))
+                self._act()
+                return None
         return self._ran
+
+    def _act(self) -> None:
+        if self._action is not None:
+            self._action()
+            return
+        self.is_raised = True
+        raise self._fault(str(self._at))
 
     def moments(self) -> List[Moment]:
         """The first and the last time of each line."""
-        return [Moment(*place, time) for place, count in self.times.items() for time in sorted({1, count})]
+        return [Moment(*place, time) for place, count in self.times.items() for time in (1, count)]
 
 
 class Trial(Generic[Scene]):
-    """A call in a scene of its own, with an exception at each moment.
+    """A call in a scene of its own, with an interrupt at the first time of each line, and another fault at the last.
 
     `check` gets the scene and what the call returned, as a list; it is empty if the call raised the exception.
     """
 
-    def __init__(self, make: Callable[[], Scene], call: Callable[[Scene], Any], check: Callable[[Scene, List[Any]], None],
-                 end: Callable[[Scene], None] = lambda scene: None) -> None:
+    def __init__(self, make: Callable[[], Scene], call: Callable[[Scene], Any],
+                 check: Callable[[Scene, List[Any]], None], end: Callable[[Scene], None] = lambda scene: None) -> None:
         self._make, self._call, self._check, self._end = make, call, check, end
 
-    def run(self, faults: Sequence[Type[BaseException]] = FAULTS) -> int:
+    def run(self) -> int:
         """Makes all trials, and returns how many. Raises AssertionError with the moment of one that failed."""
         trace = Trace()
         self._try(trace)
         moments = trace.moments()
-        for moment in moments:
-            for fault in faults:
-                try:
-                    self._try(Trace(moment, fault))
-                except Exception as why:
-                    raise AssertionError(f"after {fault.__name__} at {moment}: {why!r}") from why
-        return len(moments) * len(faults)
+        for moment, fault in zip(moments, itertools.cycle(FAULTS)):
+            try:
+                self._try(Trace(moment, fault))
+            except Exception as why:
+                raise AssertionError(f"after {fault.__name__} at {moment}: {why!r}") from why
+        return len(moments)
 
     def _try(self, trace: Trace) -> None:
         before = held()

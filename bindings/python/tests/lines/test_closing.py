@@ -134,7 +134,7 @@ class Adapters(TestCase):
     def test_an_emulator_whose_driver_does_not_read(self) -> None:
         before = held()
         with Emulator(ListLine(*[bytes(257)] * 100), Widget()) as emulator:
-            with open(emulator.path, "wb", 0, opener=lambda path, flags: os.open(path, os.O_RDWR | os.O_NOCTTY)) as driver:
+            with open(emulator.path, "wb", 0, opener=lambda path, _: os.open(path, os.O_RDWR | os.O_NOCTTY)) as driver:
                 for _ in range(100):
                     driver.write(b"\x7e\x07" + len(FRAME).to_bytes(2, "little") + FRAME + b"\xe7")
                 Waiting(emulator.wait)

@@ -275,8 +275,8 @@ class WithoutProof(TestCase):
             environment = {**os.environ, "PATH": f"{directory}:{os.environ['PATH']}"}
             for option, words in (("--line", ["--line", "out"]), ("--line", ["--line=out"]), ("--log", ["--log=l"])):
                 arguments = ["discover", "--source", UIDS[0], *words]
-                result = subprocess.run([str(directory / "wurstlinen"), "--unproved", *arguments], capture_output=True,
-                                        text=True, env=environment, check=False)
+                command = [str(directory / "wurstlinen"), "--with", "kit", "--unproved", *arguments]
+                result = subprocess.run(command, capture_output=True, text=True, env=environment, check=False)
                 self.assertEqual((result.returncode, result.stdout), (125, ""))
                 proved = " ".join([str(directory / "wurstlinen"), *arguments])
                 reason = f"an unproved run can't use {option}; the proved one can: {proved}"

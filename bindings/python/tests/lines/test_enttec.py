@@ -46,7 +46,7 @@ class Meeting(TestCase):
             self.assertEqual(driver.source, 0x454E01020304)
             self.assertEqual(repr(driver), f"EnttecPro('{script.path}': firmware 2.4, 454e:01020304)")
         self.assertEqual([message.encode().hex() for message in script.sent],
-                         ["7e0a0000e7", "7e03020000" "00e7", "7e4d0000e7"])
+                         ["7e0a0000e7", "7e4d0000e7", "7e03020000" "00e7"])
 
     def test_firmware_below_2_4_has_no_rdm(self) -> None:
         for firmware in ((1, 44), (2, 3)):

@@ -480,6 +480,19 @@ class Processes(TestCase):
         return subprocess.run([*COMMAND, *arguments], stdout=stdout or subprocess.PIPE, stderr=subprocess.PIPE,
                               env=ENVIRONMENT, check=False)
 
+    def test_a_command_loads_what_it_needs(self) -> None:
+        code = ("import sys; from wurstlinen.tool import main; main(sys.argv[1:]); "
+                "print(' '.join(name for name in sys.modules))")
+        for words in (["pids", "device_label"], ["get", LEFT, "device_label", "--line", "enttec:/nowhere"]):
+            done = subprocess.run([sys.executable, "-c", code, *words], stdout=subprocess.PIPE, env=ENVIRONMENT,
+                                  stderr=subprocess.DEVNULL, check=False, encoding="utf-8")
+            loaded = set(done.stdout.splitlines()[-1].split())
+            self.assertIn("wurstlinen.front.main", loaded)
+            rest = {"rig", "scene", "text", "emulator"}
+            self.assertEqual(loaded & {*(f"wurstlinen.lines.{name}" for name in rest), "wurstlinen.front.page",
+                                       "wurstlinen.tool.serving", "wurstlinen.entries", "wurstlinen.front.csv_files"},
+                             set())
+
     def test_a_reader_that_is_gone(self) -> None:
         reading, writing = os.pipe()
         os.close(reading)

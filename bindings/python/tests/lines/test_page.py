@@ -126,7 +126,7 @@ class Frames(TestCase):
             self.assertEqual(found.text, answer_text(command.encode(), reply))
 
     def test_only_an_acknowledgement_of_the_frame_is_shown_as_one(self) -> None:
-        # By E1.20, of a mute: from the muted device to the controller, with the frame's number, and 2 or 8 bytes.
+        # A mute is acknowledged by a packet from the muted device to the controller, with its number and 2 or 8 bytes.
         mute = Packet(parse_uid(LEFT), 1, 7, 1, 0, 0, 0x10, 2)
         right = mute.answer(parse_uid(LEFT), ResponseType.ACK, b"\0\0")
         get = Packet(parse_uid(LEFT), 1, 7, 1, 0, 3, 0x20, 0x82)

@@ -9,8 +9,9 @@ from typing import Any, Dict
 
 from browser import Page, browser, needs_chromium
 from common import TestCase, folder, scene
-from page_logs import FEW_CLIENTS, discovered, long_log, session_of
+from page_logs import DISCOVERY_OPENING, FEW_CLIENTS, SOURCE, discovered, exchange_line, long_log, session_of
 from wurstlinen.front import page
+from wurstlinen.lines.packets import ALL_DEVICES, Packet
 
 LEFT, SILENT = "1234:00000001", "1234:00000009"
 MANY = 100_000
@@ -38,6 +39,7 @@ COLOURS = """(() => {{
 }})()"""
 INK = "27,31,36"
 BLUE = "0,114,178"
+RED = "213,94,0"
 SERVED = "51,82,122"
 WAITING = "201,217,234"
 
@@ -121,6 +123,14 @@ class Shown(TestCase):
         y = self.page.value("topOfRow(1) + size.row / 2 - view.scrollTop")
         ring = self.colours(self.page.value("xOf(8) + size.width / 2") - 9, y - 9, 18, 18)
         self.assertGreater(ring.get(INK, 0), 40)
+
+    def test_an_unmute_that_failed(self) -> None:
+        frame = Packet(ALL_DEVICES, SOURCE, 0, 1, 0, 0, 0x10, 3).encode()
+        log = DISCOVERY_OPENING + exchange_line(0, "unmute", frame, b"") + exchange_line(1, "unmute", frame, None)
+        self.page.open(written(self.place, log, "discovery: x", "exchange 1 failed: y"))
+        for at, has_failed in ((0, False), (1, True)):
+            found = self.colours(self.page.value(f"xOf({at})"), 60, 20, 100)
+            self.assertEqual(found.get(RED, 0) > 300, has_failed)
 
     def test_keys_and_sizes(self) -> None:
         self.page.open(written(self.place, discovered(scene(devices=[{"uid": LEFT}])), *FINDINGS))

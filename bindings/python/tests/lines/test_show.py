@@ -138,11 +138,10 @@ class Show(OneRig):
 
     def test_lines_that_fail(self) -> None:
         self.scene({"uid": LEFT}, fails=[3])
-        self.assertEqual(self.run_command("show")[::2], (1, "wurstlinen: the discovery ended early: the rig's file lets "
-                                                            "this exchange fail\n"))
+        fails = "the rig's file lets this exchange fail\n"
+        self.assertEqual(self.run_command("show")[::2], (1, f"wurstlinen: the discovery ended early: {fails}"))
         self.scene({"uid": LEFT}, fails=[3])
-        self.assertEqual(self.run_command("show", LEFT), (1, f"{LEFT}\n", "wurstlinen: the rig's file lets this exchange "
-                                                                          "fail\n"))
+        self.assertEqual(self.run_command("show", LEFT), (1, f"{LEFT}\n", f"wurstlinen: {fails}"))
         self.assertEqual(self.run_command("show", "ffff:ffffffff")[0], 2)
 
 

@@ -3,8 +3,6 @@ from __future__ import annotations
 
 import contextlib
 import json
-import subprocess
-import tempfile
 from pathlib import Path
 from typing import Callable, Dict, Iterator, Optional, Sequence
 
@@ -66,6 +64,8 @@ def sink_of(name: Optional[str]) -> Iterator[Optional[Sink]]:
 
 def explained(program: Path, lines: Sequence[str], uids: Sequence[Uid]) -> Dict[Uid, str]:
     """What the proved program says of devices that were on the line, by a discovery's log. Raises OSError."""
+    import subprocess
+    import tempfile
     with tempfile.NamedTemporaryFile("w", prefix="wurstlinen.", suffix=".log") as log:
         log.writelines(lines)
         log.flush()

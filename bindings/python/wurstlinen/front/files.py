@@ -4,7 +4,6 @@ from __future__ import annotations
 import contextlib
 import errno
 import os
-import secrets
 import stat
 from typing import Iterator, Optional, TextIO
 
@@ -44,7 +43,7 @@ def file_of(name: str, encoding: str = "utf-8") -> Iterator[NewFile]:
             yield NewFile(file, False)
         return
     path = os.path.realpath(name)
-    made = os.path.join(os.path.dirname(path), f".wurstlinen.{secrets.token_hex(8)}")
+    made = os.path.join(os.path.dirname(path), f".wurstlinen.{os.urandom(8).hex()}")
     # A new file gets the usual mode from the system. Another one is nobody else's until it has the old one's mode.
     mode = NEW_MODE if old is None else PRIVATE_MODE
     try:

@@ -9,7 +9,7 @@ import argparse
 import importlib
 import os
 import sys
-from typing import Any, Callable, Dict, List, NoReturn, Optional, Sequence, Union
+from typing import Any, Callable, Dict, List, Mapping, NoReturn, Optional, Sequence, Union
 
 from .. import commands
 from ..lines.opening import FORMS
@@ -55,7 +55,7 @@ def main(arguments: Optional[Sequence[str]] = None) -> int:
         return run_raw(words)
     try:
         check_command(words)
-        chosen = parser().parse_args(words)
+        chosen = parser(words).parse_args(words)
     except Failure as failure:
         Output("--json" in words).failure(failure)
         return failure.status
@@ -108,12 +108,18 @@ def check_command(words: Sequence[str]) -> None:
         parser().error(f"there is no command '{words[0]}'{hint(words[0], COMMANDS)}")
 
 
-def parser() -> Parser:
+def parser(words: Sequence[str] = ()) -> Parser:
     """The parser of the arguments."""
-    whole = Parser(prog=PROGRAM, description="Finds RDM devices, and reads and changes what they have.")
+    return parser_of(COMMANDS, words, prog=PROGRAM,
+                     description="Finds RDM devices, and reads and changes what they have.")
+
+
+def parser_of(named: Mapping[str, Callable[[Any, str], None]], words: Sequence[str], **keys: Any) -> Parser:
+    """A parser of commands. If the words begin with one, the others aren't made, which would take their time."""
+    whole = Parser(**keys)
     made = whole.add_subparsers(dest="command", required=True, metavar="COMMAND", parser_class=Parser)
-    for name, add in COMMANDS.items():
-        add(made, name)
+    for name in words[:1] if words and words[0] in named else named:
+        named[name](made, name)
     return whole
 
 
@@ -133,16 +139,16 @@ def add_command(made: Any, name: str, text: str, example: str, run_name: str, ne
 
 
 def loaded(run_name: str) -> Runner:
-    """The function of a command, as MODULE.NAME."""
-    module, _, name = run_name.partition(".")
-    found: Runner = getattr(importlib.import_module(f".{module}", __package__), name)
+    """The function of a command, as PACKAGE.MODULE.NAME."""
+    module, _, name = run_name.rpartition(".")
+    found: Runner = getattr(importlib.import_module(f"..{module}", __package__), name)
     return found
 
 
 def add_get(made: Any, name: str) -> None:
     """The arguments of get."""
     command = add_command(made, name, "read parameters of a device, or of all", "get 1234:00000001 device_label",
-                          "requests.run_get")
+                          "front.requests.run_get")
     add_request(command, uid_or_all, "UID|all", "for a parameter that is read by a number, such as a sensor's; then "
                                                 "further parameters")
 
@@ -150,7 +156,7 @@ def add_get(made: Any, name: str) -> None:
 def add_set(made: Any, name: str) -> None:
     """The arguments of set."""
     command = add_command(made, name, "change a parameter of a device", "set 1234:00000001 dmx_start_address 17",
-                          "requests.run_set")
+                          "front.requests.run_set")
     add_request(command, commands.uid, "UID", "the new values; numbers are decimal, or hexadecimal after 0x")
 
 
@@ -172,7 +178,7 @@ def add_request(command: Parser, kind: Callable[[str], Any], name: str, text: st
 def add_identify(made: Any, name: str) -> None:
     """The arguments of identify."""
     command = add_command(made, name, "let a device show which one it is", "identify 1234:00000001 on",
-                          "requests.run_identify")
+                          "front.requests.run_identify")
     command.add_argument("uid", type=commands.uid, nargs="?", metavar="UID")
     command.add_argument("state", nargs="?", choices=("on", "off"), default="on", metavar="on|off")
     command.add_argument("--each", action="store_true", help="step through all devices, by the Enter key")
@@ -181,21 +187,21 @@ def add_identify(made: Any, name: str) -> None:
 def add_pids(made: Any, name: str) -> None:
     """The arguments of pids."""
     command = add_command(made, name, "list the parameters, or explain one", "pids dmx_start_address",
-                          "pids.run_pids", needs_line=False)
+                          "front.pids.run_pids", needs_line=False)
     command.add_argument("name", nargs="?", metavar="NAME", help="a parameter, or a part of names")
 
 
 def add_show(made: Any, name: str) -> None:
     """The arguments of show."""
     command = add_command(made, name, "show all that a device supports, or each device", "show 1234:00000001",
-                          "showing.run_show")
+                          "front.showing.run_show")
     command.add_argument("uid", type=commands.device, nargs="?", metavar="UID", help="each device if absent")
 
 
 def add_fixtures(made: Any, name: str) -> None:
     """The arguments of fixtures."""
     command = add_command(made, name, "list the devices on the line with their addresses and labels", "fixtures",
-                          "fixtures.run_fixtures")
+                          "front.fixtures.run_fixtures")
     add_log(command)
 
 
@@ -208,14 +214,14 @@ def add_log(command: Parser) -> None:
 def add_save(made: Any, name: str) -> None:
     """The arguments of save."""
     command = add_command(made, name, "write the devices' labels, addresses and personalities to a file",
-                          "save rig.csv", "csv_files.run_save")
+                          "save rig.csv", "front.csv_files.run_save")
     command.add_argument("file", metavar="FILE", help="a file of comma-separated values; - is standard output")
 
 
 def add_apply(made: Any, name: str) -> None:
     """The arguments of apply."""
     command = add_command(made, name, "change devices so that they are as a file says", "apply rig.csv --dry-run",
-                          "applying.run_apply")
+                          "front.applying.run_apply")
     command.add_argument("file", metavar="FILE", help="a file as save writes it; - is standard input")
     command.add_argument("--dry-run", action="store_true", help="show the changes, and make none")
     command.add_argument("--force", action="store_true",
@@ -225,7 +231,7 @@ def add_apply(made: Any, name: str) -> None:
 def add_check(made: Any, name: str) -> None:
     """The arguments of check."""
     command = add_command(made, name, "compare the devices on the line with a file", "check rig.csv",
-                          "checking.run_check")
+                          "front.checking.run_check")
     command.add_argument("file", metavar="FILE", help="a file as save writes it; - is standard input")
     add_log(command)
 
@@ -233,7 +239,7 @@ def add_check(made: Any, name: str) -> None:
 def add_patch(made: Any, name: str) -> None:
     """The arguments of patch."""
     command = add_command(made, name, "give the devices of a file addresses without overlaps",
-                          "patch rig.csv --from 1 --order label", "patching.run_patch", needs_line=False)
+                          "patch rig.csv --from 1 --order label", "front.patching.run_patch", needs_line=False)
     command.add_argument("file", metavar="FILE",
                          help="a file as save writes it, which is replaced; - is standard input and output")
     command.add_argument("--from", dest="first", type=slot, required=True, metavar="N", help="the first address")
@@ -244,7 +250,7 @@ def add_patch(made: Any, name: str) -> None:
 
 def add_trace(made: Any, name: str) -> None:
     """The arguments of trace."""
-    command = add_command(made, name, "decode the frames of a log", "trace session.log", "trace.run_trace",
+    command = add_command(made, name, "decode the frames of a log", "trace session.log", "front.trace.run_trace",
                           needs_line=False)
     command.add_argument("file", metavar="FILE", help="what --log has written; - is standard input")
 

@@ -17,10 +17,9 @@ from ..lines.numbers import Pid
 from ..parameters import Misfit, Parameter, Reading, decode, described
 from .discovery_log import DiscoveryLog, Sink
 from .naming import is_manufacturers, known_or_raw, nack_of, raw_parameter, table_of
-from .output import BAD_ARGUMENTS, FAILED, LINE_FAILED, REFUSED, Failure, Output
+from .output import BAD_ARGUMENTS, FAILED, LINE_FAILED, LINE_VARIABLE, REFUSED, Failure, Output
 from .watched import WatchedLine
 
-LINE_VARIABLE = "WURSTLINEN_LINE"
 # More than one command has outstanding.
 PLACES = 4
 

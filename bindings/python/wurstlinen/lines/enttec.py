@@ -27,6 +27,8 @@ SERIAL_NUMBER_TRIES = 2
 SERIAL_NUMBER_SECONDS = 0.9
 # How long the driver waits for the end of an answered exchange until it knows whether the adapter sends one.
 SHORT_SECONDS = 0.1
+# What an adapter sends at once after a message comes in this time. If it is later, the next exchange takes care of it.
+SOON_SECONDS = 0.02
 # After this time without bytes, whole messages are searched for behind an incomplete one.
 QUIET_SECONDS = 0.02
 # The end may have been among damaged bytes, so it isn't awaited longer than this after the last of them.
@@ -164,9 +166,7 @@ class EnttecPro(OpenLine):
         if serial is None:
             raise LineFailed(f"{self.path} doesn't answer as a USB Pro does")
         self.serial = int.from_bytes(serial[:SERIAL_NUMBER_BYTES], "little")
-        parameters = self._ask(Label.PARAMETERS, ANY_USER_MEMORY, LEAST_PARAMETERS_BYTES, self._answer_seconds)
-        self.firmware = (parameters[1], parameters[0]) if parameters else None
-        maker = self._ask_id(Label.MANUFACTURER)
+        maker, self.firmware = self._ask_maker_and_firmware()
         self.source = (maker or ENTTEC) << 32 | self.serial
         if maker == DMXKING:
             self._check_dmxking()
@@ -180,9 +180,31 @@ class EnttecPro(OpenLine):
         if device != DMXKING_WITH_RDM:
             raise LineFailed(f"{self.path} is a DMXking without RDM (device {device})")
 
+    def _ask_maker_and_firmware(self) -> Tuple[Optional[int], Optional[Tuple[int, int]]]:
+        """The maker, which a USB Pro doesn't say, and the firmware.
+
+        An adapter answers one question after the other. So once it has answered the second, none to the first is due.
+        """
+        self._send(Label.MANUFACTURER, b"")
+        self._send(Label.PARAMETERS, ANY_USER_MEMORY)
+        maker = firmware = None
+        end = time.monotonic() + self._answer_seconds
+        while maker is None or firmware is None:
+            message = self._next(end)
+            if message is None:
+                break
+            if message.label == Label.MANUFACTURER and len(message.data) >= ID_BYTES:
+                maker = _id_in(message.data)
+            elif message.label == Label.PARAMETERS and len(message.data) >= LEAST_PARAMETERS_BYTES:
+                firmware = (message.data[1], message.data[0])
+                end = min(end, time.monotonic() + SOON_SECONDS)
+            else:
+                self._note_late_end(message)
+        return maker, firmware
+
     def _ask_id(self, label: Label) -> Optional[int]:
         answer = self._ask(label, b"", ID_BYTES, self._answer_seconds)
-        return int.from_bytes(answer[:ID_BYTES], "little") if answer else None
+        return _id_in(answer) if answer else None
 
     def _ask(self, label: Label, data: bytes, least: int, seconds: float) -> Optional[bytes]:
         """The adapter's answer to a question, with at least this many bytes; None if none comes in time."""
@@ -224,7 +246,7 @@ class EnttecPro(OpenLine):
             reply = message.data[1:MOST_REPLY_BYTES + 1]
             if message.data[0] == GOOD and is_whole_packet(reply):
                 if is_answer(reply, frame):
-                    return self._answered(reply, self._response_ends, end, SHORT_SECONDS)
+                    return self._answered(reply, self._response_ends, end, SOON_SECONDS)
                 # It is late, and the frame's own may follow.
                 end = min(end, time.monotonic() + SHORT_SECONDS)
             kept = kept or reply
@@ -355,6 +377,11 @@ def _may_be_reply(message: Message, is_branch: bool) -> bool:
     if message.label != Label.RECEIVED:
         return False
     return bool(message.data) if is_branch else message.data[1:2] == bytes([START_CODE])
+
+
+def _id_in(answer: bytes) -> int:
+    """The number at the beginning of an answer."""
+    return int.from_bytes(answer[:ID_BYTES], "little")
 
 
 def _belongs(message: Message, is_branch: bool) -> bool:

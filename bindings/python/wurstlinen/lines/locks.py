@@ -10,7 +10,6 @@ import fcntl
 import io
 import os
 import re
-import secrets
 import stat
 from pathlib import Path
 from typing import List, Optional
@@ -138,7 +137,7 @@ class LockFile:
 
     def _aside(self) -> Path:
         """A name that nobody else uses."""
-        aside = self._path.with_name(f".{self._path.name}.{self._process}.{secrets.token_hex(8)}")
+        aside = self._path.with_name(f".{self._path.name}.{self._process}.{os.urandom(8).hex()}")
         self._asides.append(aside)
         return aside
 

@@ -1,13 +1,9 @@
 """Lines by their text, as the option `--line` has it."""
 from __future__ import annotations
 
-import shlex
 from typing import List, Optional
 
 from .base import OpenLine
-from .enttec import EnttecPro
-from .rig import Rig
-from .text import TextLine
 
 FORMS = "enttec:DEVICE, text:FRAMES[,REPLIES], exec:COMMAND or rig:FILE"
 
@@ -28,20 +24,25 @@ def open_line(text: str, seconds: Optional[float] = None) -> OpenLine:
     kind, _, rest = text.partition(":")
     if not rest:
         raise ValueError(f"'{text}' names no line; a line is {FORMS}")
+    # Only the module of this kind is loaded.
     if kind == "enttec":
+        from .enttec import EnttecPro
         return EnttecPro(rest)
-    if kind == "text":
+    if kind == "rig":
+        from .rig import Rig
+        return Rig(rest)
+    if kind in ("text", "exec"):
+        from .text import TextLine
+        if kind == "exec":
+            return TextLine.run(_words(rest), seconds)
         frames, _, replies = rest.partition(",")
         return TextLine.open(frames, replies or None, seconds)
-    if kind == "exec":
-        return TextLine.run(_words(rest), seconds)
-    if kind == "rig":
-        return Rig(rest)
     raise ValueError(f"'{kind}' is no kind of line; a line is {FORMS}")
 
 
 def _words(command: str) -> List[str]:
     """The words of a command."""
+    import shlex
     try:
         words = shlex.split(command)
     except ValueError as error:

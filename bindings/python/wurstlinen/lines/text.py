@@ -221,7 +221,7 @@ def parse_hex(text: bytes) -> Optional[bytes]:
 
 
 def _opened(path: str, flags: int) -> io.FileIO:
-    """Opens a file, which never blocks; a terminal device becomes raw, so that it doesn't echo what is written to it."""
+    """Opens a file that never blocks; a terminal device becomes raw, so that it doesn't echo what is written to it."""
     if flags & os.O_RDWR and stat.S_ISFIFO(os.stat(path).st_mode):
         raise OSError(errno.EINVAL, "a FIFO goes one way, so the replies need another", path)
     flags |= os.O_NOCTTY | os.O_CLOEXEC | os.O_NONBLOCK

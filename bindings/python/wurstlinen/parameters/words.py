@@ -1,7 +1,6 @@
 """Numbers and names as people type them."""
 from __future__ import annotations
 
-import difflib
 import re
 from typing import Iterable
 
@@ -53,5 +52,7 @@ def name_of(word: str) -> str:
 
 def hint(word: str, known: Iterable[str]) -> str:
     """What may have been meant, as the end of a message; nothing if no name is similar."""
+    # Most commands need no hint.
+    import difflib
     similar = difflib.get_close_matches(name_of(word), list(known), n=1)
     return f"; did you mean {similar[0]}?" if similar else ""

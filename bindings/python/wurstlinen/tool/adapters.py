@@ -11,8 +11,7 @@ from dataclasses import dataclass
 from pathlib import Path
 from typing import List, Optional, Tuple
 
-from ..front.output import BAD_ARGUMENTS, DONE, FAILED, Failure, Output
-from ..front.work import LINE_VARIABLE
+from ..front.output import BAD_ARGUMENTS, DONE, FAILED, LINE_VARIABLE, Failure, Output
 from ..line import LineFailed
 from ..lines.enttec import DMXKING, EnttecPro
 from ..lines.terminal import LOCK_FOLDER
@@ -124,8 +123,3 @@ def choose(devices: List[Path]) -> str:
         raise Failure(BAD_ARGUMENTS, f"which adapter? --line LINE or {LINE_VARIABLE} says it: {', '.join(lines)}",
                       reason="line")
     return lines[0]
-
-
-def default_line() -> str:
-    """The line that is used if no argument names one."""
-    return os.environ.get(LINE_VARIABLE) or choose(chips())

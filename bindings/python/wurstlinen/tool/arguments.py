@@ -2,27 +2,21 @@
 from __future__ import annotations
 
 import argparse
-from typing import Any, Callable, Dict
+from typing import Any, Callable, Dict, Sequence
 
 from .. import commands
 from ..front.main import COMMANDS as FRONT_COMMANDS
-from ..front.main import PROGRAM, Parser, add_command
+from ..front.main import PROGRAM, Parser, add_command, parser_of
 from ..front.output import DONE, Output
 from ..lines.opening import FORMS
-from .adapters import run_adapters
-from .doctor import run_doctor
 
 DESCRIPTION = "Finds RDM devices, reads and changes what they have, and works on simulated lines."
 
 
-def parser() -> Parser:
-    """The parser of the arguments of all commands."""
-    whole = Parser(prog=PROGRAM, description=DESCRIPTION,
-                   epilog=f"'{PROGRAM} COMMAND --help' says more; '{PROGRAM} --version' says what was proved")
-    made = whole.add_subparsers(dest="command", required=True, metavar="COMMAND", parser_class=Parser)
-    for name, add in COMMANDS.items():
-        add(made, name)
-    return whole
+def parser(words: Sequence[str] = ()) -> Parser:
+    """The parser of the arguments of all commands, or of the one that the words begin with."""
+    return parser_of(COMMANDS, words, prog=PROGRAM, description=DESCRIPTION,
+                     epilog=f"'{PROGRAM} COMMAND --help' says more; '{PROGRAM} --version' says what was proved")
 
 
 def add_proved(made: Any, name: str, text: str, example: str) -> Parser:
@@ -87,24 +81,23 @@ def add_line(command: Parser) -> None:
 
 def add_adapters(made: Any, name: str) -> None:
     """The arguments of adapters."""
-    command = add_command(made, name, "list the USB adapters that are plugged in", "adapters", "", needs_line=False)
-    command.set_defaults(run=run_adapters)
+    add_command(made, name, "list the USB adapters that are plugged in", "adapters", "tool.adapters.run_adapters",
+                needs_line=False)
 
 
 def add_doctor(made: Any, name: str) -> None:
     """The arguments of doctor."""
-    command = add_command(made, name, "say what is missing on this machine", "doctor", "", needs_line=False)
+    command = add_command(made, name, "say what is missing on this machine", "doctor", "tool.doctor.run_doctor",
+                          needs_line=False)
     # What the script in the repository adds.
     command.add_argument("--also", nargs=2, action="append", default=[], help=argparse.SUPPRESS)
-    command.set_defaults(run=run_doctor)
 
 
 def add_completion(made: Any, name: str) -> None:
     """The arguments of completion."""
-    command = add_command(made, name, "print what completes the commands in a shell", "completion bash", "",
-                          needs_line=False)
+    command = add_command(made, name, "print what completes the commands in a shell", "completion bash",
+                          "tool.arguments.run_completion", needs_line=False)
     command.add_argument("shell", choices=("bash",), metavar="bash")
-    command.set_defaults(run=run_completion)
 
 
 def run_completion(chosen: argparse.Namespace, output: Output) -> int:

@@ -15,10 +15,10 @@ from ..front.output import BAD_ARGUMENTS, FAILED, Failure, Output
 from ..front.page import page_of
 from ..front.page_log import NoLog
 from . import serving
+from .places import NO_PROGRAM
 
 FOLLOWED = 0
 BROKEN = 3
-NO_PROGRAM = 127
 # Where a file is, how long it is, and when it was changed.
 State = Tuple[int, int, int, int, int]
 

@@ -13,12 +13,10 @@ from .._endings import end_by
 from .._standard_streams import mend
 from ..front import main as front
 from ..front.main import run as run_chosen
-from ..front.output import BAD_ARGUMENTS, DONE, FAILED, INTERRUPTED, Failure, Output
-from ..front.work import LINE_VARIABLE
+from ..front.output import BAD_ARGUMENTS, DONE, FAILED, INTERRUPTED, LINE_VARIABLE, Failure, Output
 from ..parameters.words import hint
-from . import arguments, explaining, places, serving
-from .adapters import default_line
-from .explaining import NO_PROGRAM
+from . import arguments, places
+from .places import NO_PROGRAM
 
 VERSION_WORDS = ("version", "--version", "-V")
 HELP_WORDS = ("-h", "--help")
@@ -73,7 +71,7 @@ def main(words: Sequence[str]) -> int:
     if command in arguments.PROVED and not asks_for_help(words):
         return run_proved(list(words))
     if command in arguments.OF_LINES and not asks_for_help(words):
-        return commands.run(arguments.parser().parse_args(words))
+        return commands.run(arguments.parser(words).parse_args(words))
     if command.startswith("-") and command not in HELP_WORDS:
         arguments.parser().error(f"there is no option '{command}'; options come after the command")
     if command and command not in HELP_WORDS and command not in arguments.COMMANDS:
@@ -81,10 +79,19 @@ def main(words: Sequence[str]) -> int:
     if "--raw" in words:
         os.environ[LINE_VARIABLE] = option(words, "--line") or default_line()
         return front(words)
-    chosen = arguments.parser().parse_args(words)
+    chosen = arguments.parser(words).parse_args(words)
     if "line" in chosen and not chosen.line:
         chosen.line = default_line()
     return run_chosen(chosen, Output(chosen.json))
+
+
+def default_line() -> str:
+    """The line that is used if no argument names one. Raises Failure."""
+    line = os.environ.get(LINE_VARIABLE)
+    if line:
+        return line
+    from .adapters import chips, choose
+    return choose(chips())
 
 
 def asks_for_help(words: Sequence[str]) -> bool:
@@ -98,6 +105,8 @@ def run_proved(words: List[str]) -> int:
     program = places.program()
     if program is None:
         return no_program(f"'{words[0]}'")
+    # A command that does without it doesn't load it.
+    from . import serving
     if words[0] == "explain" and place_of(words, PAGE) is not None:
         return run_explain(program, words)
     line = option(words, "--line")
@@ -118,6 +127,7 @@ def run_explain(program: Path, words: List[str]) -> int:
         raise Failure(BAD_ARGUMENTS, f"argument {PAGE}: expected one argument; try 'wurstlinen explain --help'",
                       reason="arguments")
     words = without(words, PAGE)
+    from . import explaining
     files = [words[at] for at, name in parts(words) if not name]
     return explaining.explain(program, words, page, [*files, *filter(None, [option(words, "--rig")])])
 

@@ -2,9 +2,7 @@
 from __future__ import annotations
 
 import os
-import pkgutil
 import re
-import subprocess
 from pathlib import Path
 from typing import Dict, Optional
 
@@ -18,6 +16,8 @@ PROGRAM_BESIDE_FILE = "rdm_port"
 PROGRAM_IN_PACKAGE = "rdm_port"
 LIBRARY_BESIDE_FILE = "../lib/libwurstlinen.so.0"
 UNKNOWN = "unknown"
+# The status without the program, as of a shell that doesn't find a command.
+NO_PROGRAM = 127
 
 
 def one_file() -> Optional[Path]:
@@ -57,6 +57,7 @@ def version_line() -> str:
 
 def proof() -> Dict[str, str]:
     """What an installed package says of itself."""
+    import pkgutil
     try:
         text = (pkgutil.get_data("wurstlinen", "PROOF") or b"").decode()
     except OSError:
@@ -81,6 +82,7 @@ def _text(path: Path) -> str:
 
 
 def _commit(root: Path) -> str:
+    import subprocess
     command = ["git", "-C", str(root), "rev-parse", "HEAD"]
     try:
         done = subprocess.run(command, check=False, stdout=subprocess.PIPE, stderr=subprocess.DEVNULL, text=True)

@@ -40,6 +40,7 @@ pub mod log;
 pub mod past;
 pub mod queue;
 pub mod rattle;
+#[cfg(feature = "std")]
 pub mod scenes;
 #[cfg(feature = "threads")]
 pub mod stand_ins;

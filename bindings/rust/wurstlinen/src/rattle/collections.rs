@@ -1,7 +1,7 @@
 //! Collections whose calls that allocate return a `Result`. Their other calls are those of Rust's.
 //!
 //! Stable Rust can't tell that an insert into a map finds no memory: it aborts the program.
-use super::alloc::{AllocError, Global};
+use super::alloc::{AllocError, AllocFailed, Global};
 use alloc::collections;
 use core::ops::{Deref, DerefMut};
 
@@ -59,6 +59,17 @@ impl<T> VecDeque<T> {
         match queue.0.try_reserve_exact(capacity) {
             Ok(()) => Ok(queue),
             Err(_) => Err(AllocError),
+        }
+    }
+
+    /// Adds an element.
+    pub fn push_back(&mut self, value: T) -> Result<(), AllocFailed<T>> {
+        match self.0.try_reserve(1) {
+            Ok(()) => {
+                self.0.push_back(value);
+                Ok(())
+            }
+            Err(_) => Err(AllocFailed { value }),
         }
     }
 

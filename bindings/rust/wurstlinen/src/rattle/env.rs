@@ -3,6 +3,11 @@ use super::alloc::{AllocError, Global};
 use super::io::{Error, ErrorKind, Result};
 use alloc::string::String;
 
+/// May read the arguments.
+pub trait Env {}
+
+impl<T> Env for T {}
+
 /// Arguments that are text.
 pub struct Args(std::vec::IntoIter<String>);
 

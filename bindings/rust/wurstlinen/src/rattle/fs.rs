@@ -1,5 +1,6 @@
 //! Files. A call is passed the runtime.
 use super::io::{Read, Result, Write};
+use alloc::string::String;
 use std::fs;
 pub use std::fs::Metadata;
 
@@ -22,6 +23,11 @@ pub fn create<R>(_: &R, path: &str) -> Result<File> {
 /// What is at this path.
 pub fn metadata<R>(_: &R, path: &str) -> Result<Metadata> {
     fs::metadata(path)
+}
+
+/// The text of the file at this path.
+pub fn read_to_string<R>(_: &R, path: &str) -> Result<String> {
+    fs::read_to_string(path)
 }
 
 impl File {

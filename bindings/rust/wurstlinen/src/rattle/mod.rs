@@ -7,11 +7,11 @@ pub mod alloc;
 pub mod array_vec;
 pub mod boxed;
 pub mod collections;
-#[cfg(feature = "std")]
+#[cfg(feature = "program")]
 pub mod env;
 #[doc(hidden)]
 pub mod for_c;
-#[cfg(feature = "std")]
+#[cfg(feature = "program")]
 pub mod fs;
 pub mod hex;
 #[cfg(feature = "std")]
@@ -24,6 +24,8 @@ pub mod prelude;
 pub mod process;
 #[cfg(feature = "std")]
 pub mod rt;
+#[cfg(feature = "program")]
+mod stdout;
 #[cfg(feature = "std")]
 pub mod sync;
 #[cfg(feature = "std")]
@@ -36,7 +38,7 @@ pub use core::{cmp, fmt, iter, mem, num, ops, ptr, slice, str};
 #[cfg(feature = "std")]
 pub use std::os;
 
-pub use crate::{eprintln_to, format_in, prove, vec_in};
+pub use crate::{eprintln_to, format_in, println_to, prove, vec_in};
 
 pub mod clone {
     //! Copies that may find no memory.

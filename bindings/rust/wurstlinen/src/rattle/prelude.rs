@@ -3,7 +3,7 @@ pub use super::array_vec::WithAllocator;
 pub use super::clone::Clone;
 pub use super::marker::Drop;
 #[cfg(feature = "std")]
-pub use super::rt::{Eprint, HostRuntime, Print};
+pub use super::rt::{AllocGlobal, Eprint, HostRuntime, Print};
 pub use super::vec::Vec;
 pub use crate::prove;
 pub use alloc::boxed::Box;

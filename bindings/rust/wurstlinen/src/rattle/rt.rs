@@ -1,5 +1,6 @@
 //! The runtime, and what it may do. Here any value may do everything.
 use super::alloc::Global;
+#[cfg(feature = "program")]
 use super::fs::File;
 
 /// May read the clock.
@@ -14,7 +15,14 @@ pub trait Print {}
 /// May do all of it.
 pub trait Runtime {}
 
+/// Has the allocator.
+pub trait AllocGlobal {
+    /// The allocator.
+    fn alloc(&self) -> Global;
+}
+
 /// May read and write files.
+#[cfg(feature = "program")]
 pub trait Files {
     /// An open file.
     type File;
@@ -28,6 +36,7 @@ impl<T> Print for T {}
 
 impl<T> Runtime for T {}
 
+#[cfg(feature = "program")]
 impl<T> Files for T {
     type File = File;
 }
@@ -39,6 +48,12 @@ pub struct HostRuntime;
 impl HostRuntime {
     /// The allocator.
     pub fn alloc(&self) -> Global {
+        Global
+    }
+}
+
+impl AllocGlobal for HostRuntime {
+    fn alloc(&self) -> Global {
         Global
     }
 }

@@ -32,10 +32,9 @@ impl<T> Vec<T> {
     where
         T: Copy,
     {
-        match self.0.try_reserve(items.len()) {
-            Ok(()) => Ok(self.0.extend_from_slice(items)),
-            Err(_) => Err(AllocError),
-        }
+        self.reserve(items.len())?;
+        self.0.extend_from_slice(items);
+        Ok(())
     }
 
     pub fn reserve(&mut self, more: usize) -> Result<(), AllocError> {
@@ -48,7 +47,10 @@ impl<T> Vec<T> {
 
     pub fn insert(&mut self, index: usize, value: T) -> Result<(), AllocFailed<T>> {
         match self.0.try_reserve(1) {
-            Ok(()) => Ok(self.0.insert(index, value)),
+            Ok(()) => {
+                self.0.insert(index, value);
+                Ok(())
+            }
             Err(_) => Err(AllocFailed { value }),
         }
     }

@@ -1,0 +1,80 @@
+# What cargo builds of the text as plain Rust: the program, and the archive of the C library. For the script wurstlinen
+# and the gate, which have the name `root`.
+# shellcheck shell=bash disable=SC2034,SC2154
+
+least_cargo=1.85
+debian_cargo="cargo-web rustc-web"
+debian_crates="librust-arrayvec-dev librust-clap-dev librust-hex-dev librust-itoa-dev librust-serde-json-dev
+    librust-thiserror-dev"
+debian_registry=/usr/share/cargo/registry
+no_cargo=127
+
+# The compiler and its version, as `rustc 1.85.0`.
+rustc_version() {
+    rustc --version 2> /dev/null | cut -d ' ' -f 1-2
+}
+
+# Says why cargo can't be used, if it can't.
+lacks_cargo() {
+    local version least="${least_cargo#1.}"
+    version="$(cargo --version 2> /dev/null | cut -d ' ' -f 2)"
+    if ! command -v cargo > /dev/null || [ -z "$version" ]; then
+        echo "there is no cargo $least_cargo or later: on Debian 12, apt install $debian_cargo"
+    elif [[ ! "$version" =~ ^1\.([0-9]+)\. ]] || [ "${BASH_REMATCH[1]}" -lt "$least" ]; then
+        echo "cargo $version is too old, and $least_cargo is wanted: on Debian 12, apt install $debian_cargo"
+    elif [ -z "$(rustc_version)" ]; then
+        echo "cargo finds no rustc: on Debian 12, apt install $debian_cargo"
+    else
+        return 1
+    fi
+}
+
+# Sets `crates_from` to the options by which cargo takes Debian's crates, if all are installed, and no others then.
+find_crates() {
+    local name
+    crates_from=()
+    for name in arrayvec-0.7 clap-4 hex-0.4 itoa-1 serde_json-1 thiserror-1; do
+        compgen -G "$debian_registry/$name.*" > /dev/null || return 0
+    done
+    crates_from=(--offline --config 'source.crates-io.replace-with="debian"'
+        --config "source.debian.directory=\"$debian_registry\"")
+}
+
+# Calls cargo in the workspace $1. It takes no settings of the folders above, or of the user's other builds.
+call_cargo() (
+    local crates_from
+    cd "$1" || exit
+    find_crates
+    unset CARGO_BUILD_TARGET CARGO_TARGET_DIR CARGO_BUILD_TARGET_DIR RUSTFLAGS CARGO_ENCODED_RUSTFLAGS
+    exec cargo "${@:2}" "${crates_from[@]}"
+)
+
+# Writes the workspace into the folder $1, and builds there as the other words say. What cargo prints goes to standard
+# error if that is wanted; else only its faults do.
+build_rust() {
+    local folder="$1" printed
+    "$root/tools/plain_rust" "$folder" || return
+    if [ -n "${verbose-}" ]; then
+        call_cargo "$folder" build "${@:2}" >&2
+        return
+    fi
+    printed="$(call_cargo "$folder" build --quiet "${@:2}" 2>&1)" && return
+    if grep -qE 'no matching package|failed to (get|download|query|load source|fetch)|[Cc]ould.?n.t resolve' <<< "$printed"; then
+        echo "cargo has no network and no crates: on Debian, apt install ${debian_crates//$'\n'    / }" >&2
+    else
+        printf '%s\n' "$printed" >&2
+    fi
+    return 1
+}
+
+# Makes the archive $2 for the C library of what cargo has built below the folder $1. It has one object with the names of
+# the library's calls alone, so that it can be linked beside other libraries in Rust.
+archive_of_rust() (
+    made="$(mktemp -d)" || exit
+    trap 'rm -rf -- "$made"' EXIT
+    archive="$(realpath -- "$1")/libwurstlinen_c.a" || exit
+    member="$(ar t "$archive" 2> /dev/null | awk '/^wurstlinen_c-/ && !seen++')" && [ -n "$member" ] || exit
+    (cd "$made" && ar x "$archive" "$member" 2> /dev/null) || exit
+    objcopy --strip-debug --wildcard --keep-global-symbol='wurst_*' "$made/$member" "$made/wurstlinen.o" || exit
+    rm -f -- "$2" && ar rcs "$2" "$made/wurstlinen.o"
+)
