@@ -1,6 +1,7 @@
 """What explain shows of single runs: devices that break a rule, bytes that no line should have, gaps in a certificate.
 
-The texts are those of FindingText.antt and DeviceText.antt in crates/rdm_findings/specs, by the rules of docs/FORMATS.md.
+The texts are those of FindingText.antt and DeviceText.antt in crates/rdm_findings/specs, by the rules of
+docs/FORMATS.md.
 """
 from __future__ import annotations
 

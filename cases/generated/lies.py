@@ -49,7 +49,8 @@ SHORTENED = {re.compile(line): short for line, short in (
     (rf"{UID} didn't mute: exchange (\d+) is .*", rf"\1 {UNMUTED} \2"),
     (rf"{UID} was to mute, and other bytes came: exchange (\d+) has .*", rf"\1 {GARBLED} \2"),
     (r"exchange (\d+): bytes came .*, (?:where no listed device was due|which isn't listed)[;:] .*", r"stray \1"),
-    (r"exchange (\d+): bytes came .* (?:aren't its text|acknowledged its mute|don't acknowledge it)[;:] .*", r"none \1"))}
+    (r"exchange (\d+): bytes came .* (?:aren't its text|acknowledged its mute|don't acknowledge it)[;:] .*",
+     r"none \1"))}
 
 
 class Exchange(NamedTuple):
