@@ -90,7 +90,7 @@ gap_text decided =
 abbrev pub cause_text : Option ℕ → Option (Option AgentFault) → List ℕ
 cause_text None (Some (Some Exhausted)) = codes ": its budget of frames is used up"
 cause_text (Some budget) (Some (Some Exhausted)) =
-    codes ": its budget of " ++ (count_text budget (codes " frame") ++ codes " is used up")
+    codes ": its budget of " ++ count_text budget (codes " frame") ++ codes " is used up"
 cause_text budget (Some (Some Aborted)) = codes ": it was aborted"
 cause_text budget _ = []
 
