@@ -30,7 +30,7 @@ breach_after true SilentMutes = codes " is the fifth mute of it in a row without
 breach_after false SilentMutes =
     codes " is the fifth mute of it in a row without an answer; check its power and its cable"
 breach_after heard GarbledMute =
-    codes " has no acknowledgement; a rule was broken, by it, another device or noise: try it alone, and then the others"
+    codes " has no acknowledgement; a rule was broken, by it, another device or noise: try it alone, then the others"
 
 -- a device that followed the rules. `whole` says that the log has all of the run
 abbrev pub followed_text : Bool → List ℕ

@@ -226,7 +226,8 @@ place_text _ = []
 
 -- what the bytes read as
 abbrev pub sign_text : Sign → List ℕ
-sign_text (signs.Listed u) = codes "; they read as " ++ uid_text u ++ codes ", which should be silent there unless it restarted"
+sign_text (signs.Listed u) =
+    codes "; they read as " ++ uid_text u ++ codes ", which should be silent there unless it restarted"
 sign_text (signs.Other u) = codes "; they read as " ++ uid_text u ++ codes ", which isn't listed"
 sign_text signs.Unread = []
 

@@ -1,7 +1,8 @@
 //! What is printed about devices.
 ghost use Rattle.std.specs.Prelude.{◌≡◌, ◌++◌, ◌∷◌, [], OnOk, codes, decimal, flat_map};
 ghost use Rattle.rdm_findings.specs.DeviceText.{breach_before, breach_after, followed_text, until_text, over_text};
-ghost use Rattle.rdm_findings.specs.DeviceText.{yet_text, found_text, unbroken_text, see_text, verdict_text, device_line};
+ghost use Rattle.rdm_findings.specs.DeviceText.{yet_text, found_text, unbroken_text, see_text, verdict_text};
+ghost use Rattle.rdm_findings.specs.DeviceText.{device_line};
 
 use crate::head::Start;
 use crate::heard::RunUids;
@@ -193,7 +194,7 @@ fn breach_before(never: bool, rule: Rule) -> &'static str
 }
 
 const UNACKNOWLEDGED: &str =
-    " has no acknowledgement; a rule was broken, by it, another device or noise: try it alone, and then the others";
+    " has no acknowledgement; a rule was broken, by it, another device or noise: try it alone, then the others";
 
 fn breach_after(heard: bool, rule: Rule) -> &'static str
     ensures { result.now ≡ breach_after heard rule }

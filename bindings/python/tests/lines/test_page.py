@@ -331,7 +331,7 @@ class Findings(TestCase):
         spent = "run 1: full, 1 exchange, fault 3, 0 devices; its certificate is incomplete: its budget is used up"
         incomplete = "discovery: full, steady, 3 exchanges, 0 devices; its certificate is incomplete"
         cut = f"{incomplete}, or the log ends within the run"
-        begun = "discovery: 6 exchanges, 1 device; its certificate can't be decided, since the log begins within the run"
+        begun = "discovery: 6 exchanges, 0 devices; its certificate can't be decided, since the log begins within it"
         unknown = "run 2: 9 exchanges, 1 device; its certificate is complete but for what depends on its kind, which"
         line_failed = "exchange 1 failed: check the adapter and the cable"
         unbroken, undecided = "No broken rule was seen.", "It isn't decided whether the discovery is complete."
