@@ -80,7 +80,7 @@ class Exchange(NamedTuple):
 
     @property
     def names(self) -> Set[int]:
-        """The UIDs that a line about such bytes names: the one that was asked alone, and the one that they read as."""
+        """The UIDs that a line about such bytes names: the one asked alone, and the one that they read as."""
         asked = {self.low} if self.low == self.high else set()
         return asked | self.reads
 
