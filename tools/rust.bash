@@ -59,7 +59,8 @@ build_rust() {
         return
     fi
     printed="$(call_cargo "$folder" build --quiet "${@:2}" 2>&1)" && return
-    if grep -qE 'no matching package|failed to (get|download|query|load source|fetch)|[Cc]ould.?n.t resolve' <<< "$printed"; then
+    local unreachable='no matching package|failed to (get|download|query|load source|fetch)|[Cc]ould.?n.t resolve'
+    if grep -qE "$unreachable" <<< "$printed"; then
         echo "cargo has no network and no crates: on Debian, apt install ${debian_crates//$'\n'    / }" >&2
     else
         printf '%s\n' "$printed" >&2
@@ -67,8 +68,8 @@ build_rust() {
     return 1
 }
 
-# Makes the archive $2 for the C library of what cargo has built below the folder $1. It has one object with the names of
-# the library's calls alone, so that it can be linked beside other libraries in Rust.
+# Makes the archive $2 for the C library of what cargo has built below the folder $1. It has one object with the names
+# of the library's calls alone, so that it can be linked beside other libraries in Rust.
 archive_of_rust() (
     made="$(mktemp -d)" || exit
     trap 'rm -rf -- "$made"' EXIT

@@ -77,7 +77,8 @@ def source_structs() -> Dict[str, Parts]:
     found = {}
     text = read("crates", "rdm_handles", "src", "forms.rt")
     for name, body in re.findall(r"pub struct (\w+)ForC \{(.*?)\n\}", text, re.S):
-        found["wurst_" + snake(name)] = [(field, c_type(rust)) for field, rust in re.findall(r"pub (\w+): (\w+),", body)]
+        fields = re.findall(r"pub (\w+): (\w+),", body)
+        found["wurst_" + snake(name)] = [(field, c_type(rust)) for field, rust in fields]
     return found
 
 

@@ -1,6 +1,7 @@
 """What explain shows of whole logs: parts of a discovery, logs one after another, the runs of sessions.
 
-The texts are those of FindingText.antt and DeviceText.antt in crates/rdm_findings/specs, by the rules of docs/FORMATS.md.
+The texts are those of FindingText.antt and DeviceText.antt in crates/rdm_findings/specs, by the rules of
+docs/FORMATS.md.
 """
 from __future__ import annotations
 

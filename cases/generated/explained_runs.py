@@ -1,6 +1,7 @@
 """What explain shows of single runs: devices that break a rule, bytes that no line should have, gaps in a certificate.
 
-The texts are those of FindingText.antt and DeviceText.antt in crates/rdm_findings/specs, by the rules of docs/FORMATS.md.
+The texts are those of FindingText.antt and DeviceText.antt in crates/rdm_findings/specs, by the rules of
+docs/FORMATS.md.
 """
 from __future__ import annotations
 
@@ -159,7 +160,7 @@ discovery: 5 exchanges, 0 devices; its certificate is incomplete, or the log end
 exchange 3 mutes a UID that neither acknowledged nor was muted five times in a row: perhaps no device has it
 0000:00000000 is the first UID that wasn't ruled out: it needs five silences in a row of a range that holds it
 1234:00000009 was to mute, and other bytes came: exchange 3 has no acknowledgement; \
-a rule was broken, by it, another device or noise: try it alone, and then the others
+a rule was broken, by it, another device or noise: try it alone, then the others
 exchange 3: bytes came after a mute of 1234:00000009 that don't acknowledge it; \
 a rule was broken, by it, another device or noise: try each device alone on the line
 status 3
@@ -170,7 +171,7 @@ discovery: 6 exchanges, 0 devices; its certificate is incomplete, or the log end
 exchange 3 mutes a UID that neither acknowledged nor was muted five times in a row: perhaps no device has it
 0000:00000000 is the first UID that wasn't ruled out: it needs five silences in a row of a range that holds it
 1234:00000009 was to mute, and other bytes came: exchange 3 has no acknowledgement; \
-a rule was broken, by it, another device or noise: try it alone, and then the others
+a rule was broken, by it, another device or noise: try it alone, then the others
 exchange 5: bytes came after a mute of 1234:00000008, which isn't listed; \
 they may be those of a device that the log doesn't show
 exchange 3: bytes came after a mute of 1234:00000009 that don't acknowledge it; \
@@ -208,7 +209,7 @@ the same, and then one that is answered as a branch
 discovery: 6 exchanges, 1 device; its certificate is incomplete, or the log ends within the run
 0000:00000000 is the first UID that wasn't ruled out: it needs five silences in a row of a range that holds it
 1234:00000009 was to mute, and other bytes came: exchange 5 has no acknowledgement; \
-a rule was broken, by it, another device or noise: try it alone, and then the others
+a rule was broken, by it, another device or noise: try it alone, then the others
 exchange 5: bytes came after a mute of 1234:00000009 that don't acknowledge it; \
 a rule was broken, by it, another device or noise: try each device alone on the line
 status 3

@@ -49,7 +49,8 @@ SHORTENED = {re.compile(line): short for line, short in (
     (rf"{UID} didn't mute: exchange (\d+) is .*", rf"\1 {UNMUTED} \2"),
     (rf"{UID} was to mute, and other bytes came: exchange (\d+) has .*", rf"\1 {GARBLED} \2"),
     (r"exchange (\d+): bytes came .*, (?:where no listed device was due|which isn't listed)[;:] .*", r"stray \1"),
-    (r"exchange (\d+): bytes came .* (?:aren't its text|acknowledged its mute|don't acknowledge it)[;:] .*", r"none \1"))}
+    (r"exchange (\d+): bytes came .* (?:aren't its text|acknowledged its mute|don't acknowledge it)[;:] .*",
+     r"none \1"))}
 
 
 class Exchange(NamedTuple):
@@ -79,7 +80,7 @@ class Exchange(NamedTuple):
 
     @property
     def names(self) -> Set[int]:
-        """The UIDs that a line about such bytes names: the one that was asked alone, and the one that they read as."""
+        """The UIDs that a line about such bytes names: the one asked alone, and the one that they read as."""
         asked = {self.low} if self.low == self.high else set()
         return asked | self.reads
 

@@ -43,8 +43,9 @@ class WithCargo(unittest.TestCase):
 
     def test_each_compiler_can_be_chosen(self) -> None:
         self.expect("--with rustc decode 00", 0, ANSWER, COMPILING)
-        self.expect("--with kit decode 00", 0, ANSWER, "wurstlinen: proving and building the program, about 20 minutes on "
-                    "four processors; a call after an interrupt goes on\n")
+        self.expect("--with kit decode 00", 0, ANSWER,
+                    "wurstlinen: proving and building the program, about 20 minutes on four processors; a call after "
+                    "an interrupt goes on\n")
         # What the kit has proved is used without it, and isn't what rustc has built.
         self.without_kit()
         self.expect("decode 00", 0, ANSWER, "")

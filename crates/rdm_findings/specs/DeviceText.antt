@@ -30,7 +30,7 @@ breach_after true SilentMutes = codes " is the fifth mute of it in a row without
 breach_after false SilentMutes =
     codes " is the fifth mute of it in a row without an answer; check its power and its cable"
 breach_after heard GarbledMute =
-    codes " has no acknowledgement; a rule was broken, by it, another device or noise: try it alone, and then the others"
+    codes " has no acknowledgement; a rule was broken, by it, another device or noise: try it alone, then the others"
 
 -- a device that followed the rules. `whole` says that the log has all of the run
 abbrev pub followed_text : Bool → List ℕ
@@ -60,8 +60,8 @@ yet_text begun = if begun then codes " wasn't found yet; it" else []
 -- silences in a row would have broken a rule
 abbrev pub missed_text : RunFacts → List ℕ
 missed_text r =
-    if r.whole then codes " wasn't found: "
-    ++ (over_text r.start r.failure ++ codes " before it was ruled out; it broke no rule until then")
+    if r.whole then codes " wasn't found: " ++ over_text r.start r.failure
+    ++ codes " before it was ruled out; it broke no rule until then"
     else yet_text (has_start r.start) ++ (followed_text false ++ until_text r.start r.failure)
 
 -- a device that broke no rule. The flag says that it acknowledged a mute

@@ -1,6 +1,6 @@
 -- Whether the log of a run shows that the run is over, how it ended, and whether it found each device.
-use Rattle.std.specs.Prelude.{ℕ, ◌-◌, Bool, true, false, ◌&&◌, ◌||◌, not, nat_le, nat_lt, List, Option, Some, None, length}
-use Rattle.std.specs.Prelude.{slice_get, is_some, drop, ◌==◌, if◌then◌else◌}
+use Rattle.std.specs.Prelude.{ℕ, ◌-◌, Bool, true, false, ◌&&◌, ◌||◌, not, nat_le, nat_lt, List, Option, Some, None}
+use Rattle.std.specs.Prelude.{length, slice_get, is_some, drop, ◌==◌, if◌then◌else◌}
 use Rattle.std.specs.List.{list_any, list_all}
 use Rattle.rdm_wire.specs.Honest.{is_acked}
 use Rattle.rdm_wire.specs.Uid.{has, is_broadcast}

@@ -20,7 +20,8 @@ use Rattle.rdm_findings.specs.declared.heard.RunUids.{RunUids}
 use Rattle.rdm_findings.specs.declared.mention.RunFacts.{RunFacts}
 use Rattle.rdm_findings.specs.DeviceText.{device_line, culprit_line, gone_line}
 use Rattle.rdm_findings.specs.Ends.{is_whole, decides_stray, never_muted}
-use Rattle.rdm_findings.specs.FindingText.{head_line, run_gaps, quiet_text, stray_line, garbled_line, unless_garbled, any_broke}
+use Rattle.rdm_findings.specs.FindingText.{head_line, run_gaps, quiet_text, stray_line, garbled_line}
+use Rattle.rdm_findings.specs.FindingText.{unless_garbled, any_broke}
 use Rattle.rdm_findings.specs.HeardUids.{heard_in, in_uids}
 use Rattle.rdm_findings.specs.Mentions.{garbled_mention, stray_mention}
 

@@ -90,7 +90,7 @@ gap_text decided =
 abbrev pub cause_text : Option ℕ → Option (Option AgentFault) → List ℕ
 cause_text None (Some (Some Exhausted)) = codes ": its budget of frames is used up"
 cause_text (Some budget) (Some (Some Exhausted)) =
-    codes ": its budget of " ++ (count_text budget (codes " frame") ++ codes " is used up")
+    codes ": its budget of " ++ count_text budget (codes " frame") ++ codes " is used up"
 cause_text budget (Some (Some Aborted)) = codes ": it was aborted"
 cause_text budget _ = []
 
@@ -226,7 +226,8 @@ place_text _ = []
 
 -- what the bytes read as
 abbrev pub sign_text : Sign → List ℕ
-sign_text (signs.Listed u) = codes "; they read as " ++ uid_text u ++ codes ", which should be silent there unless it restarted"
+sign_text (signs.Listed u) =
+    codes "; they read as " ++ uid_text u ++ codes ", which should be silent there unless it restarted"
 sign_text (signs.Other u) = codes "; they read as " ++ uid_text u ++ codes ", which isn't listed"
 sign_text signs.Unread = []
 

@@ -1,7 +1,8 @@
 //! What is printed about devices.
 ghost use Rattle.std.specs.Prelude.{◌≡◌, ◌++◌, ◌∷◌, [], OnOk, codes, decimal, flat_map};
 ghost use Rattle.rdm_findings.specs.DeviceText.{breach_before, breach_after, followed_text, until_text, over_text};
-ghost use Rattle.rdm_findings.specs.DeviceText.{yet_text, unbroken_text, see_text, verdict_text, device_line};
+ghost use Rattle.rdm_findings.specs.DeviceText.{yet_text, found_text, unbroken_text, see_text, verdict_text};
+ghost use Rattle.rdm_findings.specs.DeviceText.{device_line};
 
 use crate::head::Start;
 use crate::heard::RunUids;
@@ -72,14 +73,21 @@ fn write_unbroken(text: &mut Vec<u8>, facts: &RunFacts, acked: bool) -> Result<(
     ensures { OnOk result (text.new.items ≡ text.old.items ++ unbroken_text facts.now acked) }
 {
     if acked {
-        write(text, " was found, and")?;
-        write_followed(text, facts.whole, facts.start, facts.failure)
+        write_found(text, facts)
     } else if facts.whole {
         write_missed(text, facts.start, facts.failure)
     } else {
         write(text, yet_text(facts.start.is_first()))?;
         write_followed(text, false, facts.start, facts.failure)
     }
+}
+
+// That it was found, and followed the rules.
+fn write_found(text: &mut Vec<u8>, facts: &RunFacts) -> Result<(), AllocError>
+    ensures { OnOk result (text.new.items ≡ text.old.items ++ found_text facts.now) }
+{
+    write(text, " was found, and")?;
+    write_followed(text, facts.whole, facts.start, facts.failure)
 }
 
 // That it followed the rules, and until when.
@@ -98,7 +106,7 @@ fn write_followed(
 // That it wasn't found in a run that is over.
 fn write_missed(text: &mut Vec<u8>, start: Start, failure: Option<usize>) -> Result<(), AllocError>
     ensures { OnOk result (text.new.items ≡ text.old.items ++ (codes " wasn't found: "
-        ++ (over_text start failure ++ codes " before it was ruled out; it broke no rule until then"))) }
+        ++ over_text start failure ++ codes " before it was ruled out; it broke no rule until then")) }
 {
     write(text, " wasn't found: ")?;
     write_over(text, start, failure)?;
@@ -186,7 +194,7 @@ fn breach_before(never: bool, rule: Rule) -> &'static str
 }
 
 const UNACKNOWLEDGED: &str =
-    " has no acknowledgement; a rule was broken, by it, another device or noise: try it alone, and then the others";
+    " has no acknowledgement; a rule was broken, by it, another device or noise: try it alone, then the others";
 
 fn breach_after(heard: bool, rule: Rule) -> &'static str
     ensures { result.now ≡ breach_after heard rule }

@@ -94,7 +94,7 @@ fn write_spent(text: &mut Vec<u8>, budget: Option<u64>) -> Result<(), AllocError
 
 fn write_budget(text: &mut Vec<u8>, budget: u64) -> Result<(), AllocError>
     ensures { OnOk result (text.new.items ≡ text.old.items
-        ++ (codes ": its budget of " ++ (count_text budget (codes " frame") ++ codes " is used up"))) }
+        ++ (codes ": its budget of " ++ count_text budget (codes " frame") ++ codes " is used up")) }
 {
     write(text, ": its budget of ")?;
     write_count(text, budget, " frame")?;
