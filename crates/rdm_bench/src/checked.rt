@@ -164,6 +164,14 @@ impl History {
     }
 }
 
+/// The log has to store nothing, and to have had at least three entries for each of these calls: its own, its end and
+/// its collection.
+pub fn kept_nothing(log: &Log, told: &Tally) -> Option<()> {
+    let calls = told.submitted.wrapping_add(told.asked);
+    holds(!log.keeps() && log.entries().is_empty())?;
+    holds(log.len_in_all() >= calls.wrapping_mul(3))
+}
+
 // The number has to be the next one.
 fn follows(next: &mut u64, number: u64) -> Option<()> {
     holds(number == *next)?;

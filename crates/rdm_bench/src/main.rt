@@ -5,9 +5,9 @@
 mod agent;
 mod bench;
 mod checked;
+mod lasting;
 mod lines;
 mod packets;
-mod paged;
 mod ports;
 mod queue;
 mod served;
@@ -16,7 +16,7 @@ mod views;
 
 use crate::bench::{Bench, Prints, Times, holds};
 use crate::served::CLIENTS;
-use crate::soak::Port;
+use crate::soak::{Keeps, Port};
 use std::env::{self, Env};
 use std::process::ExitCode;
 use std::sync::Wait;
@@ -40,24 +40,27 @@ usage: rdm_bench SUBJECT SIZE ROUNDS
   views           views of SIZE devices, 1 to 1024, that sixteen clients read
   soak_locked     SIZE requests, 1 to 100000, of sixteen clients of each of ROUNDS ports with a mutex
   soak_rings      the same with ring buffers
-  drained         those that follow, without discoveries and with them
-  drained_session SIZE requests, 1 to 100000, ROUNDS times, of sixteen clients of one session whose log is drained
-  drained_port    the same with a mutex, and with a record that is drained too
+  endless         those that follow
+  lasting_session SIZE requests, 1 to 100000, ROUNDS times, and discoveries of sixteen clients of one session whose
+                  log keeps nothing
+  lasting_port    the same with a mutex
+  lasting_rings   the same with ring buffers
+  lasting_threads the same in threads
+  drained_session the same of a session whose log is drained, without discoveries
+  drained_port    the same with a mutex
   drained_rings   the same with ring buffers
-  drained_threads the same in threads, with a sink for the pages
-  runs_session, runs_port, runs_rings, runs_threads  the same with discoveries among them
+  runs_session, runs_port, runs_rings  the same with discoveries among them
   all             all of these with SIZE, 1 to 8; soaks with a hundred times as many requests
 ROUNDS: 1 to 1000; else how often each of the 21 samples repeats its work";
 
 // What `all` measures first. The other subjects are among these.
 const ALL: &str = "agent calls queue answer run ports port_discovery ring_discovery views";
 
-// What it measures then, with a hundred times as many requests: these, and those of `drained`.
+// What it measures then, with a hundred times as many requests: these, and those of `endless`.
 const SOAKS: &str = "soak_locked soak_rings";
 
-const DRAINED: &str =
-    "drained_session runs_session drained_port runs_port drained_rings runs_rings \
-    drained_threads runs_threads";
+const ENDLESS: &str = "lasting_session lasting_port lasting_rings lasting_threads \
+    drained_session runs_session drained_port runs_port drained_rings runs_rings";
 
 fn main(rt: HostRuntime) -> ExitCode {
     match perform(&rt) {
@@ -95,9 +98,9 @@ fn measure_as_asked<R: Times + Prints + Threads + Wait + Sync>(
             let requests = size.wrapping_mul(100);
             measure_each(rt, ALL, size, rounds)?;
             measure_each(rt, SOAKS, requests, rounds)?;
-            measure_each(rt, DRAINED, requests, rounds)
+            measure_each(rt, ENDLESS, requests, rounds)
         }
-        "drained" => measure_each(rt, DRAINED, size, rounds),
+        "endless" => measure_each(rt, ENDLESS, size, rounds),
         one => {
             holds(!one.contains(' '))?;
             measure_each(rt, one, size, rounds)
@@ -157,7 +160,9 @@ fn measure<R: Times + Prints + Threads + Wait + Sync>(
 
 // Whether its size is a number of requests.
 fn is_soak(subject: &str) -> bool {
-    subject.starts_with("soak") || subject.starts_with("drained") || subject.starts_with("runs")
+    ["soak", "lasting", "drained", "runs"]
+        .iter()
+        .any(|kind| subject.starts_with(*kind))
 }
 
 fn time<R: Times + Wait>(bench: &Bench<R>, subject: &str) -> Option<()> {
@@ -184,14 +189,16 @@ fn print_soak<R: Prints + Threads + Wait + Sync>(bench: &Bench<R>, soak: &str) -
     match soak {
         "soak_locked" => soak::print_ports(bench, Port::Locked),
         "soak_rings" => soak::print_ports(bench, Port::Rings),
-        "drained_session" => soak::print_drained(bench, Port::Alone, false),
-        "drained_port" => soak::print_drained(bench, Port::Locked, false),
-        "drained_rings" => soak::print_drained(bench, Port::Rings, false),
-        "drained_threads" => paged::print(bench, false),
-        "runs_session" => soak::print_drained(bench, Port::Alone, true),
-        "runs_port" => soak::print_drained(bench, Port::Locked, true),
-        "runs_rings" => soak::print_drained(bench, Port::Rings, true),
-        "runs_threads" => paged::print(bench, true),
+        "lasting_session" => soak::print_one(bench, Port::Alone, Keeps::Nothing, true),
+        "lasting_port" => soak::print_one(bench, Port::Locked, Keeps::Nothing, true),
+        "lasting_rings" => soak::print_one(bench, Port::Rings, Keeps::Nothing, true),
+        "lasting_threads" => lasting::print(bench, true),
+        "drained_session" => soak::print_one(bench, Port::Alone, Keeps::Pages, false),
+        "drained_port" => soak::print_one(bench, Port::Locked, Keeps::Pages, false),
+        "drained_rings" => soak::print_one(bench, Port::Rings, Keeps::Pages, false),
+        "runs_session" => soak::print_one(bench, Port::Alone, Keeps::Pages, true),
+        "runs_port" => soak::print_one(bench, Port::Locked, Keeps::Pages, true),
+        "runs_rings" => soak::print_one(bench, Port::Rings, Keeps::Pages, true),
         _ => None,
     }
 }

@@ -1,21 +1,20 @@
 //! Clients of a port, which has a mutex, and clients with ring buffers.
 ghost use Rattle.std.specs.Prelude.{◌≡◌, []};
 ghost use Rattle.rdm_lanes.specs.Workers.{book_of};
-ghost use Rattle.rdm_locked.specs.Recorded.{ring_of};
 
 use crate::bench::{Bench, Times, holds};
 use crate::packets::Replay;
 use crate::queue::replay_of;
 use crate::served::{CLIENTS, FREE, Job, PLACES, Served, Timing, config, written_log};
 use left_right::Absorb;
-use rdm_agent::{Kind, Search};
+use rdm_agent::Kind;
 use rdm_client::{CallFault, Client, DeviceView, WorkerEnd};
 use rdm_join::{LineEvent, LineFault, LineReply};
 use rdm_lanes::views::{BlankHistory, Shown, ViewHistory};
 use rdm_lanes::{Lanes, RingClient, open_lanes};
 use rdm_line::Line;
-use rdm_locked::{CallShare, Exchange, Left, LockedClient, PageEnds, PageRing, Port, Record};
-use rdm_log::{Entry, Log, Page, Setup};
+use rdm_locked::{CallShare, Exchange, Left, LockedClient, Port};
+use rdm_log::{Entry, Log, Page};
 use rdm_wire::Frame;
 use std::alloc::Global;
 use std::marker::Brand;
@@ -48,7 +47,15 @@ pub fn time_requests<R: Times + Wait>(
     let log = written_log(bench)?;
     let record = written_record(bench.alloc, bench.repeats())?;
     let mut timing = Timing::new(work, clients, bench.size);
-    on_session(bench, with_mutex, clients, log, record, line, &mut timing)
+    on_session(
+        bench,
+        with_mutex,
+        clients,
+        log,
+        Some(record),
+        line,
+        &mut timing,
+    )
 }
 
 /// Times discoveries with a mutex or with ring buffers. The log has room for 40 of 1,024 devices.
@@ -63,7 +70,7 @@ pub fn time_discoveries<R: Times + Wait>(bench: &Bench<R>, with_mutex: bool) -> 
     let record = Vec::with_capacity(bench.alloc, FREE / 2).ok()?;
     let mut timing = Timing::new(work, 1, 0);
     timing.discovery = Some((line.replies.len() as u64, bench.size));
-    on_session(bench, with_mutex, 1, log, record, line, &mut timing)
+    on_session(bench, with_mutex, 1, log, Some(record), line, &mut timing)
 }
 
 // A record for this many exchanges, whose memory was written before.
@@ -78,36 +85,21 @@ fn written_record(alloc: Global, count: usize) -> Option<Vec<Exchange>> {
     Some(record)
 }
 
-type PortClient<'a, L, J> = LockedClient<'a, L, Note, AskNote, J>;
-
-// Where a port's worker notes its exchanges.
-#[derive(Drop)]
-enum Kept<J: PageRing> {
-    Exchanges(Vec<Exchange>),
-    Record(Record<J>),
-}
-
-impl<J: PageRing> Kept<J> {
-    // The next page of its port. None: there is none, or its exchanges aren't those of the record.
-    fn next_page(&mut self) -> Option<Page> {
-        match self {
-            Kept::Exchanges(_) => None,
-            Kept::Record(record) => record.next_page().ok()?,
-        }
-    }
-}
+type PortClient<'a, L> = LockedClient<'a, L, Note, AskNote>;
 
 // A line that drains the log of a port during an exchange, before it answers. Another thread may do so.
 #[derive(Drop)]
-struct DrainingLine<'a, L: Ledger, J: PageRing, R, X: Drop> {
+struct DrainingLine<'a, L: Ledger, R, X: Drop> {
     rt: &'a R,
-    port: &'a Port<L, J>,
+    port: &'a Port<L>,
     line: X,
-    // The memory in which the log goes on, if it is to be drained during the next exchange.
+    // The memory in which the log goes on, if it has to be drained during the next exchange.
     next: Option<Vec<Entry>>,
+    // What was drained.
+    page: Option<Page>,
 }
 
-impl<L: Ledger, J: PageRing, R: Wait, X: Line + Drop> Line for DrainingLine<'_, L, J, R, X> {
+impl<L: Ledger, R: Wait, X: Line + Drop> Line for DrainingLine<'_, L, R, X> {
     ghost step = { λ old x new. X.step old.line x new.line };
 
     ghost failures_of = { λ line. X.failures_of line.line };
@@ -115,8 +107,9 @@ impl<L: Ledger, J: PageRing, R: Wait, X: Line + Drop> Line for DrainingLine<'_, 
     fn exchange(&mut self, frame: &Frame) -> Result<LineReply, LineFault> {
         if let Some(mut next) = self.next.take() {
             next.clear();
-            if let Err((_, next)) = self.port.drain_recorded(self.rt, next) {
-                self.next = Some(next);
+            match self.port.drain(self.rt, next) {
+                Ok(page) => self.page = Some(page),
+                Err((_, next)) => self.next = Some(next),
             }
         }
         self.line.exchange(frame)
@@ -128,15 +121,17 @@ impl<L: Ledger, J: PageRing, R: Wait, X: Line + Drop> Line for DrainingLine<'_, 
 }
 
 // A port with its clients, its worker and its line.
-struct Locked<'a, L: Ledger, J: PageRing, R, X: Drop> {
+struct Locked<'a, L: Ledger, R, X: Drop> {
     bench: &'a Bench<'a, R>,
-    port: &'a Port<L, J>,
-    clients: Vec<PortClient<'a, L, J>>,
-    line: DrainingLine<'a, L, J, R, X>,
-    kept: Kept<J>,
+    port: &'a Port<L>,
+    clients: Vec<PortClient<'a, L>>,
+    line: DrainingLine<'a, L, R, X>,
+    record: Vec<Exchange>,
+    // Whether the record keeps its exchanges.
+    is_recorded: bool,
 }
 
-impl<L: Ledger, J: PageRing, R: Wait, X: Line + Drop> Served for Locked<'_, L, J, R, X> {
+impl<L: Ledger, R: Wait, X: Line + Drop> Served for Locked<'_, L, R, X> {
     fn submit(&mut self, client: usize, tag: u64) -> Option<bool> {
         submit(self.bench.rt, self.clients.get_mut(client)?, tag)
     }
@@ -158,14 +153,14 @@ impl<L: Ledger, J: PageRing, R: Wait, X: Line + Drop> Served for Locked<'_, L, J
             bench,
             port,
             line,
-            kept,
+            record,
+            is_recorded,
             ..
         } = self;
-        let (rt, alloc) = (bench.rt, bench.alloc);
-        let end = match kept {
-            Kept::Exchanges(made) => port.work(rt, alloc, line, turns, made),
-            Kept::Record(record) => port.work_recorded(rt, alloc, line, turns, record),
-        };
+        let end = port.work(bench.rt, bench.alloc, line, turns, record);
+        if !*is_recorded {
+            record.clear();
+        }
         holds(end == WorkerEnd::Turns)
     }
 
@@ -177,17 +172,15 @@ impl<L: Ledger, J: PageRing, R: Wait, X: Line + Drop> Served for Locked<'_, L, J
         }
     }
 
-    // The page goes through the record, which compares it.
     fn drain(&mut self, next: Vec<Entry>) -> Option<Page> {
-        self.port.drain_recorded(self.bench.rt, next).ok()?;
-        self.kept.next_page()
+        self.port.drain(self.bench.rt, next).ok()
     }
 
     fn work_drained(&mut self, next: Vec<Entry>) -> Option<Page> {
         self.line.next = Some(next);
         self.work(1)?;
         match self.line.next.take() {
-            None => self.kept.next_page(),
+            None => self.line.page.take(),
             Some(mut next) => {
                 next.clear();
                 self.drain(next)
@@ -197,13 +190,13 @@ impl<L: Ledger, J: PageRing, R: Wait, X: Line + Drop> Served for Locked<'_, L, J
 }
 
 /// Opens a port, or ring buffers, for this many clients over this log and this line. Does this, and ends the clients. A
-/// port gets this record, which is empty. It isn't drained.
+/// port gets this record, which is empty, and is finished with it. None: it is ended without a record.
 pub fn on_session<X: Line + Drop, D: Job<R>, R: Wait>(
     bench: &Bench<R>,
     with_mutex: bool,
     clients: u8,
     log: Log,
-    record: Vec<Exchange>,
+    record: Option<Vec<Exchange>>,
     line: X,
     job: &mut D,
 ) -> Option<()>
@@ -217,13 +210,13 @@ pub fn on_session<X: Line + Drop, D: Job<R>, R: Wait>(
     }
 }
 
-// The port, with the ledger of this blank. It is ended with the record and the clients' shares.
+// The port, with the ledger of this blank. It is ended with the clients' shares, and with the record if there is one.
 fn on_port<L: Ledger, X: Line + Drop, D: Job<R>, R: Wait>(
     bench: &Bench<R>,
     blank: Blank,
     count: u8,
     log: Log,
-    record: Vec<Exchange>,
+    record: Option<Vec<Exchange>>,
     line: X,
     job: &mut D,
 ) -> Option<()>
@@ -232,64 +225,26 @@ fn on_port<L: Ledger, X: Line + Drop, D: Job<R>, R: Wait>(
     requires empty { log.entries ≡ [] }
 {
     let port = Port::<L>::new(bench.alloc, blank, config(), log).ok()?;
-    let kept = Kept::Exchanges(record);
-    let (shares, Kept::Exchanges(record)) = perform(bench, &port, count, line, kept, job) else {
-        return None;
-    };
-    holds(port.finish(shares?, record.as_slice()).is_ok())
-}
-
-/// The same with a port whose log is drained. Its pages go to a record, which is compared with the log at the end.
-pub fn on_recorded_port<X: Line + Drop, D: Job<R>, R: Wait>(
-    bench: &Bench<R>,
-    clients: u8,
-    log: Log,
-    line: X,
-    job: &mut D,
-) -> Option<()>
-    requires { log.entries ≡ [] }
-{
-    let ends = PageEnds::new(bench.alloc).ok()?;
-    on_record::<Brand, Brand, X, D, R>(bench, Blank::new(17), ends, clients, log, line, job)
-}
-
-// The port and its record, with the ledger of this blank and the ring of these ends.
-fn on_record<L: Ledger, J: PageRing, X: Line + Drop, D: Job<R>, R: Wait>(
-    bench: &Bench<R>,
-    blank: Blank,
-    ends: PageEnds,
-    count: u8,
-    log: Log,
-    line: X,
-    job: &mut D,
-) -> Option<()>
-    requires name { blank.name ≡ L.name }
-    requires parts { (blank.parts ≡ L.parts) × (L.parts ≡ 17) }
-    requires ring { J.ring ≡ ring_of ends }
-    requires empty { log.entries ≡ [] }
-{
-    let setup = Setup {
-        config: config(),
-        search: Search::Steady,
-    };
-    let (port, record) = Port::<L, J>::new_recorded(bench.alloc, blank, setup, log, ends).ok()?;
-    let kept = Kept::Record(record);
-    let (shares, Kept::Record(mut record)) = perform(bench, &port, count, line, kept, job) else {
-        return None;
-    };
-    let end = port.finish_recorded(shares?, &mut record).ok()?;
+    let is_recorded = record.is_some();
+    let record = record.unwrap_or(Vec::new(bench.alloc));
+    let (shares, record) = perform(bench, &port, count, line, record, is_recorded, job);
+    if is_recorded {
+        return holds(port.finish(shares?, record.as_slice()).is_ok());
+    }
+    let end = port.end(shares?).ok()?;
     job.end(end.session.log())
 }
 
-// Does this with so many clients of a port. Returns their shares, if all of it was done, and what the worker noted.
-fn perform<L: Ledger, J: PageRing, X: Line + Drop, D: Job<R>, R: Wait>(
+// Does this with so many clients of a port. Returns their shares, if all of it was done, and the record.
+fn perform<L: Ledger, X: Line + Drop, D: Job<R>, R: Wait>(
     bench: &Bench<R>,
-    port: &Port<L, J>,
+    port: &Port<L>,
     count: u8,
     line: X,
-    kept: Kept<J>,
+    record: Vec<Exchange>,
+    is_recorded: bool,
     job: &mut D,
-) -> (Option<Vec<CallShare<L>>>, Kept<J>) {
+) -> (Option<Vec<CallShare<L>>>, Vec<Exchange>) {
     let mut locked = Locked {
         bench,
         port,
@@ -299,8 +254,10 @@ fn perform<L: Ledger, J: PageRing, X: Line + Drop, D: Job<R>, R: Wait>(
             port,
             line,
             next: None,
+            page: None,
         },
-        kept,
+        record,
+        is_recorded,
     };
     let is_done = join(bench, port, count, &mut locked.clients).is_some()
         && job.perform(bench, &mut locked).is_some();
@@ -309,17 +266,18 @@ fn perform<L: Ledger, J: PageRing, X: Line + Drop, D: Job<R>, R: Wait>(
         port: _,
         clients,
         line: _line,
-        kept,
+        record,
+        is_recorded: _,
     } = locked;
-    (leave(bench, clients, is_done), kept)
+    (leave(bench, clients, is_done), record)
 }
 
 // Lets the clients join.
-fn join<'a, L: Ledger, J: PageRing, R: Wait>(
+fn join<'a, L: Ledger, R: Wait>(
     bench: &Bench<R>,
-    port: &'a Port<L, J>,
+    port: &'a Port<L>,
     count: u8,
-    clients: &mut Vec<PortClient<'a, L, J>>,
+    clients: &mut Vec<PortClient<'a, L>>,
 ) -> Option<()> {
     for _ in 0..count {
         clients.reserve(1).ok()?;
@@ -333,9 +291,9 @@ fn join<'a, L: Ledger, J: PageRing, R: Wait>(
 
 // Lets the clients leave. Returns their shares, if the job is done and memory didn't run out. The callbacks of requests
 // that were never told are cancelled.
-fn leave<L: Ledger, J: PageRing, R: Wait>(
+fn leave<L: Ledger, R: Wait>(
     bench: &Bench<R>,
-    mut clients: Vec<PortClient<'_, L, J>>,
+    mut clients: Vec<PortClient<'_, L>>,
     is_done: bool,
 ) -> Option<Vec<CallShare<L>>> {
     let mut shares = Vec::new(bench.alloc);

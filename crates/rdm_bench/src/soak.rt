@@ -1,19 +1,19 @@
 //! Many requests of sixteen clients of one session, on a line that loses and fails, with pauses. Each request and each
 //! discovery has to be reported once, to its client, in order. Clients take turns drawn at random, the same in each
-//! run. The log of a session that never ends is drained all the time, and each page has to follow the one before it. A
-//! port's pages go through its record.
+//! run. The log of a session that never ends keeps nothing, or is drained all the time, and each page has to follow the
+//! one before it.
 
 use crate::bench::{Bench, Prints, holds};
-use crate::checked::{Held, History, Tally, Waiting};
+use crate::checked::{Held, History, Tally, Waiting, kept_nothing};
 use crate::lines::{Random, drawn_line};
-use crate::ports::{on_recorded_port, on_session};
+use crate::ports::on_session;
 use crate::queue::on_queue;
 use crate::served::{CLIENTS, ENTRIES, FREE, Job, Served, tag_of};
 use rdm_log::{Entry, Log};
 use std::alloc::Global;
 use std::sync::Wait;
 use std::{fs, mem};
-use test_rig::log;
+use test_rig::{NOTHING_KEPT, log};
 
 // How many blocks fill the gaps in memory while it is measured.
 const BLOCKS: usize = 512;
@@ -33,16 +33,36 @@ pub enum Port {
     Rings,
 }
 
-impl Port {
-    // The name of one that is drained, or isn't.
-    fn name(self, drained: bool) -> &'static str {
+/// What its log keeps: all entries, none, or those since the last drain.
+#[derive(Clone, Copy, PartialEq, Eq)]
+pub enum Keeps {
+    All,
+    Nothing,
+    Pages,
+}
+
+impl Keeps {
+    // How many entries its log has free.
+    fn free(self) -> usize {
         match self {
-            Port::Alone => "Drained session",
-            Port::Locked if drained => "Drained port",
-            Port::Locked => "Locked",
-            Port::Rings if drained => "Drained rings",
-            Port::Rings => "Rings",
+            Keeps::All => FREE,
+            Keeps::Nothing => NOTHING_KEPT,
+            Keeps::Pages => ENTRIES,
         }
+    }
+}
+
+// The name of a session whose log keeps this.
+fn name_of(port: Port, keeps: Keeps) -> &'static str {
+    match (port, keeps) {
+        (Port::Alone, Keeps::Pages) => "Drained session",
+        (Port::Alone, _) => "Lasting session",
+        (Port::Locked, Keeps::All) => "Locked",
+        (Port::Locked, Keeps::Nothing) => "Lasting port",
+        (Port::Locked, Keeps::Pages) => "Drained port",
+        (Port::Rings, Keeps::All) => "Rings",
+        (Port::Rings, Keeps::Nothing) => "Lasting rings",
+        (Port::Rings, Keeps::Pages) => "Drained rings",
     }
 }
 
@@ -52,8 +72,8 @@ pub fn print_ports<R: Prints + Wait>(bench: &Bench<R>, port: Port) -> Option<()>
     let mut held = Held::default();
     let mut requests: u64 = 0;
     for seed in 1..=bench.rounds as u64 {
-        let mut soak = Soak::new(bench, port, false, seed)?;
-        soak.serve_on(bench, FREE, seed)?;
+        let mut soak = Soak::new(bench, port, Keeps::All, seed)?;
+        soak.serve_on(bench, seed)?;
         requests = requests.wrapping_add(soak.told.submitted);
         held.stays(requests, soak.print(bench)?)?;
     }
@@ -61,16 +81,17 @@ pub fn print_ports<R: Prints + Wait>(bench: &Bench<R>, port: Port) -> Option<()>
 }
 
 /// Prints what the clients of one session are told of SIZE requests, as often as there are rounds, and how many
-/// entries its pages have. How much memory the process holds after each goes to standard error. `discovers`: one call
-/// in 50 is a discovery.
-pub fn print_drained<R: Prints + Wait>(
+/// entries its pages have. Its log keeps nothing, or is drained. How much memory the process holds after each goes to
+/// standard error. `discovers`: one call in 50 is a discovery.
+pub fn print_one<R: Prints + Wait>(
     bench: &Bench<R>,
     port: Port,
+    keeps: Keeps,
     discovers: bool,
 ) -> Option<()> {
-    let mut soak = Soak::new(bench, port, true, 2)?;
+    let mut soak = Soak::new(bench, port, keeps, 2)?;
     soak.discovers = discovers;
-    soak.serve_on(bench, ENTRIES, 1)
+    soak.serve_on(bench, 1)
 }
 
 /// How many kilobytes of memory the process holds now, if the system says it, as Linux does. Pages of its files aren't
@@ -102,8 +123,7 @@ fn resident_in(text: &str) -> Option<u64> {
 struct Soak {
     alloc: Global,
     port: Port,
-    // Whether the log is drained.
-    drained: bool,
+    keeps: Keeps,
     requests: u64,
     discovers: bool,
     random: Random,
@@ -119,10 +139,10 @@ struct Soak {
 impl<R: Prints> Job<R> for Soak {
     // At last each client looks for one outcome more.
     fn perform<S: Served>(&mut self, bench: &Bench<R>, served: &mut S) -> Option<()> {
-        let rounds = if self.drained { bench.rounds } else { 1 };
+        let rounds = if self.is_one() { bench.rounds } else { 1 };
         for _ in 0..rounds {
             self.submit_until(served, self.told.submitted.wrapping_add(self.requests))?;
-            if self.drained {
+            if self.is_one() {
                 let kilobytes = self.print(bench)?;
                 self.held.stays(self.told.submitted, kilobytes)?;
             }
@@ -133,16 +153,19 @@ impl<R: Prints> Job<R> for Soak {
         // The second page is empty, and has the number of all entries.
         self.drain(served, false)?;
         self.drain(served, false)?;
-        holds(self.told.is_whole() && (!self.drained || self.history.has_all(&self.told)))
+        holds(self.told.is_whole() && (!self.is_drained() || self.history.has_all(&self.told)))
     }
 
     fn end(&mut self, log: &Log) -> Option<()> {
-        self.history.end(log, &self.told)
+        match self.keeps {
+            Keeps::Nothing => kept_nothing(log, &self.told),
+            _ => self.history.end(log, &self.told),
+        }
     }
 }
 
 impl Soak {
-    fn new<R>(bench: &Bench<R>, port: Port, drained: bool, seed: u64) -> Option<Soak> {
+    fn new<R>(bench: &Bench<R>, port: Port, keeps: Keeps, seed: u64) -> Option<Soak> {
         let alloc = bench.alloc;
         let mut waiting = Vec::new(alloc);
         for _ in 0..CLIENTS {
@@ -151,31 +174,38 @@ impl Soak {
         Some(Soak {
             alloc,
             port,
-            drained,
+            keeps,
             requests: bench.size as u64,
             discovers: false,
             random: Random::new(seed),
             waiting,
             told: Tally::default(),
-            next: Vec::with_capacity(alloc, if drained { ENTRIES } else { 0 }).ok()?,
+            next: Vec::with_capacity(alloc, if keeps == Keeps::Pages { ENTRIES } else { 0 }).ok()?,
             history: History::default(),
             held: Held::default(),
         })
     }
 
-    // Opens its session over a log with this many free entries, and a line drawn by this seed.
-    fn serve_on<R: Prints + Wait>(
-        &mut self,
-        bench: &Bench<R>,
-        free: usize,
-        seed: u64,
-    ) -> Option<()> {
+    // Whether it is the only session, which never ends.
+    fn is_one(&self) -> bool {
+        self.keeps != Keeps::All
+    }
+
+    fn is_drained(&self) -> bool {
+        self.keeps == Keeps::Pages
+    }
+
+    // Opens its session over its log and a line drawn by this seed.
+    fn serve_on<R: Prints + Wait>(&mut self, bench: &Bench<R>, seed: u64) -> Option<()> {
         let line = drawn_line(bench.alloc, seed)?;
-        let log = log(bench.alloc, free).ok()?;
-        let record = Vec::new(bench.alloc);
+        let log = log(bench.alloc, self.keeps.free()).ok()?;
+        let record = if self.is_one() {
+            None
+        } else {
+            Some(Vec::new(bench.alloc))
+        };
         match self.port {
             Port::Alone => on_queue(bench, log, line, self),
-            Port::Locked if self.drained => on_recorded_port(bench, CLIENTS, log, line, self),
             Port::Locked => on_session(bench, true, CLIENTS, log, record, line, self),
             Port::Rings => on_session(bench, false, CLIENTS, log, record, line, self),
         }
@@ -197,8 +227,8 @@ impl Soak {
         None
     }
 
-    // A client submits up to four requests, or asks for a discovery, as far as its queue has places. Unless the log is
-    // drained, there are no more requests than these.
+    // A client submits up to four requests, or asks for a discovery, as far as its queue has places. Unless the session
+    // never ends, there are no more requests than these.
     fn submit<S: Served>(&mut self, served: &mut S, most: u64) -> Option<()> {
         let client = self.random.below(u64::from(CLIENTS)) as usize;
         if self.discovers && self.random.below(50) == 0 {
@@ -211,7 +241,7 @@ impl Soak {
             return Some(());
         }
         for _ in 0..self.random.below(5) {
-            if self.drained || self.told.submitted < most {
+            if self.is_one() || self.told.submitted < most {
                 self.submit_one(served, client)?;
             }
         }
@@ -238,7 +268,7 @@ impl Soak {
             served.pause(false)?;
         }
         served.work(self.random.below(4).wrapping_add(1))?;
-        if self.drained && self.random.below(ROUNDS) == 0 {
+        if self.is_drained() && self.random.below(ROUNDS) == 0 {
             self.drain(served, true)?;
         }
         let client = self.random.below(u64::from(CLIENTS)) as usize;
@@ -254,10 +284,10 @@ impl Soak {
         self.waiting.get_mut(client)?.hear(heard, &mut self.told)
     }
 
-    // Drains the log, if it is to be drained: at once, or in a turn of the worker. The page that was drained before is
+    // Drains the log, if it has to be drained: at once, or in a turn of the worker. The page that was drained before is
     // the memory of the next.
     fn drain<S: Served>(&mut self, served: &mut S, works: bool) -> Option<()> {
-        if !self.drained {
+        if !self.is_drained() {
             return Some(());
         }
         let mut next = mem::replace(&mut self.next, Vec::new(self.alloc));
@@ -274,7 +304,7 @@ impl Soak {
 
     // Returns how many kilobytes of memory the process holds.
     fn print<R: Prints>(&self, bench: &Bench<R>) -> Option<u64> {
-        let (rt, name) = (bench.rt, self.port.name(self.drained));
+        let (rt, name) = (bench.rt, name_of(self.port, self.keeps));
         let Tally {
             completed,
             timeouts,
@@ -282,17 +312,20 @@ impl Soak {
             ..
         } = self.told;
         println!(rt; "{name}: {completed} completed, {timeouts} timeouts, {failed} failed").ok()?;
-        if self.drained {
-            self.print_pages(rt, name)?;
+        if self.is_one() {
+            self.print_one(rt, name)?;
         }
         let kilobytes = resident_without_gaps(rt, self.alloc)?;
         eprintln!(rt; "{name}: {kilobytes} kB").ok()?;
         Some(kilobytes)
     }
 
-    fn print_pages<R: Print>(&self, rt: &R, name: &str) -> Option<()> {
+    fn print_one<R: Print>(&self, rt: &R, name: &str) -> Option<()> {
         let (discovered, aborted) = (self.told.discovered, self.told.aborted);
         println!(rt; "{name}: {discovered} discovered, {aborted} failed").ok()?;
+        if !self.is_drained() {
+            return Some(());
+        }
         let (entries, awaited) = (self.history.entries, self.history.awaited);
         println!(rt; "{name}: {entries} entries, {awaited} drains before a reply").ok()
     }

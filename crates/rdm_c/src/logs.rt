@@ -33,7 +33,7 @@ pub extern "C" fn wurst_session_free_entries(
     DONE
 }
 
-/// Writes how many entries the log stores. With those that were handed out it is legal, and keeps all that clients are
+/// Writes how many entries the log stores. With those that it doesn't store it is legal, and keeps all that clients are
 /// promised.
 #[unsafe(no_mangle)]
 pub extern "C" fn wurst_session_entry_count(
@@ -105,6 +105,7 @@ pub extern "C" fn wurst_session_rotate(
       room = entries + 1;
       search = handle.old.session.search;
       gone = 0;
+      keeps = true;
     } }
     ensures handed_back { result ≡ DONE → (holds a_log log.new ≡ true) × (log.new.log ≡ handle.old.session) }
     ensures unchanged { result ≢ DONE → (handle.new.session ≡ handle.old.session) × (log.new ≡ log.old) }
@@ -132,7 +133,8 @@ pub extern "C" fn wurst_session_rotate(
 
 /// Hands out all entries that the log stores, and continues in other memory. For an open handle that is the memory of
 /// its log, whose own entries are removed. For a closed one it is new memory for this many entries. Then the handle has
-/// what was handed out. Writes the number of its first entry. An open handle of another kind is refused as not open.
+/// what was handed out. Writes the number of its first entry. An open handle of another kind is refused as not open,
+/// and a log that keeps nothing as full.
 #[unsafe(no_mangle)]
 pub extern "C" fn wurst_session_drain(
     alloc: Global,
@@ -146,7 +148,7 @@ pub extern "C" fn wurst_session_drain(
     ensures statuses { holds a_session handle.old ≡ true → holds a_log log.old ≡ true →
         (result ≡ DONE) ⊎ (result ≡ LOG_FULL) }
     ensures full { holds a_session handle.old ≡ true → holds a_log log.old ≡ true → result ≡ LOG_FULL →
-        MayGoOn handle.old.session (log.old.log.room - log.old.log.gone) → ⊥ }
+        log.old.log.keeps ≡ true → MayGoOn handle.old.session (log.old.log.room - log.old.log.gone) → ⊥ }
     ensures reused { holds a_log log.old ≡ true → result ≡ DONE →
         handle.new.session ≡ drained handle.old.session (log.old.log.room - log.old.log.gone) }
     ensures bad { holds a_session handle.old ≡ true → log.old.is_open ≡ false →
@@ -155,9 +157,12 @@ pub extern "C" fn wurst_session_drain(
         drain_status handle.old.session entries ≡ 0 → (result ≡ OUT_OF_MEMORY) ⊎ (result ≡ DONE) }
     ensures drained { log.old.is_open ≡ false → result ≡ DONE →
         handle.new.session ≡ drained handle.old.session (entries + 1) }
-    ensures first { result ≡ DONE → first.new ≡ handle.old.session.gone }
+    ensures first { result ≡ DONE → first.new + length (stored handle.old.session)
+        ≡ length handle.old.session.entries }
+    ensures gone { result ≡ DONE → handle.old.session.keeps ≡ true → first.new ≡ handle.old.session.gone }
     ensures handed_out { result ≡ DONE → (holds a_log log.new ≡ true)
-        × ((log.new.log.entries ≡ handle.old.session.entries) × (log.new.log.gone ≡ handle.old.session.gone)) }
+        × ((log.new.log.entries ≡ handle.old.session.entries) × (log.new.log.gone ≡ handle.old.session.gone)
+        × (log.new.log.keeps ≡ handle.old.session.keeps)) }
     ensures unchanged { result ≢ DONE → (handle.new.session ≡ handle.old.session) × (first.new ≡ first.old) }
     ensures kept { result ≢ DONE → holds a_log log.old ≡ false → log.new ≡ log.old }
     ensures kept_log { result ≢ DONE → holds a_log log.old ≡ true → (holds a_log log.new ≡ true)
@@ -169,7 +174,7 @@ pub extern "C" fn wurst_session_drain(
     let Some(mut session) = handle.take_session(alloc) else {
         return NOT_OPEN;
     };
-    let number = session.log().gone();
+    let number = session.log().first_stored();
     if let Some(mut page) = log.take_log(alloc) {
         let status = sessions::drain_into(&mut session, &mut page);
         log.put_log(page);

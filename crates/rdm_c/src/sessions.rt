@@ -10,13 +10,13 @@ ghost use Rattle.rdm_log.specs.declared.outcome.DiscoveryEnd.{DiscoveryEnd};
 ghost use Rattle.rdm_log.specs.declared.outcome.OutcomeKind.TheVariants as kinds;
 ghost use Rattle.rdm_log.specs.log.History.{awaited, is_idle, is_paused, is_closed};
 ghost use Rattle.rdm_log.specs.log.Legal.{Legal};
-ghost use Rattle.rdm_log.specs.log.LogState.{is_full_log, begun, blank_log};
+ghost use Rattle.rdm_log.specs.log.LogState.{is_full_log, begun, blank_log, nothing_log};
 ghost use Rattle.rdm_log.specs.log.Runs.{known_devices, devices_run};
 ghost use Rattle.rdm_log.specs.promises.Blocks.{JoinLogs, SubmitLogs, DiscoverLogs, PauseLogs, ResumeLogs, TakeLogs};
 ghost use Rattle.rdm_log.specs.promises.Blocks.{CloseAdds, DeliverAdds, CollectAdds, GrowsBy};
 ghost use Rattle.rdm_log.specs.promises.Outcomes.{oldest_kind, request_outcome, discovery_outcome};
 ghost use Rattle.rdm_queue.specs.promises.Lengths.{oldest_length};
-ghost use Rattle.rdm_handles.specs.Forms.{setup_of, request_status, request_of, kind_of};
+ghost use Rattle.rdm_handles.specs.Forms.{setup_of, setup_status, request_status, request_of, kind_of};
 ghost use Rattle.rdm_handles.specs.Forms.{form_of_completion, form_of_end, form_of_device};
 ghost use Rattle.rdm_handles.specs.Answers.{join_answer, submit_answer, ask_answer, collect_status, oldest_status};
 ghost use Rattle.rdm_handles.specs.Answers.{number_of_outcome_kind, join_fault_of, submit_fault_of, ask_fault_of};
@@ -52,6 +52,33 @@ pub extern "C" fn wurst_session_open(
         return ALREADY_OPEN;
     }
     let session = match sessions::open(alloc, setup, entries) {
+        Ok(session) => session,
+        Err(fault) => return fault,
+    };
+    let Ok(boxed) = Box::new(alloc, session) else {
+        return OUT_OF_MEMORY;
+    };
+    handle.put_session(boxed);
+    DONE
+}
+
+/// Opens a handle: a session with this set-up, without clients, whose log keeps nothing. So it can last for years.
+#[unsafe(no_mangle)]
+pub extern "C" fn wurst_session_open_without_log(
+    alloc: Global,
+    handle: &mut Handle,
+    setup: &SetupForC,
+) -> u32
+    ensures opens { Opens a_session handle.old handle.new result }
+    ensures bad { handle.old.is_open ≡ false → setup_status setup.now ≢ 0 → result ≡ setup_status setup.now }
+    ensures statuses { handle.old.is_open ≡ false → setup_status setup.now ≡ 0 → (result ≡ OUT_OF_MEMORY)
+        ⊎ (result ≡ DONE) }
+    ensures opened { result ≡ DONE → handle.new.session ≡ begun (setup_of setup.now) nothing_log }
+{
+    if handle.is_open() {
+        return ALREADY_OPEN;
+    }
+    let session = match sessions::open_without_log(alloc, setup) {
         Ok(session) => session,
         Err(fault) => return fault,
     };

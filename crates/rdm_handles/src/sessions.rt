@@ -10,12 +10,13 @@ ghost use Rattle.rdm_log.specs.declared.outcome.DiscoveryEnd.{DiscoveryEnd};
 ghost use Rattle.rdm_log.specs.declared.outcome.OutcomeKind.TheVariants as kinds;
 ghost use Rattle.rdm_log.specs.log.History.{awaited, is_idle};
 ghost use Rattle.rdm_log.specs.log.Legal.{Legal};
-ghost use Rattle.rdm_log.specs.log.LogState.{is_full_log, begun, blank_log, opening_after, drained, MayGoOn};
+ghost use Rattle.rdm_log.specs.log.LogState.{is_full_log, begun, blank_log, nothing_log, opening_after, drained};
+ghost use Rattle.rdm_log.specs.log.LogState.{MayGoOn};
 ghost use Rattle.rdm_log.specs.promises.Blocks.{JoinLogs, SubmitLogs, DiscoverLogs, PauseLogs, ResumeLogs, TakeLogs};
 ghost use Rattle.rdm_log.specs.promises.Blocks.{DeliverAdds, CollectAdds, GrowsBy};
 ghost use Rattle.rdm_log.specs.promises.Outcomes.{oldest_kind, request_outcome, discovery_outcome};
 ghost use Rattle.rdm_queue.specs.promises.Lengths.{oldest_length};
-ghost use Rattle.rdm_handles.specs.Forms.{setup_of, request_status, request_of, kind_of};
+ghost use Rattle.rdm_handles.specs.Forms.{setup_of, setup_status, request_status, request_of, kind_of};
 ghost use Rattle.rdm_handles.specs.Forms.{form_of_completion, form_of_end, form_of_device};
 ghost use Rattle.rdm_handles.specs.Answers.{join_answer, submit_answer, ask_answer, collect_status, oldest_status};
 ghost use Rattle.rdm_handles.specs.Answers.{number_of_outcome_kind, join_fault_of, submit_fault_of, ask_fault_of};
@@ -51,6 +52,24 @@ pub fn open(alloc: Global, setup: &SetupForC, entries: usize) -> Result<Session,
         return Err(TOO_MANY_ENTRIES);
     }
     let Ok(log) = Log::new(alloc, entries) else {
+        return Err(OUT_OF_MEMORY);
+    };
+    match Session::new(alloc, setup, log) {
+        Ok(session) => Ok(session),
+        Err(_) => Err(OUT_OF_MEMORY),
+    }
+}
+
+/// A session with this set-up, whose log keeps nothing.
+/// Err: the status of the setup's first fault, or `OUT_OF_MEMORY`.
+pub fn open_without_log(alloc: Global, setup: &SetupForC) -> Result<Session, u32>
+    ensures opened { IfOk result (λ s. (setup_status setup.now ≡ 0)
+        × (s ≡ begun (setup_of setup.now) nothing_log)) }
+    ensures refused { IfErr result (λ fault.
+        fault ≡ (if setup_status setup.now == 0 then OUT_OF_MEMORY else setup_status setup.now)) }
+{
+    let setup = setup_of(setup)?;
+    let Ok(log) = Log::nothing(alloc) else {
         return Err(OUT_OF_MEMORY);
     };
     match Session::new(alloc, setup, log) {
@@ -333,6 +352,7 @@ pub fn rotate(session: &mut Session, alloc: Global, entries: usize) -> Result<Bo
           room = entries + 1;
           search = session.old.search;
           gone = 0;
+          keeps = true;
         })) }
     ensures refused { IfErr result (λ fault. (session.new ≡ session.old) × (fault
         ≡ (if rotate_status session.old entries == 0 then OUT_OF_MEMORY else rotate_status session.old entries))) }
@@ -363,15 +383,18 @@ pub fn rotate(session: &mut Session, alloc: Global, entries: usize) -> Result<Bo
 }
 
 /// Hands out all entries that the log stores to another log, in place of that log's own, and goes on in its memory.
-/// `LOG_FULL`: it has no capacity for all that are reserved, or there would be more than 2^62 entries in all.
+/// `LOG_FULL`: it has no capacity for all that are reserved, or keeps nothing, or there would be more than 2^62 entries
+/// in all.
 pub fn drain_into(session: &mut Session, page: &mut Log) -> u32
     ensures statuses { (result ≡ DONE) ⊎ (result ≡ LOG_FULL) }
-    ensures full { result ≡ LOG_FULL → MayGoOn session.old (page.old.room - page.old.gone) → ⊥ }
+    ensures full { result ≡ LOG_FULL → page.old.keeps ≡ true
+        → MayGoOn session.old (page.old.room - page.old.gone) → ⊥ }
     ensures drained { result ≡ DONE → session.new ≡ drained session.old (page.old.room - page.old.gone) }
     ensures handed_out { result ≡ DONE → page.new ≡ record page.old {
       entries = session.old.entries;
       room = session.old.room;
       gone = session.old.gone;
+      keeps = session.old.keeps;
     } }
     ensures legal { Legal session.new.opening session.new.entries }
     ensures unchanged { result ≢ DONE → (session.new ≡ session.old) × (page.new ≡ page.old) }
@@ -390,6 +413,7 @@ pub fn drain(session: &mut Session, alloc: Global, entries: usize) -> Result<Box
     ensures handed_out { IfOk result (λ page. page.value ≡ record (blank_log session.old.room) {
       entries = session.old.entries;
       gone = session.old.gone;
+      keeps = session.old.keeps;
     }) }
     ensures refused { IfErr result (λ fault. (session.new ≡ session.old) × (fault
         ≡ (if drain_status session.old entries == 0 then OUT_OF_MEMORY else drain_status session.old entries))) }

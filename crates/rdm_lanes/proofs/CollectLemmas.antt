@@ -1,10 +1,10 @@
 -- What collects leave as it is.
-use Rattle.rdm_lanes.proofs.Common.{◌≡◌, ℕ, true, false, true≢false, List, [], ◌∷◌, ◌++◌, None, refl, sym, ap, ◌∙◌}
-use Rattle.rdm_lanes.proofs.Common.{subst, inl, inr, append-nil, append_assoc, arith, nat_lt, AllByRecursion, ArrayVec}
-use Rattle.rdm_lanes.proofs.Common.{Search, EachAfter, ClientId, Opening, Entry, Collect, join_of, answered_of, NoSend}
-use Rattle.rdm_lanes.proofs.Common.{MayBegin, Legal, MayFollow, LogState, is_full_log, free_entries, sends_same}
-use Rattle.rdm_lanes.proofs.Common.{answered_same, awaited-push, is_closed-push, is_paused-push, last_run_same}
-use Rattle.rdm_lanes.proofs.Common.{NoExchange, OnlyCollects, SameSwitches}
+use Rattle.rdm_lanes.proofs.Common.{◌≡◌, ℕ, Bool, true, false, true≢false, List, [], ◌∷◌, ◌++◌, None, refl, sym, ap}
+use Rattle.rdm_lanes.proofs.Common.{◌∙◌, subst, inl, inr, append-nil, append_assoc, arith, nat_lt, AllByRecursion}
+use Rattle.rdm_lanes.proofs.Common.{ArrayVec, Search, EachAfter, ClientId, Opening, Entry, Collect, join_of}
+use Rattle.rdm_lanes.proofs.Common.{answered_of, NoSend, MayBegin, Legal, MayFollow, LogState, is_full_log}
+use Rattle.rdm_lanes.proofs.Common.{free_entries, sends_same, answered_same, awaited-push, is_closed-push}
+use Rattle.rdm_lanes.proofs.Common.{is_paused-push, last_run_same, NoExchange, OnlyCollects, SameSwitches}
 use Rattle.rdm_log.specs.declared.entry.Owner.TheVariants as owners
 use Rattle.rdm_log.specs.log.MaySend.{MaySendRequest, MaySendRun}
 use Rattle.rdm_log.proofs.LogLemmas.PushLemmas.{accepts_same, asks_same, finishes_same}
@@ -55,17 +55,25 @@ collects_need_nothing : (block : List Entry) → AllByRecursion (λ e. added e �
 collects_need_nothing [] all = refl
 collects_need_nothing (e ∷ block) all = omega (arith, all.0, collects_need_nothing block all.1)
 
-free_stays : (o : Opening) (h block : List Entry) (room : ℕ) (search : Search) (gone : ℕ)
+free_stays : (o : Opening) (h block : List Entry) (room : ℕ) (search : Search) (gone : ℕ) (keeps : Bool)
     → EachAfter (MayFollow o) (h ++ block) → AllCollects block
-    → free_entries (record { opening = o; entries = h ++ block; room = room; search = search; gone = gone })
+    → free_entries (record {
+      opening = o;
+      entries = h ++ block;
+      room = room;
+      search = search;
+      gone = gone;
+      keeps = keeps;
+    })
     ≡ free_entries (record {
       opening = o;
       entries = h;
       room = room;
       search = search;
       gone = gone;
+      keeps = keeps;
     })
-free_stays o h block room search gone each all =
+free_stays o h block room search gone keeps each all =
     omega (
       arith,
       used_block o h block each,
@@ -78,7 +86,8 @@ full_stays old new is legal =
     let each : EachAfter (MayFollow old.opening) (old.entries ++ is.block) = subst
     (λ (k : LogState). EachAfter (MayFollow k.opening) k.entries) is.grows legal.each in
     ap is_full_log is.grows
-    ∙ ap (λ (n : ℕ). nat_lt n 3) (free_stays old.opening old.entries is.block old.room old.search old.gone each is.each)
+    ∙ ap (λ (n : ℕ). nat_lt n 3) (free_stays old.opening old.entries is.block old.room old.search old.gone
+    old.keeps each is.each)
 
 -- where no frame might be sent, none may be
 module _ (o : Opening) (h : List Entry) (c : ClientId) where

@@ -1,15 +1,15 @@
 -- How a client's lane agrees with the log, once its oldest outcome was collected.
-use Rattle.rdm_lanes.proofs.Common.{◌≡◌, ℕ, ◌+◌, ◌-◌, ◌≤◌, true, List, [], ◌∷◌, ◌++◌, map, length, take, drop, Option}
-use Rattle.rdm_lanes.proofs.Common.{Some, refl, sym, ap, ◌∙◌, subst, slice_get, length-append, append-nil, append_assoc}
-use Rattle.rdm_lanes.proofs.Common.{arith, list_any, eq-eqb, slice_get_within, get_or_from_slice_get, map-append}
-use Rattle.rdm_lanes.proofs.Common.{take_more, Search, EachAfter, ClientId, Call, Opening, Entry, Join, Refuse, Accept}
-use Rattle.rdm_lanes.proofs.Common.{Ask, Send, Came, Finish, Answer, Collect, Pause, Resume, Close, AskCompletion, asks}
-use Rattle.rdm_lanes.proofs.Common.{finishes, answers, collectors, accepts_by, asks_by, answers_to, collects_by}
-use Rattle.rdm_lanes.proofs.Common.{collected, uncollected, outstanding_requests, outstanding_discoveries, LogState}
-use Rattle.rdm_lanes.proofs.Common.{grown, Legal, MayFollow, GrowsBy, CollectAdds, OutcomeValue, Discovered, outcome_of}
-use Rattle.rdm_lanes.proofs.Common.{outcome_value, refused_outcome, DiscoveryValue, finishes-append, answered-append}
-use Rattle.rdm_lanes.proofs.Common.{ClientCall, RingOutcome, Lane, work_in, uncollected_values, values_in, value_in}
-use Rattle.rdm_lanes.proofs.Common.{Fits, is_leave}
+use Rattle.rdm_lanes.proofs.Common.{◌≡◌, ℕ, ◌+◌, ◌-◌, ◌≤◌, Bool, true, List, [], ◌∷◌, ◌++◌, map, length, take, drop}
+use Rattle.rdm_lanes.proofs.Common.{Option, Some, refl, sym, ap, ◌∙◌, subst, slice_get, length-append, append-nil}
+use Rattle.rdm_lanes.proofs.Common.{append_assoc, arith, list_any, eq-eqb, slice_get_within, get_or_from_slice_get}
+use Rattle.rdm_lanes.proofs.Common.{map-append, take_more, Search, EachAfter, ClientId, Call, Opening, Entry, Join}
+use Rattle.rdm_lanes.proofs.Common.{Refuse, Accept, Ask, Send, Came, Finish, Answer, Collect, Pause, Resume, Close}
+use Rattle.rdm_lanes.proofs.Common.{AskCompletion, asks, finishes, answers, collectors, accepts_by, asks_by, answers_to}
+use Rattle.rdm_lanes.proofs.Common.{collects_by, collected, uncollected, outstanding_requests, outstanding_discoveries}
+use Rattle.rdm_lanes.proofs.Common.{LogState, grown, Legal, MayFollow, GrowsBy, CollectAdds, OutcomeValue, Discovered}
+use Rattle.rdm_lanes.proofs.Common.{outcome_of, outcome_value, refused_outcome, DiscoveryValue, finishes-append}
+use Rattle.rdm_lanes.proofs.Common.{answered-append, ClientCall, RingOutcome, Lane, work_in, uncollected_values}
+use Rattle.rdm_lanes.proofs.Common.{values_in, value_in, Fits, is_leave}
 use Rattle.rtrb.specs.Ring.{sent as pushed}
 use Rattle.rdm_log.specs.declared.entry.Call.TheVariants as calls
 use Rattle.rdm_log.specs.declared.outcome.Completion.{Completion}
@@ -167,17 +167,32 @@ module _ (o : Opening) (h : List Entry) (d : ClientId) (each : EachAfter (MayFol
       omega (arith, same, finishes_more, is.other)
 
 -- the outcome that was collected is on the client's ring
-collected_fits : (o : Opening) (h : List Entry) (room : ℕ) (search : Search) (gone : ℕ) (d : ClientId) (x : Entry)
-    (item : RingOutcome) (lane next : Lane) (requests asks : ℕ)
+collected_fits : (o : Opening) (h : List Entry) (room : ℕ) (search : Search) (gone : ℕ) (keeps : Bool) (d : ClientId)
+    (x : Entry) (item : RingOutcome) (lane next : Lane) (requests asks : ℕ)
     → EachAfter (MayFollow o) (h ++ Collect d ∷ []) → slice_get (uncollected o d.0 h) 0 ≡ Some x
     → outcome_of h x ≡ Some (value_in item)
     → outstanding_requests o d.0 (h ++ Collect d ∷ []) ≡ requests
     → outstanding_discoveries o d.0 (h ++ Collect d ∷ []) ≡ asks
-    → Fits d.0 (record { opening = o; entries = h; room = room; search = search; gone = gone }) lane
+    → Fits d.0 (record {
+      opening = o;
+      entries = h;
+      room = room;
+      search = search;
+      gone = gone;
+      keeps = keeps;
+    }) lane
     → IsNext lane next requests asks
     → pushed next.replies ≡ pushed lane.replies ++ item ∷ []
-    → Fits d.0 (record { opening = o; entries = h ++ Collect d ∷ []; room = room; search = search; gone = gone }) next
-collected_fits o h room search gone d x item lane next requests asks each oldest told counted asked f isnext replies =
+    → Fits d.0 (record {
+      opening = o;
+      entries = h ++ Collect d ∷ [];
+      room = room;
+      search = search;
+      gone = gone;
+      keeps = keeps;
+    }) next
+collected_fits o h room search gone keeps d x item lane next requests asks each oldest told counted asked f isnext
+    replies =
     record {
       calls_are = ap work_in isnext.calls_are ∙ f.calls_are
           ∙ ap (λ (xs : List ClientCall). xs ++ []) (sym (calls_stay d.0 h (Collect d) refl));
@@ -244,8 +259,8 @@ fits_completion old new d n done item lane next g legal is f isnext replies =
     let kind = finish_of old.entries x n (completion_value done) adds.0.told in
     let fewer = fewer_requests old.opening old.entries d each x adds.0.oldest kind in
     let same = same_asks old.opening old.entries d each x adds.0.oldest kind in
-    rw grows (collected_fits old.opening old.entries old.room old.search old.gone d x item lane next (lane.requests - 1)
-    lane.asks each adds.0.oldest (adds.0.told ∙ ap (λ v. Some v) (sym is))
+    rw grows (collected_fits old.opening old.entries old.room old.search old.gone old.keeps d x item lane next
+    (lane.requests - 1) lane.asks each adds.0.oldest (adds.0.told ∙ ap (λ v. Some v) (sym is))
     (less_one lane.requests _ _ f.requests_are fewer) (same ∙ sym f.asks_are) f isnext replies)
 
 pub fits_discovery : (old new : LogState) (d : ClientId) (n : ℕ) (done : AskCompletion) (item : RingOutcome)
@@ -263,6 +278,6 @@ fits_discovery old new d n done item lane next g legal is f isnext replies =
     let kind = answer_of old.entries x n (discovered done) adds.0.told in
     let fewer = fewer_asks old.opening old.entries d each x adds.0.oldest kind in
     let same = same_requests old.opening old.entries d each x adds.0.oldest kind in
-    rw grows (collected_fits old.opening old.entries old.room old.search old.gone d x item lane next lane.requests
-    (lane.asks - 1) each adds.0.oldest (adds.0.told ∙ ap (λ v. Some v) (sym is))
+    rw grows (collected_fits old.opening old.entries old.room old.search old.gone old.keeps d x item lane next
+    lane.requests (lane.asks - 1) each adds.0.oldest (adds.0.told ∙ ap (λ v. Some v) (sym is))
     (same ∙ sym f.requests_are) (less_one lane.asks _ _ f.asks_are fewer) f isnext replies)

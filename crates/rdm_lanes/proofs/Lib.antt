@@ -1,6 +1,4 @@
 pub mod DrainLemmas
-pub mod PageLemmas
-pub mod PagedWork
 pub mod Fronts
 pub mod ViewFacts
 pub mod HistoryLemmas
@@ -31,7 +29,6 @@ pub mod WorkLemmas
 pub mod EndLemmas
 pub mod OpenLemmas
 pub mod SessionLemmas
-pub mod PagedSessions
 pub mod ToldLemmas
 pub mod SceneLemmas
 pub mod FirstLemmas

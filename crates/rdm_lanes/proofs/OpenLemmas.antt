@@ -191,9 +191,9 @@ unfolding runs_found answers
 nothing_seen = refl
 
 -- readers may read the opening view, which is all that there is
-pub publishes_opened : (setup : Setup) (room : ℕ) (ps : List ℕ) (p : Publishing) → p.shown ≡ opening_view ∷ []
-    → p.added ≡ opening_view ∷ [] → Publishes (opened_with setup room ps) p
-publishes_opened setup room ps p shown added = record {
+pub publishes_opened : (setup : Setup) (keeps : Bool) (room : ℕ) (ps : List ℕ) (p : Publishing)
+    → p.shown ≡ opening_view ∷ [] → p.added ≡ opening_view ∷ [] → Publishes (opened_with setup keeps room ps) p
+publishes_opened setup keeps room ps p shown added = record {
   no_run = refl;
   no_devices = refl;
   showing = showing_all (all_views (join_entries 0 ps)) p (subst NoneLater (sym all) none_later_opening)
@@ -206,18 +206,19 @@ publishes_opened setup room ps p shown added = record {
         (joins_each (λ e. answered_of e ≡ None) (λ c n. refl) 0 ps) ∙ nothing_seen)
 
 -- a session in which clients have joined
-abbrev pub empty_log : Setup → ℕ → LogState
-empty_log setup room = record {
+abbrev pub empty_log : Setup → Bool → ℕ → LogState
+empty_log setup keeps room = record {
   opening = opened setup.config;
   entries = [];
   room = room;
   search = setup.search;
   gone = 0;
+  keeps = keeps;
 }
 
-served_empty : (setup : Setup) (room : ℕ) → IsBetweenTurns (empty_log setup room)
+served_empty : (setup : Setup) (keeps : Bool) (room : ℕ) → IsBetweenTurns (empty_log setup keeps room)
 unfolding awaited
-served_empty setup room = record {
+served_empty setup keeps room = record {
   answered = refl;
   no_call_lost = record {
     rightly = λ front back c call cause at. absurd (not_empty front (Refuse c call cause) back at);
@@ -228,11 +229,12 @@ served_empty setup room = record {
     not_empty [] x back e = cc
     not_empty (y ∷ front) x back e = cc
 
-pub served_opened : (setup : Setup) (room : ℕ) (ps : List ℕ) → IsBetweenTurns (opened_with setup room ps)
-served_opened setup room ps =
-    served_off (empty_log setup room) (opened_with setup room ps) (join_entries 0 ps) refl (joins_off ps)
+pub served_opened : (setup : Setup) (keeps : Bool) (room : ℕ) (ps : List ℕ)
+    → IsBetweenTurns (opened_with setup keeps room ps)
+served_opened setup keeps room ps =
+    served_off (empty_log setup keeps room) (opened_with setup keeps room ps) (join_entries 0 ps) refl (joins_off ps)
     (rightly_without (opened setup.config) [] (join_entries 0 ps)
-    (joins_each (λ e. is_refusal e ≡ false) (λ c n. refl) 0 ps)) (served_empty setup room)
+    (joins_each (λ e. is_refusal e ≡ false) (λ c n. refl) 0 ps)) (served_empty setup keeps room)
 
 closed_nothing : (config : Config) → is_closed (opened config) [] ≡ false
 unfolding is_closed
@@ -242,48 +244,51 @@ exchanges_nothing : exchanges [] ≡ []
 unfolding exchanges traded sends cames
 exchanges_nothing = refl
 
-pub open_opened : (setup : Setup) (room : ℕ) (ps : List ℕ)
-    → is_closed (opened_with setup room ps).opening (opened_with setup room ps).entries ≡ false
-open_opened setup room ps =
+pub open_opened : (setup : Setup) (keeps : Bool) (room : ℕ) (ps : List ℕ)
+    → is_closed (opened_with setup keeps room ps).opening (opened_with setup keeps room ps).entries ≡ false
+open_opened setup keeps room ps =
     closed_stays (opened setup.config) [] (join_entries 0 ps) (joins_no_switch ps) ∙ closed_nothing setup.config
 
 paused_nothing : (config : Config) → is_paused (opened config) [] ≡ false
 unfolding is_paused
 paused_nothing config = refl
 
-pub not_paused_opened : (setup : Setup) (room : ℕ) (ps : List ℕ)
-    → is_paused (opened_with setup room ps).opening (opened_with setup room ps).entries ≡ false
-not_paused_opened setup room ps =
+pub not_paused_opened : (setup : Setup) (keeps : Bool) (room : ℕ) (ps : List ℕ)
+    → is_paused (opened_with setup keeps room ps).opening (opened_with setup keeps room ps).entries ≡ false
+not_paused_opened setup keeps room ps =
     paused_stays (opened setup.config) [] (join_entries 0 ps) (joins_no_switch ps) ∙ paused_nothing setup.config
 
 no_switches : switches [] ≡ []
 unfolding switches
 no_switches = refl
 
-pub no_switches_opened : (setup : Setup) (room : ℕ) (ps : List ℕ) → switches (opened_with setup room ps).entries ≡ []
-no_switches_opened setup room ps = switches_off [] (join_entries 0 ps) (joins_no_switch ps) ∙ no_switches
+pub no_switches_opened : (setup : Setup) (keeps : Bool) (room : ℕ) (ps : List ℕ)
+    → switches (opened_with setup keeps room ps).entries ≡ []
+no_switches_opened setup keeps room ps = switches_off [] (join_entries 0 ps) (joins_no_switch ps) ∙ no_switches
 
 -- the operator's calls at first
 no_effects : effective [] ≡ []
 unfolding effective
 no_effects = refl
 
-pub operated_opened : (setup : Setup) (room : ℕ) (ps : List ℕ) (calls : List OperatorCall) → calls ≡ []
-    → IsOperated (opened_with setup room ps) calls
-operated_opened setup room ps calls none = record {
+pub operated_opened : (setup : Setup) (keeps : Bool) (room : ℕ) (ps : List ℕ) (calls : List OperatorCall) → calls ≡ []
+    → IsOperated (opened_with setup keeps room ps) calls
+operated_opened setup keeps room ps calls none = record {
   not_paused = refl;
   not_closed = refl;
-  switched = no_switches_opened setup room ps ∙ sym (ap effective none ∙ no_effects);
+  switched = no_switches_opened setup keeps room ps ∙ sym (ap effective none ∙ no_effects);
 }
 
-pub no_exchanges_opened : (setup : Setup) (room : ℕ) (ps : List ℕ) → exchanges (opened_with setup room ps).entries ≡ []
-no_exchanges_opened setup room ps =
+pub no_exchanges_opened : (setup : Setup) (keeps : Bool) (room : ℕ) (ps : List ℕ)
+    → exchanges (opened_with setup keeps room ps).entries ≡ []
+no_exchanges_opened setup keeps room ps =
     exchanges_off [] (join_entries 0 ps) (joins_off ps) ∙ exchanges_nothing
 
-fits_empty : (c p : ℕ) (setup : Setup) (room : ℕ) (lane : Lane) → popped lane.calls ≡ [] → pushed lane.replies ≡ []
-    → lane.requests ≡ 0 → lane.asks ≡ 0 → lane.left ≡ false → Fits c (empty_log setup room) lane
+fits_empty : (c p : ℕ) (setup : Setup) (keeps : Bool) (room : ℕ) (lane : Lane) → popped lane.calls ≡ []
+    → pushed lane.replies ≡ [] → lane.requests ≡ 0 → lane.asks ≡ 0 → lane.left ≡ false
+    → Fits c (empty_log setup keeps room) lane
 unfolding work_in calls_by told_values uncollected_values values_in answers_to accepts asks finishes answers collectors
-fits_empty c p setup room lane got pushed_none no_requests no_asks left = record {
+fits_empty c p setup keeps room lane got pushed_none no_requests no_asks left = record {
   calls_are = rw got refl;
   moved_are = rw pushed_none refl;
   requests_are = no_requests;
@@ -312,19 +317,20 @@ lanes_places ring ps clients lanes all =
     same_list (x ∷ xs) (y ∷ ys) long each =
         rw (each 0 x y refl refl, same_list xs ys (omega (arith, long)) (λ i a b p q. each (suc i) a b p q)) refl
 
-pub fits_opened : {J : Type 0} {h : Ghosts J} {C A : Type 0} (setup : Setup) (room ring : ℕ) (ps : List ℕ)
-    (clients : List (RingClient J C A h)) (lanes : List Lane) → Legal (opened setup.config) (join_entries 0 ps)
-    → AreNewWith ring ps clients lanes → AllFit (opened_with setup room ps) lanes
-fits_opened setup room ring ps clients lanes legal all = record {
+pub fits_opened : {J : Type 0} {h : Ghosts J} {C A : Type 0} (setup : Setup) (keeps : Bool) (room ring : ℕ)
+    (ps : List ℕ) (clients : List (RingClient J C A h)) (lanes : List Lane)
+    → Legal (opened setup.config) (join_entries 0 ps) → AreNewWith ring ps clients lanes
+    → AllFit (opened_with setup keeps room ps) lanes
+fits_opened setup keeps room ring ps clients lanes legal all = record {
   each = λ i lane here.
       let low = slice_get_within lanes i lane here in
       let p = within_get ps i (omega (arith, low, all.lanes_long)) in
       let client = within_get clients i (omega (arith, low, all.lanes_long, all.clients_long)) in
       let new = all.each i p.0 client.0 lane p.1 client.1 here in
-      fits_waits [] i (empty_log setup room) (opened_with setup room ps) lane
-      (fits_empty i p.0 setup room lane new.nothing_received new.nothing_moved new.no_requests new.no_asks
+      fits_waits [] i (empty_log setup keeps room) (opened_with setup keeps room ps) lane
+      (fits_empty i p.0 setup keeps room lane new.nothing_received new.nothing_moved new.no_requests new.no_asks
       new.not_received)
-      (waits i (empty_log setup room) (opened_with setup room ps) (join_entries 0 ps) refl legal
+      (waits i (empty_log setup keeps room) (opened_with setup keeps room ps) (join_entries 0 ps) refl legal
       (joins_untouched i ps));
   clients_are = joins_of 0 ps ∙ lanes_places ring ps clients lanes all;
   nobody_else = λ c out. calls_untouched c [] (join_entries 0 ps) (joins_untouched c ps) ∙ no_calls c;

@@ -11,13 +11,11 @@ pub mod Lines
 pub mod Lanes
 pub mod Workers
 pub mod Turns
-pub mod Pages
 pub mod ViewsRead
 pub mod Ends
 pub mod Opened
 pub mod SessionEnds
 pub mod Sessions
-pub mod PagedEnds
 pub mod OverThreads
 pub mod Ended
 pub mod body

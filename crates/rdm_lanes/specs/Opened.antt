@@ -1,6 +1,6 @@
 -- What opening clients, an operator and a worker requires, and what it makes.
-use Rattle.std.specs.Prelude.{◌≡◌, ◌≢◌, ◌⊎◌, ℕ, ◌+◌, ◌<◌, ◌≤◌, false, List, [], ◌∷◌, length, sum, Option, Some, None}
-use Rattle.std.specs.Prelude.{nat_lt, slice_get, if◌then◌else◌, Result, IsErr, IfErr, MatchOption}
+use Rattle.std.specs.Prelude.{◌≡◌, ◌≢◌, ◌⊎◌, ℕ, ◌+◌, ◌<◌, ◌≤◌, Bool, false, List, [], ◌∷◌, length, sum, Option, Some}
+use Rattle.std.specs.Prelude.{None, nat_lt, slice_get, if◌then◌else◌, Result, IsErr, IfErr, MatchOption}
 use Rattle.logbook.specs.Pages.{Book}
 use Rattle.left_right.specs.declared.Absorb.{Ghosts as Absorbs}
 use Rattle.rtrb.specs.Ring.{sent as pushed, received as popped, producer_capacity, consumer_capacity}
@@ -58,15 +58,17 @@ abbrev pub join_entries : ℕ → List ℕ → List Entry
 join_entries n [] = []
 join_entries n (p ∷ ps) = Join (record { 0 = n }) p ∷ join_entries (n + 1) ps
 
--- a session with this set-up, in which clients with these queue depths have joined, and nothing else has happened
-abbrev pub opened_with : Setup → ℕ → List ℕ → LogState
-opened_with setup room places =
+-- a session with this set-up, in which clients with these queue depths have joined, and nothing else has happened. Its
+-- log keeps entries or doesn't, and has this capacity.
+abbrev pub opened_with : Setup → Bool → ℕ → List ℕ → LogState
+opened_with setup keeps room places =
     record {
       opening = opened setup.config;
       entries = join_entries 0 places;
       room = room;
       search = setup.search;
       gone = 0;
+      keeps = keeps;
     }
 
 module _ {J : Type 0} {h : Ghosts J} {C A : Type 0} where
@@ -87,11 +89,12 @@ module _ {J : Type 0} {h : Ghosts J} {C A : Type 0} where
         → IsNew ring p client
 
 module _ {J T R C A : Type 0} {h : Ghosts J} {v : Absorbs T (Shown J) (List DeviceView)} where
-  -- A session with this set-up, in which clients with these queue depths have joined. The clients are new. The operator
-  -- has called nothing, and neither it nor the worker knows of its leave. All rings are those of the worker, with this
-  -- many slots. The opening view is published.
-  pub record IsOpened (setup : Setup) (room ring : ℕ) (places : List ℕ) (lanes : Lanes J T R C A h v) : Type 0 where
-    pub session : session_of lanes.worker ≡ opened_with setup room places
+  -- A session with this set-up over this log, in which clients with these queue depths have joined. The clients are
+  -- new. The operator has called nothing, and neither it nor the worker knows of its leave. All rings are those of the
+  -- worker, with this many slots. The opening view is published.
+  pub record IsOpened (setup : Setup) (log : LogState) (ring : ℕ) (places : List ℕ) (lanes : Lanes J T R C A h v)
+      : Type 0 where
+    pub session : session_of lanes.worker ≡ opened_with setup log.keeps log.room places
     pub clients : AreNew ring places lanes.clients.items
     pub operator : (called_by lanes.operator ≡ []) × (has_left lanes.operator ≡ false)
         × (operator_has_left lanes.worker ≡ false) × (producer_capacity lanes.operator.calls ≡ ring)

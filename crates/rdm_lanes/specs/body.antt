@@ -7,7 +7,6 @@ pub mod Holding
 pub mod Leaves
 pub mod Opening
 pub mod Operated
-pub mod Paging
 pub mod Quiet
 pub mod Rooms
 pub mod Seats

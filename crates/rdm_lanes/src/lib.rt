@@ -2,7 +2,6 @@
 //! and publishes device views, which each client reads. All of it is the profile of this project.
 //!
 //! - `opening` makes the clients, the operator and the worker, and `session` runs all of them in threads.
-//! - `pages` has who takes the entries of a session that outlives its log's memory.
 //! - `client` has one end of each ring, and `worker` the other. `call` and `ring_outcome` are what goes through them.
 //! - `views` has the device views that the worker publishes and the clients read.
 #![tactic(auto)]
@@ -12,7 +11,6 @@ mod client;
 mod fault;
 pub mod laws;
 mod opening;
-mod pages;
 mod ring_outcome;
 mod session;
 pub mod views;
@@ -23,11 +21,10 @@ pub use client::RingClient;
 pub use client::ends::ClientEnd;
 pub use fault::{OpenFault, RingFault, RingFull};
 pub use opening::{Lanes, open_lanes};
-pub use pages::{PageSink, Pages, Spare};
 pub use rdm_client::WorkerEnd;
 pub use session::body::{Body, Gate, WORKER_STOPPED};
 pub use session::together::LanesEnd;
-pub use session::{run_session, run_session_in_pages, run_session_with};
+pub use session::{run_session, run_session_with};
 pub use worker::compared::Compared;
 pub use worker::operator::Operator;
 pub use worker::view_worker::ViewWorker;

@@ -1,6 +1,6 @@
 //! How clients, an operator and a worker are opened.
 ghost use Rattle.std.specs.Prelude.{◌≡◌, IfOk, IfErr};
-ghost use Rattle.rdm_log.specs.log.LogState.{blank_log};
+ghost use Rattle.rdm_log.specs.log.LogState.{emptied_log};
 ghost use Rattle.rdm_lanes.specs.Opened.{places_fault, MayOpen, IsOpened, HasFirstFault};
 ghost use Rattle.rdm_lanes.specs.Workers.{book_of};
 
@@ -65,9 +65,9 @@ pub fn open_lanes<J: ViewHistory, C: Tells, A: TellsAsk, R: Wait + Drop, S: Into
     places: &[u8],
 ) -> Result<Lanes<J, Shown<J>, R, C, A>, (OpenFault, Log, BlankHistory)>
     requires may_open { MayOpen J.book history (S.setup_of setup).config log ring }
-    ensures opened { IfOk result (IsOpened (S.setup_of setup) log.room ring places.now) }
+    ensures opened { IfOk result (IsOpened (S.setup_of setup) log ring places.now) }
     ensures fault { HasFirstFault (S.setup_of setup).config.places log.room places.now (λ e. e.0) result }
-    ensures back { IfErr result (λ e. (e.1 ≡ blank_log log.room) × (book_of e.2 ≡ J.book)) }
+    ensures back { IfErr result (λ e. (e.1 ≡ emptied_log log.keeps log.room) × (book_of e.2 ≡ J.book)) }
 {
     let setup = setup.into_setup();
     if let Some(fault) = fault_of_places(&setup.config, places) {

@@ -12,7 +12,6 @@ pub(crate) mod lane;
 pub(crate) mod moving;
 pub(crate) mod operating;
 pub(crate) mod operator;
-pub(crate) mod paging;
 pub(crate) mod serve;
 pub(crate) mod view_turns;
 pub(crate) mod view_worker;

@@ -3,6 +3,5 @@ pub mod Exchanges
 pub mod Inside
 pub mod Openings
 pub mod Pages
-pub mod Recorded
 pub mod Turns
 pub mod body

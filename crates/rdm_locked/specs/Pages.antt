@@ -1,25 +1,13 @@
--- The pages that a port's log hands out, and the ring that they go through.
-use Rattle.std.specs.Prelude.{◌≡◌, List, ◌∷◌, ◌++◌, length}
-use denote.RawPtr.{Ptr}
-use Rattle.std.specs.declared.alloc.Global.{Global}
-use Rattle.rtrb.specs.Shared.{Names}
-use Rattle.rtrb.specs.declared.end.End.{End}
+-- What a port hands out.
+use Rattle.std.specs.Prelude.{◌≡◌, List, ◌++◌, length}
+use Rattle.rdm_log.specs.declared.entry.Opening.{Opening}
+use Rattle.rdm_log.specs.declared.entry.Entry.{Entry}
 use Rattle.rdm_log.specs.declared.page.Page.{Page}
-use Rattle.rdm_log.specs.log.Pages.{entries_of}
+use Rattle.rdm_log.specs.log.Legal.{Legal}
 
--- which ring: where its words and its slots are, and its name in proofs
-pub record RingName : Type 0 where
-  pub words : Ptr
-  pub slots : Ptr
-  pub names : Names
-
--- an end is of this ring
-pub record IsOf {T P : Type 0} (name : RingName) (end : End T Global P) : Type 0 where
-  pub words : end.words ≡ name.words
-  pub slots : end.slots ≡ name.slots
-  pub names : end.names ≡ name.names
-
--- The number of each page's first entry is how many entries the pages before it have.
-pub record Numbered (pages : List Page) : Type 0 where
-  pub each : (before : List Page) (page : Page) (later : List Page) → pages ≡ before ++ page ∷ later
-      → page.first ≡ length (entries_of before)
+-- The page's entries are the end of a legal history. The page's number is how many entries come before them.
+pub record IsPage (page : Page) : Type 0 where
+  pub opening : Opening
+  pub before : List Entry
+  pub numbered : page.first ≡ length before
+  pub legal : Legal opening (before ++ page.entries.items)

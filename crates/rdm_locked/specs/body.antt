@@ -1,5 +1,4 @@
 -- What only proofs need. Nothing here has to be trusted: no promise speaks of it.
-pub mod Compared
 pub mod Frames
 pub mod Oldest
 pub mod Parts

@@ -12,7 +12,6 @@ ghost use Rattle.rdm_client.specs.Faults.{of_session};
 ghost use Rattle.rdm_locked.specs.body.Oldest.{IsOfWanted};
 
 use crate::oldest::OldestOutcome;
-use crate::pages::{NoPages, PageRing};
 use crate::port::Port;
 use crate::sets::SharedSets;
 use crate::share::CallShare;
@@ -37,8 +36,8 @@ use std::sync::ledger::Ledger;
 /// it.
 ///
 /// It isn't [`Drop`]: [`LockedClient::leave`] returns what it holds.
-pub struct LockedClient<'a, L: Ledger, C = Callback, A = AskCallback, J: PageRing = NoPages> {
-    port: &'a Port<L, J>,
+pub struct LockedClient<'a, L: Ledger, C = Callback, A = AskCallback> {
+    port: &'a Port<L>,
     number: ClientId,
     desk: Desk<C, A>,
     calls: CallShare<L>,
@@ -55,15 +54,15 @@ pub struct Left<L: Ledger, C = Callback, A = AskCallback> {
     pub calls: CallShare<L>,
 }
 
-impl<'a, L: Ledger, C: Tells, A: TellsAsk, J: PageRing> LockedClient<'a, L, C, A, J> {
+impl<'a, L: Ledger, C: Tells, A: TellsAsk> LockedClient<'a, L, C, A> {
     // A client that has made no call.
     pub(crate) fn new(
-        port: &'a Port<L, J>,
+        port: &'a Port<L>,
         number: ClientId,
         desk: Desk<C, A>,
         calls: CallShare<L>,
         sets: SharedSets,
-    ) -> LockedClient<'a, L, C, A, J>
+    ) -> LockedClient<'a, L, C, A>
         ensures holds { (result.desk ≡ desk) × (result.calls ≡ calls) }
         ensures is_new { (result.number ≡ number) × (result.stranded ≡ false) }
     {
@@ -293,8 +292,7 @@ impl<'a, L: Ledger, C: Tells, A: TellsAsk, J: PageRing> LockedClient<'a, L, C, A
 }
 
 /// Its calls wait for the mutex with the runtime.
-impl<L: Ledger, C: Tells, A: TellsAsk, J: PageRing, R: Wait> Client<C, A, R>
-    for LockedClient<'_, L, C, A, J> {
+impl<L: Ledger, C: Tells, A: TellsAsk, R: Wait> Client<C, A, R> for LockedClient<'_, L, C, A> {
     ghost held = { λ client. client.desk };
 
     ghost same = { λ old new. new.number ≡ old.number };

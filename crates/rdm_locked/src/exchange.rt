@@ -4,6 +4,7 @@ ghost use Rattle.std.specs.Bool.{Decides};
 ghost use Rattle.rdm_log.specs.log.Entries.{cames, exchanges as log_exchanges};
 ghost use Rattle.rdm_log.specs.log.Legal.{Legal};
 ghost use Rattle.rdm_log.specs.promises.Headline.{Begins};
+ghost use Rattle.rdm_log.specs.log.LogState.{stored};
 ghost use Rattle.rdm_locked.specs.Exchanges.{recorded};
 ghost use Rattle.rdm_locked.specs.body.Frames.{frames_in};
 
@@ -23,7 +24,7 @@ pub struct Exchange {
 /// Whether the log's exchanges are those of the record. The log is legal, so each event belongs to the frame before it.
 pub(crate) fn has_exchanges(log: &Log, exchanges: &[Exchange]) -> bool
     requires legal { Legal log.now.opening log.now.entries }
-    requires whole { log.now.gone ≡ 0 }
+    requires whole { stored log.now ≡ log.now.entries }
     ensures { Decides result (log_exchanges log.now.entries ≡ recorded exchanges.now) }
 {
     has_events(log.entries(), exchanges) && begins_with_frames(log.entries(), exchanges)

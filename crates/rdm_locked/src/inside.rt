@@ -2,7 +2,6 @@
 ghost use Rattle.std.specs.Prelude.{◌≡◌, ◌≢◌, ◌+◌, ℕ, [], length, Ok, Err, Some, OnOk, OnErr, IfOk, IfErr};
 ghost use Rattle.std.specs.Prelude.{IfSome, IfNone, nat_lt, if◌then◌else◌, vec_capacity};
 ghost use Rattle.std.specs.Arc.{arc_value};
-ghost use Rattle.std.specs.Option.{ForSome};
 ghost use Rattle.rdm_log.specs.log.LogState.{stored, drained, MayGoOn};
 ghost use Rattle.rdm_log.specs.log.History.{next_client};
 ghost use Rattle.rdm_log.specs.log.Legal.{Legal};
@@ -15,17 +14,13 @@ ghost use Rattle.rdm_log.specs.declared.outcome.Outcome.TheVariants as outcomes;
 ghost use Rattle.rdm_log.specs.declared.outcome.OutcomeKind.TheVariants as kinds;
 ghost use Rattle.rdm_locked.specs.Calls.{count_calls, calls_logged};
 ghost use Rattle.rdm_locked.specs.Openings.{MayOpen, IsOpened};
+ghost use Rattle.rdm_locked.specs.Pages.{IsPage};
 ghost use Rattle.rdm_locked.specs.Turns.{TurnLogs};
-ghost use Rattle.rdm_locked.specs.Pages.{IsOf};
-ghost use Rattle.rdm_locked.specs.body.Compared.{HandedOut};
 ghost use Rattle.rdm_locked.specs.body.Parts.{HasParts};
-ghost use Rattle.rtrb.specs.Ring.{sent};
 
 mod finish;
-mod recorded;
 
 use crate::oldest::OldestOutcome;
-use crate::pages::{NoPages, PageRing};
 use crate::sets::SharedSets;
 use crate::share::CallShare;
 use crate::turn::Turn;
@@ -35,13 +30,11 @@ use rdm_client::{BoxedAsk, DeviceView};
 use rdm_join::LineEvent;
 use rdm_log::{
     AskFault, ClientId, Completion, DiscoveryEnd, Entry, IntoSetup, JoinFault, Log, LogFull,
-    NotAsked, OutcomeKind, Page, Setup, SubmitFault, Work, WorkFault,
+    NotAsked, OutcomeKind, Page, SubmitFault, Work, WorkFault,
 };
 use rdm_queue::{Session, TakesDevices};
 use rdm_wire::{DeviceSet, NoMemory, Request};
-use rtrb::Producer;
 use std::alloc::Global;
-use std::marker::PhantomData;
 use std::sync::Arc;
 use std::sync::ledger::{Blank, Book, Ledger, Share};
 
@@ -54,25 +47,22 @@ use std::sync::ledger::{Blank, Book, Ledger, Share};
 ///   fault unless the queue is closed.
 /// - The book has as many calls as the log. An Accept, an Ask, a Collect, and a Refuse of a client's call are one each.
 /// - The book has 17 parts: each client that joined has one, and the others are here.
-/// - If it has the end of the ring that `J` names, the pages that went into it are all that the log handed out.
 #[derive(Drop)]
-pub struct Inside<L: Ledger, J: PageRing = NoPages> {
+pub struct Inside<L: Ledger> {
     session: Session,
     calls: Book<L>,
     rest: Share<L>,
     joined: u8,
     left: u8,
-    // The end of the ring that all pages went into.
-    pages: Option<Producer<Page>>,
-    of: PhantomData<J>,
     ghost counted: { count_calls session.entries ≡ calls.total },
     ghost clients: { next_client session.opening session.entries ≡ joined },
     ghost parts: { HasParts rest.parts rest.amount joined left },
-    ghost named: { ForSome pages (λ p. IsOf J.ring p.end) },
-    ghost sent: { ForSome pages (λ p. HandedOut session (sent p)) },
 }
 
 impl<L: Ledger> Inside<L> {
+    ghost use Rattle.rdm_locked.specs.Inside.{SameClients, AddsOnly, IsCollected};
+    ghost use Rattle.rdm_locked.specs.body.Oldest.{ShowsKind, CollectsOldest, KeepsSets};
+
     /// A session without clients, as [`Session::new`] makes one. The blank has 17 parts and the name of the book `L`.
     /// The other conditions are those of `Session::new`.
     /// Err: out of memory; the blank and the log are returned unchanged.
@@ -86,30 +76,6 @@ impl<L: Ledger> Inside<L> {
         ensures opened { IfOk result (λ i. IsOpened (S.setup_of setup) log i.session i.joined i.left) }
         ensures back { IfErr result (λ e. (e.1 ≡ blank) × (e.2 ≡ log)) }
     {
-        Inside::opened(alloc, blank, setup.into_setup(), log, None)
-    }
-}
-
-impl<L: Ledger, J: PageRing> Inside<L, J> {
-    ghost use Rattle.rdm_locked.specs.Inside.{SameClients, AddsOnly, IsCollected};
-    ghost use Rattle.rdm_locked.specs.body.Oldest.{ShowsKind, CollectsOldest, KeepsSets};
-
-    // The same, with the end of a ring that no page went into.
-    fn opened(
-        alloc: Global,
-        blank: Blank,
-        setup: Setup,
-        log: Log,
-        pages: Option<Producer<Page>>,
-    ) -> Result<Inside<L, J>, (NoMemory, Blank, Log)>
-        requires may_open { MayOpen L.name L.parts blank setup.config log }
-        requires named { ForSome pages (λ p. IsOf J.ring p.end) }
-        requires unused { ForSome pages (λ p. sent p ≡ []) }
-        ensures opened { IfOk result (λ i. IsOpened setup log i.session i.joined i.left) }
-        ensures back { IfErr result (λ e. (e.1 ≡ blank) × (e.2 ≡ log)) }
-    {
-        // Only for the proof: no entry was handed out.
-        log.gone();
         let session = match Session::new(alloc, setup, log) {
             Ok(session) => session,
             Err((fault, log)) => return Err((fault, blank, log)),
@@ -121,8 +87,6 @@ impl<L: Ledger, J: PageRing> Inside<L, J> {
             rest,
             joined: 0,
             left: 0,
-            pages,
-            of: PhantomData,
         })
     }
 
@@ -207,22 +171,24 @@ impl<L: Ledger, J: PageRing> Inside<L, J> {
         }
     }
 
-    /// Hands out all entries that the log stores, as [`Session::drain`] does, with the number of the first.
+    /// Hands out all entries that the log stores, as [`Session::drain`] does, with the number of the first: how many
+    /// entries the log had before it.
     /// Err: as `Session::drain` returns; nothing has changed, and the memory is returned.
+    #[tactic(auto, using(crate::proofs::PageLemmas::is_page))]
     pub fn drain(&mut self, next: Vec<Entry>) -> Result<Page, (LogFull, Vec<Entry>)>
         requires { next.items ≡ [] }
-        ensures first { IfOk result (λ page. page.first ≡ self.old.session.gone) }
+        ensures first { IfOk result (λ page. page.first + length page.entries.items
+            ≡ length self.old.session.entries) }
         ensures handed_out { IfOk result (λ page. page.entries.items ≡ stored self.old.session) }
+        ensures page { IfOk result IsPage }
         ensures log { OnOk result (self.new.session ≡ drained self.old.session (vec_capacity next)) }
         ensures back { IfErr result (λ e. e.1 ≡ next) }
         ensures refused { OnErr result (MayGoOn self.old.session (vec_capacity next) → ⊥) }
         ensures unchanged { OnErr result (self.new.session ≡ self.old.session) }
         ensures clients { SameClients self.old self.new }
     {
-        let first = self.session.log().gone();
+        let first = self.session.log().first_stored();
         let entries = self.session.drain(next)?;
-        // The ring doesn't get this page, so from now on it is a port without a ring.
-        self.pages = None;
         Ok(Page { first, entries })
     }
 

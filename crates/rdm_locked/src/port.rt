@@ -5,15 +5,16 @@ ghost use Rattle.rdm_log.specs.log.Entries.{exchanges as log_exchanges};
 ghost use Rattle.rdm_log.specs.log.History.{next_client};
 ghost use Rattle.rdm_log.specs.log.Legal.{Legal};
 ghost use Rattle.rdm_log.specs.promises.Promised.{Promised};
+ghost use Rattle.rdm_log.specs.log.LogState.{stored};
 ghost use Rattle.rdm_locked.specs.Calls.{count_calls};
 ghost use Rattle.rdm_locked.specs.Exchanges.{recorded, Records};
 ghost use Rattle.rdm_locked.specs.Openings.{MayOpen};
+ghost use Rattle.rdm_locked.specs.Pages.{IsPage};
 
 use crate::client::LockedClient;
 use crate::exchange::Exchange;
 use crate::fault::FinishFault;
 use crate::inside::{Inside, SessionEnd};
-use crate::pages::{NoPages, PageRing};
 use crate::sets::SharedSets;
 use crate::share::CallShare;
 use crate::turn::Turn;
@@ -29,14 +30,13 @@ use std::thread;
 
 /// A session with a mutex, for clients and a worker in threads of their own. The mutex is taken for one call of the
 /// session at a time, and never during an exchange with the line. `client`, `pause`, `resume`, `close` and `work` wait
-/// for it. `finish` doesn't, since whoever owns the port has it exclusively.
+/// for it. `finish` and `end` don't, since whoever owns the port has it exclusively.
 ///
-/// `L` names the book of the clients' calls. The program picks it as `Brand` in the call that opens the port. `J` names
-/// the ring that the log's pages go through to a [`Record`](crate::Record). Only a port that
-/// [`Port::new_recorded`] opens has one.
+/// `L` names the book of the clients' calls. The program picks it as `Brand` in the call that opens the port. A port
+/// that has to run for years has a log that keeps nothing ([`Log::nothing`]).
 #[derive(Drop)]
-pub struct Port<L: Ledger, J: PageRing = NoPages> {
-    pub(crate) inside: Mutex<Inside<L, J>>,
+pub struct Port<L: Ledger> {
+    pub(crate) inside: Mutex<Inside<L>>,
 }
 
 impl<L: Ledger> Port<L> {
@@ -58,12 +58,13 @@ impl<L: Ledger> Port<L> {
         Ok(Port::holding(inside))
     }
 
-    /// Hands out all entries that the log stores, as [`Session::drain`](rdm_queue::Session::drain) does, with the
-    /// number of the first. From then on [`finish`](Port::finish) refuses the port. Drain when half of the log is used:
-    /// a full one refuses the clients' calls.
-    /// Err: as `Session::drain` returns; nothing has changed, and the memory is returned.
+    /// Hands out all entries that the log stores, as [`Inside::drain`] does. What the log keeps from then on goes into
+    /// the other memory, so drain again when half of it is used: a full log refuses the clients' calls. The port can
+    /// still be ended by [`end`](Port::end), but no longer by `finish`.
+    /// Err: as `Inside::drain` returns; nothing has changed, and the memory is returned.
     pub fn drain<R: Wait>(&self, rt: &R, next: Vec<Entry>) -> Result<Page, (LogFull, Vec<Entry>)>
         requires { next.items ≡ [] }
+        ensures page { IfOk result IsPage }
         ensures back { IfErr result (λ e. e.1 ≡ next) }
     {
         self.inside.lock(rt).drain(next)
@@ -77,7 +78,7 @@ impl<L: Ledger> Port<L> {
     ///   queue was closed before.
     ///
     /// A frame whose reply is awaited is no exchange yet.
-    /// Err: SharesMissing, or else HandedOut, or else ExchangesDiffer, as [`Inside::finish`] returns. The port, which
+    /// Err: SharesMissing, or else NotKept, or else ExchangesDiffer, as [`Inside::finish`] returns. The port, which
     /// is as open as before, and the shares are returned.
     pub fn finish(
         self,
@@ -89,7 +90,7 @@ impl<L: Ledger> Port<L> {
         ensures calls { IfOk result (λ e. e.calls ≡ sum_by (λ s. s.count) shares.items) }
         ensures counted { IfOk result (λ e. e.calls ≡ count_calls e.session.entries) }
         ensures exchanges { IfOk result (λ e. log_exchanges e.session.entries ≡ recorded exchanges.now) }
-        ensures whole { IfOk result (λ e. e.session.gone ≡ 0) }
+        ensures kept { IfOk result (λ e. stored e.session ≡ e.session.entries) }
         ensures legal { IfOk result (λ e. Legal e.session.opening e.session.entries) }
         ensures promised { IfOk result (λ e. Promised e.session) }
         ensures back { IfErr result (λ e. e.2 ≡ shares) }
@@ -100,11 +101,28 @@ impl<L: Ledger> Port<L> {
             Err((fault, inside, shares)) => Err((fault, Port::holding(inside), shares)),
         }
     }
-}
 
-impl<L: Ledger, J: PageRing> Port<L, J> {
+    /// Ends the port, if the share of each client that joined is there, as [`finish`](Port::finish) does, but compares
+    /// no exchanges. So the log may keep nothing, and its entries may have been handed out.
+    /// Err: shares are missing. The port, which is as open as before, and the shares are returned.
+    pub fn end(self, shares: Vec<CallShare<L>>) -> Result<SessionEnd, (Port<L>, Vec<CallShare<L>>)>
+        requires { L.parts ≡ 17 }
+        ensures each { IfOk result (λ e. length shares.items ≡ next_client e.session.opening e.session.entries) }
+        ensures calls { IfOk result (λ e. e.calls ≡ sum_by (λ s. s.count) shares.items) }
+        ensures counted { IfOk result (λ e. e.calls ≡ count_calls e.session.entries) }
+        ensures legal { IfOk result (λ e. Legal e.session.opening e.session.entries) }
+        ensures promised { IfOk result (λ e. Promised e.session) }
+        ensures back { IfErr result (λ e. e.1 ≡ shares) }
+    {
+        let Port { inside } = self;
+        match inside.into_inner().end(shares) {
+            Ok(end) => Ok(end),
+            Err((inside, shares)) => Err((Port::holding(inside), shares)),
+        }
+    }
+
     // Puts it into a mutex.
-    pub(crate) fn holding(inside: Inside<L, J>) -> Port<L, J> {
+    pub(crate) fn holding(inside: Inside<L>) -> Port<L> {
         Port {
             inside: Mutex::new(inside),
         }
@@ -119,7 +137,7 @@ impl<L: Ledger, J: PageRing> Port<L, J> {
         rt: &R,
         alloc: Global,
         places: u8,
-    ) -> Result<LockedClient<'_, L, C, A, J>, JoinFault>
+    ) -> Result<LockedClient<'_, L, C, A>, JoinFault>
         ensures desk { IfOk result (λ c. c.desk ≡ record { requests = []; asks = []; places = places }) }
         ensures calls { IfOk result (λ c. c.calls.count ≡ 0) }
         ensures collects { IfOk result (λ c. c.stranded ≡ false) }
@@ -163,10 +181,8 @@ impl<L: Ledger, J: PageRing> Port<L, J> {
     /// it, and appends the exchange to the record. It never stops between taking and delivering.
     ///
     /// A full record doubles its capacity, which copies it. If you know how many exchanges come, reserve as many first:
-    /// each has 552 bytes, and then no turn allocates for it.
-    ///
-    /// A port with a record has [`work_recorded`](Port::work_recorded): what is recorded elsewhere makes the record
-    /// differ from the log.
+    /// each has 552 bytes, and then no turn allocates for it. [`end`](Port::end) needs no record, so a port that has to
+    /// run for years clears it after each call.
     pub fn work<X: Line, R: Wait>(
         &self,
         rt: &R,

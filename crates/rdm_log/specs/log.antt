@@ -11,4 +11,3 @@ pub mod MayAnswer
 pub mod Legal
 pub mod Config
 pub mod LogState
-pub mod Pages

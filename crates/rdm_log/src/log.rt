@@ -18,22 +18,24 @@ pub const MOST_ENTRIES: u64 = 0x4000_0000_0000_0000;
 pub const LEAST_FREE: usize = 3;
 
 /// The entries of a session, oldest first, and the opening before them. Its memory is reserved when it is made. The
-/// oldest entries can be handed out at any time. Contracts still cover all entries.
+/// oldest entries can be handed out at any time. A log can also keep nothing: then it only counts its entries.
+/// Contracts cover all entries in any case.
 #[derive(Debug, Drop)]
 pub struct Log {
     // Boxed, because it contains a device set, and a log is moved often.
     opening: Box<Opening>,
-    // The entries that were handed out, for proofs alone, and how many those are.
+    // The entries that aren't stored, for proofs alone, and how many those are.
     past: Past<Entry>,
     gone: u64,
     entries: Vec<Entry>,
     room: usize,
+    keeps: bool,
     /// How the runs of its session search. No entry says this, and no rule about logs depends on it.
     search: Search,
 }
 
 impl Model for Log {
-    ghost use Rattle.std.specs.Prelude.{◌≤◌, ◌+◌, ◌++◌, vec_len, vec_capacity};
+    ghost use Rattle.std.specs.Prelude.{◌≤◌, ◌+◌, ◌++◌, vec_capacity, if◌then◌else◌};
     ghost use Rattle.rdm_log.specs.log.LogState.{LogState};
 
     ghost Value = { LogState };
@@ -43,17 +45,20 @@ impl Model for Log {
     ghost view = { λ l. record {
       opening = l.opening.value;
       entries = l.past.items ++ l.entries.items;
-      room = l.gone + l.room;
+      room = (if l.keeps then l.gone else 0) + l.room;
       search = l.search;
-      gone = l.gone;
+      gone = if l.keeps then l.gone else 0;
+      keeps = l.keeps;
     } };
 
-    ghost invariant = { λ l. LogInvariant l.room (vec_len l.entries) (vec_capacity l.entries) l.past.items l.gone };
+    ghost invariant = { λ l. LogInvariant l.keeps l.room l.entries.items (vec_capacity l.entries) l.past.items l.gone };
 }
 
 impl Log {
-    ghost use Rattle.std.specs.Prelude.{◌≡◌, ◌+◌, ◌-◌, ◌^◌, ◌<◌, ◌≤◌, [], ◌∷◌, IfOk, length, vec_capacity};
-    ghost use Rattle.rdm_log.specs.log.LogState.{grown, stored, drained, blank_opening, blank_log};
+    ghost use Rattle.std.specs.Prelude.{◌≡◌, ◌≢◌, ◌+◌, ◌-◌, ◌^◌, ◌<◌, ◌≤◌, true, false, [], ◌∷◌, IfOk, length};
+    ghost use Rattle.std.specs.Prelude.{vec_capacity};
+    ghost use Rattle.rdm_log.specs.log.LogState.{grown, stored, drained, blank_opening, blank_log, nothing_log};
+    ghost use Rattle.rdm_log.specs.log.LogState.{emptied_log};
 
     /// A log without entries, with capacity for this many, 0 to [`MOST_FREE_ENTRIES`], and one more for a close. Its
     /// opening has 0 everywhere, no clients and no devices, and is neither paused nor closed. It is written when a
@@ -75,8 +80,36 @@ impl Log {
             gone: 0,
             entries,
             room,
+            keeps: true,
             search: Search::Steady,
         })
+    }
+
+    /// A log that keeps nothing, else like a new one: it counts its entries, up to 2^62, and takes no memory for them.
+    /// [`entries`](Log::entries) returns none of them. Once it is drained, it keeps entries in the memory that it then
+    /// has. Err: out of memory.
+    pub fn nothing(alloc: Global) -> Result<Log, NoMemory>
+        ensures { IfOk result (λ log. log ≡ nothing_log) }
+    {
+        let Ok(opening) = Box::new(alloc, Log::blank()) else {
+            return Err(NoMemory);
+        };
+        Ok(Log {
+            opening,
+            past: Past::new(),
+            gone: 0,
+            entries: Vec::new(alloc),
+            room: MOST_ENTRIES as usize,
+            keeps: false,
+            search: Search::Steady,
+        })
+    }
+
+    /// Whether it keeps entries until they are handed out.
+    pub fn keeps(&self) -> bool
+        ensures { result ≡ self.now.keeps }
+    {
+        self.keeps
     }
 
     /// The state of the queue before the first entry.
@@ -86,12 +119,20 @@ impl Log {
         &self.opening
     }
 
-    /// The entries that weren't handed out, oldest first.
+    /// The entries that it stores, oldest first: those that weren't handed out, or none if it keeps nothing.
     pub fn entries(&self) -> &[Entry]
         ensures stored { result.now ≡ stored self.now }
-        ensures all { self.now.gone + length result.now ≡ length self.now.entries }
+        ensures all { self.now.keeps ≡ true → self.now.gone + length result.now ≡ length self.now.entries }
     {
         self.entries.as_slice()
+    }
+
+    /// Whether it still stores all entries.
+    pub fn keeps_all(&self) -> bool
+        ensures all { result ≡ true → stored self.now ≡ self.now.entries }
+        ensures gone { result ≡ false → self.now.keeps ≡ true → self.now.gone ≢ 0 }
+    {
+        self.keeps && self.gone == 0
     }
 
     /// How the runs of its session search, as the session was set up. If no session has written the log, this is
@@ -102,15 +143,24 @@ impl Log {
         self.search
     }
 
-    /// How many entries were handed out. This is the number of the first entry that is stored, from 0.
+    /// How many entries were handed out. If the log keeps nothing, this is 0.
     pub fn gone(&self) -> u64
         ensures gone { result ≡ self.now.gone }
         ensures within { self.now.gone ≤ length self.now.entries }
     {
+        if self.keeps { self.gone } else { 0 }
+    }
+
+    /// The number of the first entry that it stores, or of the next one if it stores none: how many entries it had
+    /// before that.
+    pub fn first_stored(&self) -> u64
+        ensures before { result + length (stored self.now) ≡ length self.now.entries }
+        ensures gone { self.now.keeps ≡ true → result ≡ self.now.gone }
+    {
         self.gone
     }
 
-    /// How many entries the log has had, those that were handed out among them.
+    /// How many entries the log has had, those that it doesn't store among them.
     pub fn len_in_all(&self) -> u64
         ensures all { result ≡ length self.now.entries }
         ensures few { result ≤ 2 ^ 62 }
@@ -118,7 +168,8 @@ impl Log {
         self.gone + self.entries.len() as u64
     }
 
-    /// How many entries the log can store, including those that it stores. It is at least 1. Only a drain changes it.
+    /// How many entries the log can store, including those that it stores, or 2^62 if it keeps nothing. It is at least
+    /// 1. Only a drain changes it.
     pub fn room(&self) -> usize
         ensures room { self.now.gone + result ≡ self.now.room }
         ensures within { length self.now.entries ≤ self.now.room }
@@ -128,9 +179,20 @@ impl Log {
         self.room
     }
 
+    /// How many more entries fit.
+    pub fn unused(&self) -> usize
+        ensures { length self.now.entries + result ≡ self.now.room }
+    {
+        if self.keeps {
+            self.room - self.entries.len()
+        } else {
+            self.room - self.gone as usize
+        }
+    }
+
     /// Hands out all entries that are stored, oldest first, and continues in other memory, which must be empty. It
     /// copies no entry and allocates nothing. The number of the first entry that it hands out is what
-    /// [`gone`](Log::gone) returned before.
+    /// [`first_stored`](Log::first_stored) returned before.
     pub fn drain(&mut self, next: Vec<Entry>) -> Vec<Entry>
         requires empty { next.items ≡ [] }
         requires some { 1 ≤ vec_capacity next }
@@ -140,6 +202,7 @@ impl Log {
     {
         self.gone += self.entries.len() as u64;
         self.room = next.capacity();
+        self.keeps = true;
         let entries = mem::replace(&mut self.entries, next);
         self.past = self.past.and_all(&entries);
         entries
@@ -147,19 +210,22 @@ impl Log {
 
     /// Hands out all entries that are stored to another log, in place of that log's own, and continues in its memory.
     /// It copies no entry and allocates nothing. The number of the first entry that it hands out is what
-    /// [`gone`](Log::gone) returns of the other log then. That log's opening is unchanged.
+    /// [`gone`](Log::gone) returns of the other log then. That log's opening is unchanged. It must keep entries.
     pub fn drain_into(&mut self, page: &mut Log)
         requires in_all { length self.old.entries + (page.old.room - page.old.gone) ≤ 2 ^ 62 }
+        requires keeps { page.old.keeps ≡ true }
         ensures page { page.new ≡ record page.old {
           entries = self.old.entries;
           room = self.old.room;
           gone = self.old.gone;
+          keeps = self.old.keeps;
         } }
         ensures log { self.new ≡ drained self.old (page.old.room - page.old.gone) }
     {
         page.entries.clear();
         mem::swap(&mut self.entries, &mut page.entries);
         mem::swap(&mut self.room, &mut page.room);
+        mem::swap(&mut self.keeps, &mut page.keeps);
         let past = self.past.and_all(&page.entries);
         page.past = mem::replace(&mut self.past, past);
         page.gone = self.gone;
@@ -179,8 +245,8 @@ impl Log {
 
     /// The log without its entries, with the same capacity, and with the opening of a new log.
     pub fn cleared(mut self) -> Log
-        ensures cleared { result ≡ blank_log (self.room - self.gone) }
-        ensures fresh { self.entries ≡ [] → result ≡ blank_log self.room }
+        ensures cleared { result ≡ emptied_log self.keeps (self.room - self.gone) }
+        ensures fresh { self.entries ≡ [] → result ≡ emptied_log self.keeps self.room }
     {
         self.past = Past::new();
         self.gone = 0;
@@ -190,13 +256,21 @@ impl Log {
         self
     }
 
-    /// Adds an entry at the end. The log must have fewer entries than [`room`](Log::room), so this allocates nothing.
-    /// The entries before it are unchanged. Any entry is accepted: the caller has to ensure that the log stays legal.
+    /// Adds an entry at the end, or only counts it if the log keeps nothing. At least one must be
+    /// [`unused`](Log::unused), so this allocates nothing. The entries before it are unchanged. Any entry is accepted:
+    /// the caller has to ensure that the log stays legal.
+    // It is inlined, so that an entry that isn't stored isn't built.
+    #[inline(always)]
     pub fn append(&mut self, entry: Entry)
         requires { length self.old.entries < self.old.room }
         ensures { self.new ≡ grown self.old (entry ∷ []) }
     {
-        self.entries.push_reserved(entry);
+        if self.keeps {
+            self.entries.push_reserved(entry);
+        } else {
+            self.past = self.past.and(&entry);
+            self.gone += 1;
+        }
     }
 
     // The opening that a new log has.

@@ -3,6 +3,7 @@ ghost use Rattle.std.specs.Prelude.{◌≡◌, ◌⊎◌, ◌≤◌, ℕ, List, 
 ghost use Rattle.std.specs.Prelude.{false, true};
 ghost use Rattle.rdm_wire.specs.Uid.{IsDevice};
 ghost use Rattle.rdm_files.specs.declared.session.file.SessionFile.{SessionFile as SessionState};
+ghost use Rattle.rdm_log.specs.log.LogState.{stored};
 ghost use Rattle.rdm_port.specs.Fault.{SaysFile, ReadsFile, IsTextFault, IsSessionFault, sessions};
 ghost use Rattle.rdm_port.specs.Outcome.{Runs};
 ghost use Rattle.rdm_port.specs.body.Faults.{fault_of_serve};
@@ -176,7 +177,7 @@ fn answer_served<'a, G: Write>(
     served: Served,
     log: &mut LogOutput<G>,
 ) -> Result<Answered<'a>, Refused<'a>>
-    requires { served.session.gone ≡ 0 }
+    requires { stored served.session ≡ served.session.entries }
     ensures text { IfOk result (λ a. answer_bytes a.text ≡ session_text served.outcomes.items) }
     ensures status { IfOk result (λ a. a.status ≡ 0) }
     ensures logged { OnOk result (Logs log.old log.new

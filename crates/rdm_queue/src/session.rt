@@ -311,7 +311,7 @@ impl Session {
         ensures free { result ≡ free_entries self.now }
         ensures kept { length self.now.entries + reserved self.now.opening self.now.entries + result ≡ self.now.room }
     {
-        self.log.room() - self.log.entries().len() - self.reserved()
+        self.log.unused() - self.reserved()
     }
 
     /// How many entries are reserved, as [`free`](Session::free) says. A drain needs memory for as many at least.
@@ -331,7 +331,7 @@ impl Session {
     /// Hands out all entries that the log stores, oldest first, and continues in other memory. That is possible at any
     /// time. It copies no entry and allocates nothing. Contracts still cover all entries, so that nothing that clients
     /// are promised depends on when this is called. The memory must be empty. Memory that was handed out, once it is
-    /// cleared, can be the next. The number of the first entry that it hands out is what [`Log::gone`] returned
+    /// cleared, can be the next. The number of the first entry that it hands out is what [`Log::first_stored`] returned
     /// before.
     /// Err: the memory has no capacity for all entries that are [`reserved`](Session::reserved), or there would be more
     /// than 2^62 entries in all; nothing has changed, and the memory is returned.
@@ -356,23 +356,24 @@ impl Session {
 
     /// The same, to another log, in place of that log's own entries, and goes on in its memory
     /// ([`Log::drain_into`]).
-    /// Err: as `drain` returns; nothing has changed.
+    /// Err: as `drain` returns, or the other log keeps nothing; nothing has changed.
     pub fn drain_into(&mut self, page: &mut Log) -> Result<(), LogFull>
-        ensures fits { OnOk result (MayGoOn self.old (page.old.room - page.old.gone)) }
+        ensures fits { OnOk result ((page.old.keeps ≡ true) × MayGoOn self.old (page.old.room - page.old.gone)) }
         ensures handed_out { OnOk result (page.new ≡ record page.old {
           entries = self.old.entries;
           room = self.old.room;
           gone = self.old.gone;
+          keeps = self.old.keeps;
         }) }
         ensures log { OnOk result (self.new ≡ drained self.old (page.old.room - page.old.gone)) }
         ensures history { (self.new.opening ≡ self.old.opening) × (self.new.entries ≡ self.old.entries) }
-        ensures refused { OnErr result (MayGoOn self.old (page.old.room - page.old.gone) → ⊥) }
+        ensures refused { OnErr result (page.old.keeps ≡ true → MayGoOn self.old (page.old.room - page.old.gone) → ⊥) }
         ensures unchanged { OnErr result ((self.new ≡ self.old) × (page.new ≡ page.old)) }
         ensures legal { Legal self.new.opening self.new.entries }
     {
         // The log is legal, even if nothing is handed out.
         self.log();
-        if !self.can_go_on(page.room()) {
+        if !page.keeps() || !self.can_go_on(page.room()) {
             return Err(LogFull);
         }
         self.log.drain_into(page);
@@ -399,9 +400,8 @@ impl Session {
     fn has_ample_room(&self) -> bool
         ensures { result ≡ true → is_full_log self.now ≡ false }
     {
-        let unused = self.log.room() - self.log.entries().len();
         // One more entry is reserved for a close, and one for a reply.
-        unused >= self.controller.most_reserved() + 2 + LEAST_FREE
+        self.log.unused() >= self.controller.most_reserved() + 2 + LEAST_FREE
     }
 
     /// The log. It is legal, and keeps all that clients are promised.
@@ -483,6 +483,7 @@ impl Session {
           room = log.room;
           search = self.search;
           gone = log.gone;
+          keeps = log.keeps;
         }) }
         ensures handed_back { IfOk result (λ r. r.1 ≡ self) }
         ensures unchanged { IfErr result (λ e. (e.1 ≡ self) × (e.2 ≡ log)) }
@@ -507,7 +508,7 @@ impl Session {
 }
 
 // The opening of a session with this configuration.
-fn opening_of(config: &Config) -> Opening
+pub(crate) fn opening_of(config: &Config) -> Opening
     ensures { result ≡ opened config.now }
 {
     Opening {

@@ -4,7 +4,7 @@ use Rattle.std.specs.List.{All}
 use Rattle.std.specs.declared.sync.ledger.Blank.{Blank}
 use Rattle.rdm_wire.specs.Uid.{IsDevice}
 use Rattle.rdm_agent.specs.declared.search.Search.{Search}
-use Rattle.rdm_log.specs.log.LogState.{LogState}
+use Rattle.rdm_log.specs.log.LogState.{LogState, stored}
 use Rattle.rdm_lanes.specs.Lines.{exchange_count}
 use Rattle.rdm_files.specs.declared.session.client.ClientFile.{ClientFile}
 use Rattle.rdm_arguments.specs.declared.port_kind.PortKind.{PortKind}
@@ -52,7 +52,7 @@ pub record IsServedBy (port : PortKind) (clients : List ClientFile) (ring turns 
   pub settled : AllSettled clients s.outcomes.items
   pub logged : IsLogOf s.session.opening s.session.entries s.outcomes.items
   pub called : HasCalls s.session.entries clients
-  pub whole : s.session.gone ≡ 0
+  pub whole : stored s.session ≡ s.session.entries
   pub in_turns : exchange_count s.session ≤ turns
   pub client_turns : All (IsInTurns turns) s.outcomes.items
   pub slots : s.slots ≡ slots_by port ring clients

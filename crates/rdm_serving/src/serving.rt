@@ -154,8 +154,8 @@ fn compare_with_file(alloc: Global, file: &SessionFile, served: &Served) -> Resu
     ensures turns { result ≡ Err ServeFault.Turns → AllSettled file.now.clients.items served.now.outcomes.items → ⊥ }
 {
     let (log, outcomes) = (served.session.log(), &served.outcomes);
-    // Nobody drains the log here, so all its entries are stored.
-    if served.session.is_full() || log.gone() > 0 {
+    // The log was opened to keep its entries, and nobody drains it here, so it stores all of them.
+    if served.session.is_full() || !log.keeps_all() {
         return Err(ServeFault::Log);
     }
     laws::legal_keeps_promises();

@@ -8,7 +8,6 @@ mod inside;
 mod lines;
 mod ports;
 mod publications;
-mod recorded;
 mod replies;
 mod rings;
 mod scenes;

@@ -30,7 +30,7 @@ pub use note::{AskNote, Note, cancels};
 pub use refusal::Refusal;
 pub use said::{Said, log_of, says, says_at, says_run};
 pub use session::{SessionStage, open_session, session_of, switched};
-pub use setup::{LONG, config, config_with, controller, get, is_blank, log, request};
+pub use setup::{LONG, NOTHING_KEPT, config, config_with, controller, get, is_blank, log, request};
 pub use state::{Counts, LastFrame, State, state_of};
 pub use tape::{Came, silent, tape_of};
 pub use wrong::Wrong;

@@ -6,7 +6,7 @@ use crate::wrong::Wrong;
 use arrayvec::ArrayVec;
 use rdm_agent::DEFAULT_BUDGET;
 use rdm_log::{Config, Log};
-use rdm_wire::{ReqClass, Request, Uid};
+use rdm_wire::{NoMemory, ReqClass, Request, Uid};
 use std::alloc::Global;
 
 /// The controller's own UID, `7a70:00000100`.
@@ -32,17 +32,29 @@ pub fn config_with(places: u8, budget: u64) -> Config
     }
 }
 
-/// A log with this many free entries. If the allocation fails, it is tried once more.
+/// In place of a number of free entries: the log keeps nothing.
+pub const NOTHING_KEPT: usize = usize::MAX;
+
+/// A log with this many free entries, or one that keeps nothing. If the allocation fails, it is tried once more.
 pub fn log(alloc: Global, free: usize) -> Result<Log, Wrong>
     ensures { IfOk result (λ log. log.entries ≡ []) }
 {
-    let room = free.min(1_000_000);
-    if let Ok(log) = Log::new(alloc, room) {
+    if let Ok(log) = new_log(alloc, free) {
         return Ok(log);
     }
-    match Log::new(alloc, room) {
+    match new_log(alloc, free) {
         Ok(log) => Ok(log),
         Err(_) => Err(Wrong::NotAgain),
+    }
+}
+
+fn new_log(alloc: Global, free: usize) -> Result<Log, NoMemory>
+    ensures { IfOk result (λ log. log.entries ≡ []) }
+{
+    if free == NOTHING_KEPT {
+        Log::nothing(alloc)
+    } else {
+        Log::new(alloc, free.min(1_000_000))
     }
 }
 

@@ -2,7 +2,7 @@
 ghost use Rattle.std.specs.Prelude.{◌≡◌, [], ◌∷◌, length, OnOk, IfOk, IfErr, IfSome, ◌≤◌, sum, false};
 ghost use Rattle.rdm_log.specs.log.Config.{IsConfig};
 ghost use Rattle.rdm_log.specs.log.Legal.{Legal};
-ghost use Rattle.rdm_log.specs.log.LogState.{blank_log};
+ghost use Rattle.rdm_log.specs.log.LogState.{emptied_log};
 ghost use Rattle.rdm_lanes.specs.Opened.{opened_with, join_entries};
 ghost use Rattle.rdm_lanes.specs.body.Opening.{IsNewWith, AreNewWith, HoldNothing};
 ghost use Rattle.rdm_lanes.specs.Opened.{IsFullFor, IsLaterFault};
@@ -134,11 +134,11 @@ pub fn joined(
 ) -> Result<Session, (OpenFault, Log)>
     requires config_is { IsConfig setup.config }
     requires empty { log.entries ≡ [] }
-    ensures session { IfOk result (λ session. session ≡ opened_with setup log.room places.now) }
+    ensures session { IfOk result (λ session. session ≡ opened_with setup log.keeps log.room places.now) }
     ensures legal { IfOk result (λ session. Legal session.opening session.entries) }
     ensures fits { OnOk result (IsFullFor log.room places.now → ⊥) }
     ensures fault { IfErr result (λ e. IsLaterFault log.room places.now e.0) }
-    ensures back { IfErr result (λ e. e.1 ≡ blank_log log.room) }
+    ensures back { IfErr result (λ e. e.1 ≡ emptied_log log.keeps log.room) }
 {
     // Only for the proof: nothing was handed out.
     log.gone();
@@ -161,7 +161,8 @@ fn join_all(alloc: Global, session: &mut Session, places: &[u8]) -> Result<(), O
     requires no_clients { session.old.opening.places.items ≡ [] }
     requires not_closed { session.old.opening.closed ≡ false }
     ensures joined { OnOk result (session.new ≡ record session.old { entries = join_entries 0 places.now }) }
-    ensures room { (session.new.room ≡ session.old.room) × (session.new.gone ≡ session.old.gone) }
+    ensures log { (session.new.room ≡ session.old.room) × (session.new.gone ≡ session.old.gone)
+        × (session.new.keeps ≡ session.old.keeps) }
     ensures fits { OnOk result (IsFullFor session.old.room places.now → ⊥) }
     ensures fault { IfErr result (IsLaterFault session.old.room places.now) }
 {

@@ -1,12 +1,14 @@
 //! The worker and the bodies in threads.
-ghost use Rattle.std.specs.Prelude.{◌≡◌, ◌≢◌, ◌≤◌};
-ghost use Rattle.rdm_client.specs.declared.worker_end.WorkerEnd.TheVariants.{Turns};
-ghost use Rattle.rdm_lanes.specs.body.Paging.{WorksInPages};
+ghost use Rattle.std.specs.Prelude.{◌≡◌, ◌≢◌, ◌+◌, ◌≤◌, true};
+ghost use Rattle.rdm_log.specs.log.LogState.{is_full_log};
+ghost use Rattle.rdm_log.specs.log.MaySend.{NoSend};
+ghost use Rattle.rdm_client.specs.declared.worker_end.WorkerEnd.TheVariants.{AllLeft, Turns, LogFull as FullLog};
+ghost use Rattle.rdm_lanes.specs.Lanes.{SameLanes, AllHaveLeft};
+ghost use Rattle.rdm_lanes.specs.Lines.{Exchanged, SameSwitches, exchange_count};
+ghost use Rattle.rdm_lanes.specs.Workers.{session_of, lanes_of, operator_has_left, turns_made_of, HasPublishedAll};
 ghost use Rattle.rdm_lanes.specs.body.Seats.{SameSeats};
-ghost use Rattle.rdm_lanes.specs.body.Steps.{Steps, Stops};
 
 use crate::opening::seat::Seat;
-use crate::pages::{PageSink, Pages};
 use crate::session::body::{Body, Gate, WORKER_STOPPED};
 use crate::views::history::ViewHistory;
 use crate::views::publishing::Shown;
@@ -38,8 +40,7 @@ pub fn call_bodies<
     );
 }
 
-/// Runs the worker beside the bodies, and waits for all of them. The worker hands out the entries of its log, and
-/// arrives at its point once it has stopped.
+/// Runs the worker beside the bodies, and waits for all of them. The worker arrives at its point once it has stopped.
 #[tactic(auto, using(crate::proofs::SeatLemmas::same_seats_in))]
 pub fn all_in_threads<
     J: ViewHistory + Send + Sync,
@@ -48,7 +49,6 @@ pub fn all_in_threads<
     A: Send,
     G: Gate + Sync,
     X: Line + Send,
-    S: PageSink + Send,
     R: Threads + Sync,
     W: Wait + Drop + Send,
 >(
@@ -59,33 +59,36 @@ pub fn all_in_threads<
     gate: &G,
     line: X,
     turns: u64,
-    pages: Pages<S>,
 ) -> (
     ViewWorker<J, Shown<J>, W>,
     Vec<Seat<J, B, C, A>>,
     X,
     WorkerEnd,
-    Pages<S>,
 )
     ensures seats { SameSeats seats.items result.1.items }
-    ensures worked { WorksInPages X.step S.taken result.0.turns_made line worker.server.session pages result.2
-        result.0.server.session result.4 }
-    ensures steps { Steps worker.server result.0.server }
-    ensures turns { (result.0.turns_made ≤ turns) × (turns ≡ 0 → result.3 ≡ Turns) }
-    ensures all_turns { result.3 ≡ Turns → result.0.turns_made ≡ turns }
-    ensures stops { result.3 ≢ Turns → Stops result.3 result.0 }
+    ensures exchanged { Exchanged X.step line (session_of worker) result.2 (session_of result.0) }
+    ensures exchanges { exchange_count (session_of result.0)
+        ≤ exchange_count (session_of worker) + turns_made_of result.0 }
+    ensures lanes { SameLanes (lanes_of worker) (lanes_of result.0) }
+    ensures operator { operator_has_left worker ≡ true → (operator_has_left result.0 ≡ true)
+        × SameSwitches (session_of worker) (session_of result.0) }
+    ensures turns { (turns_made_of result.0 ≤ turns) × (turns ≡ 0 → result.3 ≡ Turns) }
+    ensures all_turns { result.3 ≡ Turns → turns_made_of result.0 ≡ turns }
+    ensures all_left { result.3 ≡ AllLeft → AllHaveLeft (lanes_of result.0)
+        × NoSend (session_of result.0).opening (session_of result.0).entries }
+    ensures full { result.3 ≡ FullLog → is_full_log (session_of result.0) ≡ true }
+    ensures published { result.3 ≢ Turns → HasPublishedAll result.0 }
 {
     let mut worker = worker;
     let mut seats = seats;
     let mut line = line;
-    let mut pages = pages;
     let mut serve = || {
-        let end = worker.work_in_pages(alloc, &mut line, turns, &mut pages);
+        let end = worker.work(alloc, &mut line, turns);
         gate.arrive(WORKER_STOPPED);
         end
     };
     let all = seats.as_mut_slice();
     let mut play = || call_bodies(rt, all, gate);
     let (end, _) = thread::join_mut(rt, &mut serve, &mut play);
-    (worker, seats, line, end, pages)
+    (worker, seats, line, end)
 }

@@ -1,15 +1,14 @@
 //! A session over open lanes: the bodies in their seats, the worker beside them, and the comparison at the end.
-ghost use Rattle.std.specs.Prelude.{◌≡◌, ◌≤◌, ℕ, List, length, map};
+ghost use Rattle.std.specs.Prelude.{◌≡◌, ◌+◌, ◌≤◌, ℕ, List, length, map};
 ghost use Rattle.rdm_log.specs.log.Legal.{Legal};
 ghost use Rattle.rdm_log.specs.promises.Promised.{Promised};
 ghost use Rattle.rdm_client.specs.declared.worker_end.WorkerEnd.TheVariants.{Turns};
 ghost use Rattle.rdm_lanes.specs.declared.worker.lane.Lane.{Lane};
-ghost use Rattle.rdm_lanes.specs.Lines.{SameSwitches, IsBetweenTurns};
+ghost use Rattle.rdm_lanes.specs.Lines.{Exchanged, SameSwitches, IsBetweenTurns, exchange_count};
 ghost use Rattle.rdm_lanes.specs.Lanes.{AllFit};
 ghost use Rattle.rdm_lanes.specs.Ended.{IsEnded};
 ghost use Rattle.rdm_lanes.specs.Ends.{AllHaveSlots};
 ghost use Rattle.rdm_lanes.specs.Pairs.{ClientsPair, client_rings};
-ghost use Rattle.rdm_lanes.specs.body.Paging.{WorksInPages};
 ghost use Rattle.rdm_lanes.specs.body.Rooms.{HasRoomFor};
 ghost use Rattle.rdm_lanes.specs.body.Seats.{RingsHaveSlots};
 ghost use Rattle.rdm_lanes.specs.Workers.{session_of, lanes_of};
@@ -17,7 +16,6 @@ ghost use Rattle.rdm_lanes.specs.Workers.{session_of, lanes_of};
 use crate::client::ends::ClientEnd;
 use crate::opening::Lanes;
 use crate::opening::rooms::{Rooms, seated, unseated};
-use crate::pages::{PageSink, Pages};
 use crate::session::body::{Body, Gate};
 use crate::session::threads::all_in_threads;
 use crate::views::history::{Front, ViewHistory};
@@ -58,7 +56,6 @@ pub fn lanes_in_threads<
     A: TellsAsk + Send,
     G: Gate + Sync,
     X: Line + Send,
-    S: PageSink + Send,
     R: Threads + Sync,
     W: Wait + Drop + Send,
 >(
@@ -70,24 +67,23 @@ pub fn lanes_in_threads<
     gate: &G,
     line: X,
     turns: u64,
-    pages: Pages<S>,
-) -> (LanesEnd<J, B, X, C, A>, Pages<S>)
+) -> LanesEnd<J, B, X, C, A>
     requires pairs { ClientsPair (lanes_of lanes.worker) lanes.clients.items }
     requires one_each { length bodies.items ≡ length lanes.clients.items }
     requires room { HasRoomFor (length bodies.items) rooms }
-    ensures worked { WorksInPages X.step S.taken result.0.turns line (session_of lanes.worker) pages result.0.line
-        result.0.session result.1 }
-    ensures served { IsBetweenTurns result.0.session }
-    ensures legal { Legal result.0.session.opening result.0.session.entries }
-    ensures promised { Promised result.0.session }
-    ensures switches { SameSwitches (session_of lanes.worker) result.0.session }
+    ensures exchanged { Exchanged X.step line (session_of lanes.worker) result.line result.session }
+    ensures exchanges { exchange_count result.session ≤ exchange_count (session_of lanes.worker) + result.turns }
+    ensures served { IsBetweenTurns result.session }
+    ensures legal { Legal result.session.opening result.session.entries }
+    ensures promised { Promised result.session }
+    ensures switches { SameSwitches (session_of lanes.worker) result.session }
     ensures fits { (lanes_left : List Lane) × (length lanes_left ≡ length (lanes_of lanes.worker))
-        × AllFit result.0.session lanes_left }
-    ensures ended { IsEnded (length bodies.items) result.0 }
+        × AllFit result.session lanes_left }
+    ensures ended { IsEnded (length bodies.items) result }
     ensures slots { (n : ℕ) → RingsHaveSlots n (map client_rings lanes.clients.items)
-        → AllHaveSlots n result.0.ends.items }
-    ensures turns { (result.0.turns ≤ turns) × (turns ≡ 0 → result.0.worker ≡ Turns) }
-    ensures all_turns { result.0.worker ≡ Turns → result.0.turns ≡ turns }
+        → AllHaveSlots n result.ends.items }
+    ensures turns { (result.turns ≤ turns) × (turns ≡ 0 → result.worker ≡ Turns) }
+    ensures all_turns { result.worker ≡ Turns → result.turns ≡ turns }
 {
     let Lanes {
         clients,
@@ -101,9 +97,7 @@ pub fn lanes_in_threads<
     } = rooms;
     let paired = seated(bodies, clients, seats);
     let alone = worker.without_operator();
-    let (worker, left, line, end, pages) = all_in_threads(
-        rt, alloc, alone, paired, gate, line, turns, pages,
-    );
+    let (worker, left, line, end) = all_in_threads(rt, alloc, alone, paired, gate, line, turns);
     let (bodies, ends) = unseated(left, back, ends);
     let turns = worker.turns_made;
     let Compared {
@@ -112,7 +106,7 @@ pub fn lanes_in_threads<
         matched,
         published,
     } = worker.end(ends);
-    let ended = LanesEnd {
+    LanesEnd {
         session,
         ends,
         matched,
@@ -121,6 +115,5 @@ pub fn lanes_in_threads<
         turns,
         line,
         published,
-    };
-    (ended, pages)
+    }
 }

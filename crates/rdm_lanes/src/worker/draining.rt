@@ -1,5 +1,5 @@
 //! How the entries of a worker's log are handed out.
-ghost use Rattle.std.specs.Prelude.{◌≡◌, [], IfOk, IfErr, OnOk, OnErr, vec_capacity};
+ghost use Rattle.std.specs.Prelude.{◌≡◌, ◌+◌, true, [], length, IfOk, IfErr, OnOk, OnErr, vec_capacity};
 ghost use Rattle.rdm_log.specs.log.LogState.{stored, drained, MayGoOn};
 ghost use Rattle.rdm_lanes.specs.Workers.{session_of, lanes_of, operator_has_left, published_by};
 ghost use Rattle.rdm_lanes.specs.Workers.{operator_ring, turns_made_of};
@@ -16,7 +16,9 @@ impl Worker {
     // Hands out all entries that the log stores.
     fn drain(&mut self, next: Vec<Entry>) -> Result<Page, (LogFull, Vec<Entry>)>
         requires { next.items ≡ [] }
-        ensures first { IfOk result (λ page. page.first ≡ self.old.session.gone) }
+        ensures first { IfOk result (λ page. page.first + length page.entries.items
+            ≡ length self.old.session.entries) }
+        ensures gone { IfOk result (λ page. self.old.session.keeps ≡ true → page.first ≡ self.old.session.gone) }
         ensures handed_out { IfOk result (λ page. page.entries.items ≡ stored self.old.session) }
         ensures fits { OnOk result (MayGoOn self.old.session (vec_capacity next)) }
         ensures log { OnOk result (self.new.session ≡ drained self.old.session (vec_capacity next)) }
@@ -27,7 +29,7 @@ impl Worker {
         ensures entries { self.new.session.entries ≡ self.old.session.entries }
         ensures ends { SameEnds self.old self.new }
     {
-        let first = self.session.log().gone();
+        let first = self.session.log().first_stored();
         let entries = self.session.drain(next)?;
         Ok(Page { first, entries })
     }
@@ -35,12 +37,15 @@ impl Worker {
 
 impl<J: ViewHistory, R: Wait + Drop> ViewWorker<J, Shown<J>, R> {
     /// Hands out all entries that the log stores, as [`Session::drain`](rdm_queue::Session::drain) does, with the
-    /// number of the first. That is possible between two calls of [`work`](ViewWorker::work). Contracts still
-    /// cover all its entries.
+    /// number of the first: how many entries the log had before it. That is possible between two calls of
+    /// [`work`](ViewWorker::work). Contracts still cover all its entries.
     /// Err: as `Session::drain` returns; nothing has changed, and the memory is returned.
     pub fn drain(&mut self, next: Vec<Entry>) -> Result<Page, (LogFull, Vec<Entry>)>
         requires { next.items ≡ [] }
-        ensures first { IfOk result (λ page. page.first ≡ (session_of self.old).gone) }
+        ensures first { IfOk result (λ page. page.first + length page.entries.items
+            ≡ length (session_of self.old).entries) }
+        ensures gone { IfOk result (λ page. (session_of self.old).keeps ≡ true
+            → page.first ≡ (session_of self.old).gone) }
         ensures handed_out { IfOk result (λ page. page.entries.items ≡ stored (session_of self.old)) }
         ensures fits { OnOk result (MayGoOn (session_of self.old) (vec_capacity next)) }
         ensures log { OnOk result (session_of self.new ≡ drained (session_of self.old) (vec_capacity next)) }

@@ -10,7 +10,6 @@ use Rattle.rdm_locked.specs.Inside.{IsCollected}
 use Rattle.rdm_locked.specs.declared.inside.Inside.{Inside}
 use Rattle.rdm_locked.specs.declared.oldest.OldestOutcome.{OldestOutcome}
 use Rattle.rdm_locked.specs.declared.oldest.OldestOutcome.TheVariants as oldest
-use Rattle.rdm_locked.specs.declared.pages.PageRing.{Ghosts}
 use Rattle.rdm_locked.specs.declared.share.CallShare.{CallShare}
 
 -- whether an outcome of this kind is wanted, if requests' outcomes are, and discoveries'
@@ -31,9 +30,9 @@ abbrev pub KeepsSets : OldestOutcome → ℕ → ℕ → Type 0
 KeepsSets (oldest.Discovery done) before after = ⊤
 KeepsSets _ before after = after ≡ before
 
-module _ {L J : Type 0} {r : Ghosts J} where
+module _ {L : Type 0} where
   -- the oldest outcome was collected, as this shows it; or nothing was collected and counted
-  abbrev pub CollectsOldest : ClientId → OldestOutcome → Inside L J r → CallShare L → Inside L J r → CallShare L
+  abbrev pub CollectsOldest : ClientId → OldestOutcome → Inside L → CallShare L → Inside L → CallShare L
       → Type 0
   CollectsOldest client (oldest.Request done) old before new after =
       (n : ℕ) × IsCollected client (outcomes.Request (Some n) done) old before new after

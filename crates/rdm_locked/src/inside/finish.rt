@@ -1,14 +1,14 @@
 //! How a session is taken out of its mutex.
-ghost use Rattle.std.specs.Prelude.{◌≡◌, ◌≢◌, ◌≤◌, ◌<◌, ◌+◌, length, Some, IfOk, IfErr, IfNone};
+ghost use Rattle.std.specs.Prelude.{◌≡◌, ◌≢◌, true, OnErr, ◌≤◌, ◌<◌, ◌+◌, length, Some, IfOk, IfErr, IfNone};
 ghost use Rattle.std.specs.List.{sum_by};
 ghost use Rattle.rdm_log.specs.log.Entries.{exchanges as log_exchanges};
+ghost use Rattle.rdm_log.specs.log.LogState.{stored};
 ghost use Rattle.rdm_locked.specs.Exchanges.{recorded};
 ghost use Rattle.rdm_locked.specs.Inside.{IsTakenOut};
 
 use crate::exchange::{Exchange, has_exchanges};
 use crate::fault::FinishFault;
 use crate::inside::Inside;
-use crate::pages::PageRing;
 use crate::share::CallShare;
 use rdm_queue::Session;
 use std::sync::ledger::{Book, Ledger, Share};
@@ -22,27 +22,28 @@ pub struct SessionEnd {
     pub calls: u64,
 }
 
-impl<L: Ledger, J: PageRing> Inside<L, J> {
+impl<L: Ledger> Inside<L> {
     /// Ends it, if the share of each client that joined is there, and the log's exchanges are those of the record. Then
     /// these hold:
     /// - there is one share for each client;
     /// - their sum is the number of calls in the log;
     /// - the log keeps all that clients are promised.
     ///
-    /// Err: SharesMissing, or else HandedOut, or else ExchangesDiffer; the session and the shares are returned
+    /// Err: SharesMissing, or else NotKept, or else ExchangesDiffer; the session and the shares are returned
     /// unchanged.
     pub fn finish(
         self,
         shares: Vec<CallShare<L>>,
         exchanges: &[Exchange],
-    ) -> Result<SessionEnd, (FinishFault, Inside<L, J>, Vec<CallShare<L>>)>
+    ) -> Result<SessionEnd, (FinishFault, Inside<L>, Vec<CallShare<L>>)>
         requires { L.parts ≡ 17 }
         ensures taken_out { IfOk result (λ e. IsTakenOut self shares.items e) }
         ensures exchanges { IfOk result (λ e. log_exchanges e.session.entries ≡ recorded exchanges.now) }
         ensures back { IfErr result (λ e. (e.1 ≡ self) × (e.2 ≡ shares)) }
         ensures missing { IfErr result (λ e. e.0 ≡ FinishFault.SharesMissing → length shares.items < self.joined) }
-        ensures handed_out { IfErr result (λ e. e.0 ≡ FinishFault.HandedOut → self.session.gone ≢ 0) }
-        ensures whole { IfOk result (λ e. e.session.gone ≡ 0) }
+        ensures not_kept { IfErr result (λ e. e.0 ≡ FinishFault.NotKept
+            → self.session.keeps ≡ true → self.session.gone ≢ 0) }
+        ensures kept { IfOk result (λ e. stored e.session ≡ e.session.entries) }
         ensures differ { IfErr result (λ e. e.0 ≡ FinishFault.ExchangesDiffer → (self.joined ≤ length shares.items)
             × (log_exchanges self.session.entries ≢ recorded exchanges.now)) }
     {
@@ -52,21 +53,39 @@ impl<L: Ledger, J: PageRing> Inside<L, J> {
         Ok(self.add_up(shares))
     }
 
+    /// Ends it, if the share of each client that joined is there, but compares no exchanges.
+    /// Err: shares are missing; the session and the shares are returned unchanged.
+    pub fn end(
+        self,
+        shares: Vec<CallShare<L>>,
+    ) -> Result<SessionEnd, (Inside<L>, Vec<CallShare<L>>)>
+        requires { L.parts ≡ 17 }
+        ensures taken_out { IfOk result (λ e. IsTakenOut self shares.items e) }
+        ensures back { IfErr result (λ e. (e.0 ≡ self) × (e.1 ≡ shares)) }
+        ensures missing { OnErr result (length shares.items < self.joined) }
+    {
+        if shares.len() < usize::from(self.joined) {
+            return Err((self, shares));
+        }
+        Ok(self.add_up(shares))
+    }
+
     // Why it can't be ended with this many shares and these exchanges.
     fn finish_fault(&self, shares: usize, exchanges: &[Exchange]) -> Option<FinishFault>
         ensures missing { result ≡ Some FinishFault.SharesMissing → shares < self.now.joined }
-        ensures handed_out { result ≡ Some FinishFault.HandedOut → self.now.session.gone ≢ 0 }
+        ensures not_kept { result ≡ Some FinishFault.NotKept
+            → self.now.session.keeps ≡ true → self.now.session.gone ≢ 0 }
         ensures differ { result ≡ Some FinishFault.ExchangesDiffer → (self.now.joined ≤ shares)
             × (log_exchanges self.now.session.entries ≢ recorded exchanges.now) }
-        ensures whole { IfNone result (self.now.session.gone ≡ 0) }
+        ensures kept { IfNone result (stored self.now.session ≡ self.now.session.entries) }
         ensures none { IfNone result ((self.now.joined ≤ shares)
             × (log_exchanges self.now.session.entries ≡ recorded exchanges.now)) }
     {
         if shares < usize::from(self.joined) {
             return Some(FinishFault::SharesMissing);
         }
-        if self.session.log().gone() > 0 {
-            return Some(FinishFault::HandedOut);
+        if !self.session.log().keeps_all() {
+            return Some(FinishFault::NotKept);
         }
         if !has_exchanges(self.session.log(), exchanges) {
             return Some(FinishFault::ExchangesDiffer);
@@ -75,7 +94,7 @@ impl<L: Ledger, J: PageRing> Inside<L, J> {
     }
 
     // Adds up the shares, of which there is one for each client.
-    pub(super) fn add_up(self, shares: Vec<CallShare<L>>) -> SessionEnd
+    fn add_up(self, shares: Vec<CallShare<L>>) -> SessionEnd
         requires parts { L.parts ≡ 17 }
         requires each { self.joined ≤ length shares.items }
         ensures { IsTakenOut self shares.items result }
@@ -87,8 +106,6 @@ impl<L: Ledger, J: PageRing> Inside<L, J> {
             mut rest,
             joined: _,
             left: _,
-            pages: _,
-            of: _,
         } = self;
         let calls = gather(&mut book, &mut rest, shares, most);
         book.audit(&mut rest);

@@ -137,5 +137,6 @@ in_bound old es rs new explains each front back n r fault present is calm =
       ap (λ k. k.room) added.grows,
       ap (λ k. k.search) added.grows,
       ap (λ k. k.gone) added.grows,
+      ap (λ k. k.keeps) added.grows,
     )
         (within_block old front answer back (rw block_is at added.adds))

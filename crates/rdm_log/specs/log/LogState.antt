@@ -1,5 +1,6 @@
 -- How contracts see a log and a session.
-use Rattle.std.specs.Prelude.{ℕ, ◌+◌, ◌^◌, ◌≤◌, Bool, false, List, [], ◌++◌, nat_lt, length, drop}
+use Rattle.std.specs.Prelude.{ℕ, ◌+◌, ◌^◌, ◌≤◌, Bool, true, false, List, [], ◌++◌, nat_lt, length, drop}
+use Rattle.std.specs.Prelude.{if◌then◌else◌}
 use Rattle.rdm_agent.specs.declared.search.Search.{Search}
 use Rattle.rdm_agent.specs.declared.search.Search.TheVariants.{Steady}
 use Rattle.rdm_log.specs.declared.config.Config.{Config}
@@ -11,21 +12,23 @@ use Rattle.rdm_log.specs.log.History.{next_request, next_ask, next_tn}
 use Rattle.rdm_log.specs.log.Runs.{next_run, known_devices, devices_run}
 
 -- The opening, all entries after it, how many entries fit, and how the session's runs search. The oldest of the entries
--- may have been handed out, `gone` of them. They still count as entries, and as entries that fit.
+-- may have been handed out, `gone` of them. They still count as entries, and as entries that fit. If the log keeps
+-- nothing, none is stored, and none is handed out.
 pub record LogState : Type 0 where
   pub opening : Opening
   pub entries : List Entry
   pub room : ℕ
   pub search : Search
   pub gone : ℕ
+  pub keeps : Bool
 
--- the entries that weren't handed out
+-- the entries that are stored: those that weren't handed out, or none
 abbrev pub stored : LogState → List Entry
-stored k = drop k.gone k.entries
+stored k = if k.keeps then drop k.gone k.entries else []
 
 -- the log after all its entries were handed out, with room for this many more
 abbrev pub drained : LogState → ℕ → LogState
-drained k room = record k { room = length k.entries + room; gone = length k.entries }
+drained k room = record k { room = length k.entries + room; gone = length k.entries; keeps = true }
 
 -- whether the log, once all its entries are handed out, can continue in memory for this many: it has capacity for those
 -- that are reserved, and there are at most 2^62 in all
@@ -65,9 +68,24 @@ blank_opening = record {
   next_tn = 0;
 }
 
+-- a log like a new one, for this many entries, which keeps them or doesn't
+abbrev pub emptied_log : Bool → ℕ → LogState
+emptied_log keeps room = record {
+  opening = blank_opening;
+  entries = [];
+  room = room;
+  search = Steady;
+  gone = 0;
+  keeps = keeps;
+}
+
+-- a new log that keeps nothing
+abbrev pub nothing_log : LogState
+nothing_log = emptied_log false (2 ^ 62)
+
 -- a new log for this many entries
 abbrev pub blank_log : ℕ → LogState
-blank_log room = record { opening = blank_opening; entries = []; room = room; search = Steady; gone = 0 }
+blank_log room = emptied_log true room
 
 -- the opening of a session with this configuration: no clients, no devices, neither paused nor closed; the first run
 -- will be number 1, and all other numbers begin at 0

@@ -1,5 +1,5 @@
 -- A log to compute with: a join, a request, its frame, silence, its Finish, a Collect, a Close.
-use Rattle.std.specs.Prelude.{ℕ, List, [], ◌∷◌, ◌++◌, false, Some, None, Ok}
+use Rattle.std.specs.Prelude.{ℕ, List, [], ◌∷◌, ◌++◌, false, true, Some, None, Ok}
 use Rattle.std.specs.Global.{Vec}
 use Rattle.rdm_wire.specs.declared.request.Request.{Request}
 use Rattle.rdm_wire.specs.declared.request.ReqClass.TheVariants as requests
@@ -85,7 +85,7 @@ closed_two = accepted_two ++ Close ∷ []
 
 -- a session that kept this log, with capacity for eleven entries
 abbrev pub logged_with : List Entry → LogState
-logged_with h = record { opening = sample_opening; entries = h; room = 11; search = Steady; gone = 0 }
+logged_with h = record { opening = sample_opening; entries = h; room = 11; search = Steady; gone = 0; keeps = true }
 
 -- the calls of closed_log, and their answers
 abbrev pub sample_events : List Event

@@ -1,5 +1,5 @@
 -- Logs with discoveries to compute with: one run that finds one device answers two discoveries, and a request waits.
-use Rattle.std.specs.Prelude.{ℕ, List, [], ◌∷◌, ◌++◌, take, Some, None, Ok, Err}
+use Rattle.std.specs.Prelude.{ℕ, List, [], ◌∷◌, ◌++◌, take, true, Some, None, Ok, Err}
 use Rattle.std.specs.Global.{Box}
 use Rattle.rdm_wire.specs.declared.device.Device.{Device}
 use Rattle.rdm_wire.specs.CommandFrames.{branch_frame, mute_frame, unmute_frame}
@@ -191,7 +191,7 @@ wasted_opening = record sample_opening { budget = 8 }
 
 -- a session with that opening and these entries
 abbrev pub wasted_with : List Entry → LogState
-wasted_with h = record { opening = wasted_opening; entries = h; room = 40; search = Steady; gone = 0 }
+wasted_with h = record { opening = wasted_opening; entries = h; room = 40; search = Steady; gone = 0; keeps = true }
 
 -- the log of the failed run, after a Collect
 abbrev pub collected_failed : List Entry

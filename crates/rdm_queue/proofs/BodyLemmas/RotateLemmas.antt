@@ -148,16 +148,17 @@ rotated o h s idle after = record {
     none = no_run o h s rest stands
 
 -- and the session's entries still fit
-pub session_rotated : (o : Opening) (h : List Entry) (s : QueueState) (room gone : ℕ) → 1 ≤ room → is_idle h ≡ true
-    → StandsAfter o h s → SessionInvariant s (record {
+pub session_rotated : (o : Opening) (h : List Entry) (s : QueueState) (room gone : ℕ) (keeps : Bool) → 1 ≤ room
+    → is_idle h ≡ true → StandsAfter o h s → SessionInvariant s (record {
       opening = opening_after o h;
       entries = [];
       room = room;
       search = s.search;
       gone = gone;
+      keeps = keeps;
     })
 unfolding accepts asks finishes answers collectors awaited is_closed
-session_rotated o h s room gone some idle after = record {
+session_rotated o h s room gone keeps some idle after = record {
   after = rotated o h s idle after;
   search_is = refl;
   in_bound = empty_in_bound (record {
@@ -166,6 +167,7 @@ session_rotated o h s room gone some idle after = record {
     room = room;
     search = s.search;
     gone = gone;
+    keeps = keeps;
   }) refl;
   room = let close = at_most_one (is_closed o h) in omega arith;
 }

@@ -118,16 +118,17 @@ all_results_more [] e all is = (is, tt)
 all_results_more (x ∷ block) e all is = (all.0, all_results_more block e all.1 is)
 
 -- a session that begins
-pub session_first : (s : QueueState) (setup : Setup) (room gone : ℕ) → 1 ≤ room → IsSetUp setup s
+pub session_first : (s : QueueState) (setup : Setup) (room gone : ℕ) (keeps : Bool) → 1 ≤ room → IsSetUp setup s
     → SessionInvariant s (record {
       opening = opened setup.config;
       entries = [];
       room = room;
       search = setup.search;
       gone = gone;
+      keeps = keeps;
     })
 unfolding accepts asks finishes answers collectors awaited is_closed
-session_first s setup room gone some is = record {
+session_first s setup room gone keeps some is = record {
   after = is.after;
   search_is = is.search;
   room = omega (arith, some);
@@ -137,6 +138,7 @@ session_first s setup room gone some is = record {
     room = room;
     search = setup.search;
     gone = gone;
+    keeps = keeps;
   }) refl;
 }
 

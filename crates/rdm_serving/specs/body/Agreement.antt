@@ -2,6 +2,7 @@
 use Rattle.std.specs.Prelude.{◌≡◌}
 use Rattle.std.specs.List.{All}
 use Rattle.rdm_files.specs.declared.session.file.SessionFile.{SessionFile}
+use Rattle.rdm_log.specs.log.LogState.{stored}
 use Rattle.rdm_reports.specs.SessionReport.{AllSettled}
 use Rattle.rdm_serving.specs.LoggedCalls.{HasCalls}
 use Rattle.rdm_serving.specs.LoggedOutcomes.{IsLogOf}
@@ -15,5 +16,5 @@ pub record AgreesWith (file : SessionFile) (s : Served) : Type 0 where
   pub logged : IsLogOf s.session.opening s.session.entries s.outcomes.items
   pub called : HasCalls s.session.entries file.clients.items
   pub set_up : IsSetUp file.source file.budget file.search s.session
-  pub whole : s.session.gone ≡ 0
+  pub whole : stored s.session ≡ s.session.entries
   pub client_turns : All (IsInTurns file.turns) s.outcomes.items

@@ -2,6 +2,7 @@
 ghost use Rattle.std.specs.Prelude.{◌≡◌, ◌-◌, List, IfOk, map, slice_get};
 ghost use Rattle.std.specs.Bool.{OnTrue};
 ghost use Rattle.rdm_log.specs.log.Entries.{accepts, asks};
+ghost use Rattle.rdm_log.specs.log.LogState.{stored};
 ghost use Rattle.rdm_log.specs.log.Clients.{is_client_of};
 ghost use Rattle.rdm_log.specs.declared.entry.Entry.{Entry as EntryState};
 ghost use Rattle.rdm_reports.specs.declared.outcomes.Discovered.{Discovered as DiscoveredState};
@@ -16,12 +17,12 @@ use rdm_reports::{Discovered, Outcomes};
 use std::alloc::{AllocError, Global};
 
 /// Whether each client received the outcomes of all its requests and discoveries that ended, in order, and each agrees
-/// with the log: a request in its status and the number of its bytes, a discovery in its fault. False too if entries of
-/// the log were handed out. Err: there was no memory.
+/// with the log: a request in its status and the number of its bytes, a discovery in its fault. False too if the log
+/// doesn't store all its entries. Err: there was no memory.
 pub fn are_logged(alloc: Global, log: &Log, told: &[Outcomes]) -> Result<bool, AllocError>
     ensures { IfOk result (λ same. OnTrue same (AllLogged log.now.opening log.now.entries 0 told.now)) }
 {
-    if log.gone() > 0 {
+    if !log.keeps_all() {
         return Ok(false);
     }
     are_all_logged(alloc, log, told)
@@ -29,7 +30,7 @@ pub fn are_logged(alloc: Global, log: &Log, told: &[Outcomes]) -> Result<bool, A
 
 // The same for a log that stores all its entries.
 fn are_all_logged(alloc: Global, log: &Log, told: &[Outcomes]) -> Result<bool, AllocError>
-    requires whole { log.now.gone ≡ 0 }
+    requires whole { stored log.now ≡ log.now.entries }
     ensures { IfOk result (λ same. OnTrue same (AllLogged log.now.opening log.now.entries 0 told.now)) }
 {
     let askers = Askers::new(alloc, log)?;
@@ -43,7 +44,7 @@ fn are_all_logged(alloc: Global, log: &Log, told: &[Outcomes]) -> Result<bool, A
 
 /// All entries of a log that stores them all.
 pub fn all_entries(log: &Log) -> &[Entry]
-    requires { log.now.gone ≡ 0 }
+    requires { stored log.now ≡ log.now.entries }
     ensures { result.now ≡ log.now.entries }
 {
     log.entries()
@@ -58,7 +59,7 @@ struct Askers {
 
 impl Askers {
     fn new(alloc: Global, log: &Log) -> Result<Askers, AllocError>
-        requires whole { log.now.gone ≡ 0 }
+        requires whole { stored log.now ≡ log.now.entries }
         ensures requests { IfOk result (λ a. a.requests.items ≡ map (λ s. s.client) (accepts log.now.entries)) }
         ensures discoveries { IfOk result (λ a. a.discoveries.items ≡ map (λ s. s.client) (asks log.now.entries)) }
     {
@@ -96,7 +97,7 @@ fn discoverers(alloc: Global, entries: &[Entry]) -> Result<Vec<u8>, AllocError>
 }
 
 fn is_logged(log: &Log, askers: &Askers, client: usize, told: &Outcomes) -> bool
-    requires whole { log.now.gone ≡ 0 }
+    requires whole { stored log.now ≡ log.now.entries }
     requires requests { askers.now.requests.items ≡ map (λ s. s.client) (accepts log.now.entries) }
     requires discoveries { askers.now.discoveries.items ≡ map (λ s. s.client) (asks log.now.entries) }
     ensures { OnTrue result (AreLogged log.now.opening log.now.entries client told.now) }

@@ -7,7 +7,6 @@ mod in_threads;
 mod openings;
 mod operated;
 mod owners;
-mod paged;
 mod rows;
 mod scenes;
 mod tape_runs;

@@ -6,7 +6,6 @@ mod calls;
 mod drained;
 mod faults;
 mod kinds;
-mod recorded;
 mod refusals;
 mod runs;
 mod sessions;

@@ -1,8 +1,15 @@
-use Rattle.std.proofs.Common.{refl}
+use Rattle.std.proofs.Common.{true, refl}
 use Rattle.rdm_log.specs.log.LogState.{LogState}
 use Rattle.rdm_handles.proofs.controllers.hear.Goals as goal
 
 pub returns-in-Err-clause-not_asked : goal.returns-in-Err-clause-not_asked
 returns-in-Err-clause-not_asked c asked o h after =
-    let k : LogState = record { opening = o; entries = h; room = 0; search = c.args.controller.now.search; gone = 0 } in
+    let k : LogState = record {
+      opening = o;
+      entries = h;
+      room = 0;
+      search = c.args.controller.now.search;
+      gone = 0;
+      keeps = true;
+    } in
     (c.in-Err.ensures.adds.each k refl after).adds.0

@@ -1,4 +1,4 @@
-use Rattle.std.proofs.Common.{◌≡◌, ◌≤◌, length, take, refl, ap, sym, ◌∙◌, arith, subst}
+use Rattle.std.proofs.Common.{◌≡◌, ◌≤◌, true, length, take, refl, ap, sym, ◌∙◌, arith, subst}
 use Rattle.rdm_log.specs.declared.outcome.Outcome.{Outcome}
 use Rattle.rdm_log.specs.log.LogState.{LogState}
 use Rattle.rdm_log.specs.promises.Blocks.{IsOldest}
@@ -21,6 +21,7 @@ returns-clause-collected c done = (
         room = 0;
         search = c.args.controller.now.search;
         gone = 0;
+        keeps = true;
       } in
       let outcome : Outcome = request_outcome (c.in-Some.number, c.in-Some.done) in
       let is : IsOldest o h c.args.client outcome = (c.in-Some.ensures.adds.each k refl after).adds.0 in

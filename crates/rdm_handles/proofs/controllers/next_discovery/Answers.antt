@@ -1,4 +1,4 @@
-use Rattle.std.proofs.Common.{◌≡◌, ◌≤◌, length, take, map, refl, ap, sym, ◌∙◌, arith, subst}
+use Rattle.std.proofs.Common.{◌≡◌, ◌≤◌, true, length, take, map, refl, ap, sym, ◌∙◌, arith, subst}
 use Rattle.rdm_log.specs.declared.outcome.Outcome.{Outcome}
 use Rattle.rdm_log.specs.log.LogState.{LogState}
 use Rattle.rdm_log.specs.promises.Blocks.{IsOldest}
@@ -22,6 +22,7 @@ returns-clause-collected c done = (
         room = 0;
         search = c.args.controller.now.search;
         gone = 0;
+        keeps = true;
       } in
       let outcome : Outcome = discovery_outcome c.in-Some.ended c.next_discovery.new.set in
       let is : IsOldest o h c.args.client outcome = (c.in-Some.ensures.adds.each k refl after).adds.0 in

@@ -11,7 +11,7 @@ use std::alloc::Global;
 use std::marker::Brand;
 use std::sync::Wait;
 use std::test::Fail;
-use test_rig::{AskNote, Note, cancels, config, log, request};
+use test_rig::{AskNote, NOTHING_KEPT, Note, cancels, config, log, request};
 
 // The first turn's page. Two clients have submitted a request each, and the line fails.
 fn has_first_turn(page: &Page) -> bool {
@@ -97,10 +97,11 @@ fn served<J: ViewHistory, R: Wait>(
     rt: &R,
     alloc: Global,
     history: BlankHistory,
+    free: usize,
 ) -> Result<[Page; 2], Fail>
     requires { book_of history ≡ J.book }
 {
-    let opened = open_lanes(rt, alloc, history, config(4), log(alloc, 100)?, 4, &[1, 1]);
+    let opened = open_lanes(rt, alloc, history, config(4), log(alloc, free)?, 4, &[1, 1]);
     let Ok(lanes): Result<Lanes<J, Shown<J>, &R, Note, AskNote>, _> = opened else {
         return Err("it was refused")?;
     };
@@ -117,8 +118,18 @@ fn served<J: ViewHistory, R: Wait>(
 
 #[test]
 fn pages_of_two_turns_follow_each_other(rt: HostRuntime) -> Result<(), Fail> {
-    let [first, second] = served::<Brand, _>(&rt, rt.alloc(), BlankHistory::new())?;
+    let [first, second] = served::<Brand, _>(&rt, rt.alloc(), BlankHistory::new(), 100)?;
     assert!(rt; first.first == 0 && has_first_turn(&first));
+    assert!(rt; second.first == 8 && has_second_turn(&second));
+    Ok(())
+}
+
+// The first page of a log that keeps nothing is empty. From then on the log keeps its entries.
+#[test]
+fn a_drain_lets_a_log_keep_its_entries(rt: HostRuntime) -> Result<(), Fail> {
+    let new = BlankHistory::new();
+    let [first, second] = served::<Brand, _>(&rt, rt.alloc(), new, NOTHING_KEPT)?;
+    assert!(rt; first.first == 8 && first.entries.is_empty());
     assert!(rt; second.first == 8 && has_second_turn(&second));
     Ok(())
 }

@@ -5,7 +5,7 @@ use std::alloc::Global;
 use std::sync::Wait;
 use std::test::Fail;
 use std::thread::Threads;
-use test_rig::{Heard, Step, silent};
+use test_rig::{Heard, NOTHING_KEPT, Step, silent};
 use test_stage::{NotServed, Play, Setup, counts_are, play_threads, serve_players};
 
 // A client that waits for the other one before its first request.
@@ -69,6 +69,17 @@ fn two_bodies_meet_at_both_gates(rt: HostRuntime) -> Result<(), Fail> {
         counts_are(&over.left, &[(2, 2, 0), (2, 2, 0)])?;
         assert!(rt; over.state.is_idle && !over.state.is_closed);
     }
+    Ok(())
+}
+
+// The clients hear the same as above.
+#[test]
+fn a_session_keeps_nothing(rt: HostRuntime) -> Result<(), Fail> {
+    let scripts: [&'static [Play]; 2] = [&WAITS_FIRST, &WAITS_LATER];
+    let line = silent(rt.alloc(), 4)?;
+    let over = play_threads(&rt, rt.alloc(), two(NOTHING_KEPT), &scripts, line, &HEARD)?;
+    counts_are(&over.left, &[(2, 2, 0), (2, 2, 0)])?;
+    assert!(rt; over.log.is_empty() && over.state.is_idle);
     Ok(())
 }
 

@@ -1,53 +1,309 @@
-//! A port whose log was drained isn't ended.
-use rdm_locked::{DrainFault, Exchange, FinishFault, Port};
-use std::alloc::Global;
-use std::sync::Wait;
-use std::sync::ledger::Ledger;
-use test_rig::{Note, request};
-use test_stage::{Failed, PortClient, PortJob, PortSetup, on_port};
+//! Ports whose logs are drained in mid-exchange, or keep nothing, in threads, and how they end.
+ghost use Rattle.std.specs.Prelude.{◌≡◌, []};
 
-// A client submits a request, and the log is drained while it waits. Keeps the number of the first entry of the page,
-// and how many entries it has; and why the port, which has no record, doesn't drain it into one.
+use rdm_client::WorkerEnd;
+use rdm_join::{LineFault, LineReply, Status};
+use rdm_line::Line;
+use rdm_locked::{CallShare, Exchange, FinishFault, Left, Port, SessionEnd};
+use rdm_log::{Entry, Log, Page};
+use rdm_wire::Frame;
+use std::alloc::Global;
+use std::marker::Brand;
+use std::sync::Wait;
+use std::sync::ledger::{Blank, Ledger};
+use std::test::Fail;
+use std::thread::{Threads, join_mut};
+use std::{mem, thread};
+use test_rig::{Heard, NOTHING_KEPT, Note, cancels, config, log, request, silent, told};
+use test_stage::{PortClient, TRIES};
+
+// A line that drains the port during each exchange, if it has to, and keeps the pages.
 #[derive(Drop)]
-struct Drains {
-    page: Option<(u64, usize)>,
-    fault: Option<DrainFault>,
+struct DrainingLine<'a, L: Ledger, R, X: Drop> {
+    rt: &'a R,
+    alloc: Global,
+    port: &'a Port<L>,
+    drains: bool,
+    pages: Vec<Page>,
+    line: X,
 }
 
-impl PortJob for Drains {
-    fn perform<L: Ledger, R: Wait>(
-        &mut self,
-        rt: &R,
-        alloc: Global,
-        port: &Port<L>,
-        client: &mut PortClient<'_, L>,
-        _record: &mut Vec<Exchange>,
-    ) {
-        let _ = client.submit(rt, request(1), Note(1));
-        let Ok(memory) = Vec::with_capacity(alloc, 20) else {
-            return;
-        };
-        let Err((fault, memory)) = port.drain_recorded(rt, memory) else {
-            return;
-        };
-        self.fault = Some(fault);
-        if let Ok(page) = port.drain(rt, memory) {
-            self.page = Some((page.first, page.entries.len()));
+impl<L: Ledger, R: Wait, X: Line + Drop> Line for DrainingLine<'_, L, R, X> {
+    ghost step = { λ old x new. X.step old.line x new.line };
+
+    ghost failures_of = { λ line. X.failures_of line.line };
+
+    fn exchange(&mut self, frame: &Frame) -> Result<LineReply, LineFault> {
+        if self.drains {
+            drain(self.rt, self.alloc, self.port, &mut self.pages);
         }
+        self.line.exchange(frame)
+    }
+
+    fn failures(&self) -> u64 {
+        self.line.failures()
     }
 }
 
-// The log has no exchanges, and neither has the record.
-#[test]
-fn a_drained_port_is_not_ended(rt: HostRuntime) {
-    let mut drains = Drains {
-        page: None,
-        fault: None,
+// Drains the port, and adds the page to these. Memory for no entry is refused before.
+fn drain<L: Ledger, R: Wait>(rt: &R, alloc: Global, port: &Port<L>, pages: &mut Vec<Page>) {
+    if port.drain(rt, Vec::new(alloc)).is_ok() {
+        return;
+    }
+    let Ok(memory) = Vec::with_capacity(alloc, 20) else {
+        return;
     };
-    let over = on_port(&rt, rt.alloc(), PortSetup::new(1, 100), &mut drains);
-    assert_eq!(rt;
-        (drains.fault, drains.page),
-        (Some(DrainFault::NotRecorded), Some((0, 2)))
+    if let Ok(page) = port.drain(rt, memory) {
+        let _ = pages.push(page);
+    }
+}
+
+// A client until it has left, then its share; and how many of its outcomes were right.
+struct Seat<'a, L: Ledger> {
+    client: Option<PortClient<'a, L>>,
+    calls: Option<CallShare<L>>,
+    right: u64,
+}
+
+// Takes the client out of the seat, and lets it ask and leave.
+fn sits<L: Ledger, R: Wait>(rt: &R, alloc: Global, seat: &mut Seat<'_, L>) {
+    let Some(mut client) = mem::replace(&mut seat.client, None) else {
+        return;
+    };
+    seat.right = asks(rt, &mut client);
+    let Left { unspent, calls } = client.leave(rt);
+    cancels(alloc, unspent);
+    seat.calls = Some(calls);
+}
+
+// Submits two requests, the second one after the outcome of the first. Returns how many timed out with their callbacks.
+fn asks<L: Ledger, R: Wait>(rt: &R, client: &mut PortClient<'_, L>) -> u64 {
+    let mut right = 0u64;
+    let mut is_asked = false;
+    for _try in 0..TRIES {
+        if right == 2 {
+            break;
+        }
+        if !is_asked {
+            is_asked = client.submit(rt, request(right), Note(right)).is_ok();
+        }
+        if told(&client.collect(rt)) == Heard::Request(right, Status::Timeout) {
+            right = right.saturating_add(1);
+            is_asked = false;
+        } else {
+            thread::yield_now();
+        }
+    }
+    right
+}
+
+// What was heard of a port and its client.
+#[derive(Drop)]
+struct Played {
+    worker: WorkerEnd,
+    right: u64,
+    pages: Vec<Page>,
+    exchanges: usize,
+    // Whether it was ended without a share.
+    too_early: bool,
+    refused: Option<FinishFault>,
+    // The calls of clients, what the log stores, and how many entries it had.
+    end: Option<(u64, usize, u64)>,
+}
+
+// Why a port wasn't finished, whether it was ended without a share, and its end with it.
+type Ends = (Option<FinishFault>, bool, Option<(u64, usize, u64)>);
+
+// Tries to finish the port and to end it without its share, and then ends it.
+fn ends<L: Ledger>(
+    alloc: Global,
+    port: Port<L>,
+    shares: Vec<CallShare<L>>,
+    exchanges: &[Exchange],
+) -> Ends
+    requires { L.parts ≡ 17 }
+{
+    let (fault, port, shares) = match port.finish(shares, exchanges) {
+        Ok(end) => return (None, false, Some(end_of(&end))),
+        Err(refused) => refused,
+    };
+    let port = match port.end(Vec::new(alloc)) {
+        Ok(end) => return (Some(fault), true, Some(end_of(&end))),
+        Err((port, _)) => port,
+    };
+    match port.end(shares) {
+        Ok(end) => (Some(fault), false, Some(end_of(&end))),
+        Err(_) => (Some(fault), false, None),
+    }
+}
+
+// The calls of clients, what the log stores, and how many entries it had.
+fn end_of(end: &SessionEnd) -> (u64, usize, u64) {
+    let log = end.session.log();
+    (end.calls, log.entries().len(), log.len_in_all())
+}
+
+// The worker beside a client, over a port with this log.
+fn plays<L: Ledger + Send + Sync, R: Threads + Wait + Sync>(
+    rt: &R,
+    alloc: Global,
+    blank: Blank,
+    log: Log,
+    drains: bool,
+) -> Result<Played, Fail>
+    requires name { blank.name ≡ L.name }
+    requires parts { (blank.parts ≡ L.parts) × (L.parts ≡ 17) }
+    requires empty { log.entries ≡ [] }
+{
+    let Ok(port) = Port::<L>::new(alloc, blank, config(1), log) else {
+        return Err("no memory")?;
+    };
+    let mut record = Vec::new(alloc);
+    let (worker, right, pages, shares) = together(rt, alloc, &port, drains, &mut record)?;
+    let (refused, too_early, end) = ends(alloc, port, shares, &record);
+    Ok(Played {
+        worker,
+        right,
+        pages,
+        exchanges: record.len(),
+        too_early,
+        refused,
+        end,
+    })
+}
+
+// How the worker ended, how many of its client's outcomes were right, the pages, and the client's share.
+type Together<L> = (WorkerEnd, u64, Vec<Page>, Vec<CallShare<L>>);
+
+// The worker beside a client.
+fn together<L: Ledger + Send + Sync, R: Threads + Wait + Sync>(
+    rt: &R,
+    alloc: Global,
+    port: &Port<L>,
+    drains: bool,
+    record: &mut Vec<Exchange>,
+) -> Result<Together<L>, Fail> {
+    let mut line = DrainingLine {
+        rt,
+        alloc,
+        port,
+        drains,
+        pages: Vec::new(alloc),
+        line: silent(alloc, 2)?,
+    };
+    let mut seat = Seat {
+        client: port.client(rt, alloc, 1).ok(),
+        calls: None,
+        right: 0,
+    };
+    let (worker, _) = join_mut(
+        rt,
+        &mut || port.work(rt, alloc, &mut line, TRIES, record),
+        &mut || sits(rt, alloc, &mut seat),
     );
-    assert_eq!(rt; over.err(), Some(Failed::Finish(FinishFault::HandedOut)));
+    let (right, shares) = stood_up(rt, alloc, seat);
+    Ok((worker, right, line.pages, shares))
+}
+
+// How many outcomes were right, and the client's share. If its thread never ran, it leaves now.
+fn stood_up<L: Ledger, R: Wait>(
+    rt: &R,
+    alloc: Global,
+    seat: Seat<'_, L>,
+) -> (u64, Vec<CallShare<L>>) {
+    let Seat {
+        client,
+        calls,
+        right,
+    } = seat;
+    let mut shares = Vec::new(alloc);
+    if let Some(client) = client {
+        let Left { unspent, calls } = client.leave(rt);
+        cancels(alloc, unspent);
+        let _ = shares.push(calls);
+    }
+    if let Some(calls) = calls {
+        let _ = shares.push(calls);
+    }
+    (right, shares)
+}
+
+fn play<R: Threads + Wait + Sync>(
+    rt: &R,
+    alloc: Global,
+    free: usize,
+    drains: bool,
+) -> Result<Played, Fail> {
+    plays::<Brand, R>(rt, alloc, Blank::new(17), log(alloc, free)?, drains)
+}
+
+// What is the same of each port: a client's two calls for each request, and an exchange of each. It isn't finished, and
+// not ended without a share.
+fn is_served(played: &Played) -> bool {
+    played.worker == WorkerEnd::AllLeft
+        && (played.right, played.exchanges) == (2, 2)
+        && played.refused == Some(FinishFault::NotKept)
+        && !played.too_early
+}
+
+// The page of the first exchange.
+fn has_first(entries: &[Entry]) -> bool {
+    matches!(
+        entries,
+        [
+            Entry::Join { .. },
+            Entry::Accept { number: 0, .. },
+            Entry::Send { .. },
+        ]
+    )
+}
+
+// The page of the second one.
+fn has_second(entries: &[Entry]) -> bool {
+    matches!(
+        entries,
+        [
+            Entry::Came { .. },
+            Entry::Finish { number: 0, .. },
+            Entry::Collect { .. },
+            Entry::Accept { number: 1, .. },
+            Entry::Send { .. },
+        ]
+    )
+}
+
+// After the second page the log has Came, Finish and Collect.
+#[test]
+fn a_port_is_drained_in_each_exchange(rt: HostRuntime) -> Result<(), Fail> {
+    let played = play(&rt, rt.alloc(), 100, true)?;
+    assert!(rt; is_served(&played));
+    assert_eq!(rt; played.end, Some((4, 3, 11)));
+    let [first, second] = played.pages.as_slice() else {
+        return Err("other pages")?;
+    };
+    assert!(rt; first.first == 0 && has_first(&first.entries));
+    assert!(rt; second.first == 3 && has_second(&second.entries));
+    Ok(())
+}
+
+#[test]
+fn a_port_keeps_nothing(rt: HostRuntime) -> Result<(), Fail> {
+    let played = play(&rt, rt.alloc(), NOTHING_KEPT, false)?;
+    assert!(rt; is_served(&played) && played.pages.is_empty());
+    assert_eq!(rt; played.end, Some((4, 0, 11)));
+    Ok(())
+}
+
+// The first page of a port that keeps nothing is empty. From then on the port keeps its entries.
+#[test]
+fn a_drain_lets_a_port_keep_its_entries(rt: HostRuntime) -> Result<(), Fail> {
+    let played = play(&rt, rt.alloc(), NOTHING_KEPT, true)?;
+    assert!(rt; is_served(&played));
+    assert_eq!(rt; played.end, Some((4, 3, 11)));
+    let [first, second] = played.pages.as_slice() else {
+        return Err("other pages")?;
+    };
+    assert!(rt; first.first == 3 && first.entries.is_empty());
+    assert!(rt; second.first == 3 && has_second(&second.entries));
+    Ok(())
 }

@@ -7,8 +7,8 @@ fn tells_why_a_port_is_not_ended(rt: HostRuntime) -> Result<(), Fail> {
     let rows = [
         (FinishFault::SharesMissing, "a client's share is missing"),
         (
-            FinishFault::HandedOut,
-            "entries of the log were handed out that the record doesn't have",
+            FinishFault::NotKept,
+            "the log doesn't store all its entries",
         ),
         (
             FinishFault::ExchangesDiffer,

@@ -5,7 +5,6 @@ use Rattle.rdm_lanes.specs.Views.{all_views}
 use Rattle.rdm_lanes.specs.Pairs.{Rings, RingsPair}
 use Rattle.rdm_lanes.specs.body.Seats.{seat_rings}
 use Rattle.rdm_lanes.specs.Ends.{end_rings}
-use Rattle.rdm_lanes.proofs.PagedWork.{left_apart, full_apart}
 use Rattle.rdm_lanes.proofs.SeatLemmas.{pairs_kept, slots_kept}
 use Rattle.rdm_lanes.proofs.session.together.lanes_in_threads.Goals as goal
 
@@ -16,7 +15,7 @@ end-session-requires g c =
     let seats = subst (λ (rings : List Rings). RingsPair first rings) (sym c.seated-paired.ensures.rings)
     c.requires.pairs in
     let kept = pairs_kept first news c.seated-paired.result.items c.all_in_threads-worker.result.1.items seats
-    (rw c.without_operator-alone.ensures.same.1 at c.all_in_threads-worker.ensures.steps.lanes)
+    (rw c.without_operator-alone.ensures.same.1 at c.all_in_threads-worker.ensures.lanes)
     c.all_in_threads-worker.ensures.seats in
     record { pairs = subst (λ (rings : List Rings). RingsPair news rings) (sym c.unseated-bodies.ensures.ends) kept }
 
@@ -28,15 +27,15 @@ returns-clause-ended g c =
     record {
       agree = rw c.end-session.ensures.log c.end-session.ensures.agree;
       all_left = λ is.
-          let stops = (rw is at c.all_in_threads-worker.ensures.stops) left_apart in
-          (c.end-session.ensures.read stops.1.0, rw c.end-session.ensures.log stops.1.2);
-      full = λ is. rw c.end-session.ensures.log ((rw is at c.all_in_threads-worker.ensures.stops) full_apart).1;
+          let left = c.all_in_threads-worker.ensures.all_left is in
+          (c.end-session.ensures.read left.0, rw c.end-session.ensures.log left.1);
+      full = λ is. rw c.end-session.ensures.log (c.all_in_threads-worker.ensures.full is);
       one_each = (c.end-session.ensures.show_same.long ∙ (rings ∙ seats), c.unseated-bodies.ensures.bodies ∙ seats);
       unspent = c.end-session.ensures.unspent;
       matched = c.end-session.ensures.matched;
       published = rw c.end-session.ensures.log c.end-session.ensures.published;
       all_published =
-          λ not. c.end-session.ensures.shown ∙ (c.all_in_threads-worker.ensures.stops not).0.shown
+          λ not. c.end-session.ensures.shown ∙ c.all_in_threads-worker.ensures.published not
           ∙ ap (λ (k : LogState). all_views k.entries) (sym c.end-session.ensures.log);
       views = c.end-session.ensures.views;
       shown_first = c.end-session.ensures.shown_first;

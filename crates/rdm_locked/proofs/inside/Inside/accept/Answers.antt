@@ -1,6 +1,5 @@
 use Rattle.std.proofs.Common.{arith}
 use Rattle.rdm_log.specs.promises.Blocks.{number_or_fault}
-use Rattle.rdm_locked.proofs.PageLemmas.{sent_grown}
 use Rattle.rdm_locked.proofs.CallLemmas.{grown_counts, work_brings, calls_few}
 use Rattle.rdm_locked.proofs.inside.Inside.accept.Goals as goal
 
@@ -25,6 +24,4 @@ invariant_of-self g c =
           (omega (arith, counts.calls_are, me.counted)));
       clients = omega (arith, counts.clients_are, me.clients);
       parts = me.parts;
-      named = me.named;
-      sent = sent_grown me.pages k _ c.accept-answer.new.self c.accept-answer.ensures.adds me.sent;
     }

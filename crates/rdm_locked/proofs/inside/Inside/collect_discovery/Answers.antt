@@ -1,5 +1,4 @@
 use Rattle.std.proofs.Common.{arith}
-use Rattle.rdm_locked.proofs.PageLemmas.{sent_grown}
 use Rattle.rdm_locked.proofs.CallLemmas.{grown_counts, collect_brings, calls_few}
 use Rattle.rdm_locked.proofs.inside.Inside.collect_discovery.Goals as goal
 
@@ -23,6 +22,4 @@ invariant_of-self-2 g c =
       counted = rw c.add_calls.ensures.total (omega (arith, counts.calls_are, me.counted));
       clients = omega (arith, counts.clients_are, me.clients);
       parts = me.parts;
-      named = me.named;
-      sent = sent_grown me.pages k _ c.next_discovery.new.self c.in_ok-end.ensures.adds me.sent;
     }

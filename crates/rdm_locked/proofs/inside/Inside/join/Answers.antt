@@ -1,7 +1,6 @@
 use Rattle.std.proofs.Common.{arith}
 use Rattle.rdm_log.proofs.LogLemmas.RefusalLemmas.{join_passes}
 use Rattle.rdm_log.proofs.PromiseLemmas.BlockLemmas.{join_ok}
-use Rattle.rdm_locked.proofs.PageLemmas.{sent_grown}
 use Rattle.rdm_locked.proofs.CallLemmas.{grown_counts, join_brings, join_refused_brings}
 use Rattle.rdm_locked.proofs.inside.Inside.join.Goals as goal
 
@@ -15,8 +14,6 @@ invariant_of-self g c =
       counted = omega (arith, counts.calls_are, me.counted);
       clients = omega (arith, counts.clients_are, me.clients);
       parts = me.parts;
-      named = me.named;
-      sent = sent_grown me.pages k _ c.join_client.new.self c.in_err-client.ensures.adds me.sent;
     }
 
 pub invariant_of-self-2 : goal.invariant_of-self-2
@@ -37,6 +34,4 @@ invariant_of-self-2 g c =
         unused = omega (arith, c.split_off.ensures.amount_left, me.parts.unused);
         left_once = omega (arith, me.parts.left_once);
       };
-      named = me.named;
-      sent = sent_grown me.pages k _ c.join_client.new.self adds me.sent;
     }

@@ -1,5 +1,4 @@
 use Rattle.std.proofs.Common.{arith}
-use Rattle.rdm_locked.proofs.PageLemmas.{sent_grown}
 use Rattle.rdm_locked.proofs.CallLemmas.{grown_counts, pause_brings}
 use Rattle.rdm_locked.proofs.inside.Inside.pause.Goals as goal
 
@@ -13,6 +12,4 @@ invariant_of-self g c =
       counted = omega (arith, counts.calls_are, me.counted);
       clients = omega (arith, counts.clients_are, me.clients);
       parts = me.parts;
-      named = me.named;
-      sent = sent_grown me.pages k _ c.pause.new.self c.pause.ensures.adds me.sent;
     }

@@ -8,4 +8,4 @@ returns c = λ is.
     rw (← c.self.view_is)
     (ample_room c.self.inside.controller c.self.inside.log c.most_reserved.result c.self.invariant
     c.most_reserved.ensures.most
-    (omega (arith, leb-true _ _ is, c.room.ensures.room, c.entries.ensures.all)))
+    (omega (arith, leb-true _ _ is, c.unused.ensures)))

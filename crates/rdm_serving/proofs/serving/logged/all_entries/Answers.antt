@@ -1,5 +1,5 @@
-use Rattle.std.proofs.Common.{ap, drop, ◌∙◌}
+use Rattle.std.proofs.Common.{◌∙◌}
 use Rattle.rdm_serving.proofs.serving.logged.all_entries.Goals as goal
 
 pub returns : goal.returns
-returns c = c.entries.ensures.stored ∙ ap (λ n. drop n c.args.log.now.entries) c.requires
+returns c = c.entries.ensures.stored ∙ c.requires
