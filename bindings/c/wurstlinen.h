@@ -379,13 +379,15 @@ uint32_t wurst_controller_awaits(struct wurst_controller *handle, bool *answer);
  * its run 2 for each frame. _drain empties the log at any time. Some entries are reserved: 1 for a close, 1 for a reply
  * that is awaited, 2 for each request and discovery that hasn't ended, 1 for each outcome that isn't collected. A log
  * with fewer than WURST_LEAST_FREE free entries refuses some calls; replies, closes and collects always fit.
- *
  * Calls that a controller also has do the same as the controller's. What is said here is in addition. */
 
 /* Opens a closed handle: a session without clients, whose log has capacity for this many entries, 0 to
  * WURST_MOST_ENTRIES, and one more for a close. Allocates the log's memory, 296 bytes for each entry.
  * WURST_ALREADY_OPEN; the faults of the setup; WURST_TOO_MANY_ENTRIES; WURST_OUT_OF_MEMORY. */
 uint32_t wurst_session_open(struct wurst_session *handle, const struct wurst_setup *setup, size_t entries);
+
+/* The same, but the log keeps nothing, so that the session can last for years. It counts its entries, up to 2^62. */
+uint32_t wurst_session_open_without_log(struct wurst_session *handle, const struct wurst_setup *setup);
 
 /* Frees the session that a handle holds, with its log, and closes the handle. Without effect on any other handle. */
 void wurst_session_dispose(struct wurst_session *handle);
@@ -442,18 +444,16 @@ uint32_t wurst_session_entry(struct wurst_session *handle, size_t index, struct 
                              size_t room);
 
 /* Continues with a fresh log with capacity for this many entries. Opens the closed handle `log`, which then holds the
- * old log until it is disposed of. Numbers, clients, devices and whether it is paused or closed are kept. Allocates the
- * fresh log's memory, and for a moment as much as a second session without entries has.
- * WURST_ALREADY_OPEN (`log`, of any kind); WURST_TOO_MANY_ENTRIES; WURST_LOG_FULL, for fewer than WURST_LEAST_FREE
- * entries; WURST_NOT_IDLE; WURST_OUT_OF_MEMORY. */
+ * old log. Numbers, clients, devices and whether it is paused or closed are kept. Allocates the fresh log's memory, and
+ * for a moment a second session without entries. WURST_ALREADY_OPEN (`log`, of any kind); WURST_TOO_MANY_ENTRIES;
+ * WURST_LOG_FULL, for fewer than WURST_LEAST_FREE entries; WURST_NOT_IDLE; WURST_OUT_OF_MEMORY. */
 uint32_t wurst_session_rotate(struct wurst_session *handle, size_t entries, struct wurst_log *log);
 
-/* Hands out all entries that the log stores, at any time, and continues in other memory. An open handle `log` is
+/* Hands out all entries that the log stores, at any time, and keeps entries in other memory. An open handle `log` is
  * emptied, its memory is used next, whatever `entries` is, and nothing is allocated. With a closed one, memory for this
  * many entries and a close is allocated. Then `log` holds what was handed out. Writes the number of its first entry,
- * from 0 for the session's first, or the first after its last rotation. WURST_NOT_OPEN, also if `log` is open but of
- * another kind; WURST_LOG_FULL (less capacity than reserved); WURST_TOO_MANY_ENTRIES; WURST_LOG_FULL (more than 2^62
- * entries in all); WURST_OUT_OF_MEMORY. */
+ * from 0 for the first after the last rotation. WURST_NOT_OPEN (`log`, of another kind); WURST_LOG_FULL (less capacity
+ * than reserved); WURST_TOO_MANY_ENTRIES; WURST_LOG_FULL (more than 2^62 entries in all); WURST_OUT_OF_MEMORY. */
 uint32_t wurst_session_drain(struct wurst_session *handle, size_t entries, struct wurst_log *log, uint64_t *first);
 
 /* Frees the log that a handle holds, and closes the handle. Without effect on any other handle. */

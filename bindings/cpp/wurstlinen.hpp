@@ -495,6 +495,9 @@ private:
     detail::Handle<wurst_log, wurst_log_dispose> handle_;
 };
 
+// In place of a capacity: the log keeps nothing, so that the session can last for years.
+struct WithoutLog {};
+
 // A queue with a log of all that it does.
 class Session : public detail::Queue<detail::SessionCalls> {
 public:
@@ -503,6 +506,12 @@ public:
             std::uint64_t budget = WURST_DEFAULT_BUDGET, wurst_search search = WURST_STEADY) {
         const wurst_setup setup{source.number(), budget, static_cast<std::uint32_t>(search), places};
         check(wurst_session_open(handle_.get(), &setup, entries));
+    }
+
+    Session(Uid source, WithoutLog, std::uint16_t places = WURST_MOST_PLACES,
+            std::uint64_t budget = WURST_DEFAULT_BUDGET, wurst_search search = WURST_STEADY) {
+        const wurst_setup setup{source.number(), budget, static_cast<std::uint32_t>(search), places};
+        check(wurst_session_open_without_log(handle_.get(), &setup));
     }
 
     std::size_t free_entries() {

@@ -123,6 +123,16 @@ static void sessions() {
     CHECK(log.entry_count() == 0);
 }
 
+static void keeps_nothing() {
+    wurst::Session session(source, wurst::WithoutLog(), 10, 1000, WURST_QUICK);
+    const auto client = session.join(2);
+    session.get(client, device, 0x0082);
+    CHECK(session.run([](wurst::Bytes) { return std::optional<std::vector<std::uint8_t>>(); }) == 1);
+    CHECK(session.next_completion(client)->status() == WURST_FAILED_TO_SEND);
+    wurst::Log page;
+    CHECK(session.entry_count() == 0 && session.drain(page, 20) == 6 && page.entry_count() == 0);
+}
+
 static void drains() {
     wurst::Session session(source, 100);
     const auto client = session.join(2);
@@ -172,6 +182,7 @@ int main() {
     views();
     corrupt_ranges();
     sessions();
+    keeps_nothing();
     drains();
 
     wurst::Agent agent(source, WURST_INCREMENTAL, {device}, 4);

@@ -168,6 +168,7 @@ static void opens_and_disposes_of_none(void) {
         memcpy(before, handle, sizeof before);
         CHECK(wurst_controller_open(handle, &setup) == WURST_ALREADY_OPEN);
         CHECK(wurst_session_open(handle, &setup, 50) == WURST_ALREADY_OPEN);
+        CHECK(wurst_session_open_without_log(handle, &setup) == WURST_ALREADY_OPEN);
         CHECK(wurst_agent_start(handle, &begin, &number, 0) == WURST_ALREADY_OPEN);
         for (int kind = CONTROLLER; kind <= KINDS; kind++) {
             if (kind != other) {

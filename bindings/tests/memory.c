@@ -127,6 +127,26 @@ static uint32_t one_drain(bool *lacked_memory) {
     return status;
 }
 
+/* A session whose log keeps nothing, and its first drain. */
+static uint32_t one_without_log(bool *lacked_memory) {
+    struct wurst_session queue = {0};
+    struct wurst_log log = {0};
+    uint8_t client = 0;
+    uint64_t number, first = 99;
+    uint32_t status = wurst_session_open_without_log(&queue, &setup);
+    CHECK(queue.is_open == (status == WURST_DONE));
+    if (status == WURST_DONE) status = wurst_session_join(&queue, 10, &client);
+    if (status == WURST_DONE) status = wurst_session_submit(&queue, client, &device_info, no_bytes, 0, &number);
+    if (status == WURST_DONE) {
+        status = wurst_session_drain(&queue, 30, &log, &first);
+        CHECK(log.is_open == (status == WURST_DONE) && first == (status == WURST_DONE ? 2 : 99));
+    }
+    *lacked_memory = status == WURST_OUT_OF_MEMORY;
+    wurst_session_dispose(&queue);
+    wurst_log_dispose(&log);
+    return status;
+}
+
 /* Lets each allocation fail in turn, until none is left to fail. */
 static void refuses_each(uint32_t (*scene)(bool *), const char *name) {
     size_t allocations = 0;
@@ -198,6 +218,29 @@ static void serves_a_million(void) {
     CHECK(blocks == 0);
 }
 
+/* No call but a delivery allocates, and what that allocates is freed by the collect. */
+static void keeps_nothing_of_a_million(void) {
+    struct wurst_session queue = {0};
+    struct wurst_completion done;
+    uint8_t client = 0;
+    uint64_t number = 0;
+    size_t completed = 0, count = 99;
+    CHECK(wurst_session_open_without_log(&queue, &setup) == WURST_DONE);
+    CHECK(wurst_session_join(&queue, 10, &client) == WURST_DONE);
+    const size_t before = blocks;
+    for (uint64_t i = 0; i < 1000000; i++) {
+        wurst_session_submit(&queue, client, &device_info, no_bytes, 0, &number);
+        wurst_session_take(&queue, frame, sizeof frame, &len);
+        wurst_session_deliver(&queue, reply, answer(frame, 0, (const uint8_t *)"four", 4, reply));
+        wurst_session_next_completion(&queue, client, &done, data, sizeof data);
+        completed += done.status == WURST_COMPLETED && done.len == 4 && done.number == i;
+    }
+    CHECK(completed == 1000000 && blocks == before);
+    CHECK(wurst_session_entry_count(&queue, &count) == WURST_DONE && count == 0);
+    wurst_session_dispose(&queue);
+    CHECK(blocks == 0);
+}
+
 static void rotates_a_thousand_times(void) {
     struct wurst_session queue = {0};
     struct wurst_log log = {0};
@@ -245,9 +288,11 @@ int main(void) {
     refuses_each(one_request, "a controller with one request");
     refuses_each(one_rotation, "a session with one request and a rotation");
     refuses_each(one_drain, "a session with one request and two drains");
+    refuses_each(one_without_log, "a session without a log");
     ends_without_memory();
     refuses_an_agent();
     serves_a_million();
+    keeps_nothing_of_a_million();
     rotates_a_thousand_times();
     drains_a_thousand_times();
     return report();

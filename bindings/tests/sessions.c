@@ -302,6 +302,37 @@ static void drains(void) {
     wurst_log_dispose(&second);
 }
 
+/* A log that keeps nothing counts its entries. Its first drain hands out none, and from then on it keeps entries. */
+static void keeps_nothing(void) {
+    struct wurst_session session = {0};
+    struct wurst_log log = {0};
+    const struct wurst_setup broadcast = {.source = WURST_BROADCAST, .places = 10, .budget = 1000};
+    uint64_t first = 99;
+    CHECK(wurst_session_open_without_log(&session, &broadcast) == WURST_BROADCAST_UID && !session.is_open);
+    CHECK(wurst_session_open_without_log(&session, &setup) == WURST_DONE);
+    CHECK(wurst_session_open_without_log(&session, &setup) == WURST_ALREADY_OPEN);
+    const size_t most = free_entries(&session);
+    CHECK(most == ((size_t)1 << 62) - 1);
+    CHECK(wurst_session_join(&session, 2, &client) == WURST_DONE);
+    CHECK(wurst_session_submit(&session, 0, &label, no_bytes, 0, &number) == WURST_DONE && number == 0);
+    CHECK(wurst_session_take(&session, frame, sizeof frame, &len) == WURST_DONE);
+    CHECK(wurst_session_fail(&session) == WURST_DONE);
+    CHECK(wurst_session_next_completion(&session, 0, &done, buffer, 0) == WURST_DONE);
+    CHECK(done.number == 0 && done.status == WURST_FAILED_TO_SEND);
+    /* Join, Accept, Send, Came, Finish and Collect. */
+    CHECK(entries(&session) == 0 && free_entries(&session) == most - 6);
+    CHECK(wurst_session_drain(&session, 20, &log, &first) == WURST_DONE && first == 6 && free_entries(&session) == 20);
+    CHECK(wurst_log_entry_count(&log, &count) == WURST_DONE && count == 0);
+    CHECK(wurst_session_pause(&session) == WURST_DONE && entries(&session) == 1);
+    /* The log that was handed out has no memory. */
+    CHECK(wurst_session_drain(&session, 20, &log, &first) == WURST_LOG_FULL && first == 6 && entries(&session) == 1);
+    wurst_log_dispose(&log);
+    CHECK(wurst_session_drain(&session, 20, &log, &first) == WURST_DONE && first == 6);
+    CHECK(wurst_log_entry_count(&log, &count) == WURST_DONE && count == 1);
+    wurst_session_dispose(&session);
+    wurst_log_dispose(&log);
+}
+
 int main(void) {
     logs_a_request();
     logs_discoveries();
@@ -310,5 +341,6 @@ int main(void) {
     fills_its_log();
     rotates();
     drains();
+    keeps_nothing();
     return report();
 }

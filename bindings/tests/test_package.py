@@ -378,6 +378,19 @@ class Sessions(unittest.TestCase):
             left = session.drain()
         self.assertEqual((left.first, list(left)), (6, []))
 
+    def test_a_session_without_a_log(self) -> None:
+        with Session(SOURCE, 0, without_log=True) as session:
+            client, line = session.join(2), Fixtures(DEVICE)
+            for number in range(200):
+                self.assertEqual(client.get(DEVICE, 0x0060), number)
+                session.run(line)
+                client.next_completion()
+            self.assertEqual((session.entry_count(), session.entries()), (0, ()))
+            page = session.drain(40)
+            self.assertEqual((page.first, list(page)), (1 + 200 * 5, []))
+            session.pause()
+            self.assertEqual(session.entries(), (entries.Pause(),))
+
     def test_a_session_that_never_ends(self) -> None:
         with Session(SOURCE, 40) as session:
             client, line, pages = session.join(2), Fixtures(DEVICE), []

@@ -105,6 +105,7 @@ CALLS = {
     "wurst_controller_open": [_HANDLE, POINTER(Setup)],
     **{"wurst_controller_" + name: types for name, types in _QUEUE.items()},
     "wurst_session_open": [_HANDLE, POINTER(Setup), c_size_t],
+    "wurst_session_open_without_log": [_HANDLE, POINTER(Setup)],
     **{"wurst_session_" + name: types for name, types in _QUEUE.items()},
     "wurst_session_free_entries": [_HANDLE, _LENGTH],
     "wurst_session_entry_count": [_HANDLE, _LENGTH],

@@ -86,16 +86,20 @@ class Session(Queue, _Entries):
 
     A request takes 5 entries, and 2 for each further frame. A discovery takes 3, and its run 2 for each frame. With
     fewer than three free entries, calls raise LogFull; replies, closes and collects always fit. `drain` empties the log
-    at any time.
+    at any time. `without_log`: it keeps nothing, whatever `entries` is, so that the session can last for years.
     """
 
     _calls = Calls("wurst_session_")
 
     def __init__(self, source: Union[Uid, str], entries: int = 10_000, places: int = MOST_PLACES, *,
-                 budget: int = DEFAULT_BUDGET, search: Search = Search.STEADY) -> None:
+                 budget: int = DEFAULT_BUDGET, search: Search = Search.STEADY, without_log: bool = False) -> None:
         super().__init__()
         setup = setup_of(source, places, budget, search)
-        check(self._calls.open(self._handle, setup, whole(entries, 64, "entries")))
+        entries = whole(entries, 64, "entries")
+        if without_log:
+            check(self._calls.open_without_log(self._handle, setup))
+        else:
+            check(self._calls.open(self._handle, setup, entries))
 
     def free_entries(self) -> int:
         """How many entries are free: neither taken nor reserved for what has to be logged later."""
