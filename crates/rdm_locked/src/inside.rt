@@ -174,6 +174,7 @@ impl<L: Ledger> Inside<L> {
     /// Hands out all entries that the log stores, as [`Session::drain`] does, with the number of the first: how many
     /// entries the log had before it.
     /// Err: as `Session::drain` returns; nothing has changed, and the memory is returned.
+    #[tactic(auto, using(crate::proofs::PageLemmas::is_page))]
     pub fn drain(&mut self, next: Vec<Entry>) -> Result<Page, (LogFull, Vec<Entry>)>
         requires { next.items ≡ [] }
         ensures first { IfOk result (λ page. page.first + length page.entries.items
