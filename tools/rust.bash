@@ -8,6 +8,8 @@ debian_crates="librust-arrayvec-dev librust-clap-dev librust-hex-dev librust-ito
     librust-thiserror-dev"
 debian_registry=/usr/share/cargo/registry
 no_cargo=127
+# What cargo says if it has neither a network nor all crates.
+no_crates="no matching package|failed to (get|download|query|load source|fetch)|[Cc]ould.?n.t resolve"
 
 # The compiler and its version, as `rustc 1.85.0`.
 rustc_version() {
@@ -59,7 +61,7 @@ build_rust() {
         return
     fi
     printed="$(call_cargo "$folder" build --quiet "${@:2}" 2>&1)" && return
-    if grep -qE 'no matching package|failed to (get|download|query|load source|fetch)|[Cc]ould.?n.t resolve' <<< "$printed"; then
+    if grep -qE "$no_crates" <<< "$printed"; then
         echo "cargo has no network and no crates: on Debian, apt install ${debian_crates//$'\n'    / }" >&2
     else
         printf '%s\n' "$printed" >&2
@@ -67,8 +69,8 @@ build_rust() {
     return 1
 }
 
-# Makes the archive $2 for the C library of what cargo has built below the folder $1. It has one object with the names of
-# the library's calls alone, so that it can be linked beside other libraries in Rust.
+# Makes the archive $2 for the C library of what cargo has built below the folder $1. It has one object with the names
+# of the library's calls alone, so that it can be linked beside other libraries in Rust.
 archive_of_rust() (
     made="$(mktemp -d)" || exit
     trap 'rm -rf -- "$made"' EXIT

@@ -1,7 +1,8 @@
 """Which words of a text in Rust aren't those of the text in Rattle that it was made of.
 
-Both texts are compared by diff, so this doesn't depend on what the tool says of itself. The names of crates are compared
-as they are in Rattle. The line that each file begins with, which imports the names of Rattle's std, doesn't count.
+Both texts are compared by diff, so this doesn't depend on what the tool says of itself. The names of crates are
+compared as they are in Rattle. The line that each file begins with, which imports the names of Rattle's std, doesn't
+count.
 """
 from __future__ import annotations
 
