@@ -8,6 +8,8 @@ debian_crates="librust-arrayvec-dev librust-clap-dev librust-hex-dev librust-ito
     librust-thiserror-dev"
 debian_registry=/usr/share/cargo/registry
 no_cargo=127
+# What cargo says if it has neither a network nor all crates.
+no_crates="no matching package|failed to (get|download|query|load source|fetch)|[Cc]ould.?n.t resolve"
 
 # The compiler and its version, as `rustc 1.85.0`.
 rustc_version() {
@@ -59,8 +61,7 @@ build_rust() {
         return
     fi
     printed="$(call_cargo "$folder" build --quiet "${@:2}" 2>&1)" && return
-    local unreachable='no matching package|failed to (get|download|query|load source|fetch)|[Cc]ould.?n.t resolve'
-    if grep -qE "$unreachable" <<< "$printed"; then
+    if grep -qE "$no_crates" <<< "$printed"; then
         echo "cargo has no network and no crates: on Debian, apt install ${debian_crates//$'\n'    / }" >&2
     else
         printf '%s\n' "$printed" >&2

@@ -123,7 +123,7 @@ class Eraser:
             self.at = self.index() + 1
 
     def skip_over(self, last: str) -> List[str]:
-        """Skips over the first `last` outside of all brackets. Returns what stood before it, split at commas."""
+        """Skips over the first `last` that is outside of all brackets. Returns what was before it, split at commas."""
         parts, depth = [""], 0
         while self.at < len(self.tokens):
             kind, word = self.tokens[self.at]
@@ -330,8 +330,8 @@ class Eraser:
             elif items:
                 mutable = "mut" if items[1] else "const"
                 kept += [f"{name}: *{mutable} {items[2]}", f"{name}_len: usize"]
-                slice_of = f"{self.paths['std']}::for_c::{mutable}_slice"
-                body.append(f"let {name} = unsafe {{ {slice_of}({name}, {name}_len) }};")
+                call = f"{self.paths['std']}::for_c::{mutable}_slice({name}, {name}_len)"
+                body.append(f"let {name} = unsafe {{ {call} }};")
             else:
                 kept.append(parameter)
         self.write(f"({', '.join(kept)})")

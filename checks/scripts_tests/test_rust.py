@@ -7,6 +7,8 @@ from pathlib import Path
 from clone import Clone, new_clone
 
 COMPILING = "wurstlinen: compiling the program with rustc 1.99.0, about a minute\n"
+PROVING = "wurstlinen: proving and building the program, about 20 minutes on four processors; a call after an " \
+          "interrupt goes on\n"
 NO_CRATES = 'echo "error: no matching package named \\`arrayvec\\` found" >&2; exit 101'
 ANSWER = "the program: decode 00\n"
 
@@ -43,9 +45,7 @@ class WithCargo(unittest.TestCase):
 
     def test_each_compiler_can_be_chosen(self) -> None:
         self.expect("--with rustc decode 00", 0, ANSWER, COMPILING)
-        self.expect("--with kit decode 00", 0, ANSWER,
-                    "wurstlinen: proving and building the program, about 20 minutes on four processors; a call after "
-                    "an interrupt goes on\n")
+        self.expect("--with kit decode 00", 0, ANSWER, PROVING)
         # What the kit has proved is used without it, and isn't what rustc has built.
         self.without_kit()
         self.expect("decode 00", 0, ANSWER, "")
