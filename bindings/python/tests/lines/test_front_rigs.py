@@ -124,13 +124,12 @@ class Fixtures(OneRig):
             self.scene({"uid": LEFT, "rig": {"spells": other}}, {"uid": "1234:00000002", "rig": {"address": 9}})
             self.assertEqual(self.rows(), {"1234:00000002": "", LEFT: wrong}, other)
         # Nobody has the UID of the last branch, but its replies spell one.
-        self.scene({"uid": LEFT, "rig": {"lies": ["answers all"]}}, {"uid": "1234:00000002"})
-        self.assertEqual((self.rows(), self.status), ({LEFT: wrong}, 1))
         self.scene({"uid": LEFT, "rig": {"lies": ["answers all"], "spells": "1234:00000009"}})
         self.assertEqual((self.rows(), self.status), ({}, 1))
 
     def test_lies_that_do_no_harm(self) -> None:
-        for lie, note in (("every other", ""), ("unmutes late", ""), ("adds bytes", "sends too much in discovery")):
+        for lie, note in (("every other", ""), ("unmutes late", ""), ("answers all", ""),
+                          ("adds bytes", "sends too much in discovery")):
             self.scene({"uid": LEFT, "rig": {"lies": [lie]}}, {"uid": "1234:00000002", "rig": {"address": 9}})
             self.assertEqual((self.rows(), self.status), ({"1234:00000002": "", LEFT: note}, 0), lie)
 
