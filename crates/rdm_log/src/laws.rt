@@ -14,8 +14,8 @@ pub use broken::{
 };
 pub use discoveries::{
     answers_report_a_noisy_line, answers_report_the_line, exactly_one_answer,
-    first_asked_first_answered, full_client_is_refused, legal_keeps_discoveries, own_discoveries,
-    runs_answer_what_was_asked,
+    first_asked_first_answered, full_client_is_refused, legal_keeps_discoveries,
+    outcomes_report_a_noisy_line, own_discoveries, runs_answer_what_was_asked,
 };
 pub use explained::{
     each_event_is_answered, not_explained, parts_are_joined, sample_is_explained,

@@ -5,10 +5,10 @@ use Rattle.rdm_log.proofs.Common.{slice_get_within, slice_get-get_or, same_Some,
 use Rattle.rdm_log.proofs.Common.{Finish, Answer, Outcome, Accepted, AskedDiscovery, accepts, asks, result}
 use Rattle.rdm_log.proofs.Common.{answer_devices, client_of_request, client_of_discovery, is_answer_to, MayFollow}
 use Rattle.rdm_log.proofs.Common.{Legal, IsOldest, OutcomeValue, discovered, outcome_value, outcome_of, completion_of}
-use Rattle.rdm_log.proofs.Common.{RequestValue, DiscoveryValue, AnswersReportTheLine, IsOwnOutcome, ReportsTheLine}
+use Rattle.rdm_log.proofs.Common.{RequestValue, DiscoveryValue, IsOwnOutcome, ReportsTheLine}
 use Rattle.rdm_log.specs.declared.outcome.Outcome.TheVariants as outcomes
 use Rattle.rdm_log.specs.promises.Outcomes.{Discovered, completion_value, discovered_by}
-use Rattle.rdm_log.specs.promises.EventsHeadline.{IsOwnReport}
+use Rattle.rdm_log.specs.promises.EventsHeadline.{IsOwnReport, ReportsANoisyLine}
 use Rattle.rdm_log.proofs.LogLemmas.Grows.{front}
 use Rattle.rdm_log.proofs.LogLemmas.LegalFacts.{legal_facts}
 use Rattle.rdm_log.proofs.LogLemmas.ClientLemmas.{client_stays, asker_stays}
@@ -16,7 +16,8 @@ use Rattle.rdm_log.proofs.PromiseLemmas.StableResults.{contains_from_get, client
 use Rattle.rdm_log.proofs.PromiseLemmas.StableResults.{uncollected_found, uncollected_answer}
 use Rattle.rdm_log.proofs.PromiseLemmas.OwnAnswers.{finished_stays}
 use Rattle.rdm_log.proofs.PromiseLemmas.StableOutcomes.{named_in, devices_stay}
-use Rattle.rdm_log.proofs.PromiseLemmas.AnswersReportTheLine.{all_report_the_line, split_at}
+use Rattle.rdm_log.proofs.PromiseLemmas.AnswersReportTheLine.{all_report_the_line, all_report_a_noisy_line}
+use Rattle.rdm_log.proofs.PromiseLemmas.AnswersReportTheLine.{split_at}
 
 -- an outcome's value has its parts
 same_result : (n m : Option ℕ) (i j : Joined)
@@ -113,40 +114,59 @@ own_outcome o h more c outcome each is =
     by_kind (inl f) = of_finish o h more c found.0 is.entry outcome each f found.1 found.2 is.told
     by_kind (inr f) = of_reply o h more c found.0 is.entry outcome each f found.1 found.2 is.told
 
--- so it says the same about the line as its Answer
-pub reports_the_line : (o : Opening) (h : List Entry) → Legal o h → (c : ℕ) (number : Option ℕ) (done : Discovered)
-    → IsOwnReport o h c number done → ReportsTheLine h done
-reports_the_line o h legal c number done is = record {
-  exactly = λ present none honest. rw is.told
-      (answers_report.exactly early late is.discovery done.run present (without_fault none) honest);
-  no_phantom =
-      λ present u honest there. answers_report.no_phantom early late is.discovery done.run done.fault present u parts
-      honest
-      (rw is.told at there);
-  each = λ u none device honest. rw is.told
-      (answers_report.each early late is.discovery done.run u (without_fault none) device honest);
-  staying = λ sets u none honest in_each. rw is.told
-      (answers_report.staying early late is.discovery done.run sets u (without_fault none) honest in_each);
-  no_stranger =
-      λ sets u honest there. answers_report.no_stranger early late is.discovery done.run done.fault sets u parts honest
-      (rw is.told at there);
+-- where the Answer of an outcome is
+record HasAnswer (h : List Entry) (done : Discovered) : Type 0 where
+  discovery : ℕ
+  early : List Entry
+  late : List Entry
+  parts : h ≡ early ++ Answer discovery done.run done.fault ∷ late
+
+has_answer : (o : Opening) (h : List Entry) (c : ℕ) (number : Option ℕ) (done : Discovered)
+    → IsOwnReport o h c number done → HasAnswer h done
+has_answer o h c number done is = record {
+  discovery = is.discovery;
+  early = take is.answered.0 h;
+  late = drop (suc is.answered.0) h;
+  parts = split_at h is.answered.0 answer
+      (slice_get-get_or h is.answered.0 answer is.answered.1 ∙ ap (λ y. Some y) is.answered.2);
 }
   where
-    answers_report : AnswersReportTheLine o h
-    answers_report = all_report_the_line o h legal
-
     answer : Entry
     answer = Answer is.discovery done.run done.fault
 
-    early : List Entry
-    early = take is.answered.0 h
+without_fault : (h : List Entry) (done : Discovered) (a : HasAnswer h done) → done.fault ≡ None
+    → h ≡ a.early ++ Answer a.discovery done.run None ∷ a.late
+without_fault h done a none = rw (← none) a.parts
 
-    late : List Entry
-    late = drop (suc is.answered.0) h
+-- so it says the same about a noisy line as its Answer
+pub reports_a_noisy_line : (o : Opening) (h : List Entry) (c : ℕ) (number : Option ℕ) (done : Discovered) → Legal o h
+    → IsOwnReport o h c number done → ReportsANoisyLine h done
+reports_a_noisy_line o h c number done legal is =
+    let report = all_report_a_noisy_line o h legal in let a = has_answer o h c number done is in record {
+      exactly = λ present none noisy. rw is.told
+          (report.exactly a.early a.late a.discovery done.run present (without_fault h done a none) noisy);
+      no_phantom =
+          λ present u noisy there. report.no_phantom a.early a.late a.discovery done.run done.fault present u a.parts
+          noisy (rw is.told at there);
+      each = λ u none device noisy. rw is.told
+          (report.each a.early a.late a.discovery done.run u (without_fault h done a none) device noisy);
+    }
 
-    parts : h ≡ early ++ answer ∷ late
-    parts = split_at h is.answered.0 answer
-        (slice_get-get_or h is.answered.0 answer is.answered.1 ∙ ap (λ y. Some y) is.answered.2)
-
-    without_fault : done.fault ≡ None → h ≡ early ++ Answer is.discovery done.run None ∷ late
-    without_fault none = rw (← none) parts
+-- and about an honest one
+pub reports_the_line : (o : Opening) (h : List Entry) → Legal o h → (c : ℕ) (number : Option ℕ) (done : Discovered)
+    → IsOwnReport o h c number done → ReportsTheLine h done
+reports_the_line o h legal c number done is =
+    let report = all_report_the_line o h legal in let a = has_answer o h c number done is in record {
+      exactly = λ present none honest. rw is.told
+          (report.exactly a.early a.late a.discovery done.run present (without_fault h done a none) honest);
+      no_phantom =
+          λ present u honest there. report.no_phantom a.early a.late a.discovery done.run done.fault present u a.parts
+          honest (rw is.told at there);
+      each = λ u none device honest. rw is.told
+          (report.each a.early a.late a.discovery done.run u (without_fault h done a none) device honest);
+      staying = λ sets u none honest in_each. rw is.told
+          (report.staying a.early a.late a.discovery done.run sets u (without_fault h done a none) honest in_each);
+      no_stranger =
+          λ sets u honest there. report.no_stranger a.early a.late a.discovery done.run done.fault sets u a.parts
+          honest (rw is.told at there);
+    }

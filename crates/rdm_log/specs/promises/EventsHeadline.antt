@@ -6,6 +6,7 @@ use Rattle.rdm_wire.specs.Uid.{has, IsDevice}
 use Rattle.rdm_wire.specs.Devices.{uids_of}
 use Rattle.rdm_wire.specs.Honest.{HonestTo, HonestTrace}
 use Rattle.rdm_wire.specs.HonestOver.{HonestOver}
+use Rattle.rdm_wire.specs.Noisy.{NoisyTo, NoisyTrace}
 use Rattle.rdm_wire.specs.declared.request.Request.{Request}
 use Rattle.rdm_join.specs.declared.event.LineEvent.{LineEvent}
 use Rattle.rdm_join.specs.declared.status.Status.{Status}
@@ -136,6 +137,18 @@ pub record ReportsTheLine (h : List Entry) (done : Discovered) : Type 0 where
   -- and none that was never present
   pub no_stranger : (sets : List (List ℕ)) (u : ℕ) → HonestOver sets (run_exchanges done.run h)
       → has (uids_of done.devices) u ≡ true → IsInOne u sets
+
+-- the devices of a discovery are those that a noisy line showed during its run
+pub record ReportsANoisyLine (h : List Entry) (done : Discovered) : Type 0 where
+  -- on a noisy line whose devices stay: without fault exactly these
+  pub exactly : (present : List ℕ) → done.fault ≡ None → NoisyTrace present (run_exchanges done.run h)
+      → uids_of done.devices ≡ present
+  -- and even with a fault, no others
+  pub no_phantom : (present : List ℕ) (u : ℕ) → NoisyTrace present (run_exchanges done.run h)
+      → has (uids_of done.devices) u ≡ true → has present u ≡ true
+  -- without fault each device that follows the rules of a noisy line, whatever others do
+  pub each : (u : ℕ) → done.fault ≡ None → IsDevice u → NoisyTo u (run_exchanges done.run h)
+      → has (uids_of done.devices) u ≡ true
 
 -- the outcome that an event returned to the client, if it did
 abbrev pub outcome_given : ℕ → Event → Answer → Option OutcomeValue

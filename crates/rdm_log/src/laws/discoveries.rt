@@ -1,10 +1,12 @@
 //! What clients are promised about discoveries: laws about each legal log.
-ghost use Rattle.std.specs.Prelude.{List};
+ghost use Rattle.std.specs.Prelude.{ℕ, List, Option};
 ghost use Rattle.rdm_log.specs.declared.entry.Opening.{Opening};
 ghost use Rattle.rdm_log.specs.declared.entry.Entry.{Entry};
 ghost use Rattle.rdm_log.specs.log.Legal.{Legal};
 ghost use Rattle.rdm_log.specs.promises.Discoveries.{OneAnswer, AnsweredInOrder, AnswersReportTheLine, RunsAnswer};
 ghost use Rattle.rdm_log.specs.promises.Discoveries.{AnswersReportANoisyLine};
+ghost use Rattle.rdm_log.specs.promises.EventsHeadline.{IsOwnReport, ReportsANoisyLine};
+ghost use Rattle.rdm_log.specs.promises.Outcomes.{Discovered};
 ghost use Rattle.rdm_log.specs.promises.Discoveries.{OwnDiscoveries, FullRefusesDiscoveries, DiscoveriesPromised};
 
 /// Each discovery that is asked for has exactly one answer: never two, and one once the queue is closed and no reply is
@@ -30,6 +32,12 @@ pub fn answers_report_the_line()
 /// whatever others do.
 pub fn answers_report_a_noisy_line()
     ensures { (o : Opening) (h : List Entry) → Legal o h → AnswersReportANoisyLine o h }
+{}
+
+/// The same of the outcome of a client's discovery, as its client collects it.
+pub fn outcomes_report_a_noisy_line()
+    ensures { (o : Opening) (h : List Entry) (c : ℕ) (number : Option ℕ) (done : Discovered) → Legal o h
+        → IsOwnReport o h c number done → ReportsANoisyLine h done }
 {}
 
 /// One run answers the discoveries that were asked for before it began, and all of them alike.
