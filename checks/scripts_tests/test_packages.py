@@ -190,9 +190,10 @@ class Packages(unittest.TestCase):
         self.assertIn("device_label", self.run_python(path, front, "pids", "label"))
 
     def test_there_is_a_rig_to_try_the_commands_on(self) -> None:
-        wanted = (ROOT / "bindings/examples/five_fixtures.json").read_bytes()
-        for share in (self.unpacked("wurstlinen") / "usr/share", self.unpacked_archive() / "share"):
-            self.assertEqual((share / "doc/wurstlinen/examples/five_fixtures.json").read_bytes(), wanted)
+        for name in ("five_fixtures.json", "lossy_fixtures.json", "silent_fixture.json"):
+            wanted = (ROOT / "bindings/examples" / name).read_bytes()
+            for share in (self.unpacked("wurstlinen") / "usr/share", self.unpacked_archive() / "share"):
+                self.assertEqual((share / "doc/wurstlinen/examples" / name).read_bytes(), wanted)
 
     def test_pages_are_there(self) -> None:
         for share in (self.unpacked("wurstlinen") / "usr/share", self.unpacked_archive() / "share"):
@@ -308,6 +309,11 @@ class Packages(unittest.TestCase):
                               (["wurstlinen", "apply", "x", "--dr"], "--dry-run"), (["wurstlinen", "save", ""], ""),
                               (["wurstlinen", "--v"], "--version"), (["wurstlinen", "help", "fi"], "fixtures"),
                               (["wurstlinen", "get", "1234", ":", "00000001", "device_lab"], "device_label"),
+                              (["wurstlinen", "get", "device_lab"], ""), (["wurstlinen", "get", "1234", ":", "d"], ""),
+                              (["wurstlinen", "get", "all", "device_lab"], "device_label"),
+                              (["wurstlinen", "set", "1234", ":", "00000001", "device_label", "device_l"], ""),
+                              (["wurstlinen", "pids", "device_lab"], "device_label"),
+                              (["wurstlinen", "fixtures", "--fr"], "--frames"),
                               (["wurstlinen", "identify", "1234", ":", "00000001", "o"], "on off"),
                               (["wurstlinen", "completion", ""], "bash")):
             done = subprocess.run(["bash", "-c", script, "bash", *words], check=True, capture_output=True, text=True)

@@ -11,7 +11,7 @@ import json
 import os
 import re
 import sys
-from typing import TYPE_CHECKING, Optional, Sequence, TextIO, Tuple
+from typing import TYPE_CHECKING, Optional, Sequence, TextIO, Tuple, Type
 
 from .line import Line, LineFailed
 from .lines import open_line
@@ -105,9 +105,10 @@ def errors_of(command: str) -> TextIO:
     return sys.stderr if command == "bridge" else sys.stdout
 
 
-def parser() -> argparse.ArgumentParser:
+def parser(kind: Type[argparse.ArgumentParser] = argparse.ArgumentParser,
+           name: str = "python3 -m wurstlinen") -> argparse.ArgumentParser:
     """The parser of the arguments."""
-    whole = argparse.ArgumentParser(prog="python3 -m wurstlinen", description="Works on a line of RDM devices.")
+    whole = kind(prog=name, description="Works on a line of RDM devices.")
     commands = whole.add_subparsers(dest="command", required=True, metavar="COMMAND")
     discover_command = command(commands, "discover", run_discover, "find the devices on a line")
     discover_command.add_argument("--known", type=device, action="append", default=[], metavar="UID",

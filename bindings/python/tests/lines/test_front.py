@@ -345,6 +345,16 @@ class Requests(OneRig):
                 self.assertGreater(len(sent), 0)
 
 
+def shown(number: int, frame: bytes, reply: Optional[bytes]) -> str:
+    """The text of an exchange."""
+    return frames.exchange_text(number, frame, frames.Parts().joined(frame, reply))
+
+
+def keys_of(frame: bytes, reply: Optional[bytes]) -> Any:
+    """The same for JSON."""
+    return frames.answer_keys(frame, frames.Parts().joined(frame, reply))
+
+
 class Frames(TestCase):
     def test_texts(self) -> None:
         scene = open_line(FIVE_LINE)
@@ -366,7 +376,7 @@ class Frames(TestCase):
                  "GET 454e:0a000017 device_info  -> ACK_OVERFLOW, 8 bytes")):
             data = bytes.fromhex(frame)
             data += (sum(data) % 0x10000).to_bytes(2, "big")
-            self.assertEqual(frames.exchange_text(7, data, scene.exchange(data)), f"0007  {wanted}")
+            self.assertEqual(shown(7, data, scene.exchange(data)), f"0007  {wanted}")
         frame = bytes.fromhex(f"cc0118{LEFT.replace(':', '')}7ff0000000010001000000200082 00")
         frame += (sum(frame) % 0x10000).to_bytes(2, "big")
         command = decode_packet(frame)
@@ -374,10 +384,10 @@ class Frames(TestCase):
         for kind, data, wanted in ((7, b"\x08", "response type 0x07, 0x08"), (2, b"\0\6\0", "NACK 0x000600"),
                                    (2, b"\0\6", "NACK data_out_of_range")):
             reply = replace(command.answer(command.destination, ResponseType.ACK, data), port_or_type=kind)
-            self.assertEqual(frames.exchange_text(0, frame, reply.encode()),
+            self.assertEqual(shown(0, frame, reply.encode()),
                              f"0000  GET {LEFT} device_label  -> {wanted}")
-        self.assertEqual(frames.exchange_text(0, b"\x01", b"\x02"), "0000  0x01  -> damaged, 0x02")
-        self.assertEqual(frames.exchange_text(0, b"\x01", None), "0000  0x01  -> the line failed")
+        self.assertEqual(shown(0, b"\x01", b"\x02"), "0000  0x01  -> damaged, 0x02")
+        self.assertEqual(shown(0, b"\x01", None), "0000  0x01  -> the line failed")
 
     def test_the_log_of_a_discovery(self) -> None:
         # These frames are written by hand.
@@ -424,7 +434,7 @@ class Frames(TestCase):
             data = bytes.fromhex(f"{uid.replace(':', '')} 7ff000000001 00 01 00 0000 {rest}")
             data = bytes([0xcc, 1, len(data) + 3]) + data
             data += (sum(data) % 0x10000).to_bytes(2, "big")
-            self.assertEqual(frames.answer_keys(data, scene.exchange(data)), wanted, head)
+            self.assertEqual(keys_of(data, scene.exchange(data)), wanted, head)
 
     def test_other_answers_as_json(self) -> None:
         get = bytes.fromhex("cc01181234000000017a70000001000001000000200060000298")
@@ -433,11 +443,11 @@ class Frames(TestCase):
         reply = command.answer(command.destination, ResponseType.ACK, b"\x08")
         wanted = {"text": "ACK device_info 0x08", "uid": LEFT, "parameter": "device_info", "pid": "0x0060",
                   "raw": "0x08", "misfit": "this doesn't fit device_info: the data ends in protocol_version_minor"}
-        self.assertEqual(frames.answer_keys(get, reply.encode()), wanted)
-        self.assertEqual(frames.answer_keys(get, b"\1"), {"text": "damaged, 0x01"})
-        self.assertEqual(frames.answer_keys(get, None), {"text": "the line failed"})
+        self.assertEqual(keys_of(get, reply.encode()), wanted)
+        self.assertEqual(keys_of(get, b"\1"), {"text": "damaged, 0x01"})
+        self.assertEqual(keys_of(get, None), {"text": "the line failed"})
         reply = command.answer(command.destination, ResponseType.NACK_REASON, b"\0\6\0")
-        self.assertEqual(frames.answer_keys(get, reply.encode()),
+        self.assertEqual(keys_of(get, reply.encode()),
                          {"text": "NACK 0x000600", "uid": LEFT, "nack": "malformed_reason"})
         with_branch = LOGS.read_text(encoding="utf-8").partition("text exchanges\n")[2].partition("\n\n")[0]
         printed = called("trace", "-", "--json", text=with_branch)[1]

@@ -1,10 +1,11 @@
 """Frames and their replies, decoded."""
 from __future__ import annotations
 
-from typing import Any, Dict, Optional
+from dataclasses import dataclass, replace
+from typing import Any, Dict, Iterator, Optional, Tuple
 
 from ..lines.numbers import CommandClass, Pid, ResponseType
-from ..lines.packets import Packet, decode_branch_reply, decode_packet, uid_text
+from ..lines.packets import Packet, decode_branch_reply, decode_packet, is_branch_frame, uid_text
 from ..parameters import STANDARD, Misfit, decode
 from ..parameters.decoding import lines_of, values_of
 from ..parameters.names import NACK_REASONS
@@ -17,27 +18,70 @@ NACK_BYTES = 2
 TENTHS = 10
 SILENCE = "silence"
 LINE_FAILED = "the line failed"
+BYTES_IN_ROW = 32
 
 
-def exchange_text(number: int, frame: bytes, reply: Optional[bytes]) -> str:
-    """A frame and its reply, on one line. None is a line that failed."""
+@dataclass(frozen=True)
+class Reply:
+    """What came after a frame, None for a line that failed, and the response that it is. A last part has all data."""
+
+    data: Optional[bytes]
+    response: Optional[Packet]
+    parts: int = 1
+
+
+class Parts:
+    """Joins the answers that devices send in parts (E1.20, ACK_OVERFLOW)."""
+
+    def __init__(self) -> None:
+        self._of: Tuple[int, ...] = ()
+        self._data = b""
+        self._count = 0
+
+    def joined(self, frame: bytes, reply: Optional[bytes]) -> Reply:
+        """What came after a frame. The last part of an answer has the data of all, if they followed each other."""
+        response = None if is_branch_frame(frame) else decode_packet(reply or b"")
+        if response is None:
+            return Reply(reply, None)
+        of = response.source, response.pid, response.sub_device, response.command_class
+        before, count = (self._data, self._count) if of == self._of else (b"", 0)
+        self._of, self._data, self._count = (), b"", 0
+        if response.port_or_type == ResponseType.ACK_OVERFLOW:
+            self._of, self._data, self._count = of, before + response.data, count + 1
+        elif response.port_or_type == ResponseType.ACK and count:
+            return Reply(reply, replace(response, data=before + response.data), count + 1)
+        return Reply(reply, response)
+
+
+def exchange_text(number: int, frame: bytes, reply: Reply) -> str:
+    """A frame and its reply, on one line."""
     return f"{number:04d}  {command_of(frame)}  -> {answer_text(frame, reply)}"
 
 
-def answer_text(frame: bytes, reply: Optional[bytes]) -> str:
-    """What a frame's reply says. None is a line that failed."""
-    command = decode_packet(frame)
-    if reply is None:
+def bytes_of(frame: bytes, reply: Optional[bytes]) -> Iterator[str]:
+    """The bytes of a frame and of its reply, in rows."""
+    for mark, data in ((">", frame), ("<", reply or b"")):
+        for at in range(0, len(data), BYTES_IN_ROW):
+            yield f"      {mark} {data[at:at + BYTES_IN_ROW].hex(' ')}"
+
+
+def answer_text(frame: bytes, reply: Reply) -> str:
+    """What a frame's reply says."""
+    if reply.data is None:
         return LINE_FAILED
-    return branch_text(reply) if command is not None and command.is_branch else reply_text(reply, command)
+    if is_branch_frame(frame):
+        return branch_text(reply.data)
+    command = decode_packet(frame)
+    text = bytes_text(reply.data, reply.response, None if command is None else command.pid) if reply.data else SILENCE
+    return text if reply.parts == 1 else f"{text} ({reply.parts} parts)"
 
 
-def answer_keys(frame: bytes, reply: Optional[bytes]) -> Dict[str, Any]:
+def answer_keys(frame: bytes, reply: Reply) -> Dict[str, Any]:
     """The same for JSON: the text, and what a device returned, or why it refused."""
-    command, response = decode_packet(frame), decode_packet(reply or b"")
+    response = reply.response
     keys: Dict[str, Any] = {"text": answer_text(frame, reply)}
-    if command is not None and command.is_branch:
-        found = decode_branch_reply(reply or b"")
+    if is_branch_frame(frame):
+        found = decode_branch_reply(reply.data or b"")
         return keys if found is None else {**keys, "uid": uid_text(found)}
     if response is None:
         return keys
@@ -93,12 +137,6 @@ def branch_text(reply: bytes) -> str:
 def spelled_text(reply: bytes, found: Optional[int]) -> str:
     """The bytes that came after a branch, which spell this UID, or none."""
     return f"collision, {len(reply)} bytes" if found is None else uid_text(found)
-
-
-def reply_text(reply: bytes, command: Optional[Packet]) -> str:
-    """A response to a command."""
-    pid = None if command is None else command.pid
-    return bytes_text(reply, decode_packet(reply), pid) if reply else SILENCE
 
 
 def bytes_text(reply: bytes, response: Optional[Packet], pid: Optional[int]) -> str:

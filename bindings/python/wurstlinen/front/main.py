@@ -14,7 +14,7 @@ from typing import Any, Callable, Dict, List, Mapping, NoReturn, Optional, Seque
 from .. import commands
 from ..lines.opening import FORMS
 from ..parameters.words import hint
-from .output import BAD_ARGUMENTS, FAILED, INTERRUPTED, Failure, Output
+from .output import BAD_ARGUMENTS, FAILED, INTERRUPTED, LINE_VARIABLE, Failure, Output
 
 PROGRAM = "wurstlinen"
 DEFAULT_WAIT = 10.0
@@ -22,6 +22,9 @@ MOST_WAIT = 3600.0
 LAST_SLOT = 512
 ALL = "all"
 RAW_COMMANDS = ("get", "set")
+# How frames are shown. A value of its own would take a word that follows the option.
+AS_TEXT, AS_BYTES = "text", "hex"
+FRAMES_AS_BYTES, HIDDEN_FRAMES = "--frames=hex", "--frames-as-bytes"
 Runner = Callable[[argparse.Namespace, Output], int]
 
 
@@ -33,7 +36,10 @@ class Parser(argparse.ArgumentParser):
 
     def parse_args(self, args: Any = None, namespace: Any = None) -> Any:
         """The arguments. Raises Failure."""
-        chosen, rest = self.parse_known_args(args, namespace)
+        words = list(sys.argv[1:] if args is None else args)
+        options = words.index("--") if "--" in words else len(words)
+        words[:options] = [HIDDEN_FRAMES if word == FRAMES_AS_BYTES else word for word in words[:options]]
+        chosen, rest = self.parse_known_args(words, namespace)
         # If options stand before, argparse gives values after -- to nobody.
         if rest[:1] == ["--"] and "values" in chosen and not chosen.values:
             chosen.values, rest = rest[1:], []
@@ -94,12 +100,18 @@ def failed(output: Output, fault: OSError) -> int:
 
 
 def run_raw(words: List[str]) -> int:
-    """The same commands with numbers and bytes in hexadecimal: their arguments, output and status are older."""
+    """The same commands with numbers and bytes in hexadecimal: their output and status are older."""
     rest = [word for word in words if word != "--raw"]
-    line = os.environ.get("WURSTLINEN_LINE")
+    line = os.environ.get(LINE_VARIABLE)
     if line and not any(word.partition("=")[0] == "--line" for word in rest):
         rest += ["--line", line]
-    return commands.main(rest)
+    try:
+        chosen = commands.parser(Parser, f"{PROGRAM} --raw").parse_args(rest)
+    except Failure as failure:
+        text = str(failure).partition("; try ")[0]
+        Output(False).note(f"{text}; with --raw, a PID and its data are bytes in hexadecimal")
+        return failure.status
+    return commands.run(chosen)
 
 
 def check_command(words: Sequence[str]) -> None:
@@ -134,8 +146,15 @@ def add_command(made: Any, name: str, text: str, example: str, run_name: str, ne
         command.add_argument("--source", type=commands.device, metavar="UID", help="the controller's UID")
         command.add_argument("--wait", type=seconds, default=DEFAULT_WAIT, metavar="SECONDS",
                              help="how long to wait for devices that need time (10)")
-        command.add_argument("--frames", action="store_true", help="show the frames and replies")
+        add_frames(command)
     return command
+
+
+def add_frames(command: Parser) -> None:
+    """How frames are shown."""
+    command.add_argument("--frames", action="store_const", const=AS_TEXT,
+                         help=f"show the frames and replies; {FRAMES_AS_BYTES} also their bytes")
+    command.add_argument(HIDDEN_FRAMES, dest="frames", action="store_const", const=AS_BYTES, help=argparse.SUPPRESS)
 
 
 def loaded(run_name: str) -> Runner:
@@ -253,6 +272,7 @@ def add_trace(made: Any, name: str) -> None:
     command = add_command(made, name, "decode the frames of a log", "trace session.log", "front.trace.run_trace",
                           needs_line=False)
     command.add_argument("file", metavar="FILE", help="what --log has written; - is standard input")
+    add_frames(command)
 
 
 def seconds(text: str) -> float:
@@ -271,16 +291,17 @@ def slot(text: str) -> int:
     return commands.number_to(text, 1, LAST_SLOT)
 
 
+# In the order of work.
 COMMANDS: Dict[str, Callable[[Any, str], None]] = {
-    "get": add_get,
-    "set": add_set,
-    "identify": add_identify,
     "fixtures": add_fixtures,
     "show": add_show,
+    "identify": add_identify,
     "save": add_save,
     "check": add_check,
     "patch": add_patch,
     "apply": add_apply,
-    "trace": add_trace,
+    "get": add_get,
+    "set": add_set,
     "pids": add_pids,
+    "trace": add_trace,
 }

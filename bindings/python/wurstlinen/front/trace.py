@@ -8,7 +8,8 @@ import sys
 from typing import Any, Dict, Iterator, Optional, TextIO, Tuple
 
 from .files import MOST_LINE
-from .frames import answer_keys, command_of, exchange_text
+from .frames import Parts, answer_keys, bytes_of, command_of, exchange_text
+from .main import AS_BYTES
 from .output import BAD_ARGUMENTS, DONE, Failure, Output
 
 STANDARD_STREAM = "-"
@@ -19,22 +20,24 @@ Exchange = Tuple[bytes, Optional[bytes]]
 def run_trace(chosen: argparse.Namespace, output: Output) -> int:
     """Prints the exchanges of a log, as they are read."""
     if chosen.file == STANDARD_STREAM:
-        return trace(chosen.file, sys.stdin or io.StringIO(), output)
+        return trace(chosen.file, sys.stdin or io.StringIO(), output, chosen.frames == AS_BYTES)
     try:
         file = open(chosen.file, encoding="utf-8", errors="replace")
     except OSError as fault:
         raise Failure(BAD_ARGUMENTS, f"{chosen.file}: {fault.strerror}", reason="file") from None
     with file:
-        return trace(chosen.file, file, output)
+        return trace(chosen.file, file, output, chosen.frames == AS_BYTES)
 
 
-def trace(name: str, file: TextIO, output: Output) -> int:
+def trace(name: str, file: TextIO, output: Output, shows_bytes: bool) -> int:
     """Prints the exchanges of an open log."""
+    parts = Parts()
     for number, (frame, reply) in enumerate(exchanges(name, file)):
+        answer = parts.joined(frame, reply)
         keys: Dict[str, Any] = {"number": number, "text": command_of(frame), "frame": frame.hex(),
-                                "answer": answer_keys(frame, reply)}
+                                "answer": answer_keys(frame, answer)}
         keys.update({"failed": True} if reply is None else {"reply": reply.hex()})
-        output.result([exchange_text(number, frame, reply)], **keys)
+        output.result([exchange_text(number, frame, answer), *(bytes_of(frame, reply) if shows_bytes else ())], **keys)
     return DONE
 
 

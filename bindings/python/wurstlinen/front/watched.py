@@ -7,17 +7,20 @@ from ..line import Line, LineFailed
 from ..lines.numbers import Pid
 from ..lines.packets import BRANCH_SEPARATOR, ENCODED_BYTES, decode_branch_reply, decode_packet, is_answer
 from .discovery_log import DiscoveryLog
-from .frames import exchange_text
+from .frames import Parts, bytes_of, exchange_text
+from .main import AS_BYTES
 from .output import Output
 
 
 class WatchedLine:
     """A line that counts its exchanges, shows them, and remembers why it failed."""
 
-    def __init__(self, line: Line, output: Output, shows_frames: bool) -> None:
+    def __init__(self, line: Line, output: Output, shown: Optional[str]) -> None:
         self._line = line
         self._output = output
-        self._shows_frames = shows_frames
+        # How frames are shown, as the option --frames has it; None if they aren't.
+        self._shown = shown
+        self._parts = Parts()
         self.frames = 0
         self.failure: Optional[LineFailed] = None
         # The log of a discovery that runs, if somebody wants it.
@@ -55,7 +58,7 @@ class WatchedLine:
         elif (command is not None and command.pid == Pid.DISC_MUTE and decode_packet(reply) is not None
                 and is_answer(reply, frame)):
             found.add(command.destination)
-        if not self._shows_frames:
+        if self._shown is None:
             self._output.progress(f"{len(found)} found, {self.frames} frames")
 
     def _record(self, frame: bytes, reply: Optional[bytes]) -> None:
@@ -63,5 +66,8 @@ class WatchedLine:
             self.log.add(frame, reply)
 
     def _show(self, number: int, frame: bytes, reply: Optional[bytes]) -> None:
-        if self._shows_frames:
-            self._output.frame(exchange_text(number, frame, reply))
+        if self._shown is None:
+            return
+        self._output.frame(exchange_text(number, frame, self._parts.joined(frame, reply)))
+        for line in bytes_of(frame, reply) if self._shown == AS_BYTES else ():
+            self._output.frame(line)

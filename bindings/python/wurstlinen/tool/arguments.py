@@ -121,23 +121,23 @@ def add_rig(made: Any, name: str) -> None:
     made.choices[name].epilog = f"example: {PROGRAM} rig five_fixtures.json"
 
 
-# The commands of the proved program, of lines, and of this package, each with what adds its arguments.
+# The commands of the proved program, of lines, and all in the order of work, each with what adds its arguments.
 PROVED: Dict[str, Callable[[Any, str], None]] = {
+    "discover": add_discover,
+    "explain": add_explain,
+    "run": add_run,
     "decode": add_decode,
     "encode": add_encode,
-    "discover": add_discover,
-    "run": add_run,
-    "explain": add_explain,
 }
 OF_LINES: Dict[str, Callable[[Any, str], None]] = {
-    "bridge": add_bridge,
     "rig": add_rig,
+    "bridge": add_bridge,
 }
 COMMANDS: Dict[str, Callable[[Any, str], None]] = {
-    **FRONT_COMMANDS,
-    "adapters": add_adapters,
-    "completion": add_completion,
     "doctor": add_doctor,
+    "adapters": add_adapters,
+    **FRONT_COMMANDS,
     **PROVED,
     **OF_LINES,
+    "completion": add_completion,
 }

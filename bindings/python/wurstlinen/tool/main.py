@@ -12,8 +12,10 @@ from .. import commands
 from .._endings import end_by
 from .._standard_streams import mend
 from ..front import main as front
+from ..front.main import AS_BYTES, AS_TEXT, PROGRAM
 from ..front.main import run as run_chosen
 from ..front.output import BAD_ARGUMENTS, DONE, FAILED, INTERRUPTED, LINE_VARIABLE, Failure, Output
+from ..lines.opening import FORMS, is_device
 from ..parameters.words import hint
 from . import arguments, places
 from .places import NO_PROGRAM
@@ -24,6 +26,8 @@ HELP_WORDS = ("-h", "--help")
 VALUED = ("--line", "--replies", "--source", "--known", "--budget", "--port", "--log", "--present", "--rig", "--page")
 FRAMES = "--frames"
 PAGE = "--page"
+# The most bytes of the first record of a log that are read.
+MOST_RECORD = 4096
 # What the program answers to wrong words.
 WRONG_WORDS = "fault: command line"
 # Python ignores these, and a program that it becomes would, too.
@@ -107,16 +111,39 @@ def run_proved(words: List[str]) -> int:
         return no_program(f"'{words[0]}'")
     # A command that does without it doesn't load it.
     from . import serving
+    if words[0] == "explain":
+        note_other_log(words)
     if words[0] == "explain" and place_of(words, PAGE) is not None:
         return run_explain(program, words)
     line = option(words, "--line")
     if words[0] == "discover" and place_of(words, "--line") is None and not has_file(words):
         line = line_of_discovery()
+    elif words[0] == "discover" and line and not serving.is_served(line) and not is_stream(words):
+        line = line_of_device(line)
     elif words[0] not in ("discover", "run") or not serving.is_served(line):
         return become(program, words)
     assert line is not None
-    shows_frames = place_of(words, FRAMES) is not None
-    return serving.serve(program, without(without(words, "--line"), FRAMES), line, shows_frames)
+    return serving.serve(program, without(without(words, "--line"), FRAMES), line, frames_of(words))
+
+
+def note_other_log(words: Sequence[str]) -> None:
+    """Says which of the two logs of the library for OLA is to be explained, if it is given the other one."""
+    names = [words[at] for at, name in parts(words) if not name]
+    if names and is_other_log(names[0]):
+        Output(False).note(f"{names[0]} is the log of WURSTLINEN_LOG, which '{PROGRAM} trace' reads; explain reads the "
+                           "file of WURSTLINEN_RUNS")
+
+
+def is_other_log(name: str) -> bool:
+    """Whether a file begins with a record of OLA's library that has two times."""
+    try:
+        # A FIFO can be read only once.
+        if not os.path.isfile(name):
+            return False
+        with open(name, "rb") as file:
+            return b'"monotonic":' in file.readline(MOST_RECORD)
+    except OSError:
+        return False
 
 
 def run_explain(program: Path, words: List[str]) -> int:
@@ -139,6 +166,30 @@ def line_of_discovery() -> str:
     except Failure:
         print(WRONG_WORDS, flush=True)
         raise
+
+
+def frames_of(words: Sequence[str]) -> Optional[str]:
+    """How frames are to be shown; None if they aren't. Raises Failure."""
+    at = place_of(words, FRAMES)
+    value = None if at is None else words[at].partition("=")[2] or AS_TEXT
+    if value not in (None, AS_TEXT, AS_BYTES):
+        print(WRONG_WORDS, flush=True)
+        raise Failure(BAD_ARGUMENTS, f"argument {FRAMES}: '{value}' isn't {AS_BYTES}", reason="arguments")
+    return value
+
+
+def is_stream(words: Sequence[str]) -> bool:
+    """Whether the words of a discovery are for a line that another program serves: that one needs a source."""
+    return has_file(words) or any(place_of(words, name) is not None for name in ("--source", "--replies"))
+
+
+def line_of_device(text: str) -> str:
+    """The line on a device that --line names without saying its kind. Raises Failure."""
+    if is_device(text):
+        return f"enttec:{text}"
+    print(WRONG_WORDS, flush=True)
+    raise Failure(BAD_ARGUMENTS, f"'{text}' names no line; a line is {FORMS}, or with --source a stream that another "
+                                 "program serves", reason="line")
 
 
 def no_program(what: str) -> int:

@@ -10,15 +10,16 @@ import sys
 from pathlib import Path
 from typing import Dict, List
 
+from ..front.main import HIDDEN_FRAMES
 from ..parameters import STANDARD
 from . import arguments
 
 STATUSES = (("0", "It was done."), ("1", "The line failed, or no device answered."), ("2", "The arguments are wrong."),
-            ("3", "A device refused it."), ("130", "It was interrupted."))
+            ("3", "A device refused it, or check found a difference."), ("130", "It was interrupted."))
 ENVIRONMENT = (("WURSTLINEN_LINE", "The line that is used without --line."),
                ("WURSTLINEN_LIBRARY", "The C library, if it isn't where it is installed."))
-# The commands that take the name of a parameter.
-NAMING = ("get", "set", "pids")
+# The commands that take names of parameters, and which of their words are none.
+NAMING = {"get": '-lt "$first"', "set": '-ne "$first"', "pids": "-ne 2"}
 
 
 def subcommands() -> Dict[str, argparse.ArgumentParser]:
@@ -94,11 +95,16 @@ def completion() -> str:
         options = [option for action in command._actions for option in action.option_strings]
         named = (action for action in command._actions if not action.option_strings)
         choices = [choice for action in named for choice in action.choices or ()]
-        words = '"$parameters"' if name in NAMING else f"'{' '.join(choices)}'"
-        cases.append(f"        {name}) words={words} options='{' '.join(options)}' ;;")
+        # Hidden options are spelled in another way.
+        shown = [option for option in options if option != HIDDEN_FRAMES]
+        words = f"words='{' '.join(choices)}'"
+        if name in NAMING:
+            words = f'[ "$COMP_CWORD" {NAMING[name]} ] || words="$parameters"'
+        cases.append(f"        {name}) {words}; options='{' '.join(shown)}' ;;")
     return "\n".join([
         "# Completes the arguments of wurstlinen in bash.", "_wurstlinen() {",
         '    local words="" options="" word="${COMP_WORDS[COMP_CWORD]}"', f"    local parameters='{parameters}'",
+        "    # Bash divides a UID at its colon.", '    local first=3; [ "${COMP_WORDS[3]}" != : ] || first=5',
         '    case "${COMP_WORDS[1]}" in', *cases, "    esac",
         f"    [ \"$COMP_CWORD\" -gt 1 ] || words='{' '.join(commands)} help version' options='--help --version'",
         '    [[ "$word" != -* ]] || words="$options"',

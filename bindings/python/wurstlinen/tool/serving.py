@@ -24,7 +24,7 @@ REPORT = re.compile(r"wurstlinen: \d+ exchanges after \d+ seconds\n")
 
 
 def is_served(text: Optional[str]) -> bool:
-    """Whether a value of --line is a line that is served here, and no stream of a far end."""
+    """Whether a value of --line names a kind of line that is served here, and no stream of a far end."""
     return text is not None and text.partition(":")[0] in KINDS and ":" in text
 
 
@@ -40,25 +40,25 @@ def opened(text: str) -> OpenLine:
         raise Failure(FAILED, f"{fault.filename}: {fault.strerror}", reason="line") from None
 
 
-def serve(program: Path, words: Sequence[str], text: str, shows_frames: bool) -> int:
+def serve(program: Path, words: Sequence[str], text: str, frames: Optional[str]) -> int:
     """Runs the program with these words on a line, and returns its status."""
     output = Output(False)
     with opened(text) as line, ExitStack() as stack:
         words = [words[0], *source_words(words, line), *words[1:]]
-        watched = WatchedLine(line, output, shows_frames)
-        shows_progress = words[0] == "discover" and not shows_frames and sys.stderr.isatty()
+        watched = WatchedLine(line, output, frames)
+        shows_progress = words[0] == "discover" and frames is None and sys.stderr.isatty()
         watched.found = set() if shows_progress else None
-        from_program, frames = os.pipe()
+        from_program, to_line = os.pipe()
         theirs = stack.enter_context(os.fdopen(from_program, "rb", 0))
         replies, to_program = os.pipe()
         ours = stack.enter_context(os.fdopen(to_program, "wb", 0))
         try:
-            streams = ["--line", f"/dev/fd/{frames}", "--replies", f"/dev/fd/{replies}"]
-            child = subprocess.Popen([program, words[0], *streams, *words[1:]], pass_fds=(frames, replies),
+            streams = ["--line", f"/dev/fd/{to_line}", "--replies", f"/dev/fd/{replies}"]
+            child = subprocess.Popen([program, words[0], *streams, *words[1:]], pass_fds=(to_line, replies),
                                      encoding="utf-8", errors="backslashreplace",
                                      **(relayed_streams() if shows_progress else {}))
         finally:
-            os.close(frames)
+            os.close(to_line)
             os.close(replies)
         for stream in (child.stdout, child.stderr):
             if stream is not None:
