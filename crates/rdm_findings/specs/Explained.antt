@@ -47,8 +47,8 @@ unless_in us None = None
 unless_in us (Some u) = if has us u then None else Some u
 
 -- The UID that answered alone, and then acknowledged no mute, at the end of a run that reports these devices. None if
--- an exchange failed, since nobody is to blame for that; or if it is in the list, which has the devices that are listed,
--- or come or leave
+-- an exchange failed, since nobody is to blame for that; or if it is in the list, which has the devices that are
+-- listed, or come or leave
 abbrev pub culprit_of : Option ℕ → List ℕ → List ℕ → List Exchange → Option ℕ
 culprit_of (Some at) us reported xs = None
 culprit_of None us reported xs = unless_in us (never_muted reported xs)
