@@ -452,7 +452,7 @@ uint32_t wurst_session_rotate(struct wurst_session *handle, size_t entries, stru
 /* Hands out all entries that the log stores, at any time, and keeps entries in other memory. An open handle `log` is
  * emptied, its memory is used next, whatever `entries` is, and nothing is allocated. With a closed one, memory for this
  * many entries and a close is allocated. Then `log` holds what was handed out. Writes the number of its first entry,
- * from 0 after a rotation. WURST_NOT_OPEN (`log`, of another kind); WURST_LOG_FULL (`log` has less capacity than what is
+ * from 0 after a rotation. WURST_NOT_OPEN (`log`, of another kind); WURST_LOG_FULL (`log` has less capacity than is
  * reserved, or keeps nothing; over 2^62 entries in all); WURST_TOO_MANY_ENTRIES; WURST_OUT_OF_MEMORY. */
 uint32_t wurst_session_drain(struct wurst_session *handle, size_t entries, struct wurst_log *log, uint64_t *first);
 
