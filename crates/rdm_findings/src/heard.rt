@@ -83,7 +83,7 @@ fn acked(uid: Uid, heard: &Heard) -> Option<Uid>
 
 impl RunUids {
     ghost use Rattle.std.specs.Prelude.{◌≡◌, ℕ, ◌||◌, ◌==◌, [], false, OnOk};
-    ghost use Rattle.core.specs.List.{cons_option};
+    ghost use Rattle.std.specs.List.{cons_option};
     ghost use Rattle.rdm_wire.specs.Uid.{has};
     ghost use Rattle.rdm_findings.specs.HeardUids.{in_uids};
 

@@ -1,5 +1,5 @@
 use Rattle.std.proofs.Common.{◌≡◌, ◌||◌, [], sym, ap, ◌∙◌}
-use Rattle.core.specs.List.{cons_option}
+use Rattle.std.specs.List.{cons_option}
 use Rattle.rdm_wire.specs.Uid.{has}
 use Rattle.rdm_explain.proofs.ReadLemmas.{has_one_more}
 use Rattle.rdm_findings.specs.HeardUids.{heard_by, heard_in}
