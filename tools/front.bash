@@ -125,7 +125,7 @@ install_front() (
 
 # What an installed command says of itself.
 front_proof() {
-    printf 'version: %s\ncommit: %s\nproved with: %s\nbuilt by: %s\n' "$(cat "$root/VERSION")" "$(commit)" \
+    printf 'version: %s\ncommit: %s\nkit of the program: %s\ncompiler: %s\n' "$(cat "$root/VERSION")" "$(commit)" \
         "$(proved_with)" "$(kit_of_program)"
 }
 

@@ -29,12 +29,28 @@ PASSED_OVER = ("space", "comment")
 RENAMED = {
     "Box": [(("::", "new", "("), 3, "std", "boxed::new"), (("::", "into_inner", "("), 3, "std", "boxed::into_inner")],
     "Value": [(("::", "from_slice", "("), 3, "serde_json", "from_slice")],
+    "Formatter": [(("<", "W", ">"), 4, "", "Formatter<'_>")],
+    # The allocator of a collection's type: there is one.
+    ",": [(("Global", ">"), 2, "", "")],
     "println": [(("!",), 1, "std", "println_to")],
     "eprintln": [(("!",), 1, "std", "eprintln_to")],
     "format": [(("!", "(", "in"), 1, "std", "format_in")],
     "vec": [(("!", "[", "in"), 1, "std", "vec_in")],
 }
 ASSERTIONS = ("assert", "assert_eq", "assert_ne", "panic")
+# Conditions that a caller can break, and how Rust tests them: those that are cheap.
+NAME, NUMBER = r"(\w+(?:\.\w+)*?)(?:\.now|\.old)?", r"(\d+|[A-Z_]+)"
+TESTS = (
+    (f"length {NAME} ≤ {NUMBER}", r"\1.len() <= \2"),
+    (f"{NUMBER} ≤ length {NAME}", r"\2.len() >= \1"),
+    (f"0 < length {NAME}\\.items", r"!\1.is_empty()"),
+    (f"{NAME} ≤ {NUMBER}", r"\1 <= \2"),
+    (f"{NAME} < {NUMBER}", r"\1 < \2"),
+    (f"is_broadcast {NAME} ≡ false", r"!\1.is_broadcast()"),
+    (f"next_op {NAME} ≡ End", r"\1.next() == Op::End"),
+    (f"fits {NAME} \\(next_op {NAME}\\) ≡ true", r"\1.fits(&\2.next())"),
+    (r"self\.now ≢ Op\.End", "*self != Op::End"),
+)
 NOT_DROPPED = "a value that must be used up: the crate's text lets no caller drop it"
 
 
@@ -74,11 +90,6 @@ def tokens_of(text: str) -> List[Token]:
     return found
 
 
-def words_of(text: str) -> List[str]:
-    """The tokens of a text without spaces and comments."""
-    return [word for kind, word in tokens_of(text) if kind not in PASSED_OVER]
-
-
 class Eraser:
     """Writes the tokens of a file, without what only the prover reads."""
 
@@ -88,17 +99,18 @@ class Eraser:
         self.paths = paths
         self.at = 0
         self.out: List[Token] = []
-        # The names that the last derive of an item has, and whether there was one.
+        # The names that the last derive of an item has.
         self.derives: List[str] = []
+        # The conditions of the function whose contract is read, and where its public item begins.
+        self.conditions: List[str] = []
+        self.item = -1
         self.rules: Dict[str, Callable[[], bool]] = {
             "requires": self.clause, "ensures": self.clause, "ghost": self.ghost, "pub": self.pub_ghost,
-            "impl": self.model, "unsafe": self.model, "const": self.size, "fn": self.function, "extern": self.for_c,
-            "mod": self.inner_module, "expect": self.assertion, "Formatter": self.formatter,
-            "struct": self.type_item, "enum": self.type_item, "#": self.attribute, ",": self.allocator,
+            "impl": self.proof, "unsafe": self.proof, "const": self.proof, "fn": self.function, "extern": self.for_c,
+            "mod": self.inner_module, "expect": self.assertion,
+            "struct": self.type_item, "enum": self.type_item, "#": self.attribute, "{": self.body,
         }
         self.rules.update({word: self.assertion for word in ASSERTIONS})
-
-    # Reading -----------------------------------------------------------------
 
     def index(self, ahead: int = 0) -> int:
         """The index of the `ahead`th token from here that is no space and no comment."""
@@ -117,6 +129,15 @@ class Eraser:
     def starts(self, words: Sequence[str], ahead: int = 0) -> bool:
         """Whether these words follow."""
         return all(self.peek(ahead + i) == word for i, word in enumerate(words))
+
+    def header(self) -> List[str]:
+        """The words of an item before its braces, or its end."""
+        words: List[str] = []
+        depth = 0
+        while self.peek(len(words)) not in ("{", "" if depth else ";", ""):
+            words.append(self.peek(len(words)))
+            depth += (words[-1] == "[") - (words[-1] == "]")
+        return words
 
     def skip(self, count: int = 1) -> None:
         for _ in range(count):
@@ -137,8 +158,6 @@ class Eraser:
             elif kind != "comment":
                 parts[-1] += word
         raise Fault(f"the file ends before '{last}'")
-
-    # Writing -----------------------------------------------------------------
 
     def write(self, text: str) -> None:
         self.out.append(("written", text))
@@ -171,8 +190,6 @@ class Eraser:
             if newline:
                 self.tokens[self.at] = ("space", rest)
 
-    # Rules -------------------------------------------------------------------
-
     def run(self) -> str:
         """The text in Rust."""
         while self.at < len(self.tokens):
@@ -184,7 +201,7 @@ class Eraser:
         rule = self.rules.get(word) if kind in ("word", "mark") else None
         if kind == "comment":
             self.comment(word)
-        elif kind == "word" and (self.call() or self.path(word)):
+        elif kind in ("word", "mark") and (self.call() or self.path(word)):
             return
         elif rule is None or not rule():
             self.copy()
@@ -202,7 +219,7 @@ class Eraser:
         for words, count, crate, name in RENAMED.get(self.tokens[self.at][1], []):
             if self.starts(words, 1):
                 self.skip(count)
-                self.write(f"{self.paths[crate]}::{name}")
+                self.write(f"{self.paths[crate]}::{name}" if crate else name)
                 return True
         return False
 
@@ -215,10 +232,12 @@ class Eraser:
         return True
 
     def clause(self) -> bool:
-        """Deletes a clause of a contract."""
+        """Deletes a clause of a contract. A public function's condition is tested, or told in its docs."""
         self.forget_comments()
+        is_condition = self.peek() == "requires"
         while self.tokens[self.at][0] != "ghost":
             self.at += 1
+        self.conditions += [" ".join(self.tokens[self.at][1][1:-1].split())] if is_condition else []
         self.at += 1
         return True
 
@@ -242,44 +261,29 @@ class Eraser:
 
     def pub_ghost(self) -> bool:
         """The same, with its visibility."""
-        ahead = 1
-        if self.peek(1) == "(":
-            while self.peek(ahead) != ")":
-                ahead += 1
-            ahead += 1
+        ahead = self.header().index(")") + 1 if self.peek(1) == "(" else 1
         if self.peek(ahead) != "ghost":
             return False
         self.at = self.index(ahead)
         return self.ghost()
 
-    def model(self) -> bool:
-        """Deletes an `impl Model for ..`, which says what contracts see of a type."""
-        ahead = 0
-        while self.peek(ahead) not in ("for", "{", ""):
-            ahead += 1
-        if self.peek(ahead) != "for" or self.peek(ahead - 1) != "Model":
+    def proof(self) -> bool:
+        """Deletes an `impl Model for ..`, and a proof about the size of a type, which is that of Rattle's layout."""
+        header = self.header()
+        is_model = ("Model", "for") in zip(header, header[1:])
+        if not is_model and (header[:2] != ["const", "_"] or "size_of" not in header):
             return False
         self.forget_comments()
-        while self.peek() != "{":
-            self.skip()
-        self.skip()
-        self.skip_over("}")
-        return True
-
-    def size(self) -> bool:
-        """Deletes a proof about the size of a type, which is that of Rattle's layout."""
-        ahead = 0
-        while self.peek(ahead) not in (";", "{", ""):
-            ahead += 1
-        words = [self.peek(i) for i in range(ahead)]
-        if words[:2] != ["const", "_"] or "size_of" not in words:
-            return False
-        self.forget_comments()
-        self.skip(ahead + 1)
+        self.skip(len(header) + 1)
+        if is_model:
+            self.skip_over("}")
         return True
 
     def function(self) -> bool:
         """Deletes the writer's type of a function with a formatter. A test or main makes the runtime itself."""
+        begins = [i for i, (_, word) in enumerate(self.out[-8:], max(len(self.out) - 8, 0)) if word == "pub"]
+        self.item = begins[-1] if begins and self.last() in ("pub", "const", "unsafe") else -1
+        self.conditions = []
         self.copy()
         self.copy_word()
         if self.starts(("(", "rt", ":", "HostRuntime", ")")):
@@ -287,25 +291,26 @@ class Eraser:
             self.write("()")
             self.copy_to_body()
             self.write(" let rt = HostRuntime;")
-        elif self.peek() == "<" and self.takes_formatter():
+        elif self.peek() == "<" and "Formatter<W>" in "".join(self.header()):
             self.skip()
             kept = [one for one in self.skip_over(">") if not re.fullmatch(r"W:\s*(fmt::)?Write", one)]
             self.write(f"<{', '.join(kept)}>" if kept else "")
         return True
 
-    def takes_formatter(self) -> bool:
-        ahead = 0
-        while self.peek(ahead) not in ("{", ";", ""):
-            if self.starts(("Formatter", "<", "W", ">"), ahead):
-                return True
-            ahead += 1
-        return False
-
-    def formatter(self) -> bool:
-        if not self.starts(("Formatter", "<", "W", ">")):
-            return False
-        self.skip(4)
-        self.write("Formatter<'_>")
+    def body(self) -> bool:
+        """Tests the conditions of a public function, if that is cheap. Its docs tell all of them."""
+        self.copy()
+        item, self.item, conditions, self.conditions = self.item, -1, self.conditions, []
+        if item < 0 or not conditions:
+            return True
+        tests = [found for found in map(test_of, conditions) if found]
+        others = [condition for condition in conditions if not test_of(condition)]
+        docs = [f"/// # Panics\n///\n/// Unless `{' && '.join(tests)}`.\n"] if tests else []
+        if others:
+            lines = "".join(f"/// {condition}\n" for condition in others)
+            docs.append(f"/// # Conditions\n///\n/// In Rattle:\n///\n/// ```text\n{lines}/// ```\n")
+        self.out.insert(item, ("written", "///\n" + "///\n".join(docs)))
+        self.write("".join(f" assert!({test});" for test in tests))
         return True
 
     def copy_to_body(self) -> None:
@@ -363,13 +368,6 @@ class Eraser:
             self.skip(name + 2)
         return True
 
-    def allocator(self) -> bool:
-        """Deletes the allocator of a collection's type: there is one."""
-        if not self.starts((",", "Global", ">")):
-            return False
-        self.skip(2)
-        return True
-
     def attribute(self) -> bool:
         """Deletes what only the prover reads, and the derive of Drop, which each type in Rust has."""
         name = self.peek(2) if self.peek(1) == "[" else self.peek(3)
@@ -401,16 +399,20 @@ class Eraser:
         return False
 
 
-def with_prelude(text: str, prelude: str) -> str:
-    """Imports what each file imports, behind the docs and attributes of the file."""
-    lines = text.split("\n")
-    at = 0
-    while at < len(lines) and (not lines[at].strip() or lines[at].startswith(("//!", "#!"))):
-        at += 1
-    return "\n".join([*lines[:at], prelude, *lines[at:]])
+def test_of(condition: str) -> str:
+    """How Rust tests a condition, if that is cheap."""
+    for pattern, test in TESTS:
+        found = re.fullmatch(pattern, condition)
+        if found:
+            return found.expand(test)
+    return ""
 
 
 def plain_rust(text: str, paths: Mapping[str, str]) -> str:
-    """The text of a file in Rust."""
+    """The text of a file in Rust. It imports what each file imports, behind its docs and attributes."""
     eraser = Eraser(text, paths)
-    return with_prelude(eraser.run(), eraser.prelude())
+    lines = eraser.run().split("\n")
+    at = 0
+    while at < len(lines) and (not lines[at].strip() or lines[at].startswith(("//!", "#!"))):
+        at += 1
+    return "\n".join([*lines[:at], eraser.prelude(), *lines[at:]])

@@ -11,9 +11,14 @@ import tempfile
 from pathlib import Path
 from typing import List, Mapping, Sequence
 
-from rust_text import words_of
+from rust_text import PASSED_OVER, tokens_of
 
 PRELUDE = "#[allow(unused_imports)] use {}::prelude::*;"
+
+
+def words_of(text: str) -> List[str]:
+    """The tokens of a text without spaces and comments."""
+    return [word for kind, word in tokens_of(text) if kind not in PASSED_OVER]
 
 
 def as_in_rattle(text: str, paths: Mapping[str, str]) -> List[str]:

@@ -5,11 +5,12 @@ What is written by hand is in bindings/rust. Each crate in Rattle becomes a modu
 from __future__ import annotations
 
 import os
+import re
 import shutil
 import subprocess
 import tempfile
 from pathlib import Path
-from typing import Dict, Iterator, List, NamedTuple, Tuple
+from typing import Dict, Iterator, NamedTuple, Tuple
 
 from rust_text import Fault, plain_rust
 
@@ -27,30 +28,22 @@ class Place(NamedTuple):
     module: str
 
 
-def library(module: str) -> Place:
-    return Place("wurstlinen", "wurstlinen", module)
-
-
-def layer(module: str) -> Place:
-    return Place("program", "wurstlinen_program", module)
-
-
-def test(module: str) -> Place:
-    return Place("tests", "wurstlinen_tests", module)
-
-
+# The packages: the folder, the name of the crate in Rust, the crates in Rattle that become modules with the same name
+# without its beginning, and those that get another one.
+PACKAGES = (
+    ("wurstlinen", "wurstlinen", "rdm_", "agent client explain join lanes line locked log past queue scenes wire",
+     {"rdm": "facade"}),
+    ("program", "wurstlinen_program", "rdm_", "arguments files findings port reports serving", {}),
+    ("c", "wurstlinen_c", "rdm_", "handles", {"rdm_c": "calls"}),
+    ("tests", "wurstlinen_tests", "test_", "memory port rig stage threads trials", {"test_core": "core_tests"}),
+    ("program", "wurstlinen_main", "", "", {"wurstlinen": ""}),
+    ("bench", "rdm_bench", "", "", {"rdm_bench": ""}),
+    ("wurstlinen", "two_clients", "", "", {"rdm_example": ""}),
+)
 PLACES: Dict[str, Place] = {
-    **{f"rdm_{it}": library(it) for it in ("agent", "client", "explain", "join", "lanes", "line", "locked", "log")},
-    **{f"rdm_{it}": library(it) for it in ("past", "queue", "scenes", "wire")},
-    **{f"rdm_{it}": layer(it) for it in ("arguments", "files", "findings", "port", "reports", "serving")},
-    **{f"test_{it}": test(it) for it in ("memory", "port", "rig", "stage", "threads", "trials")},
-    "test_core": test("core_tests"),
-    "rdm_handles": Place("c", "wurstlinen_c", "handles"),
-    "rdm_c": Place("c", "wurstlinen_c", "calls"),
-    "rdm": library("facade"),
-    "wurstlinen": Place("program", "wurstlinen_main", ""),
-    "rdm_bench": Place("bench", "rdm_bench", ""),
-    "rdm_example": Place("wurstlinen", "two_clients", ""),
+    name: Place(package, crate, module)
+    for package, crate, begin, modules, others in PACKAGES
+    for name, module in [*((f"{begin}{it}", it) for it in modules.split()), *others.items()]
 }
 # The roots of programs.
 ROOTS = {
@@ -76,13 +69,8 @@ def paths_in(crate: str) -> Dict[str, str]:
     here = PLACES[crate]
     paths = {name: f"{it.crate}::{it.module}".removesuffix("::") for name, it in PLACES.items()}
     paths = {name: path for name, path in {**paths, **MODULES}.items() if name != "wurstlinen"}
-    paths = {name: within(path, here.crate) for name, path in paths.items()}
+    paths = {name: re.sub(rf"^{here.crate}\b", "crate", path) for name, path in paths.items()}
     return {**paths, "crate": f"crate::{here.module}".removesuffix("::")}
-
-
-def within(path: str, crate: str) -> str:
-    """A path as it is written in a crate."""
-    return f"crate{path[len(crate):]}" if path.split("::")[0] == crate else path
 
 
 def files_of(crate: str) -> Iterator[Tuple[Path, Path]]:
@@ -101,11 +89,6 @@ def text_of(crate: str, path: Path) -> str:
         return plain_rust(path.read_text(encoding="utf-8"), paths)
     except Fault as fault:
         raise SystemExit(f"plain_rust: {path.relative_to(ROOT)}: {fault}") from None
-
-
-def translated(crates: List[str]) -> Dict[Path, str]:
-    """The files of these crates, with their texts."""
-    return {to: text_of(crate, path) for crate in crates for path, to in files_of(crate)}
 
 
 def by_hand() -> Dict[Path, str]:
@@ -153,7 +136,8 @@ def write(folder: Path) -> None:
     """Writes the whole workspace."""
     if not is_ours(folder):
         raise SystemExit(f"plain_rust: {folder} has other files: name an empty folder")
-    files = {**translated(list(PLACES)), **by_hand()}
+    files = {to: text_of(crate, path) for crate in PLACES for path, to in files_of(crate)}
+    files.update(by_hand())
     folder.mkdir(parents=True, exist_ok=True)
     with tempfile.TemporaryDirectory(prefix=".plain_rust.", dir=folder) as name:
         staged(files, Path(name))

@@ -45,12 +45,15 @@ def name_library() -> None:
 
 
 def version_line() -> str:
-    """The version, the kit that proved the program, and the commit."""
+    """The version, the kit that proved the program, what else compiled it, and the commit."""
     facts = proof() or repository()
     kit = facts.get("kit of the program", "").partition(" logic ")[0]
     state = f"proved with {kit}" if kit else "not proved here yet"
     if kit == UNKNOWN:
         state = "it isn't known what proved it"
+    compiler = facts.get("compiler", "")
+    if compiler.startswith("rustc "):
+        state = f"text {state}, compiled by {compiler}"
     commit = re.sub(r"^([0-9a-f]{8})[0-9a-f]+", r"\1", facts.get("commit", "unknown"))
     return f"wurstlinen {facts.get('version', 'unknown')} ({state}, commit {commit})"
 
