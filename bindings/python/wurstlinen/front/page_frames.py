@@ -6,7 +6,7 @@ from __future__ import annotations
 
 import enum
 import functools
-from typing import NamedTuple, Optional
+from typing import Dict, NamedTuple, Optional
 
 from ..lines.numbers import CommandClass, Pid, ResponseType
 from ..lines.packets import CHECKSUM_BYTES, LEAST_PACKET_BYTES, decode_branch_reply, decode_packet
@@ -64,8 +64,8 @@ class Answer(NamedTuple):
 FAILED = Answer(Came.FAILED, frames.LINE_FAILED)
 SILENCE = Answer(Came.SILENCE, frames.SILENCE)
 ACKNOWLEDGED = (ResponseType.ACK, ResponseType.ACK_OVERFLOW)
-CLASSES = {CommandClass.GET: Asked.GET, CommandClass.SET: Asked.SET}
-DISCOVERY_PIDS = {Pid.DISC_MUTE: Asked.MUTE, Pid.DISC_UN_MUTE: Asked.UNMUTE}
+CLASSES: Dict[int, Asked] = {CommandClass.GET: Asked.GET, CommandClass.SET: Asked.SET}
+DISCOVERY_PIDS: Dict[int, Asked] = {Pid.DISC_MUTE: Asked.MUTE, Pid.DISC_UN_MUTE: Asked.UNMUTE}
 
 
 def command_in(frame: bytes) -> Command:

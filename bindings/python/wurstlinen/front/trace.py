@@ -33,7 +33,7 @@ def trace(name: str, file: TextIO, output: Output) -> int:
     for number, (frame, reply) in enumerate(exchanges(name, file)):
         keys: Dict[str, Any] = {"number": number, "text": command_of(frame), "frame": frame.hex(),
                                 "answer": answer_keys(frame, reply)}
-        keys.update({"failed": True} if reply is None else {"reply": reply.hex()})
+        keys["failed" if reply is None else "reply"] = True if reply is None else reply.hex()
         output.result([exchange_text(number, frame, reply)], **keys)
     return DONE
 
