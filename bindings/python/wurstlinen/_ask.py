@@ -210,7 +210,7 @@ class Asking:
                 self._kept.drop(each)
         answer = Answer(completion, self._kept.queued(completion), self._kept.earlier(completion))
         # In one step, so that all of it is handed out now or later.
-        return (answer, self._kept.outcomes.clear())[0]
+        return (answer, self._kept.outcomes.clear())[0]  # type: ignore[func-returns-value]
 
     def _asked(self) -> Completion:
         """How the request itself ends."""
@@ -317,7 +317,7 @@ class Asking:
                 return completion
             if self._asker.clock() >= until:
                 fault = Unserved(self._kept.queued(), self._kept.earlier())
-                raise (fault, self._kept.outcomes.clear())[0]
+                raise (fault, self._kept.outcomes.clear())[0]  # type: ignore[func-returns-value]
             self._asker.sleep(GLANCE)
 
     def _collected(self, number: int) -> Optional[Completion]:

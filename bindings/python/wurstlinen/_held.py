@@ -3,7 +3,7 @@
 from collections import deque
 from typing import Callable, Deque, Generic, Optional, TypeVar
 
-from ._library import Calls, Handle
+from ._library import Call, Calls, Handle
 from ._turns import Turns
 
 Self = TypeVar("Self", bound="Held")
@@ -29,7 +29,7 @@ class Held:
         if getattr(self, "_handle", None) and self._handle.is_open:
             self._calls.dispose(self._handle)
 
-    def _made(self, call: Callable[..., int], *arguments: object) -> int:
+    def _made(self, call: Call, *arguments: object) -> int:
         """Makes a call of the library, and returns its status."""
         return self._turns.alone(lambda: call(self._handle, *arguments))
 

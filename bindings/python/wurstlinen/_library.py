@@ -4,7 +4,10 @@ import ctypes
 import os
 import sysconfig
 from ctypes import POINTER, c_bool, c_size_t, c_uint8, c_uint16, c_uint32, c_uint64, c_void_p
+from typing import Callable, List, Tuple
 
+# A call of the library. It returns a status, unless it disposes of something.
+Call = Callable[..., int]
 VERSION = 1000
 NAME = "libwurstlinen.so.0"
 
@@ -140,7 +143,7 @@ CALLS = {
 }
 
 
-def _places():
+def _places() -> List[str]:
     """Where the library may be: where the environment says, or else beside the package, in PREFIX/lib, or below it in
     the folder that Debian has for libraries.
     """
@@ -154,7 +157,7 @@ def _places():
     return [os.path.join(folder, NAME) for folder in dict.fromkeys(folder.rstrip("/") for folder in folders)]
 
 
-def _load():
+def _load() -> ctypes.CDLL:
     places = _places()
     for place in places:
         if os.path.exists(place):
@@ -167,7 +170,7 @@ def _load():
                           "repository makes it, and WURSTLINEN_LIBRARY may name another file")
 
 
-def _declared(library):
+def _declared(library: ctypes.CDLL) -> ctypes.CDLL:
     for name, arguments in CALLS.items():
         try:
             call = getattr(library, name)
@@ -184,12 +187,13 @@ def _declared(library):
 class _Library:
     """The library, which is loaded when its first call is looked up, since lines don't need it."""
 
-    def __getattr__(self, name):
+    def __getattr__(self, name: str) -> Call:
         if name not in CALLS:
             raise AttributeError(name)
         loaded = _declared(_load())
         self.__dict__.update((each, getattr(loaded, each)) for each in CALLS)
-        return self.__dict__[name]
+        call: Call = self.__dict__[name]
+        return call
 
 
 LIBRARY = _Library()
@@ -198,21 +202,21 @@ LIBRARY = _Library()
 class Calls:
     """The calls on one kind of handle, by their names without the prefix."""
 
-    def __init__(self, prefix):
+    def __init__(self, prefix: str) -> None:
         self._prefix = prefix
 
-    def __getattr__(self, name):
-        call = getattr(LIBRARY, self._prefix + name)
+    def __getattr__(self, name: str) -> Call:
+        call: Call = getattr(LIBRARY, self._prefix + name)
         setattr(self, name, call)
         return call
 
 
-def buffer_of(data: bytes):
+def buffer_of(data: bytes) -> Tuple["ctypes.Array[c_uint8]", int]:
     """Bytes for a call, never null, and how many there are."""
     # One byte more, so that an empty buffer has an address.
     return (c_uint8 * (len(data) + 1)).from_buffer_copy(bytes(data) + b"\0"), len(data)
 
 
-def room_for(count: int):
+def room_for(count: int) -> "ctypes.Array[c_uint8]":
     """A buffer for this many bytes."""
     return (c_uint8 * max(count, 1))()

@@ -9,7 +9,7 @@ from ._ask import DEFAULT_WAIT, Answer, Asker, Kept
 from ._collecting import NO_NUMBER, Collecting, CollectingDiscovery, CollectingRequest
 from ._faults import Closed, OtherOutcome, check, given
 from ._held import Held, Unreturned
-from ._library import Calls, DeviceForm, Setup, buffer_of, room_for
+from ._library import Call, Calls, DeviceForm, Setup, buffer_of, room_for
 from ._types import (
     DEFAULT_BUDGET, MOST_DEVICES, MOST_FRAME_BYTES, MOST_PLACES, Completion, Device, Discovery, Kind, OutcomeKind,
     Request, RequestClass, Search, Uid, data_of, devices_of, pid_of, uid_of, whole)
@@ -167,7 +167,7 @@ class Queue(Held):
         check(self._made(self._calls.devices_run, run))
         return run.value
 
-    def _asks(self, call: Callable[..., int]) -> bool:
+    def _asks(self, call: Call) -> bool:
         answer = ctypes.c_bool()
         check(self._made(call, answer))
         return answer.value

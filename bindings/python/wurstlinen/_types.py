@@ -32,6 +32,7 @@ class Uid:
     """A UID: 16 bits of manufacturer and 32 of device."""
 
     __slots__ = ("_number",)
+    _number: int
     ALL: ClassVar["Uid"]
 
     def __init__(self, manufacturer: int, device: int) -> None:
@@ -321,7 +322,7 @@ def run_fault(fault: int, corrupt: int) -> Optional[RunFault]:
     return RunFault(RunFaultKind(fault), uid_if(fault == RunFaultKind.CORRUPT, corrupt))
 
 
-def devices_of(forms, count: int) -> Tuple[Device, ...]:
+def devices_of(forms: "ctypes.Array[DeviceForm]", count: int) -> Tuple[Device, ...]:
     return tuple(
         Device(Uid.from_number(form.uid), form.control, uid_if(form.has_binding, form.binding))
         for form in forms[:count]

@@ -4,7 +4,7 @@ import ctypes
 from typing import Optional
 
 from ._faults import check, given
-from ._library import LIBRARY, CommandForm, MuteAckForm, RequestForm, ResponseForm, buffer_of, room_for
+from ._library import LIBRARY, Call, CommandForm, MuteAckForm, RequestForm, ResponseForm, buffer_of, room_for
 from ._types import (
     MOST_FRAME_BYTES, MOST_PARAMETER_BYTES, AckType, BranchReply, BranchReplyKind, Command, CommandKind, Device,
     MuteAck, Request, RequestClass, Response, ResponseClass, Uid, form_of_device, uid_if, whole)
@@ -15,7 +15,7 @@ def form_of_request(request: Request) -> RequestForm:
                        whole(request.sub_device, 16, "sub-device"), whole(request.pid, 16, "PID"))
 
 
-def _frame(call, *arguments, room: int = MOST_FRAME_BYTES) -> bytes:
+def _frame(call: Call, *arguments: object, room: int = MOST_FRAME_BYTES) -> bytes:
     frame, length = room_for(room), ctypes.c_size_t()
     check(call(*arguments, frame, room, length))
     return bytes(frame[:length.value])

@@ -1,6 +1,7 @@
 """Signals at each step of the commands that write: no half file, no adapter that stays locked, a second try works."""
 from __future__ import annotations
 
+import atexit
 import fcntl
 import os
 import signal
@@ -115,6 +116,8 @@ class Signals(LongTestCase):
         except BaseException:
             status = 98
         finally:
+            # As at the end of a process.
+            atexit._run_exitfuncs()
             os._exit(status)
 
     def each(self, words: List[str], begin: Callable[[], None], check: Callable[[int], None]) -> None:

@@ -6,7 +6,7 @@ from __future__ import annotations
 
 import enum
 import functools
-from typing import NamedTuple, Optional
+from typing import Dict, NamedTuple, Optional
 
 from ..lines.numbers import CommandClass, Pid, ResponseType
 from ..lines.packets import CHECKSUM_BYTES, LEAST_PACKET_BYTES, Packet, decode_branch_reply, decode_packet
@@ -67,8 +67,8 @@ ACKNOWLEDGED = (ResponseType.ACK, ResponseType.ACK_OVERFLOW)
 # E1.20, discovery mute: a control field, and maybe a binding UID.
 MUTE_DATA_BYTES = (2, 8)
 ALL_SUB_DEVICES = 0xFFFF
-CLASSES = {CommandClass.GET: Asked.GET, CommandClass.SET: Asked.SET}
-DISCOVERY_PIDS = {Pid.DISC_MUTE: Asked.MUTE, Pid.DISC_UN_MUTE: Asked.UNMUTE}
+CLASSES: Dict[int, Asked] = {CommandClass.GET: Asked.GET, CommandClass.SET: Asked.SET}
+DISCOVERY_PIDS: Dict[int, Asked] = {Pid.DISC_MUTE: Asked.MUTE, Pid.DISC_UN_MUTE: Asked.UNMUTE}
 
 
 def command_in(frame: bytes) -> Command:

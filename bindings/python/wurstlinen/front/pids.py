@@ -82,7 +82,7 @@ def type_text(field: Field) -> str:
     if isinstance(field, (Text, Bytes)):
         what = "characters" if isinstance(field, Text) else "bytes"
         return f"{field.most} {what}" if field.least == field.most else f"{field.least} to {field.most} {what}"
-    return PLAIN_TYPES[type(field)]  # type: ignore[index]
+    return PLAIN_TYPES[type(field)]
 
 
 def keys_of(parameter: Parameter) -> Dict[str, Any]:

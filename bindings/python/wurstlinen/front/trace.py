@@ -36,7 +36,7 @@ def trace(name: str, file: TextIO, output: Output, shows_bytes: bool) -> int:
         answer = parts.joined(frame, reply)
         keys: Dict[str, Any] = {"number": number, "text": command_of(frame), "frame": frame.hex(),
                                 "answer": answer_keys(frame, answer)}
-        keys.update({"failed": True} if reply is None else {"reply": reply.hex()})
+        keys["failed" if reply is None else "reply"] = True if reply is None else reply.hex()
         output.result([exchange_text(number, frame, answer), *(bytes_of(frame, reply) if shows_bytes else ())], **keys)
     return DONE
 

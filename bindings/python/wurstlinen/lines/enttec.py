@@ -60,6 +60,11 @@ class EnttecPro(OpenLine):
     an exchange of another thread, which then fails.
     """
 
+    # The last exchange has had no end so far: what comes next may still belong to it.
+    _is_in_doubt: bool
+    # The last exchange was answered, and has had no end so far: what its end would show something about.
+    _open_ends: Optional[Ends]
+
     def __init__(self, path: str, lock_folder: Path = LOCK_FOLDER, answer_seconds: float = ANSWER_SECONDS) -> None:
         self.path = path
         self.serial = 0
@@ -149,10 +154,8 @@ class EnttecPro(OpenLine):
         self._branch_ends = Ends()
         self._response_ends = Ends()
         self._early_ends = EarlyEnds()
-        # The last exchange has had no end so far: what comes next may still belong to it.
         self._is_in_doubt = False
-        # The last exchange was answered, and has had no end so far: what its end would show something about.
-        self._open_ends: Optional[Ends] = None
+        self._open_ends = None
         # The last exchange had an end without a reply.
         self._ended_silently = False
         # Whether the frame under way may be answered, and when its end can come without an answer.

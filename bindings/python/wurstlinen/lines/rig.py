@@ -66,8 +66,8 @@ class Rig(OpenLine):
                 if addresses(command.destination, fixture.uid):
                     fixture.respond(command, number, now)
             return b""
-        fixture = self._by_uid.get(command.destination)
-        return fixture.respond(command, number, now) if fixture and fixture.is_present(number) else b""
+        asked = self._by_uid.get(command.destination)
+        return asked.respond(command, number, now) if asked and asked.is_present(number) else b""
 
     def _present(self, number: int) -> Sequence[Fixture]:
         """The fixtures that are on the line at an exchange."""

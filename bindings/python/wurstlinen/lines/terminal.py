@@ -117,14 +117,25 @@ class _Device:
         fcntl.ioctl(self.descriptor, termios.TIOCEXCL)
 
     def close(self) -> None:
-        """Releases it. What a fork has copied is closed, and stays its parent's."""
+        """Releases it. After an interrupt another call goes on.
+
+        What a fork has copied is closed, and stays its parent's.
+        """
         try:
-            if self.descriptor >= 0 and self._is_exclusive and self._process == os.getpid():
-                _unlock_terminal(self.descriptor)
+            self._let_others_open()
         finally:
-            if self._file is not None:
-                self._file.close()
-            self._lock.release()
+            try:
+                # If an interrupt came just before.
+                self._let_others_open()
+            finally:
+                if self._file is not None:
+                    self._file.close()
+                self._lock.release()
+
+    def _let_others_open(self) -> None:
+        if self.descriptor >= 0 and self._is_exclusive and self._process == os.getpid():
+            _unlock_terminal(self.descriptor)
+            self._is_exclusive = False
 
 
 def _make_raw(descriptor: int) -> None:

@@ -140,7 +140,7 @@ def group_value(field: Group, reader: Reader) -> List[Any]:
         element = next_values(field.fields, reader)
         if reader.left == before:
             raise Misfit(f"{field.name} has an element without data")
-        found.append(element if len(field.fields) > 1 else next(iter(element.values())))
+        found.append(element if len(field.fields) > 1 else list(element.values())[0])
     if len(found) < field.least:
         raise Misfit(f"{field.name} has {len(found)} elements, and {field.least} at least are expected")
     return found

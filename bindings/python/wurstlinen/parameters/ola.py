@@ -7,7 +7,7 @@ from __future__ import annotations
 import re
 from dataclasses import dataclass
 from pathlib import Path
-from typing import Dict, Iterator, List, Mapping, Optional, Tuple, Union
+from typing import Callable, Dict, Iterator, List, Mapping, Optional, Tuple, Union
 
 from .fields import (
     MOST_DATA_BYTES, MOST_TEXT_BYTES, Field, Fields, Flag, Group, Ipv4, Mac, Message, Number, Parameter, SubDevices,
@@ -184,11 +184,10 @@ def field_of(node: Node) -> Field:
     if kind == "GROUP":
         most = node.number("max_size", MOST_DATA_BYTES)
         return Group(name, fields_of(node), node.number("min_size", 0), None if most == MOST_DATA_BYTES else most)
-    plain = {"BOOL": Flag, "UID": UidField, "IPV4": Ipv4, "MAC": Mac}
+    plain: Dict[str, Callable[[str], Field]] = {"BOOL": Flag, "UID": UidField, "IPV4": Ipv4, "MAC": Mac}
     if kind not in plain:
         raise FileFault(f"there is no type of fields {kind}")
-    made: Field = plain[kind](name)
-    return made
+    return plain[kind](name)
 
 
 def name_of(text: str) -> str:

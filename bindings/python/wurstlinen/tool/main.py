@@ -243,7 +243,8 @@ def option(words: Sequence[str], name: str) -> Optional[str]:
     if at is None:
         return None
     _, equals, value = words[at].partition("=")
-    return value if equals else next(iter(words[at + 1:at + 2]), None)
+    following = words[at + 1:at + 2]
+    return value if equals else following[0] if following else None
 
 
 def without(words: Sequence[str], name: str) -> List[str]:

@@ -54,9 +54,10 @@ def serve(program: Path, words: Sequence[str], text: str, frames: Optional[str])
         ours = stack.enter_context(os.fdopen(to_program, "wb", 0))
         try:
             streams = ["--line", f"/dev/fd/{to_line}", "--replies", f"/dev/fd/{replies}"]
+            shown = relayed_streams() if shows_progress else {}
             child = subprocess.Popen([program, words[0], *streams, *words[1:]], pass_fds=(to_line, replies),
                                      encoding="utf-8", errors="backslashreplace",
-                                     **(relayed_streams() if shows_progress else {}))
+                                     stdout=shown.get("stdout"), stderr=shown.get("stderr"))
         finally:
             os.close(to_line)
             os.close(replies)
