@@ -54,7 +54,8 @@ struct Core {
     }
 };
 
-std::unique_ptr<RDMReply> reply_of(std::uint8_t status, std::uint8_t kind, const std::uint8_t *data, unsigned int size) {
+std::unique_ptr<RDMReply> reply_of(std::uint8_t status, std::uint8_t kind, const std::uint8_t *data,
+                                   unsigned int size) {
     const std::uint8_t asked[] = {9};
     const RDMGetRequest request(UID(0x454e, 1), UID(0x1234, 7), 77, 1, 0, PID_DEVICE_LABEL, asked, sizeof asked);
     if (kind & 8) {
@@ -81,7 +82,8 @@ extern "C" int LLVMFuzzerTestOneInput(const std::uint8_t *data, std::size_t size
     const auto length = static_cast<unsigned int>(size - HEADER_BYTES);
     const auto reply = reply_of(data[1], data[2], bytes, length);
     const auto heard = stand_in::hear(*reply, core.sent);
-    need(heard.bytes.size() <= WURST_MOST_FRAME_BYTES && (heard.failure == nullptr || heard.bytes.empty() || heard.is_late));
+    need(heard.bytes.size() <= WURST_MOST_FRAME_BYTES);
+    need(heard.failure == nullptr || heard.bytes.empty() || heard.is_late);
     const auto branch = stand_in::hear_branch({bytes, bytes + std::min<unsigned int>(length, WURST_MOST_FRAME_BYTES)});
     need((branch.failure != nullptr) == branch.is_late);
     if (core.queue.awaits()) {
