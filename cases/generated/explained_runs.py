@@ -57,6 +57,16 @@ the same and five mutes of it, with which a run ends
 1234:00000008 answered alone and then acknowledged no mute: it left, or broke a rule; try it alone on the line
 status 3
 
+the same, but the line fails at the fifth mute
+3 unmute; alone spare > spare; 4 mute spare; mute spare > failed
+9 exchanges, 0 devices; its certificate is incomplete
+exchange 8 failed: check the adapter and the cable
+0000:00000000 is the first UID that wasn't ruled out: it needs five silences in a row of a range that holds it
+1234:00000009 wasn't found: exchange 8 failed before it was ruled out; it broke no rule until then
+exchange 3: bytes came from 1234:00000008 to 1234:00000008, where no listed device was due; \
+they read as 1234:00000008, which isn't listed: name it by --present, if it is there
+status 0
+
 the same with other bytes after each mute
 3 unmute; alone spare > spare; 5 mute spare > noise
 9 exchanges, fault 1 1234:00000008, 0 devices; its certificate is incomplete

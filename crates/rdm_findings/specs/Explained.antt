@@ -47,9 +47,11 @@ unless_in us None = None
 unless_in us (Some u) = if has us u then None else Some u
 
 -- The UID that answered alone, and then acknowledged no mute, at the end of a run that reports these devices. None if
--- it is in the list, which has the devices that are listed, or come or leave
-abbrev pub culprit_of : List ℕ → List ℕ → List Exchange → Option ℕ
-culprit_of us reported xs = unless_in us (never_muted reported xs)
+-- an exchange failed, since nobody is to blame for that; or if it is in the list, which has the devices that are listed,
+-- or come or leave
+abbrev pub culprit_of : Option ℕ → List ℕ → List ℕ → List Exchange → Option ℕ
+culprit_of (Some at) us reported xs = None
+culprit_of None us reported xs = unless_in us (never_muted reported xs)
 
 -- some UIDs, and then another one, if there is one
 abbrev pub with_one : List ℕ → Option ℕ → List ℕ
@@ -84,7 +86,8 @@ pub record Finds (kind : Option Kind) (known : Option (List ℕ)) (present passi
   pub named : ExplainsNames (first_of kind known) xs f.names
   pub all : uids_of_findings f.devices.items ≡ listed (uids_of f.reported) present passing
   pub first_breaches : AreFirstBreaches xs f.devices.items
-  pub unmuted : f.culprit ≡ culprit_of (with_passing (uids_of f.reported) present passing) (uids_of f.reported) xs
+  pub unmuted : f.culprit
+      ≡ culprit_of f.certificate.failure (with_passing (uids_of f.reported) present passing) (uids_of f.reported) xs
   pub due : f.due.items ≡ with_one (with_passing (uids_of f.reported) present passing) f.culprit
   pub all_gone : uids_of_findings f.gone.items ≡ gone_of f.acked f.due.items known
   pub gone_breaches : AreFirstBreaches xs f.gone.items

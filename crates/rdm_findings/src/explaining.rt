@@ -106,12 +106,13 @@ fn find(
     let Ok(mut due) = with_passing(alloc, &uids, passing) else {
         return Err(NoMemory);
     };
-    let culprit = culprit_of(&due, &reported, exchanges);
+    let certificate = explain_run(alloc, &reported, exchanges)?;
+    let culprit = culprit_of(certificate.failure, &due, &reported, exchanges);
     if add_one(&mut due, culprit).is_err() {
         return Err(NoMemory);
     }
     Ok(Findings {
-        certificate: explain_run(alloc, &reported, exchanges)?,
+        certificate,
         names: names(alloc, kind, known, exchanges)?,
         devices: first_breaches(alloc, &uids, exchanges)?,
         culprit,

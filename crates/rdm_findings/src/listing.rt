@@ -62,11 +62,19 @@ pub(crate) fn with_passing(
     Ok(due)
 }
 
-/// The UID that answered alone, and then acknowledged no mute, unless it is in the list.
-pub(crate) fn culprit_of(uids: &[Uid], reported: &DeviceSet, exchanges: &[Exchange]) -> Option<Uid>
-    ensures { result ≡ culprit_of uids.now (uids_of reported.now) exchanges.now }
+/// The UID that answered alone, and then acknowledged no mute, unless an exchange failed or it is in the list.
+pub(crate) fn culprit_of(
+    failure: Option<usize>,
+    uids: &[Uid],
+    reported: &DeviceSet,
+    exchanges: &[Exchange],
+) -> Option<Uid>
+    ensures { result ≡ culprit_of failure uids.now (uids_of reported.now) exchanges.now }
 {
-    unless_in(uids, never_muted(reported, exchanges))
+    match failure {
+        Some(_) => None,
+        None => unless_in(uids, never_muted(reported, exchanges)),
+    }
 }
 
 // A UID, unless it is in the list.
