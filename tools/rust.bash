@@ -1,5 +1,5 @@
 # What cargo builds of the text as plain Rust: the program, and the archive of the C library. For the script wurstlinen
-# and the gate, which have the name `root`.
+# and the gate, which have the name `root`, and read tools/library.bash too.
 # shellcheck shell=bash disable=SC2034,SC2154
 
 least_cargo=1.85
@@ -61,7 +61,9 @@ build_rust() {
         return
     fi
     printed="$(call_cargo "$folder" build --quiet "${@:2}" 2>&1)" && return
-    if grep -qE "$no_crates" <<< "$printed"; then
+    if grep -qE "can't find crate for .(std|core)" <<< "$printed"; then
+        echo "rustc has no std for its target: install that, or another rustc" >&2
+    elif grep -qE "$no_crates" <<< "$printed"; then
         echo "cargo has no network and no crates: on Debian, apt install ${debian_crates//$'\n'    / }" >&2
     else
         printf '%s\n' "$printed" >&2
@@ -78,5 +80,5 @@ archive_of_rust() (
     member="$(ar t "$archive" 2> /dev/null | awk '/^wurstlinen_c-/ && !seen++')" && [ -n "$member" ] || exit
     (cd "$made" && ar x "$archive" "$member" 2> /dev/null) || exit
     objcopy --strip-debug --wildcard --keep-global-symbol='wurst_*' "$made/$member" "$made/wurstlinen.o" || exit
-    rm -f -- "$2" && ar rcs "$2" "$made/wurstlinen.o"
+    ar rcs "$made/archive" "$made/wurstlinen.o" && put "$made/archive" "$2"
 )
