@@ -13,6 +13,7 @@ using namespace ola::rdm;
 
 const wurst::Uid SOURCE(0x7ff0, 1), DEVICE(0x1234, 7);
 constexpr std::size_t HEADER_BYTES = 8;
+constexpr std::uint8_t LEAST_LENGTH = 24;
 
 void need(bool holds) {
     if (!holds) {
@@ -54,10 +55,13 @@ struct Core {
     }
 };
 
-std::unique_ptr<RDMReply> reply_of(std::uint8_t status, std::uint8_t kind, const std::uint8_t *data, unsigned int size) {
+std::unique_ptr<RDMReply> reply_of(std::uint8_t status, std::uint8_t kind, const std::uint8_t *data,
+                                   unsigned int size) {
     const std::uint8_t asked[] = {9};
     const RDMGetRequest request(UID(0x454e, 1), UID(0x1234, 7), 77, 1, 0, PID_DEVICE_LABEL, asked, sizeof asked);
-    if (kind & 8) {
+    // OLA 0.10.9's own reader reads beyond its bytes if the message length is below that of a header.
+    const bool is_long = size > 2 && data[1] >= LEAST_LENGTH && data[2] >= LEAST_LENGTH;
+    if (is_long && (kind & 8)) {
         return std::unique_ptr<RDMReply>(RDMReply::FromFrame(RDMFrame(data, size), kind & 16 ? &request : nullptr));
     }
     RDMFrames frames;
@@ -65,7 +69,7 @@ std::unique_ptr<RDMReply> reply_of(std::uint8_t status, std::uint8_t kind, const
         frames.push_back(RDMFrame(data, size));
     }
     RDMStatusCode code = RDM_COMPLETED_OK;
-    RDMResponse *const response = kind & 2 ? RDMResponse::InflateFromData(data, size, &code, &request) : nullptr;
+    RDMResponse *const response = is_long && (kind & 2) ? RDMResponse::InflateFromData(data, size, &code, &request) : nullptr;
     const auto given = static_cast<RDMStatusCode>(status % (RDM_DUB_RESPONSE + 1));
     return std::make_unique<RDMReply>(given, response, kind & 32 ? RDMFrames() : frames);
 }
@@ -81,7 +85,8 @@ extern "C" int LLVMFuzzerTestOneInput(const std::uint8_t *data, std::size_t size
     const auto length = static_cast<unsigned int>(size - HEADER_BYTES);
     const auto reply = reply_of(data[1], data[2], bytes, length);
     const auto heard = stand_in::hear(*reply, core.sent);
-    need(heard.bytes.size() <= WURST_MOST_FRAME_BYTES && (heard.failure == nullptr || heard.bytes.empty() || heard.is_late));
+    need(heard.bytes.size() <= WURST_MOST_FRAME_BYTES);
+    need(heard.failure == nullptr || heard.bytes.empty() || heard.is_late);
     const auto branch = stand_in::hear_branch({bytes, bytes + std::min<unsigned int>(length, WURST_MOST_FRAME_BYTES)});
     need((branch.failure != nullptr) == branch.is_late);
     if (core.queue.awaits()) {
