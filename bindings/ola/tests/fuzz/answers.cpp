@@ -69,7 +69,8 @@ std::unique_ptr<RDMReply> reply_of(std::uint8_t status, std::uint8_t kind, const
         frames.push_back(RDMFrame(data, size));
     }
     RDMStatusCode code = RDM_COMPLETED_OK;
-    RDMResponse *const response = is_long && (kind & 2) ? RDMResponse::InflateFromData(data, size, &code, &request) : nullptr;
+    RDMResponse *const response
+        = is_long && (kind & 2) ? RDMResponse::InflateFromData(data, size, &code, &request) : nullptr;
     const auto given = static_cast<RDMStatusCode>(status % (RDM_DUB_RESPONSE + 1));
     return std::make_unique<RDMReply>(given, response, kind & 32 ? RDMFrames() : frames);
 }
