@@ -170,8 +170,7 @@ def enum_of(header: str, name: str) -> list:
 
 def main() -> int:
     header = read("bindings", "c", "wurstlinen.h")
-    for difference in differences(header):
-        check(False, difference)
+    check(differences(header) == [], "\n".join(differences(header)))
     # Arguments and fields of one type that stand in each other's place are noticed.
     for first, second in (("uint64_t lo,", "uint64_t hi,"), ("uint64_t uid,", "uint64_t source,"),
                           ("uint32_t ack;.*?", "uint32_t response_class;")):

@@ -13,6 +13,7 @@ using namespace ola::rdm;
 
 const wurst::Uid SOURCE(0x7ff0, 1), DEVICE(0x1234, 7);
 constexpr std::size_t HEADER_BYTES = 8;
+constexpr std::uint8_t LEAST_LENGTH = 24;
 
 void need(bool holds) {
     if (!holds) {
@@ -58,7 +59,9 @@ std::unique_ptr<RDMReply> reply_of(std::uint8_t status, std::uint8_t kind, const
                                    unsigned int size) {
     const std::uint8_t asked[] = {9};
     const RDMGetRequest request(UID(0x454e, 1), UID(0x1234, 7), 77, 1, 0, PID_DEVICE_LABEL, asked, sizeof asked);
-    if (kind & 8) {
+    // OLA 0.10.9's own reader reads beyond its bytes if the message length is below that of a header.
+    const bool is_long = size > 2 && data[1] >= LEAST_LENGTH && data[2] >= LEAST_LENGTH;
+    if (is_long && (kind & 8)) {
         return std::unique_ptr<RDMReply>(RDMReply::FromFrame(RDMFrame(data, size), kind & 16 ? &request : nullptr));
     }
     RDMFrames frames;
@@ -66,7 +69,8 @@ std::unique_ptr<RDMReply> reply_of(std::uint8_t status, std::uint8_t kind, const
         frames.push_back(RDMFrame(data, size));
     }
     RDMStatusCode code = RDM_COMPLETED_OK;
-    RDMResponse *const response = kind & 2 ? RDMResponse::InflateFromData(data, size, &code, &request) : nullptr;
+    RDMResponse *const response
+        = is_long && (kind & 2) ? RDMResponse::InflateFromData(data, size, &code, &request) : nullptr;
     const auto given = static_cast<RDMStatusCode>(status % (RDM_DUB_RESPONSE + 1));
     return std::make_unique<RDMReply>(given, response, kind & 32 ? RDMFrames() : frames);
 }
