@@ -5,6 +5,7 @@ use Rattle.rdm_wire.specs.Honest.{Asked}
 use Rattle.rdm_wire.specs.Honest.Asked.{Other}
 use Rattle.rdm_log.specs.declared.entry.Entry.{Entry}
 use Rattle.rdm_log.specs.declared.entry.Entry.TheVariants as entries
+use Rattle.rdm_log.specs.declared.entry.Owner.{Owner}
 use Rattle.rdm_log.specs.declared.entry.Owner.TheVariants as owners
 use Rattle.rdm_reports.specs.LogText.{entry_line, exchange_line}
 use Rattle.rdm_reports.specs.OpeningText.{discovery_opening, session_opening}
@@ -23,9 +24,14 @@ abbrev pub is_asked : Asked → Bool
 is_asked Other = false
 is_asked _ = true
 
+-- whether these bytes aren't a frame of a run, or ask something in a discovery
+abbrev pub is_asked_by : Owner → List ℕ → Bool
+is_asked_by (owners.Run r) bytes = is_asked (asked_in bytes)
+is_asked_by _ bytes = true
+
 -- whether the entry has no frame of a run, or one that asks something in a discovery
 abbrev pub asks_discovery : Entry → Bool
-asks_discovery (entries.Send (owners.Run r) frame) = is_asked (asked_in frame.items)
+asks_discovery (entries.Send owner frame) = is_asked_by owner frame.items
 asks_discovery _ = true
 
 -- the same of a line

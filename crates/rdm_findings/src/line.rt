@@ -2,7 +2,7 @@
 ghost use Rattle.std.specs.Prelude.{◌≡◌, true, IfOk, IfSome};
 ghost use Rattle.rdm_wire.specs.Frames.{asked_in};
 ghost use Rattle.rdm_reports.specs.OpeningText.{session_opening};
-ghost use Rattle.rdm_findings.specs.Lines.{line_text, is_sound, asks_discovery, is_asked};
+ghost use Rattle.rdm_findings.specs.Lines.{line_text, is_sound, asks_discovery, is_asked, is_asked_by};
 
 use crate::fields::{bytes, has, number};
 use crate::{entry, opening};
@@ -100,11 +100,18 @@ fn asks_discovery(entry: &Entry) -> bool
     ensures { result ≡ asks_discovery entry.now }
 {
     match entry {
-        Entry::Send {
-            owner: Owner::Run(_),
-            frame,
-        } => is_asked(frame),
+        Entry::Send { owner, frame } => is_asked_by(owner, frame),
         _ => true,
+    }
+}
+
+// Whether a frame isn't that of a run, or asks something in a discovery.
+fn is_asked_by(owner: &Owner, frame: &Frame) -> bool
+    ensures { result ≡ is_asked_by owner.now frame.now.items }
+{
+    match owner {
+        Owner::Run(_) => is_asked(frame),
+        Owner::Request(_) => true,
     }
 }
 
