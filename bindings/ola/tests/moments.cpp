@@ -349,5 +349,6 @@ void *operator new(std::size_t size) {
     }
     return made;
 }
-void operator delete(void *at) noexcept { std::free(at); }
-void operator delete(void *at, std::size_t) noexcept { std::free(at); }
+// Not inlined: the compiler would take its own call of free for a mismatched one.
+[[gnu::noinline]] void operator delete(void *at) noexcept { std::free(at); }
+[[gnu::noinline]] void operator delete(void *at, std::size_t) noexcept { std::free(at); }
