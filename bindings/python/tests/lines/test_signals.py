@@ -8,6 +8,7 @@ import signal
 import sys
 import termios
 import unittest
+import weakref
 from typing import Any, Callable, List, Optional, Tuple
 
 from common import ENTTEC, LongTestCase, folder, needs_library, one
@@ -20,7 +21,7 @@ from wurstlinen.lines.packets import decode_packet
 
 UID = "1234:00000001"
 OLD = f"uid,label\n{UID},Old\n"
-NEW = f"uid,label,address,personality\n{UID},Lamp,1,1\n"
+NEW = "uid,label,address,personality,model,slots\n1234:00000001,Lamp,1,1,Simulated fixture,1\n"
 WANTED = f"uid,label\n{UID},Front\n"
 LOG = '{"number":0,"operation":"unmute","frame":"cc","reply":""}\n'
 SIGNALS = (signal.SIGKILL, signal.SIGINT)
@@ -95,6 +96,9 @@ class Signals(LongTestCase):
         """Becomes the command, without an end of its own."""
         status = 99
         try:
+            # What the test removes at its end isn't this process's.
+            for finalizer in list(weakref.finalize._registry):
+                finalizer.atexit = False
             count, write = [0], os.write
 
             def note(name: str) -> None:
