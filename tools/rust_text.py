@@ -32,6 +32,7 @@ RENAMED = {
     "Formatter": [(("<", "W", ">"), 4, "", "Formatter<'_>")],
     # The allocator of a collection's type: there is one.
     ",": [(("Global", ">"), 2, "", "")],
+    "collect": [(("::", "<", "Vec", "<"), 1, "", "collect_in")],
     "println": [(("!",), 1, "std", "println_to")],
     "eprintln": [(("!",), 1, "std", "eprintln_to")],
     "format": [(("!", "(", "in"), 1, "std", "format_in")],

@@ -43,11 +43,10 @@ pub fn tape(alloc: Global, devices: &UidSet) -> Option<Vec<Taped>> {
 
 // What an agent hears of it.
 fn heard_of(alloc: Global, tape: &[Taped]) -> Option<Vec<OpReply>> {
-    let mut heard = Vec::with_capacity(alloc, tape.len()).ok()?;
-    for taped in tape {
-        heard.push(taped.heard()).ok()?;
-    }
-    Some(heard)
+    tape.iter()
+        .map(|taped| taped.heard())
+        .collect::<Vec<OpReply>>(alloc)
+        .ok()
 }
 
 // Runs over these devices that may make this many exchanges, and what they hear.

@@ -94,7 +94,7 @@ pub fn written_log<R>(bench: &Bench<R>) -> Option<Log>
     let requests = bench.repeats().wrapping_add(bench.size);
     let mut log = log(bench.alloc, requests.wrapping_mul(5).wrapping_add(UNUSED)).ok()?;
     for _ in 0..log.room() {
-        if log.entries().len() < log.room() {
+        if log.len_in_all() < log.room() as u64 {
             log.append(Entry::Pause);
         }
     }

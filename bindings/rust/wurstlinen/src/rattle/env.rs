@@ -33,4 +33,9 @@ impl Args {
     pub fn collect<T: From<std::vec::Vec<String>>>(self, _: Global) -> core::result::Result<T, AllocError> {
         Ok(self.0.collect::<std::vec::Vec<_>>().into())
     }
+
+    /// The same, where the list's type is named.
+    pub fn collect_in<T: From<std::vec::Vec<String>>>(self, alloc: Global) -> core::result::Result<T, AllocError> {
+        self.collect(alloc)
+    }
 }

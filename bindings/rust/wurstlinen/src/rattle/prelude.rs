@@ -4,7 +4,7 @@ pub use super::clone::Clone;
 pub use super::marker::Drop;
 #[cfg(feature = "std")]
 pub use super::rt::{AllocGlobal, Eprint, HostRuntime, Print};
-pub use super::vec::Vec;
+pub use super::vec::{CollectIn, Vec};
 pub use crate::prove;
 pub use alloc::boxed::Box;
 pub use alloc::string::String;

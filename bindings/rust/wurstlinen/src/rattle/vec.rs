@@ -6,6 +6,20 @@ use alloc::vec;
 #[derive(Debug, PartialEq, Eq)]
 pub struct Vec<T>(vec::Vec<T>);
 
+/// Collects what an iterator gives, unless there is no memory for it.
+pub trait CollectIn: Iterator + Sized {
+    fn collect_in<C: From<Vec<Self::Item>>>(self, alloc: Global) -> Result<C, AllocError> {
+        let mut list = Vec::with_capacity(alloc, self.size_hint().0)?;
+        for item in self {
+            list.reserve(1)?;
+            list.0.push(item);
+        }
+        Ok(list.into())
+    }
+}
+
+impl<I: Iterator> CollectIn for I {}
+
 impl<T> Vec<T> {
     pub const fn new(_: Global) -> Vec<T> {
         Vec(vec::Vec::new())
