@@ -123,7 +123,8 @@ class Answers(unittest.TestCase):
 
     def test_other_arguments_are_left_to_the_program(self) -> None:
         (self.clone.root / "file").write_text("{}")
-        for words in (["run", "file"], ["run", "none", "--replies", "in"], ["discover", "--line", "none"],
+        for words in (["run", "file"], ["run", "none", "--replies", "in"],
+                      ["discover", "--line", "none", "--source", "7a70:00000001"],
                       ["discover", "none", "--quick", "--quick"], ["decode", "00"]):
             done = self.clone.run("./wurstlinen", *words)
             self.assertEqual((done.returncode, done.stdout), (125, ""), words)
