@@ -105,7 +105,8 @@ class Commands(Place):
         self.put_program('#!/bin/sh\nprintf "%s|" "$@"\nexit 4\n')
         line = "rig:none.json"
         for words in (["decode", "zz"], ["run", "file", "--line", "out", "--replies", "in"], ["run", "--", "--help"],
-                      ["discover", "a", "--quick"], ["decode", "--version"], ["discover", "--line=out"], ["run"],
+                      ["discover", "a", "--quick"], ["decode", "--version"], ["run"],
+                      ["discover", "--line=out", "--source=7a70:00000001"],
                       ["run", "a", "--log", f"--line={line}"], ["encode", "\udcff ä"]):
             self.expect(words, 4, "".join(f"{word}|" for word in words))
 
@@ -527,7 +528,8 @@ class Repository(unittest.TestCase):
             self.assertEqual(done.returncode, 0, done.stderr)
             wanted = " ".join(["the program: discover --line FD --replies FD --source 7ff0:00000001", *more])
             self.assertEqual(re.sub(r"/dev/fd/\d+", "FD", done.stdout), f"{wanted}\n")
-        for words in (["discover", "VERSION"], ["discover", "--line", "out"], ["discover", "--", "VERSION"]):
+        for words in (["discover", "VERSION"], ["discover", "--line", "out", "--source", "7a70:00000001"],
+                      ["discover", "--", "VERSION"]):
             self.assertEqual(self.clone.run("./wurstlinen", *words).stdout, f"the program: {' '.join(words)}\n")
         self.assertEqual(self.clone.run("./rdm_port", "discover").stdout, "the program: discover\n")
 
@@ -559,7 +561,7 @@ class Repository(unittest.TestCase):
         version = (ROOT / "VERSION").read_text().strip()
         self.assertEqual(self.clone.run("./wurstlinen", "decode", "00").returncode, 0)
         (self.clone.root / "out/wurstlinen.kit").unlink()
-        wanted = f"wurstlinen {version} (it isn't known what proved it, commit unknown)\n"
+        wanted = f"wurstlinen {version} (it isn't known what built it, commit unknown)\n"
         self.expect_version(wanted)
         target = self.clone.folder / "bin dir"
         self.assertEqual(self.clone.run("./wurstlinen", "--install", str(target)).returncode, 0)
