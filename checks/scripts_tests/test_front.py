@@ -105,9 +105,8 @@ class Commands(Place):
         self.put_program('#!/bin/sh\nprintf "%s|" "$@"\nexit 4\n')
         line = "rig:none.json"
         for words in (["decode", "zz"], ["run", "file", "--line", "out", "--replies", "in"], ["run", "--", "--help"],
-                      ["discover", "a", "--quick"], ["decode", "--version"], ["run"],
-                      ["discover", "--line=out", "--source=7a70:00000001"],
-                      ["run", "a", "--log", f"--line={line}"], ["encode", "\udcff ä"]):
+                      ["discover", "a", "--quick"], ["decode", "--version"], ["discover", "--line=out", "--source=a"],
+                      ["run"], ["run", "a", "--log", f"--line={line}"], ["encode", "\udcff ä"]):
             self.expect(words, 4, "".join(f"{word}|" for word in words))
 
     def test_lines_are_served(self) -> None:
@@ -528,8 +527,7 @@ class Repository(unittest.TestCase):
             self.assertEqual(done.returncode, 0, done.stderr)
             wanted = " ".join(["the program: discover --line FD --replies FD --source 7ff0:00000001", *more])
             self.assertEqual(re.sub(r"/dev/fd/\d+", "FD", done.stdout), f"{wanted}\n")
-        for words in (["discover", "VERSION"], ["discover", "--line", "out", "--source", "7a70:00000001"],
-                      ["discover", "--", "VERSION"]):
+        for words in (["discover", "VERSION"], ["discover", "--line=out", "--source=ab:1"], ["discover", "--", "VERSION"]):
             self.assertEqual(self.clone.run("./wurstlinen", *words).stdout, f"the program: {' '.join(words)}\n")
         self.assertEqual(self.clone.run("./rdm_port", "discover").stdout, "the program: discover\n")
 
