@@ -527,7 +527,7 @@ class Repository(unittest.TestCase):
             self.assertEqual(done.returncode, 0, done.stderr)
             wanted = " ".join(["the program: discover --line FD --replies FD --source 7ff0:00000001", *more])
             self.assertEqual(re.sub(r"/dev/fd/\d+", "FD", done.stdout), f"{wanted}\n")
-        for words in (["discover", "VERSION"], ["discover", "--line=out", "--source=ab:1"], ["discover", "--", "VERSION"]):
+        for words in (["discover", "VERSION"], ["discover", "--line=out", "--source=a"], ["discover", "--", "VERSION"]):
             self.assertEqual(self.clone.run("./wurstlinen", *words).stdout, f"the program: {' '.join(words)}\n")
         self.assertEqual(self.clone.run("./rdm_port", "discover").stdout, "the program: discover\n")
 
