@@ -22,7 +22,7 @@ from unittest import mock
 from common import PACKAGE, ROOT, TestCase, folder, scene
 from page_logs import DISCOVERY_OPENING, FEW_CLIENTS, SOURCE, discovered, exchange_line, session_of
 from wurstlinen.front import page, page_findings, page_frames, page_log
-from wurstlinen.front.frames import answer_text, command_of
+from wurstlinen.front.frames import Parts, answer_text, command_of
 from wurstlinen.front.page_frames import Asked, Came
 from wurstlinen.front.trace import exchanges
 from wurstlinen.lines.numbers import ResponseType
@@ -123,7 +123,7 @@ class Frames(TestCase):
             frame = command.encode()
             found = page_frames.answer_to(page_frames.command_in(frame), frame, reply)
             self.assertEqual((found.came, found.uid), wanted)
-            self.assertEqual(found.text, answer_text(command.encode(), reply))
+            self.assertEqual(found.text, answer_text(command.encode(), Parts().joined(command.encode(), reply)))
 
     def test_only_an_acknowledgement_of_the_frame_is_shown_as_one(self) -> None:
         # A mute is acknowledged by a packet from the muted device to the controller, with its number and 2 or 8 bytes.
@@ -169,7 +169,8 @@ class Logs(TestCase):
         self.assertGreater(len(wanted), 50)
         self.assertEqual(
             [[frame, reply, command, answer] for _, frame, reply, command, answer in found],
-            [[frame.hex(), None if reply is None else reply.hex(), command_of(frame), answer_text(frame, reply)]
+            [[frame.hex(), None if reply is None else reply.hex(), command_of(frame),
+              answer_text(frame, Parts().joined(frame, reply))]
              for frame, reply in wanted])
         self.assertEqual([each[0] for each in found], [f"exchange {number}" for number in range(len(found))])
 

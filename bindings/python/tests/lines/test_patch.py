@@ -154,6 +154,7 @@ class Columns(OneRig):
         self.assertEqual(self.run_command("save", "-")[1].splitlines()[1], f"{LEFT},Front left,1,1,,")
 
 
+@needs_library
 class Patched(TestCase):
     """The command patch, which needs no line."""
 
