@@ -50,7 +50,7 @@ def version_line() -> str:
     kit = facts.get("kit of the program", "").partition(" logic ")[0]
     state = f"proved with {kit}" if kit else "not proved here yet"
     if kit == UNKNOWN:
-        state = "it isn't known what proved it"
+        state = "it isn't known what built it"
     compiler = facts.get("compiler", "")
     if compiler.startswith("rustc "):
         state = f"text {state}, compiled by {compiler}"
