@@ -103,7 +103,6 @@ pub extern "C" fn wurst_session_rotate(
       opening = opening_after handle.old.session.opening handle.old.session.entries;
       entries = [];
       room = entries + 1;
-      search = handle.old.session.search;
       gone = 0;
       keeps = true;
     } }

@@ -15,7 +15,7 @@ use Rattle.rdm_findings.specs.declared.line.LogLine.TheVariants.{Discovery, Sess
 -- the text of a line, as --log writes it
 abbrev pub line_text : LogLine → List ℕ
 line_text (Discovery o) = discovery_opening o.value.source o.value.search o.value.kind o.value.known o.value.budget
-line_text (Session o) = session_opening o.value.opening o.value.search o.value.first
+line_text (Session o) = session_opening o.value.opening o.value.first
 line_text (Entered entry) = entry_line entry
 line_text (Exchanged number frame event) = exchange_line number (frame, event)
 

@@ -213,8 +213,8 @@ abbrev pub after_line : LogLine → ReadState → ReadState
 after_line (Discovery o) s =
     awaiting false (Some o.value.kind) (Some o.value.search) (Some o.value.budget) (Some o.value.known) no_asks
 after_line (Session o) s =
-    awaiting true None (Some o.value.search) (Some o.value.opening.budget) (Some (uids_of o.value.opening.devices))
-    (asks_from o.value.opening.next_ask o.value.opening.next_run)
+    awaiting true None (Some o.value.opening.search) (Some o.value.opening.budget)
+    (Some (uids_of o.value.opening.devices)) (asks_from o.value.opening.next_ask o.value.opening.next_run)
 after_line (Entered entry) s =
     after_entry entry (if not s.is_session || begins_log entry s then unopened true else s)
 after_line (Exchanged number frame event) s =

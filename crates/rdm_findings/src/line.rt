@@ -35,8 +35,6 @@ pub struct DiscoveryOpening {
 pub struct SessionOpening {
     /// The state of the queue.
     pub opening: Opening,
-    /// How runs search.
-    pub search: Search,
     /// The number of the next entry, from 0.
     pub first: u64,
 }
@@ -148,9 +146,9 @@ fn written(alloc: Global, line: &LogLine) -> Result<Vec<u8>, AllocError>
 
 // The text of a session's opening.
 fn session_text(alloc: Global, o: &SessionOpening) -> Result<Vec<u8>, AllocError>
-    ensures { IfOk result (λ text. text.items ≡ session_opening o.now.opening o.now.search o.now.first) }
+    ensures { IfOk result (λ text. text.items ≡ session_opening o.now.opening o.now.first) }
 {
-    session_opening(alloc, &o.opening, o.search, o.first)
+    session_opening(alloc, &o.opening, o.first)
 }
 
 // The line that a text seems to be.

@@ -25,7 +25,6 @@ pub(crate) fn discovery(line: &str) -> Option<DiscoveryOpening> {
 pub(crate) fn session(line: &str) -> Option<SessionOpening> {
     Some(SessionOpening {
         opening: opening(line)?,
-        search: search(line)?,
         first: number(line, "\"number\":")?,
     })
 }
@@ -43,6 +42,7 @@ fn opening(line: &str) -> Option<Opening> {
         source: uid(line, "\"source\":\"")?,
         greatest: medium(line, "\"greatest\":")?,
         budget: number(line, "\"budget\":")?,
+        search: search(line)?,
         places: places(between(line, "\"places\":[", "]")?)?,
         paused: line.contains("\"paused\":true"),
         closed: line.contains("\"closed\":true"),

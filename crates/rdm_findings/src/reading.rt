@@ -226,14 +226,15 @@ impl Reading {
     }
 
     fn open_session(&mut self, alloc: Global, opening: Box<SessionOpening>) -> Result<(), NoMemory>
-        ensures { OnOk result (self.new ≡ awaiting true None (Some opening.value.search)
+        ensures { OnOk result (self.new ≡ awaiting true None (Some opening.value.opening.search)
             (Some opening.value.opening.budget) (Some (uids_of opening.value.opening.devices))
             (asks_from opening.value.opening.next_ask opening.value.opening.next_run)) }
     {
         let known = copied(alloc, opening.opening.devices.uids().as_slice())?;
         let asks = Asks::from(opening.opening.next_ask, opening.opening.next_run);
         let budget = Some(opening.opening.budget);
-        self.begin_log(true, None, Some(opening.search), budget, asks);
+        let search = Some(opening.opening.search);
+        self.begin_log(true, None, search, budget, asks);
         self.known = Some(known);
         Ok(())
     }

@@ -350,7 +350,6 @@ pub fn rotate(session: &mut Session, alloc: Global, entries: usize) -> Result<Bo
           opening = opening_after session.old.opening session.old.entries;
           entries = [];
           room = entries + 1;
-          search = session.old.search;
           gone = 0;
           keeps = true;
         })) }

@@ -1,7 +1,7 @@
 -- What collects leave as it is.
 use Rattle.rdm_lanes.proofs.Common.{◌≡◌, ℕ, Bool, true, false, true≢false, List, [], ◌∷◌, ◌++◌, None, refl, sym, ap}
 use Rattle.rdm_lanes.proofs.Common.{◌∙◌, subst, inl, inr, append-nil, append_assoc, arith, nat_lt, AllByRecursion}
-use Rattle.rdm_lanes.proofs.Common.{ArrayVec, Search, EachAfter, ClientId, Opening, Entry, Collect, join_of}
+use Rattle.rdm_lanes.proofs.Common.{ArrayVec, EachAfter, ClientId, Opening, Entry, Collect, join_of}
 use Rattle.rdm_lanes.proofs.Common.{answered_of, NoSend, MayBegin, Legal, MayFollow, LogState, is_full_log}
 use Rattle.rdm_lanes.proofs.Common.{free_entries, sends_same, answered_same, awaited-push, is_closed-push}
 use Rattle.rdm_lanes.proofs.Common.{is_paused-push, last_run_same, NoExchange, OnlyCollects, SameSwitches}
@@ -55,13 +55,12 @@ collects_need_nothing : (block : List Entry) → AllByRecursion (λ e. added e �
 collects_need_nothing [] all = refl
 collects_need_nothing (e ∷ block) all = omega (arith, all.0, collects_need_nothing block all.1)
 
-free_stays : (o : Opening) (h block : List Entry) (room : ℕ) (search : Search) (gone : ℕ) (keeps : Bool)
+free_stays : (o : Opening) (h block : List Entry) (room : ℕ) (gone : ℕ) (keeps : Bool)
     → EachAfter (MayFollow o) (h ++ block) → AllCollects block
     → free_entries (record {
       opening = o;
       entries = h ++ block;
       room = room;
-      search = search;
       gone = gone;
       keeps = keeps;
     })
@@ -69,11 +68,10 @@ free_stays : (o : Opening) (h block : List Entry) (room : ℕ) (search : Search)
       opening = o;
       entries = h;
       room = room;
-      search = search;
       gone = gone;
       keeps = keeps;
     })
-free_stays o h block room search gone keeps each all =
+free_stays o h block room gone keeps each all =
     omega (
       arith,
       used_block o h block each,
@@ -86,7 +84,7 @@ full_stays old new is legal =
     let each : EachAfter (MayFollow old.opening) (old.entries ++ is.block) = subst
     (λ (k : LogState). EachAfter (MayFollow k.opening) k.entries) is.grows legal.each in
     ap is_full_log is.grows
-    ∙ ap (λ (n : ℕ). nat_lt n 3) (free_stays old.opening old.entries is.block old.room old.search old.gone
+    ∙ ap (λ (n : ℕ). nat_lt n 3) (free_stays old.opening old.entries is.block old.room old.gone
     old.keeps each is.each)
 
 -- where no frame might be sent, none may be

@@ -2,7 +2,7 @@
 use Rattle.rdm_lanes.proofs.Common.{◌≡◌, ℕ, ◌+◌, ◌-◌, ◌≤◌, Bool, true, List, [], ◌∷◌, ◌++◌, map, length, take, drop}
 use Rattle.rdm_lanes.proofs.Common.{Option, Some, refl, sym, ap, ◌∙◌, subst, slice_get, length-append, append-nil}
 use Rattle.rdm_lanes.proofs.Common.{append_assoc, arith, list_any, eq-eqb, slice_get_within, get_or_from_slice_get}
-use Rattle.rdm_lanes.proofs.Common.{map-append, take_more, Search, EachAfter, ClientId, Call, Opening, Entry, Join}
+use Rattle.rdm_lanes.proofs.Common.{map-append, take_more, EachAfter, ClientId, Call, Opening, Entry, Join}
 use Rattle.rdm_lanes.proofs.Common.{Refuse, Accept, Ask, Send, Came, Finish, Answer, Collect, Pause, Resume, Close}
 use Rattle.rdm_lanes.proofs.Common.{AskCompletion, asks, finishes, answers, collectors, accepts_by, asks_by, answers_to}
 use Rattle.rdm_lanes.proofs.Common.{collects_by, collected, uncollected, outstanding_requests, outstanding_discoveries}
@@ -167,7 +167,7 @@ module _ (o : Opening) (h : List Entry) (d : ClientId) (each : EachAfter (MayFol
       omega (arith, same, finishes_more, is.other)
 
 -- the outcome that was collected is on the client's ring
-collected_fits : (o : Opening) (h : List Entry) (room : ℕ) (search : Search) (gone : ℕ) (keeps : Bool) (d : ClientId)
+collected_fits : (o : Opening) (h : List Entry) (room : ℕ) (gone : ℕ) (keeps : Bool) (d : ClientId)
     (x : Entry) (item : RingOutcome) (lane next : Lane) (requests asks : ℕ)
     → EachAfter (MayFollow o) (h ++ Collect d ∷ []) → slice_get (uncollected o d.0 h) 0 ≡ Some x
     → outcome_of h x ≡ Some (value_in item)
@@ -177,7 +177,6 @@ collected_fits : (o : Opening) (h : List Entry) (room : ℕ) (search : Search) (
       opening = o;
       entries = h;
       room = room;
-      search = search;
       gone = gone;
       keeps = keeps;
     }) lane
@@ -187,11 +186,10 @@ collected_fits : (o : Opening) (h : List Entry) (room : ℕ) (search : Search) (
       opening = o;
       entries = h ++ Collect d ∷ [];
       room = room;
-      search = search;
       gone = gone;
       keeps = keeps;
     }) next
-collected_fits o h room search gone keeps d x item lane next requests asks each oldest told counted asked f isnext
+collected_fits o h room gone keeps d x item lane next requests asks each oldest told counted asked f isnext
     replies =
     record {
       calls_are = ap work_in isnext.calls_are ∙ f.calls_are
@@ -259,7 +257,7 @@ fits_completion old new d n done item lane next g legal is f isnext replies =
     let kind = finish_of old.entries x n (completion_value done) adds.0.told in
     let fewer = fewer_requests old.opening old.entries d each x adds.0.oldest kind in
     let same = same_asks old.opening old.entries d each x adds.0.oldest kind in
-    rw grows (collected_fits old.opening old.entries old.room old.search old.gone old.keeps d x item lane next
+    rw grows (collected_fits old.opening old.entries old.room old.gone old.keeps d x item lane next
     (lane.requests - 1) lane.asks each adds.0.oldest (adds.0.told ∙ ap (λ v. Some v) (sym is))
     (less_one lane.requests _ _ f.requests_are fewer) (same ∙ sym f.asks_are) f isnext replies)
 
@@ -278,6 +276,6 @@ fits_discovery old new d n done item lane next g legal is f isnext replies =
     let kind = answer_of old.entries x n (discovered done) adds.0.told in
     let fewer = fewer_asks old.opening old.entries d each x adds.0.oldest kind in
     let same = same_requests old.opening old.entries d each x adds.0.oldest kind in
-    rw grows (collected_fits old.opening old.entries old.room old.search old.gone old.keeps d x item lane next
+    rw grows (collected_fits old.opening old.entries old.room old.gone old.keeps d x item lane next
     lane.requests (lane.asks - 1) each adds.0.oldest (adds.0.told ∙ ap (λ v. Some v) (sym is))
     (same ∙ sym f.requests_are) (less_one lane.asks _ _ f.asks_are fewer) f isnext replies)

@@ -28,7 +28,6 @@ pub use Rattle.rdm_wire.specs.declared.request.Request.{Request}
 pub use Rattle.rdm_join.specs.declared.event.LineEvent.{LineEvent}
 pub use Rattle.rdm_agent.specs.declared.fault.AgentFault.{AgentFault}
 pub use Rattle.rdm_agent.specs.declared.kind.Kind.{Kind}
-pub use Rattle.rdm_agent.specs.declared.search.Search.{Search}
 pub use Rattle.rdm_line.specs.Events.{Exchange, Makes}
 pub use Rattle.rdm_log.proofs.LogLemmas.AskFacts.{ask_facts}
 pub use Rattle.rdm_log.proofs.LogLemmas.ClientFacts.{client_facts}

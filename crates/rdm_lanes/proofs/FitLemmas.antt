@@ -3,7 +3,7 @@ use Rattle.rdm_lanes.proofs.Common.{◌≡◌, ℕ, zero, suc, add-one, ◌+◌,
 use Rattle.rdm_lanes.proofs.Common.{List, [], ◌∷◌, ◌++◌, map, length, take, drop, Option, Some, None, refl, sym, ap}
 use Rattle.rdm_lanes.proofs.Common.{◌∙◌, subst, slice_get, length-append, append-nil, arith, filter_map, Result, Ok}
 use Rattle.rdm_lanes.proofs.Common.{Err, filter, ◌==◌, nat_le, if◌then◌else◌, MatchBool, list_any}
-use Rattle.rdm_lanes.proofs.Common.{eq-eqb, map-append, filter_map-append, Search, EachAfter, Request, Kind, ClientId}
+use Rattle.rdm_lanes.proofs.Common.{eq-eqb, map-append, filter_map-append, EachAfter, Request, Kind, ClientId}
 use Rattle.rdm_lanes.proofs.Common.{Call, Cause, Opening, Entry, Refuse, Accept, Ask, Finish, Answer, accepts, asks}
 use Rattle.rdm_lanes.proofs.Common.{finishes, answers, collectors, collector_of, accepts_by, asks_by, is_answer_to}
 use Rattle.rdm_lanes.proofs.Common.{answers_to, collects_by, collected, uncollected, outstanding_requests}
@@ -199,13 +199,12 @@ pub record IsNext (old new : Lane) (requests asks : ℕ) : Type 0 where
   pub left_is : new.left ≡ old.left
 
 -- a call that is accepted, or refused otherwise than by a close
-made : (x : ClientCall) (c : ℕ) (o : Opening) (h : List Entry) (room : ℕ) (search : Search) (gone : ℕ) (keeps : Bool)
+made : (x : ClientCall) (c : ℕ) (o : Opening) (h : List Entry) (room : ℕ) (gone : ℕ) (keeps : Bool)
     (e : Entry) (lane new : Lane) (requests asks : ℕ)
     → EachAfter (MayFollow o) (h ++ e ∷ []) → FitsBut (x ∷ []) c (record {
       opening = o;
       entries = h;
       room = room;
-      search = search;
       gone = gone;
       keeps = keeps;
     }) lane
@@ -216,11 +215,10 @@ made : (x : ClientCall) (c : ℕ) (o : Opening) (h : List Entry) (room : ℕ) (s
       opening = o;
       entries = h ++ e ∷ [];
       room = room;
-      search = search;
       gone = gone;
       keeps = keeps;
     }) new
-made x c o h room search gone keeps e lane new requests asks each f quiet collect call other counted asked next
+made x c o h room gone keeps e lane new requests asks each f quiet collect call other counted asked next
     replies = record {
       calls_are = ap work_in next.calls_are ∙ f.calls_are ∙ sym (append-nil _ ∙ calls_more c h e x call);
       moved_are = rw (
@@ -241,7 +239,7 @@ fits_accept old new d n request lane next is legal f isnext replies =
     let e = Accept d n request in
     let each : EachAfter (MayFollow old.opening) (old.entries ++ e ∷ []) = subst
     (λ (k : LogState). EachAfter (MayFollow k.opening) k.entries) is legal.each in
-    rw is (made (Submit request) d.0 old.opening old.entries old.room old.search old.gone old.keeps e lane next
+    rw is (made (Submit request) d.0 old.opening old.entries old.room old.gone old.keeps e lane next
     (lane.requests + 1) lane.asks each f refl refl (own_call d n request) refl
     (requests_more old.opening old.entries d n request each ∙ ap (λ (m : ℕ). m + 1) (sym f.requests_are))
     (asks_stay old.opening old.entries e d.0 each refl refl ∙ sym f.asks_are) isnext replies)
@@ -257,7 +255,7 @@ fits_ask old new d n kind lane next is legal f isnext replies =
     let e = Ask d n kind in
     let each : EachAfter (MayFollow old.opening) (old.entries ++ e ∷ []) = subst
     (λ (k : LogState). EachAfter (MayFollow k.opening) k.entries) is legal.each in
-    rw is (made (Discover kind) d.0 old.opening old.entries old.room old.search old.gone old.keeps e lane next
+    rw is (made (Discover kind) d.0 old.opening old.entries old.room old.gone old.keeps e lane next
     lane.requests (lane.asks + 1) each f refl refl (own_call d n kind) refl
     (requests_stay old.opening old.entries e d.0 each refl refl ∙ sym f.requests_are)
     (asks_more_left old.opening old.entries d n kind each ∙ ap (λ (m : ℕ). m + 1) (sym f.asks_are)) isnext replies)
@@ -278,7 +276,7 @@ fits_refused old new d call cause x lane next is legal mine other f isnext repli
     let e = Refuse (Some d) call cause in
     let each : EachAfter (MayFollow old.opening) (old.entries ++ e ∷ []) = subst
     (λ (k : LogState). EachAfter (MayFollow k.opening) k.entries) is legal.each in
-    rw is (made x d.0 old.opening old.entries old.room old.search old.gone old.keeps e lane next
+    rw is (made x d.0 old.opening old.entries old.room old.gone old.keeps e lane next
     lane.requests lane.asks each f refl refl
     (own_refusal d call cause x mine) (rw other refl)
     (requests_stay old.opening old.entries e d.0 each refl refl ∙ sym f.requests_are)

@@ -14,7 +14,6 @@ use Rattle.rdm_lanes.proofs.Common.{opened_with, AreNew, AreNewWith, HoldNothing
 use Rattle.rdm_lanes.proofs.Common.{views_found, all_views, Publishing, NoneLater, Publishes}
 use Rattle.std.proofs.lemmas.List.{length-take-le}
 use Rattle.rtrb.specs.Ring.{sent as pushed, received as popped}
-use Rattle.rdm_log.specs.declared.config.Config.{Config}
 use Rattle.rdm_log.specs.declared.fault.JoinFault.{JoinFault}
 use Rattle.rdm_log.specs.declared.fault.JoinFault.TheVariants as join_faults
 use Rattle.rdm_log.specs.log.History.{reserved}
@@ -208,10 +207,9 @@ publishes_opened setup keeps room ps p shown added = record {
 -- a session in which clients have joined
 abbrev pub empty_log : Setup → Bool → ℕ → LogState
 empty_log setup keeps room = record {
-  opening = opened setup.config;
+  opening = opened setup;
   entries = [];
   room = room;
-  search = setup.search;
   gone = 0;
   keeps = keeps;
 }
@@ -233,12 +231,12 @@ pub served_opened : (setup : Setup) (keeps : Bool) (room : ℕ) (ps : List ℕ)
     → IsBetweenTurns (opened_with setup keeps room ps)
 served_opened setup keeps room ps =
     served_off (empty_log setup keeps room) (opened_with setup keeps room ps) (join_entries 0 ps) refl (joins_off ps)
-    (rightly_without (opened setup.config) [] (join_entries 0 ps)
+    (rightly_without (opened setup) [] (join_entries 0 ps)
     (joins_each (λ e. is_refusal e ≡ false) (λ c n. refl) 0 ps)) (served_empty setup keeps room)
 
-closed_nothing : (config : Config) → is_closed (opened config) [] ≡ false
+closed_nothing : (setup : Setup) → is_closed (opened setup) [] ≡ false
 unfolding is_closed
-closed_nothing config = refl
+closed_nothing setup = refl
 
 exchanges_nothing : exchanges [] ≡ []
 unfolding exchanges traded sends cames
@@ -247,16 +245,16 @@ exchanges_nothing = refl
 pub open_opened : (setup : Setup) (keeps : Bool) (room : ℕ) (ps : List ℕ)
     → is_closed (opened_with setup keeps room ps).opening (opened_with setup keeps room ps).entries ≡ false
 open_opened setup keeps room ps =
-    closed_stays (opened setup.config) [] (join_entries 0 ps) (joins_no_switch ps) ∙ closed_nothing setup.config
+    closed_stays (opened setup) [] (join_entries 0 ps) (joins_no_switch ps) ∙ closed_nothing setup
 
-paused_nothing : (config : Config) → is_paused (opened config) [] ≡ false
+paused_nothing : (setup : Setup) → is_paused (opened setup) [] ≡ false
 unfolding is_paused
-paused_nothing config = refl
+paused_nothing setup = refl
 
 pub not_paused_opened : (setup : Setup) (keeps : Bool) (room : ℕ) (ps : List ℕ)
     → is_paused (opened_with setup keeps room ps).opening (opened_with setup keeps room ps).entries ≡ false
 not_paused_opened setup keeps room ps =
-    paused_stays (opened setup.config) [] (join_entries 0 ps) (joins_no_switch ps) ∙ paused_nothing setup.config
+    paused_stays (opened setup) [] (join_entries 0 ps) (joins_no_switch ps) ∙ paused_nothing setup
 
 no_switches : switches [] ≡ []
 unfolding switches
@@ -319,7 +317,7 @@ lanes_places ring ps clients lanes all =
 
 pub fits_opened : {J : Type 0} {h : Ghosts J} {C A : Type 0} (setup : Setup) (keeps : Bool) (room ring : ℕ)
     (ps : List ℕ) (clients : List (RingClient J C A h)) (lanes : List Lane)
-    → Legal (opened setup.config) (join_entries 0 ps) → AreNewWith ring ps clients lanes
+    → Legal (opened setup) (join_entries 0 ps) → AreNewWith ring ps clients lanes
     → AllFit (opened_with setup keeps room ps) lanes
 fits_opened setup keeps room ring ps clients lanes legal all = record {
   each = λ i lane here.

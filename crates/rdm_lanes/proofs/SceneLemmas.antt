@@ -180,7 +180,7 @@ module _ {J : Type 0} {h : Ghosts J} {C A : Type 0} (setup : Setup) (room : ℕ)
   pub gets_no_fault : IsCalmScene s → IsEnough setup s → GetsNoFault e
   gets_no_fault is enough = gets_no_other (faults_follow s t k log_over is over.session.promised.in_bound (record {
     few = few;
-    budgeted = rw (over.session.search_is, budget_is) enough;
+    budgeted = rw over.session.opening_is enough;
   }))
 
   pub gets_none_by_default : IsCalmScene s → IsByDefault setup → GetsNoFault e
@@ -188,5 +188,5 @@ module _ {J : Type 0} {h : Ghosts J} {C A : Type 0} (setup : Setup) (room : ℕ)
       gets_no_other (follow_by_default s t k log_over is over.session.promised.in_bound (record {
         few = few;
         budget = budget_is ∙ default.0;
-        search = over.session.search_is ∙ default.1;
+        search = ap (λ (o : Opening). o.search) over.session.opening_is ∙ default.1;
       }))

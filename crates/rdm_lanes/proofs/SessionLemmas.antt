@@ -18,7 +18,6 @@ session_over {L} step setup keeps room places before after first k lanes is x se
     fits =
     record {
       opening_is = ap (λ (s : LogState). s.opening) (x.grows) ∙ ap (λ (s : LogState). s.opening) is;
-      search_is = ap (λ (s : LogState). s.search) (x.grows) ∙ ap (λ (s : LogState). s.search) is;
       room_is = ap (λ (s : LogState). s.room) (x.grows) ∙ ap (λ (s : LogState). s.room) is;
       clients_are = x.nobody_joined ∙ ap (λ (s : LogState). joins s.entries) is ∙ joins_of 0 places;
       nobody_else = λ c out. fits.nobody_else c (omega (arith, out, long));

@@ -63,10 +63,9 @@ join_entries n (p ∷ ps) = Join (record { 0 = n }) p ∷ join_entries (n + 1) p
 abbrev pub opened_with : Setup → Bool → ℕ → List ℕ → LogState
 opened_with setup keeps room places =
     record {
-      opening = opened setup.config;
+      opening = opened setup;
       entries = join_entries 0 places;
       room = room;
-      search = setup.search;
       gone = 0;
       keeps = keeps;
     }

@@ -11,15 +11,14 @@ use Rattle.rdm_lanes.specs.Calls.{calls_by}
 use Rattle.rdm_lanes.specs.Operators.{switches}
 use Rattle.rdm_lanes.specs.Lines.{NoCallLost}
 
--- A session over a line, from its start to its end. The log has the opening and the search of this set-up, and this
--- capacity. One client joined with each of these queue depths, in order, and nobody else called anything. Nobody
+-- A session over a line, from its start to its end. The log has the opening of this set-up, and this capacity. One
+-- client joined with each of these queue depths, in order, and nobody else called anything. Nobody
 -- paused, resumed or closed. At the end no reply is awaited, and the session is neither paused nor closed. The log is
 -- legal and keeps all that clients are promised. No call was lost. The exchanges in the log are the line's steps, from
 -- its value before to its value after. The line got each frame once, and the event that it returned was delivered.
 pub record SessionOver {L : Type 0} (step : L → Exchange → L → Type 0) (setup : Setup) (room : ℕ) (places : List ℕ)
     (before after : L) (k : LogState) : Type 0 where
-  pub opening_is : k.opening ≡ opened setup.config
-  pub search_is : k.search ≡ setup.search
+  pub opening_is : k.opening ≡ opened setup
   pub room_is : k.room ≡ room
   pub clients_are : joins k.entries ≡ places
   pub nobody_else : (c : ℕ) → length places ≤ c → calls_by c k.entries ≡ []

@@ -1,6 +1,6 @@
 //! What a log holds.
 use arrayvec::ArrayVec;
-use rdm_agent::{AgentFault, Kind};
+use rdm_agent::{AgentFault, Kind, Search};
 use rdm_join::{LineEvent, Status};
 use rdm_wire::{DeviceSet, Frame, Request, Uid};
 use std::mem::size_of;
@@ -139,6 +139,8 @@ pub struct Opening {
     pub greatest: u16,
     /// How many frames a discovery run may send.
     pub budget: u64,
+    /// How all runs search.
+    pub search: Search,
     /// The queue depth of each client that had joined.
     pub places: ArrayVec<u8, MOST_CLIENTS>,
     /// Whether sending was paused.

@@ -30,8 +30,6 @@ pub struct Log {
     entries: Vec<Entry>,
     room: usize,
     keeps: bool,
-    /// How the runs of its session search. No entry says this, and no rule about logs depends on it.
-    search: Search,
 }
 
 impl Model for Log {
@@ -46,7 +44,6 @@ impl Model for Log {
       opening = l.opening.value;
       entries = l.past.items ++ l.entries.items;
       room = (if l.keeps then l.gone else 0) + l.room;
-      search = l.search;
       gone = if l.keeps then l.gone else 0;
       keeps = l.keeps;
     } };
@@ -81,7 +78,6 @@ impl Log {
             entries,
             room,
             keeps: true,
-            search: Search::Steady,
         })
     }
 
@@ -101,7 +97,6 @@ impl Log {
             entries: Vec::new(alloc),
             room: MOST_ENTRIES as usize,
             keeps: false,
-            search: Search::Steady,
         })
     }
 
@@ -133,14 +128,6 @@ impl Log {
         ensures gone { result ≡ false → self.now.keeps ≡ true → self.now.gone ≢ 0 }
     {
         self.keeps && self.gone == 0
-    }
-
-    /// How the runs of its session search, as the session was set up. If no session has written the log, this is
-    /// [`Search::Steady`].
-    pub fn search(&self) -> Search
-        ensures { result ≡ self.now.search }
-    {
-        self.search
     }
 
     /// How many entries were handed out. If the log keeps nothing, this is 0.
@@ -232,14 +219,12 @@ impl Log {
         self.gone += page.entries.len() as u64;
     }
 
-    /// The same log after another opening, of a session whose runs search by `search`. Its entries and its capacity are
-    /// unchanged.
-    pub fn after(mut self, opening: Opening, search: Search) -> Log
-        ensures log { result ≡ record self { opening = opening; search = search } }
+    /// The same log after another opening. Its entries and its capacity are unchanged.
+    pub fn after(mut self, opening: Opening) -> Log
+        ensures log { result ≡ record self { opening = opening } }
         ensures some { 1 ≤ self.room }
     {
         *self.opening = opening;
-        self.search = search;
         self
     }
 
@@ -252,7 +237,6 @@ impl Log {
         self.gone = 0;
         self.entries.clear();
         *self.opening = Log::blank();
-        self.search = Search::Steady;
         self
     }
 
@@ -281,6 +265,7 @@ impl Log {
             source: Uid::default(),
             greatest: 0,
             budget: 0,
+            search: Search::Steady,
             places: ArrayVec::new(),
             paused: false,
             closed: false,

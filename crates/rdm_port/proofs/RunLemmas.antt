@@ -3,7 +3,6 @@ use Rattle.std.proofs.Common.{◌≡◌, ℕ, Bool, List, Option, Result, Ok, Er
 use Rattle.std.proofs.Common.{ap}
 use Rattle.std.specs.Prelude.{IfOk, IfSome, OnOk, is_some}
 use Rattle.clap.specs.Words.{Text}
-use Rattle.rdm_agent.specs.declared.search.Search.{Search}
 use Rattle.rdm_files.specs.declared.session.file.SessionFile.{SessionFile}
 use Rattle.rdm_reports.specs.OpeningText.{session_log}
 use Rattle.rdm_reports.specs.SessionReport.{session_text}
@@ -42,13 +41,13 @@ pub served_then : {E : Type 0} (L : Type 0) (opens : Text → Text → L → Typ
     → IsOpened wanted old mid → IsServedBy port file.clients.items file.ring file.turns s
     → IsSetUp file.source file.budget file.search s.session
     → IfOk r (λ a. answer_bytes a.text ≡ session_text s.outcomes.items) → IfOk r (λ a. a.status ≡ 0)
-    → OnOk r (Logs mid new (session_log s.session.opening s.session.search 0 s.session.entries))
+    → OnOk r (Logs mid new (session_log s.session.opening 0 s.session.entries))
     → IfOk r (λ a. (logged : List ℕ) × Runs L opens streams known (answer_bytes a.text) logged a.status
     × HasLogged wanted old new logged)
 served_then L opens streams known file (Err e) port s wanted old mid new begins reads opened by set text status logs =
     tt
 served_then L opens streams known file (Ok a) port s wanted old mid new begins reads opened by set text status logs = (
-  session_log s.session.opening s.session.search 0 s.session.entries,
+  session_log s.session.opening 0 s.session.entries,
   record {
     begins = begins;
     file = file;
@@ -58,14 +57,15 @@ served_then L opens streams known file (Ok a) port s wanted old mid new begins r
     opening = s.session.opening;
     from = set.from;
     frames = set.frames;
+    searched = set.searched;
     entries = s.session.entries;
     log = by.logged;
     called = by.called;
     in_turns = by.in_turns;
     client_turns = calls_in_turns file.clients.items s.outcomes.items file.turns by.settled by.client_turns;
     prints = text;
-    logs = ap (λ (x : Search). session_log s.session.opening x 0 s.session.entries) set.searched;
+    logs = refl;
     ends = status;
   },
-  opened_then wanted old mid new (session_log s.session.opening s.session.search 0 s.session.entries) opened logs,
+  opened_then wanted old mid new (session_log s.session.opening 0 s.session.entries) opened logs,
 )

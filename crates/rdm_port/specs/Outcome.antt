@@ -88,13 +88,14 @@ pub record Runs (L : Type 0) (opens : Text → Text → L → Type 0) (streams :
   pub opening : Opening
   pub from : opening.source ≡ file.source
   pub frames : opening.budget ≡ file.budget
+  pub searched : opening.search ≡ file.search
   pub entries : List Entry
   pub log : IsLogOf opening entries outcomes
   pub called : HasCalls entries file.clients.items
   pub in_turns : length (exchanges entries) ≤ file.turns
   pub client_turns : All (λ (c : ClientFile). 2 * length c.calls.items ≤ file.turns) file.clients.items
   pub prints : text ≡ session_text outcomes
-  pub logs : logged ≡ session_log opening file.search 0 entries
+  pub logs : logged ≡ session_log opening 0 entries
   pub ends : status ≡ 0
 
 -- What a discovery logs with a fault: nothing, or the exchanges of its run if there is no memory for the report.

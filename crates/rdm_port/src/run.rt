@@ -181,7 +181,7 @@ fn answer_served<'a, G: Write>(
     ensures text { IfOk result (λ a. answer_bytes a.text ≡ session_text served.outcomes.items) }
     ensures status { IfOk result (λ a. a.status ≡ 0) }
     ensures logged { OnOk result (Logs log.old log.new
-        (session_log served.session.opening served.session.search 0 served.session.entries)) }
+        (session_log served.session.opening 0 served.session.entries)) }
     ensures memory { IfErr result (λ e. e.0 ≡ Fault.Memory) }
     ensures unlogged { OnErr result (log.new ≡ log.old) }
 {
@@ -195,7 +195,7 @@ fn answer_served<'a, G: Write>(
     };
     let kept = session.log();
     let entries = all_entries(kept);
-    write_log(alloc, log, kept.opening(), kept.search(), 0, entries);
+    write_log(alloc, log, kept.opening(), 0, entries);
     Ok(Answered {
         text: Answer::Lines(text),
         status: 0,

@@ -24,4 +24,3 @@ pub mod EndLemmas
 pub mod CallLemmas
 pub mod SessionLemmas
 pub mod RotateLemmas
-pub mod SearchLemmas

@@ -440,6 +440,7 @@ impl Queue {
             source: self.config.source,
             greatest: self.config.places,
             budget: self.config.budget,
+            search: self.search,
             places: places_of(&self.clients),
             paused: self.paused,
             closed: self.closed,

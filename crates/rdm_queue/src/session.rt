@@ -10,9 +10,9 @@ use arrayvec::ArrayVec;
 use rdm_agent::Kind;
 use rdm_join::LineEvent;
 use rdm_log::{
-    AskFault, Call, Cause, ClientId, Completion, Config, DiscoveryEnd, Entry, IntoSetup, JoinFault,
-    LEAST_FREE, Log, LogFull, MOST_ENTRIES, NotAsked, NotIdle, Opening, Outcome, SubmitFault, Work,
-    WorkFault,
+    AskFault, Call, Cause, ClientId, Completion, DiscoveryEnd, Entry, IntoSetup, JoinFault,
+    LEAST_FREE, Log, LogFull, MOST_ENTRIES, NotAsked, NotIdle, Opening, Outcome, Setup,
+    SubmitFault, Work, WorkFault,
 };
 use rdm_wire::{DeviceSet, Frame, NoMemory, Request, copy_of_frame};
 use std::alloc::Global;
@@ -59,7 +59,7 @@ impl Session {
 
     /// A session without clients, neither paused nor closed. Its discovery runs are numbered from 1, and all else from
     /// 0. With a [`Config`](crate::Config) alone its runs search steadily; a [`Setup`](crate::Setup) also says how they
-    /// search. The log records both ([`Log::search`]). It writes the log's opening. The configuration must be valid
+    /// search. It writes the log's opening, which records both. The configuration must be valid
     /// ([`Config::is_valid`](crate::Config::is_valid)), and the log must have no entries ([`Log::entries`]).
     /// Err: out of memory; the log is returned unchanged.
     pub fn new<S: IntoSetup>(alloc: Global, setup: S, log: Log) -> Result<Session, (NoMemory, Log)>
@@ -69,13 +69,13 @@ impl Session {
         ensures err { IfErr result (λ e. e.1 ≡ log) }
     {
         let setup = setup.into_setup();
-        let opening = opening_of(&setup.config);
+        let opening = opening_of(&setup);
         let Ok(controller) = Controller::new(alloc, setup) else {
             return Err((NoMemory, log));
         };
         Ok(Session {
             controller,
-            log: log.after(opening, setup.search),
+            log: log.after(opening),
         })
     }
 
@@ -470,8 +470,8 @@ impl Session {
     /// has at most `8 + 370 n + 5 k` frames, and 205 more if it searches quickly.
     ///
     /// The numbers of requests, discoveries, runs and frames continue. The clients with their queue depths, the devices
-    /// and their run, and whether it is paused or closed are unchanged: all are in the new log's opening. Its runs
-    /// search as before. The new log has no entries.
+    /// and their run, how runs search, and whether it is paused or closed are unchanged: all are in the new log's
+    /// opening. The new log has no entries.
     /// Err: the session isn't idle. It is returned unchanged, and so is the new log.
     pub fn rotate(mut self, log: Log) -> Result<(Session, Log), (NotIdle, Session, Log)>
         requires empty { log.entries ≡ [] }
@@ -481,7 +481,6 @@ impl Session {
           opening = opening_after self.opening self.entries;
           entries = [];
           room = log.room;
-          search = self.search;
           gone = log.gone;
           keeps = log.keeps;
         }) }
@@ -491,30 +490,30 @@ impl Session {
         if !self.is_idle() {
             return Err((NotIdle, self, log));
         }
-        let next_log = log.after(self.controller.opening(), self.controller.search());
+        let next_log = log.after(self.controller.opening());
         let old_log = mem::replace(&mut self.log, next_log);
         Ok((self, old_log))
     }
 
-    /// The controller, and the log that describes its state. The controller searches as the session did.
+    /// The controller, and the log that describes its state.
     pub fn end(self) -> (Controller, Log)
         ensures log { result.1 ≡ self }
         ensures controller { StandsAfter self.opening self.entries result.0 }
-        ensures search { result.0.search ≡ self.search }
     {
         let Session { controller, log } = self;
         (controller, log)
     }
 }
 
-// The opening of a session with this configuration.
-pub(crate) fn opening_of(config: &Config) -> Opening
-    ensures { result ≡ opened config.now }
+// The opening of a session with this set-up.
+fn opening_of(setup: &Setup) -> Opening
+    ensures { result ≡ opened setup.now }
 {
     Opening {
-        source: config.source,
-        greatest: config.places,
-        budget: config.budget,
+        source: setup.config.source,
+        greatest: setup.config.places,
+        budget: setup.config.budget,
+        search: setup.search,
         places: ArrayVec::new(),
         paused: false,
         closed: false,

@@ -82,11 +82,11 @@ next_members o =
     number_member (codes "next_request") o.next_request ++ number_member (codes "next_ask") o.next_ask
     ++ (number_member (codes "next_run") o.next_run ++ number_member (codes "next_tn") o.next_tn)
 
--- the opening of a session's log whose runs search like this. The first entry after it has this number, from 0: that
--- many entries of the session came before
-abbrev pub session_opening : Opening → Search → ℕ → List ℕ
-session_opening o search first =
-    codes "{\"entry\":\"opening\"" ++ controller_members o.source o.budget search ++ client_members o
+-- the opening of a session's log. The first entry after it has this number, from 0: that many entries of the session
+-- came before
+abbrev pub session_opening : Opening → ℕ → List ℕ
+session_opening o first =
+    codes "{\"entry\":\"opening\"" ++ controller_members o.source o.budget o.search ++ client_members o
     ++ found_members o ++ next_members o ++ number_member (codes "number") first ++ codes "}\n"
 
 -- the log of a discovery: its opening, and its exchanges
@@ -95,5 +95,5 @@ discovery_log source search kind known budget exchanges =
     discovery_opening source search kind known budget ++ exchanges_text exchanges
 
 -- the log of a session: its opening, and its entries from this number on
-abbrev pub session_log : Opening → Search → ℕ → List Entry → List ℕ
-session_log o search first entries = session_opening o search first ++ log_text entries
+abbrev pub session_log : Opening → ℕ → List Entry → List ℕ
+session_log o first entries = session_opening o first ++ log_text entries

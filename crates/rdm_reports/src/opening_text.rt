@@ -21,19 +21,18 @@ use rdm_wire::{Device, Uid};
 use std::alloc::{AllocError, Global};
 use std::io::Write;
 
-/// Writes a session's log: its opening, how its runs search, and these entries, oldest first. The first of them has the
-/// number `first`, from 0: that many entries of the session came before. If memory runs out, the log fails.
+/// Writes a session's log: its opening and these entries, oldest first. The first of them has the number `first`, from
+/// 0: that many entries of the session came before. If memory runs out, the log fails.
 pub fn write_log<W: Write>(
     alloc: Global,
     log: &mut LogOutput<W>,
     opening: &Opening,
-    search: Search,
     first: u64,
     entries: &[Entry],
 )
-    ensures { Logs log.old log.new (session_log opening.now search first entries.now) }
+    ensures { Logs log.old log.new (session_log opening.now first entries.now) }
 {
-    write_opening(alloc, log, opening, search, first);
+    write_opening(alloc, log, opening, first);
     write_entries(alloc, log, entries);
 }
 
@@ -41,15 +40,14 @@ fn write_opening<W: Write>(
     alloc: Global,
     log: &mut LogOutput<W>,
     opening: &Opening,
-    search: Search,
     first: u64,
 )
-    ensures { Logs log.old log.new (session_opening opening.now search first) }
+    ensures { Logs log.old log.new (session_opening opening.now first) }
 {
     if !log.would_write() {
         return;
     }
-    match session_opening(alloc, opening, search, first) {
+    match session_opening(alloc, opening, first) {
         Ok(line) => log.write(&line),
         Err(_) => log.fail(),
     }
@@ -80,14 +78,13 @@ pub(crate) fn write_discovery_opening<W: Write>(
 pub fn session_opening(
     alloc: Global,
     opening: &Opening,
-    search: Search,
     first: u64,
 ) -> Result<Vec<u8>, AllocError>
-    ensures { IfOk result (λ line. line.items ≡ session_opening opening.now search first) }
+    ensures { IfOk result (λ line. line.items ≡ session_opening opening.now first) }
 {
     let mut line = Vec::new(alloc);
     line.extend_from_slice(OPENING)?;
-    write_controller(&mut line, opening.source, opening.budget, search)?;
+    write_controller(&mut line, opening.source, opening.budget, opening.search)?;
     write_clients(&mut line, opening)?;
     write_found(alloc, &mut line, opening)?;
     write_next(&mut line, opening)?;

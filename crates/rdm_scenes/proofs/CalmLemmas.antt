@@ -213,7 +213,7 @@ faults_follow s t k over is bound enough front back n r fault whole =
     calm : IsCalmRun k r (uids_of_scene s.devices)
     calm = record {
       calm = calm_of s t k over is r;
-      budgeted = enough_less k.search (uids_of_scene s.devices) (known_at_run k.opening r k.entries)
+      budgeted = enough_less k.opening.search (uids_of_scene s.devices) (known_at_run k.opening r k.entries)
           (run_kind r k.entries) k.opening.budget
           (known_few k.opening k.entries s t over.legal enough.few is.staying over.steps r) enough.budgeted;
     }

@@ -53,17 +53,17 @@ pub record AnswersFollowTheDevices (s : SimState) (k : LogState) : Type 0 where
 abbrev pub KnowsFew : SimState → LogState → Type 0
 KnowsFew s k = length (uids_of k.opening.devices) ≤ length (uids_of_scene s.devices)
 
--- the budget is at least as large as the bound on frames of the log's search, if all the scene's devices are known
+-- the budget is at least as large as the bound on frames of the search, if all the scene's devices are known
 pub record IsEnough (s : SimState) (k : LogState) : Type 0 where
   pub few : KnowsFew s k
   pub budgeted :
-      enough_by k.search (uids_of_scene s.devices) Incremental (uids_of_scene s.devices) ≤ k.opening.budget
+      enough_by k.opening.search (uids_of_scene s.devices) Incremental (uids_of_scene s.devices) ≤ k.opening.budget
 
 -- it is the default budget, and the search is steady
 pub record IsByDefault (s : SimState) (k : LogState) : Type 0 where
   pub few : KnowsFew s k
   pub budget : k.opening.budget ≡ DEFAULT_BUDGET
-  pub search : k.search ≡ Steady
+  pub search : k.opening.search ≡ Steady
 
 -- an Answer has a fault only if the queue is closed
 abbrev pub FaultsFollowAClose : LogState → Type 0

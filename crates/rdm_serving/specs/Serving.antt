@@ -42,7 +42,7 @@ pub record IsInTurns (turns : ℕ) (o : Outcomes) : Type 0 where
 pub record IsSetUp (source budget : ℕ) (search : Search) (k : LogState) : Type 0 where
   pub from : k.opening.source ≡ source
   pub frames : k.opening.budget ≡ budget
-  pub searched : k.search ≡ search
+  pub searched : k.opening.search ≡ search
 
 -- What is left of a session with these clients: the outcomes of all their calls, which agree with its log. The log has
 -- exactly these clients and calls, and all its entries are stored. The worker made at most this many exchanges, and

@@ -135,7 +135,6 @@ in_bound old es rs new explains each front back n r fault present is calm =
     bound = rw (
       ap (λ k. k.opening) added.grows,
       ap (λ k. k.room) added.grows,
-      ap (λ k. k.search) added.grows,
       ap (λ k. k.gone) added.grows,
       ap (λ k. k.keeps) added.grows,
     )

@@ -1,9 +1,7 @@
 -- How contracts see a log and a session.
 use Rattle.std.specs.Prelude.{ℕ, ◌+◌, ◌^◌, ◌≤◌, Bool, true, false, List, [], ◌++◌, nat_lt, length, drop}
 use Rattle.std.specs.Prelude.{if◌then◌else◌}
-use Rattle.rdm_agent.specs.declared.search.Search.{Search}
 use Rattle.rdm_agent.specs.declared.search.Search.TheVariants.{Steady}
-use Rattle.rdm_log.specs.declared.config.Config.{Config}
 use Rattle.rdm_log.specs.declared.config.Setup.{Setup}
 use Rattle.rdm_log.specs.declared.entry.Opening.{Opening}
 use Rattle.rdm_log.specs.declared.entry.Entry.{Entry}
@@ -11,14 +9,13 @@ use Rattle.rdm_log.specs.log.History.{free_room, reserved, is_paused, is_closed,
 use Rattle.rdm_log.specs.log.History.{next_request, next_ask, next_tn}
 use Rattle.rdm_log.specs.log.Runs.{next_run, known_devices, devices_run}
 
--- The opening, all entries after it, how many entries fit, and how the session's runs search. The oldest of the entries
--- may have been handed out, `gone` of them. They still count as entries, and as entries that fit. If the log keeps
--- nothing, none is stored, and none is handed out.
+-- The opening, all entries after it, and how many entries fit. The oldest of the entries may have been handed out,
+-- `gone` of them. They still count as entries, and as entries that fit. If the log keeps nothing, none is stored, and
+-- none is handed out.
 pub record LogState : Type 0 where
   pub opening : Opening
   pub entries : List Entry
   pub room : ℕ
-  pub search : Search
   pub gone : ℕ
   pub keeps : Bool
 
@@ -57,6 +54,7 @@ blank_opening = record {
   source = 0;
   greatest = 0;
   budget = 0;
+  search = Steady;
   places = record { items = [] };
   paused = false;
   closed = false;
@@ -74,7 +72,6 @@ emptied_log keeps room = record {
   opening = blank_opening;
   entries = [];
   room = room;
-  search = Steady;
   gone = 0;
   keeps = keeps;
 }
@@ -87,20 +84,21 @@ nothing_log = emptied_log false (2 ^ 62)
 abbrev pub blank_log : ℕ → LogState
 blank_log room = emptied_log true room
 
--- the opening of a session with this configuration: no clients, no devices, neither paused nor closed; the first run
--- will be number 1, and all other numbers begin at 0
-abbrev pub opened : Config → Opening
-opened config = record blank_opening {
-  source = config.source;
-  greatest = config.places;
-  budget = config.budget;
+-- the opening of a session with this set-up: no clients, no devices, neither paused nor closed; the first run will be
+-- number 1, and all other numbers begin at 0
+abbrev pub opened : Setup → Opening
+opened setup = record blank_opening {
+  source = setup.config.source;
+  greatest = setup.config.places;
+  budget = setup.config.budget;
+  search = setup.search;
   next_run = 1;
 }
 
--- the log of a session with this set-up, at its start: it has that opening, and says how runs search; its entries and
--- its capacity are those of the log that the session was given
+-- the log of a session with this set-up, at its start: it has that opening; its entries and its capacity are those of
+-- the log that the session was given
 abbrev pub begun : Setup → LogState → LogState
-begun setup k = record k { opening = opened setup.config; search = setup.search }
+begun setup k = record k { opening = opened setup }
 
 -- the opening of a log that continues after these entries
 abbrev pub opening_after : Opening → List Entry → Opening
@@ -108,6 +106,7 @@ opening_after o h = record {
   source = o.source;
   greatest = o.greatest;
   budget = o.budget;
+  search = o.search;
   places = record { items = places o h };
   paused = is_paused o h;
   closed = is_closed o h;

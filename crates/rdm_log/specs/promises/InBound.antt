@@ -12,7 +12,7 @@ use Rattle.rdm_log.specs.log.LogState.{LogState, grown}
 pub record IsCalmRun (k : LogState) (r : ℕ) (present : List ℕ) : Type 0 where
   pub calm : IsCalm present (run_exchanges r k.entries)
   pub budgeted :
-      enough_by k.search present (run_kind r k.entries) (known_at_run k.opening r k.entries) ≤ k.opening.budget
+      enough_by k.opening.search present (run_kind r k.entries) (known_at_run k.opening r k.entries) ≤ k.opening.budget
 
 -- if this entry after this log is an Answer with a fault by a calm run, then the queue is closed
 abbrev pub FaultNeedsClose : LogState → Entry → Type 0

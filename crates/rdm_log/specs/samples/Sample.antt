@@ -28,6 +28,7 @@ sample_opening = record {
   source = 0x7a7000000100;
   greatest = 1;
   budget = 96008;
+  search = Steady;
   places = record { items = [] };
   paused = false;
   closed = false;
@@ -85,7 +86,7 @@ closed_two = accepted_two ++ Close ∷ []
 
 -- a session that kept this log, with capacity for eleven entries
 abbrev pub logged_with : List Entry → LogState
-logged_with h = record { opening = sample_opening; entries = h; room = 11; search = Steady; gone = 0; keeps = true }
+logged_with h = record { opening = sample_opening; entries = h; room = 11; gone = 0; keeps = true }
 
 -- the calls of closed_log, and their answers
 abbrev pub sample_events : List Event

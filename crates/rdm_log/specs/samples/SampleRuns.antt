@@ -4,7 +4,6 @@ use Rattle.std.specs.Global.{Box}
 use Rattle.rdm_wire.specs.declared.device.Device.{Device}
 use Rattle.rdm_wire.specs.CommandFrames.{branch_frame, mute_frame, unmute_frame}
 use Rattle.rdm_join.specs.declared.event.LineEvent.TheVariants.{Reply, Failed}
-use Rattle.rdm_agent.specs.declared.search.Search.TheVariants.{Steady}
 use Rattle.rdm_agent.specs.declared.kind.Kind.{Kind}
 use Rattle.rdm_agent.specs.declared.kind.Kind.TheVariants.{Full, Incremental}
 use Rattle.rdm_agent.specs.declared.fault.AgentFault.TheVariants.{LineFailed, Aborted}
@@ -191,7 +190,7 @@ wasted_opening = record sample_opening { budget = 8 }
 
 -- a session with that opening and these entries
 abbrev pub wasted_with : List Entry → LogState
-wasted_with h = record { opening = wasted_opening; entries = h; room = 40; search = Steady; gone = 0; keeps = true }
+wasted_with h = record { opening = wasted_opening; entries = h; room = 40; gone = 0; keeps = true }
 
 -- the log of the failed run, after a Collect
 abbrev pub collected_failed : List Entry

@@ -49,16 +49,17 @@ clients_after : (o : Opening) (h : List Entry) (s : QueueState) → StandsAfter 
 clients_after o h s after = client_facts o h after.legal.each
 
 -- a queue without calls
-pub first_after : (setup : Setup) → StandsAfter (opened setup.config) [] (first_state setup)
+pub first_after : (setup : Setup) → StandsAfter (opened setup) [] (first_state setup)
 unfolding joins accepts asks sends cames finishes answers collectors traded of_request verdicts awaited is_paused
     is_closed answers_to last_run
 first_after setup = record {
-  legal = empty (opened setup.config);
+  legal = empty (opened setup);
   goes_on = tt;
   stands = record {
     source_is = refl;
     greatest_is = refl;
     budget_is = refl;
+    search_is = refl;
     places_are = refl;
     paused_is = refl;
     closed_is = refl;

@@ -202,6 +202,7 @@ stands_begin o h s frame each may run_facts ask_facts even none way some from st
           ← stands.asked_are,
           ← stands.devices_are,
           ← stands.budget_is,
+          ← stands.search_is,
         ) starts;
         stopped = λ no. absurd (false≢true no);
         left = rw (
@@ -252,7 +253,7 @@ stands_run_came o h s tn event each may facts was stands =
     seen : Seen
     seen = record { asked = asked_in w.frame.items; heard = heard_in w.frame.items (bytes_heard event) }
 
-    heard : HasRunBy s.search (run_kind w.run.number h) (known_at_run o w.run.number h) o.budget false
+    heard : HasRunBy o.search (run_kind w.run.number h) (known_at_run o w.run.number h) o.budget false
         (run_exchanges w.run.number h ++ seen ∷ [])
         (fed s.agent (heard_in (op_frame (next_op s.agent) o.source tn) (bytes_heard event)))
     heard = hears-has_run s.agent _ seen (next_asked s.agent w.goes_on ∙ ap Some (sym w.asks))
@@ -273,7 +274,7 @@ stands_run_came o h s tn event each may facts was stands =
           served_stays w.run.number h (e ∷ []) started,
           entries_before_run_stays w.run.number h (e ∷ []) started,
         )
-            (subst (λ n. HasRunBy s.search (run_kind w.run.number h) (known_at_run o w.run.number h) o.budget false
+            (subst (λ n. HasRunBy o.search (run_kind w.run.number h) (known_at_run o w.run.number h) o.budget false
             (run_exchanges w.run.number h ++ seen ∷ [])
             (fed s.agent (heard_in (op_frame (next_op s.agent) n tn) (bytes_heard event))))
             (sym stands.source_is) heard);
@@ -351,6 +352,7 @@ stands_answer o h s a q f found run agent devices devices_from each may asked_fa
       source_is = stands.source_is;
       greatest_is = stands.greatest_is;
       budget_is = stands.budget_is;
+      search_is = stands.search_is;
       places_are = rw (joins_same h e refl) stands.places_are;
       paused_is = stands.paused_is ∙ sym (is_paused-push o h e);
       closed_is = stands.closed_is ∙ sym (is_closed-push o h e);

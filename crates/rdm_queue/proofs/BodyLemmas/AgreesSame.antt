@@ -70,7 +70,6 @@ devices_run_same o h k n same is = rw same is
 -- A state with what another says of the line: what was sent and heard, and the run.
 abbrev pub with_line : QueueState → QueueState → QueueState
 with_line s line = record s {
-  search = line.search;
   next_tn = line.next_tn;
   awaited = line.awaited;
   under_way = line.under_way;
@@ -119,7 +118,7 @@ line_same o h k s new same stands = record {
   standing =
       rw (same.same_finishes, verdicts_same h k (oldest_number o h) same.same_sends same.same_cames) stands.standing;
   next_run_is = rw same.running.same_last stands.next_run_is;
-  run_is = run_same o h k s (with_line new s) s.run same.running refl refl (inl refl) stands.run_is;
+  run_is = run_same o h k s (with_line new s) s.run same.running refl (inl refl) stands.run_is;
 }
 
 -- A frame was sent, or a reply heard: all else is as before.
@@ -162,6 +161,7 @@ traded o h e s new each may is stands line = record {
   source_is = stands.source_is;
   greatest_is = stands.greatest_is;
   budget_is = stands.budget_is;
+  search_is = stands.search_is;
   places_are = rw joins_are stands.places_are;
   paused_is = stands.paused_is ∙ sym (is_paused-push o h e ∙ none.paused (is_paused o h));
   closed_is = stands.closed_is ∙ sym (is_closed-push o h e ∙ none.closed (is_closed o h));
@@ -226,6 +226,7 @@ stands_same o h e s ps paused closed owed each may work places_are paused_is clo
       source_is = stands.source_is;
       greatest_is = stands.greatest_is;
       budget_is = stands.budget_is;
+      search_is = stands.search_is;
       places_are = places_are;
       paused_is = paused_is;
       closed_is = closed_is;

@@ -25,7 +25,6 @@ use Rattle.rdm_queue.proofs.BodyLemmas.EndLemmas.{ends_amid, ends_in_bound_amid,
 use Rattle.rdm_queue.specs.body.Agrees.{ForEachBlock, Ends, FinishesAll}
 use Rattle.rdm_queue.specs.promises.EachLog.{ForEachLog, StandsWith, AddsToEach}
 use Rattle.rdm_queue.proofs.BodyLemmas.RingLemmas.{all_push}
-use Rattle.rdm_queue.proofs.BodyLemmas.SearchLemmas.{given_same, ended_same}
 use Rattle.rdm_queue.proofs.BodyLemmas.TakeLemmas.{take_after, none_after}
 use Rattle.rdm_queue.proofs.BodyLemmas.AfterLemmas.{join_fault_is, join_after, join_refused_after, first_fault_is}
 use Rattle.rdm_queue.proofs.BodyLemmas.AfterLemmas.{number_is, work_after, work_refused_after, oldest_after}
@@ -36,67 +35,53 @@ pub join_adds : (r : Result ClientId JoinFault) (s new : QueueState) (n : ℕ)
     → IfOk r (λ c. (first_join_fault s n ≡ None) × (c.0 ≡ length s.places) × (new ≡ joins_client s n))
     → IfErr r (λ fault. RefusesJoin (first_join_fault s n) fault) → OnErr r (new ≡ s)
     → AddsToEach s (λ k. JoinAdds k.opening k.entries n r) new
-join_adds (Ok c) s new n joined refused same = record {
-  search = ap (λ (q : QueueState). q.search) joined.2;
-  each = λ k at after.
-      let passes = sym (join_fault_is k.opening k.entries s n after.stands) ∙ joined.0 in
-      record {
-        block = Join c n ∷ [];
-        adds = (passes, joined.1 ∙ ap length after.stands.places_are, refl);
-        after = rw joined.2 (join_after k.opening k.entries s c n passes joined.1 after);
-      };
-}
-join_adds (Err fault) s new n joined refused same = record {
-  search = ap (λ (q : QueueState). q.search) same;
-  each = λ k at after.
-      let refuses : RefusesJoin (join_fault k.opening k.entries n)
-      fault = rw (join_fault_is k.opening k.entries s n after.stands) at refused in
-      record {
-        block = join_refused n fault ∷ [];
-        adds = (refuses, refl);
-        after = rw same (join_refused_after k.opening k.entries s n fault refuses after);
-      };
-}
+join_adds (Ok c) s new n joined refused same =
+    λ k after.
+        let passes = sym (join_fault_is k.opening k.entries s n after.stands) ∙ joined.0 in
+        record {
+          block = Join c n ∷ [];
+          adds = (passes, joined.1 ∙ ap length after.stands.places_are, refl);
+          after = rw joined.2 (join_after k.opening k.entries s c n passes joined.1 after);
+        }
+join_adds (Err fault) s new n joined refused same =
+    λ k after.
+        let refuses : RefusesJoin (join_fault k.opening k.entries n)
+        fault = rw (join_fault_is k.opening k.entries s n after.stands) at refused in
+        record {
+          block = join_refused n fault ∷ [];
+          adds = (refuses, refl);
+          after = rw same (join_refused_after k.opening k.entries s n fault refuses after);
+        }
 
 pub work_adds : (r : Result ℕ (WorkFault × Work)) (s new : QueueState) (c : ClientId) (work : Work)
     → IfOk r (λ n. (first_fault s c.0 work ≡ None) × (n ≡ number_for s work) × (new ≡ accepts_work s c.0 work))
     → IfErr r (λ e. (first_fault s c.0 work ≡ Some e.0) × (e.1 ≡ work)) → OnErr r (new ≡ s)
     → AddsToEach s (λ k. WorkAdds k.opening k.entries c work (number_or_fault r)) new
-work_adds (Ok n) s new c work accepted refused same = record {
-  search = ap (λ (q : QueueState). q.search) accepted.2 ∙ searches work;
-  each = λ k at after.
-      let passes = sym (first_fault_is k.opening k.entries s c.0 work after) ∙ accepted.0 in
-      record {
-        block = work_accepted c n work ∷ [];
-        adds = (passes, accepted.1 ∙ number_is k.opening k.entries s work after, refl);
-        after = rw accepted.2 (work_after k.opening k.entries s c n work passes accepted.1 after);
-      };
-}
-  where
-    searches : (w : Work) → (accepts_work s c.0 w).search ≡ s.search
-    searches (Submit request) = refl
-    searches (Discover kind) = refl
-work_adds (Err e) s new c work accepted refused same = record {
-  search = ap (λ (q : QueueState). q.search) same;
-  each = λ k at after.
-      let refuses = sym (first_fault_is k.opening k.entries s c.0 work after) ∙ refused.0 in
-      record {
-        block = work_refused c work e.0 ∷ [];
-        adds = (refuses, refl);
-        after = rw same (work_refused_after k.opening k.entries s c work e.0 refuses after);
-      };
-}
+work_adds (Ok n) s new c work accepted refused same =
+    λ k after.
+        let passes = sym (first_fault_is k.opening k.entries s c.0 work after) ∙ accepted.0 in
+        record {
+          block = work_accepted c n work ∷ [];
+          adds = (passes, accepted.1 ∙ number_is k.opening k.entries s work after, refl);
+          after = rw accepted.2 (work_after k.opening k.entries s c n work passes accepted.1 after);
+        }
+work_adds (Err e) s new c work accepted refused same =
+    λ k after.
+        let refuses = sym (first_fault_is k.opening k.entries s c.0 work after) ∙ refused.0 in
+        record {
+          block = work_refused c work e.0 ∷ [];
+          adds = (refuses, refl);
+          after = rw same (work_refused_after k.opening k.entries s c work e.0 refuses after);
+        }
 
 pub given_each : (r : Option (Owner × ArrayVec ℕ)) (s new : QueueState)
     → IfSome r (λ given. IsGiven s given.0 given.1 new)
     → IfSome r (λ given. AddsToEach s
     (λ k block. MaySend k.opening k.entries given.0 given.1 × (block ≡ Send given.0 given.1 ∷ [])) new)
 given_each None s new given = tt
-given_each (Some g) s new given = record {
-  search = given_same s new g.0 g.1 given.which;
-  each = λ k at after. let sent = take_after k.opening k.entries s g.0 g.1 new given after in
-      record { block = Send g.0 g.1 ∷ []; adds = (sent.may, refl); after = sent.after };
-}
+given_each (Some g) s new given =
+    λ k after. let sent = take_after k.opening k.entries s g.0 g.1 new given after in
+        record { block = Send g.0 g.1 ∷ []; adds = (sent.may, refl); after = sent.after }
 
 pub none_each : (r : Option (Owner × ArrayVec ℕ)) (s new : QueueState) → IfNone r ((to_send s ≡ None) × (new ≡ s))
     → IfNone r (ForEachLog s (λ o h. NoSend o h) × (new ≡ s))
@@ -107,26 +92,22 @@ none_each None s new none = ((λ o h after. none_after o h s none.0 after), none
 pub collecting_adds : (s new : QueueState) (c : ClientId) (outcome : Outcome)
     → CollectsOldest s c.0 (outcome_value outcome) new
     → AddsToEach s (λ k. CollectAdds k.opening k.entries c (Some outcome)) new
-collecting_adds s new c outcome collecting = record {
-  search = ap (λ (q : QueueState). q.search) collecting.new_is;
-  each = λ k at after. record {
-    block = Collect c ∷ [];
-    adds = (oldest_after k.opening k.entries s c outcome (sym collecting.oldest) after, refl);
-    after = rw collecting.new_is (collect_after k.opening k.entries s c outcome (sym collecting.oldest) after);
-  };
-}
+collecting_adds s new c outcome collecting =
+    λ k after. record {
+      block = Collect c ∷ [];
+      adds = (oldest_after k.opening k.entries s c outcome (sym collecting.oldest) after, refl);
+      after = rw collecting.new_is (collect_after k.opening k.entries s c outcome (sym collecting.oldest) after);
+    }
 
 pub collect_adds : (r : Option Outcome) (s new : QueueState) (c : ClientId)
     → option_map outcome_value r ≡ slice_get (owed_to c.0 s) 0 → OnSome r (new ≡ collects_oldest s c.0)
     → IfNone r (new ≡ s) → AddsToEach s (λ k. CollectAdds k.opening k.entries c r) new
-collect_adds None s new c told removed same = record {
-  search = ap (λ (q : QueueState). q.search) same;
-  each = λ k at after. record {
-    block = [];
-    adds = (none_owed_after k.opening k.entries s c.0 told after, refl);
-    after = rw (same, append-nil) after;
-  };
-}
+collect_adds None s new c told removed same =
+    λ k after. record {
+      block = [];
+      adds = (none_owed_after k.opening k.entries s c.0 told after, refl);
+      after = rw (same, append-nil) after;
+    }
 collect_adds (Some outcome) s new c told removed same = collecting_adds s new c outcome (record {
   oldest = sym told;
   new_is = removed;
@@ -204,9 +185,7 @@ pub ends_each : (r : Option Entry) (s new : QueueState) → IfSome r (λ entry. 
 ends_each None s new is = tt
 ends_each (Some entry) s new is = record {
   is = is_end s new entry is;
-  search = ended_same s new entry is;
-  each = λ k same amid.
-      (ends_in_bound_amid k s new entry same is amid, ends_amid k.opening k.entries s new entry is amid);
+  each = λ k amid. (ends_in_bound_amid k s new entry is amid, ends_amid k.opening k.entries s new entry is amid);
 }
 
 pub settled_each : (r : Option Entry) (s new : QueueState) → IfNone r (HasNothingDue s × (new ≡ s))
@@ -239,17 +218,12 @@ EndedSoFar k s =
 
 -- an entry more of what was due
 pub one_more_ended : (k : LogState) (r : Option Entry) (s new : QueueState) → is_some r ≡ true
-    → IfSome r (λ entry. Ends s entry new) → s.search ≡ k.search → EndedSoFar k s → EndedSoFar k new
-one_more_ended k None s new some ends same so_far = absurd (false≢true some)
-one_more_ended k (Some entry) s new some ends same so_far =
-    let here = ends.each (grown k so_far.0) same so_far.3 in (
+    → IfSome r (λ entry. Ends s entry new) → EndedSoFar k s → EndedSoFar k new
+one_more_ended k None s new some ends so_far = absurd (false≢true some)
+one_more_ended k (Some entry) s new some ends so_far =
+    let here = ends.each (grown k so_far.0) so_far.3 in (
       so_far.0 ++ entry ∷ [],
       all_push (λ r. is_result r ≡ true) so_far.0 entry so_far.1 ends.is,
       block_more k so_far.0 entry so_far.2 here.0,
       rw (← append_assoc k.entries so_far.0 (entry ∷ [])) here.1,
     )
-
-pub ends_search : (r : Option Entry) (s new : QueueState) → is_some r ≡ true → IfSome r (λ entry. Ends s entry new)
-    → new.search ≡ s.search
-ends_search None s new some ends = absurd (false≢true some)
-ends_search (Some entry) s new some ends = ends.search

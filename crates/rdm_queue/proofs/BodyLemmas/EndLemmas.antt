@@ -142,7 +142,7 @@ ends_amid o h s new entry (ByClose e) amid = unserved_amid o h s new entry e.no_
 
 -- an Answer with a fault needs a close, on a calm line with a sufficient budget
 in_bound_at : (k : LogState) (n r : ℕ) (a : AgentState) (aborted : Bool)
-    → HasRunBy k.search (run_kind r k.entries) (known_at_run k.opening r k.entries) k.opening.budget aborted
+    → HasRunBy k.opening.search (run_kind r k.entries) (known_at_run k.opening r k.entries) k.opening.budget aborted
     (run_exchanges r k.entries) a
     → (aborted ≡ true → is_closed k.opening k.entries ≡ true) → next_op a ≡ ops.End
     → (f : Option AgentFault) → fault_of a.phase ≡ f → FaultNeedsClose k (Answer n r f)
@@ -150,25 +150,19 @@ in_bound_at k n r a aborted s closed end None is = tt
 in_bound_at k n r a true s closed end (Some fault) is = λ present calm. closed refl
 in_bound_at k n r a false s closed end (Some fault) is =
     λ present calm. absurd (none-some fault
-    (sym ((ends_in_bound_by k.search _ _ _ (run_exchanges r k.entries) a s.devices (runs-own _ _ _ _ a s) present
+    (sym ((ends_in_bound_by k.opening.search _ _ _ (run_exchanges r k.entries) a s.devices (runs-own _ _ _ _ a s) present
     calm.calm calm.budgeted).no_fault (next_none a end)) ∙ is))
 
-pub ends_in_bound_amid : (k : LogState) (s new : QueueState) (entry : Entry) → s.search ≡ k.search → IsEnded s entry new
+pub ends_in_bound_amid : (k : LogState) (s new : QueueState) (entry : Entry) → IsEnded s entry new
     → StandsAmid k.opening k.entries s → FaultNeedsClose k entry
-ends_in_bound_amid k s new entry same (ByRun e) amid =
+ends_in_bound_amid k s new entry (ByRun e) amid =
     let run = running k.opening k.entries s e.answers.run e.answers.run_is amid.stands in
     let ends = at_end k.opening k.entries s e.answers.run run amid.stands in
-    let searched : HasRunBy k.search (run_kind e.answers.run.number k.entries)
-    (known_at_run k.opening e.answers.run.number k.entries) k.opening.budget ends.aborted
-    (run_exchanges e.answers.run.number k.entries) (agent_at_end s) =
-    subst (λ x. HasRunBy x (run_kind e.answers.run.number k.entries)
-    (known_at_run k.opening e.answers.run.number k.entries) k.opening.budget ends.aborted
-    (run_exchanges e.answers.run.number k.entries) (agent_at_end s)) same ends.has_run in
     rw e.answers.entry_is
-    (in_bound_at k e.answers.asked.number e.answers.run.number (agent_at_end s) ends.aborted searched ends.closed
+    (in_bound_at k e.answers.asked.number e.answers.run.number (agent_at_end s) ends.aborted ends.has_run ends.closed
     e.answers.ended (fault_of (agent_at_end s).phase) refl)
-ends_in_bound_amid k s new entry same (ByResult e) amid = rw e.finishes.entry_is tt
-ends_in_bound_amid k s new entry same (ByClose e) amid =
+ends_in_bound_amid k s new entry (ByResult e) amid = rw e.finishes.entry_is tt
+ends_in_bound_amid k s new entry (ByClose e) amid =
     rw e.answers.entry_is (λ present calm. closed_of k.opening k.entries s e.answers.closing amid.stands)
 
 -- if nothing is to be ended, nothing is due: the results

@@ -32,7 +32,7 @@ use Rattle.rdm_log.proofs.LogLemmas.BegunLemmas.{before_front}
 -- the agent at the end stands after the run's exchanges
 pub record AtEnd (o : Opening) (h : List Entry) (s : QueueState) (r : RunState) : Type 0 where
   pub aborted : Bool
-  pub has_run : HasRunBy s.search (run_kind r.number h) (known_at_run o r.number h) o.budget aborted
+  pub has_run : HasRunBy o.search (run_kind r.number h) (known_at_run o r.number h) o.budget aborted
       (run_exchanges r.number h) (agent_at_end s)
   pub closed : aborted ≡ true → is_closed o h ≡ true
 
@@ -50,7 +50,7 @@ at_end o h s r run stands = by_closing (is_closing s) refl
   where
     Ends : AgentState → Type 0
     Ends a = (aborted : Bool)
-        × HasRunBy s.search (run_kind r.number h) (known_at_run o r.number h) o.budget aborted
+        × HasRunBy o.search (run_kind r.number h) (known_at_run o r.number h) o.budget aborted
         (run_exchanges r.number h) a
         × (aborted ≡ true → is_closed o h ≡ true)
 
@@ -89,7 +89,7 @@ at_end o h s r run stands = by_closing (is_closing s) refl
     shown a is ends = record {
       aborted = ends.0;
       has_run =
-          subst (λ b. HasRunBy s.search (run_kind r.number h) (known_at_run o r.number h) o.budget ends.0
+          subst (λ b. HasRunBy o.search (run_kind r.number h) (known_at_run o r.number h) o.budget ends.0
           (run_exchanges r.number h) b) (sym is) ends.1;
       closed = ends.2;
     }

@@ -113,6 +113,7 @@ rotated o h s idle after = record {
     source_is = stands.source_is;
     greatest_is = stands.greatest_is;
     budget_is = stands.budget_is;
+    search_is = stands.search_is;
     places_are = rw append-nil stands.places_are;
     paused_is = stands.paused_is;
     closed_is = stands.closed_is;
@@ -153,19 +154,16 @@ pub session_rotated : (o : Opening) (h : List Entry) (s : QueueState) (room gone
       opening = opening_after o h;
       entries = [];
       room = room;
-      search = s.search;
       gone = gone;
       keeps = keeps;
     })
 unfolding accepts asks finishes answers collectors awaited is_closed
 session_rotated o h s room gone keeps some idle after = record {
   after = rotated o h s idle after;
-  search_is = refl;
   in_bound = empty_in_bound (record {
     opening = opening_after o h;
     entries = [];
     room = room;
-    search = s.search;
     gone = gone;
     keeps = keeps;
   }) refl;
@@ -183,6 +181,7 @@ opening_is o h s stands =
       stands.source_is,
       stands.greatest_is,
       stands.budget_is,
+      stands.search_is,
       stands.places_are,
       stands.paused_is,
       stands.closed_is,

@@ -4,18 +4,17 @@ use Rattle.rdm_queue.proofs.Common.{QueueState, RunState, RunIs, has_begun, last
 use Rattle.rdm_log.proofs.LogLemmas.RunningLemmas.{open_same, kind_same, known_at_same}
 
 pub run_same : (o : Opening) (h k : List Entry) (s new : QueueState) (run : Option RunState) → SameRunning o h k
-    → new.agent ≡ s.agent → new.search ≡ s.search → (new.under_way ≡ s.under_way) ⊎ (new.under_way ≡ false)
+    → new.agent ≡ s.agent → (new.under_way ≡ s.under_way) ⊎ (new.under_way ≡ false)
     → RunIs o h s run → RunIs o k new run
-run_same o h k s new None same agent search way is = record {
+run_same o h k s new None same agent way is = record {
   none_open = open_same o h k same ∙ is.none_open;
   none_left = rw (same.same_asked, same.same_answers) is.none_left;
 }
-run_same o h k s new (Some r) same agent search way is = record {
+run_same o h k s new (Some r) same agent way is = record {
   last = same.same_last ∙ is.last;
   aborted = is.aborted;
   has_run = rw (
     agent,
-    search,
     kind_same o h k r.number same begun,
     known_at_same o h k r.number same begun,
     same.same_exchanges r.number,

@@ -29,31 +29,28 @@ room_grown k block room each free = within (used_block k.opening k.entries block
     within e r = omega arith
 
 pub session_grown : (s new : QueueState) (k : LogState) (block : List Entry) → SessionInvariant s k
-    → StandsAfter k.opening (k.entries ++ block) new → new.search ≡ s.search → AnswersInBound k block
+    → StandsAfter k.opening (k.entries ++ block) new → AnswersInBound k block
     → added_by block ≤ free_entries k → SessionInvariant new (grown k block)
-session_grown s new k block kept after same bound free = record {
+session_grown s new k block kept after bound free = record {
   after = after;
-  search_is = same ∙ kept.search_is;
   in_bound = in_bound_grows k block kept.in_bound bound;
   room = room_grown k block kept.room after.legal.each free;
 }
 
 pub amid_grown : (s new : QueueState) (k : LogState) (e : Entry) → SessionAmid s k
-    → StandsAmid k.opening (k.entries ++ e ∷ []) new → new.search ≡ s.search → FaultNeedsClose k e → added e ≡ 0
+    → StandsAmid k.opening (k.entries ++ e ∷ []) new → FaultNeedsClose k e → added e ≡ 0
     → SessionAmid new (grown k (e ∷ []))
-amid_grown s new k e before amid same bound none = record {
+amid_grown s new k e before amid bound none = record {
   amid = amid;
-  search_is = same ∙ before.search_is;
   in_bound = in_bound_grows k (e ∷ []) before.in_bound (bound, tt);
   room = room_grown k (e ∷ []) before.room amid.each (omega (arith, none));
 }
 
 pub amid_begun : (s new : QueueState) (k : LogState) (e : Entry) → SessionInvariant s k
-    → StandsAmid k.opening (k.entries ++ e ∷ []) new → new.search ≡ s.search → FaultNeedsClose k e → added e ≡ 0
+    → StandsAmid k.opening (k.entries ++ e ∷ []) new → FaultNeedsClose k e → added e ≡ 0
     → SessionAmid new (grown k (e ∷ []))
-amid_begun s new k e kept amid same bound none = record {
+amid_begun s new k e kept amid bound none = record {
   amid = amid;
-  search_is = same ∙ kept.search_is;
   in_bound = in_bound_grows k (e ∷ []) kept.in_bound (bound, tt);
   room = room_grown k (e ∷ []) kept.room amid.each (omega (arith, none));
 }
@@ -120,23 +117,20 @@ all_results_more (x ∷ block) e all is = (all.0, all_results_more block e all.1
 -- a session that begins
 pub session_first : (s : QueueState) (setup : Setup) (room gone : ℕ) (keeps : Bool) → 1 ≤ room → IsSetUp setup s
     → SessionInvariant s (record {
-      opening = opened setup.config;
+      opening = opened setup;
       entries = [];
       room = room;
-      search = setup.search;
       gone = gone;
       keeps = keeps;
     })
 unfolding accepts asks finishes answers collectors awaited is_closed
 session_first s setup room gone keeps some is = record {
-  after = is.after;
-  search_is = is.search;
+  after = is;
   room = omega (arith, some);
   in_bound = empty_in_bound (record {
-    opening = opened setup.config;
+    opening = opened setup;
     entries = [];
     room = room;
-    search = setup.search;
     gone = gone;
     keeps = keeps;
   }) refl;
@@ -147,7 +141,6 @@ pub session_drained : (s : QueueState) (k : LogState) (room : ℕ) → SessionIn
     → reserved k.opening k.entries ≤ room → SessionInvariant s (drained k room)
 session_drained s k room kept fits = record {
   after = kept.after;
-  search_is = kept.search_is;
   in_bound = record {
     closed_first = λ front back n r fault present is calm.
         kept.in_bound.closed_first front back n r fault present is

@@ -161,7 +161,7 @@ may_run o h s owner frame new free not_closed gives after = record {
     run : IsRunning o h s gives.run
     run = running o h s gives.run gives.run_is after.stands
 
-    has_run : HasRunBy s.search (run_kind gives.run.number h) (known_at_run o gives.run.number h) o.budget false
+    has_run : HasRunBy o.search (run_kind gives.run.number h) (known_at_run o gives.run.number h) o.budget false
         (run_exchanges gives.run.number h) s.agent
     has_run = not_stopped _ _ _ run.aborted _ s.agent run.has_run gives.goes_on
 

@@ -66,7 +66,7 @@ IsPending o h s (Some (awaiting.Run tn)) = AwaitsRun o h s tn
 pub record IsRunning (o : Opening) (h : List Entry) (s : QueueState) (r : RunState) : Type 0 where
   pub last : last_run h ≡ Some r.number
   pub aborted : Bool
-  pub has_run : HasRunBy s.search (run_kind r.number h) (known_at_run o r.number h) o.budget aborted
+  pub has_run : HasRunBy o.search (run_kind r.number h) (known_at_run o r.number h) o.budget aborted
       (run_exchanges r.number h) s.agent
   pub stopped : aborted ≡ true → (is_closed o h ≡ true) × (awaited h ≡ false)
   -- it serves the first of the unanswered discoveries
@@ -96,6 +96,7 @@ pub record Agrees (o : Opening) (h : List Entry) (s : QueueState) : Type 0 where
   pub source_is : s.source ≡ o.source
   pub greatest_is : s.greatest ≡ o.greatest
   pub budget_is : s.budget ≡ o.budget
+  pub search_is : s.search ≡ o.search
   pub places_are : s.places ≡ places o h
   pub paused_is : s.paused ≡ is_paused o h
   pub closed_is : s.closed ≡ is_closed o h
@@ -138,18 +139,15 @@ abbrev pub ForEachBlock : QueueState → (Opening → List Entry → Type 0) →
 ForEachBlock s P = (o : Opening) (h : List Entry) → StandsAmid o h s → P o h
 
 -- For each log that describes old and for which this holds, that log with one more entry describes new within a block.
--- Runs search as before.
-pub record AddsAmid (old : QueueState) (May : Opening → List Entry → Type 0) (e : Entry) (new : QueueState)
-    : Type 0 where
-  pub search : new.search ≡ old.search
-  pub each : (o : Opening) (h : List Entry) → StandsAfter o h old → May o h → StandsAmid o (h ++ e ∷ []) new
+abbrev pub AddsAmid : QueueState → (Opening → List Entry → Type 0) → Entry → QueueState → Type 0
+AddsAmid old May e new =
+    (o : Opening) (h : List Entry) → StandsAfter o h old → May o h → StandsAmid o (h ++ e ∷ []) new
 
 -- What was due next was ended with this entry, a Finish or an Answer in bound. This holds for each log that describes
--- old within a block and says how it searches. Runs search as before.
+-- old within a block.
 pub record Ends (old : QueueState) (e : Entry) (new : QueueState) : Type 0 where
   pub is : is_result e ≡ true
-  pub search : new.search ≡ old.search
-  pub each : (k : LogState) → old.search ≡ k.search → StandsAmid k.opening k.entries old
+  pub each : (k : LogState) → StandsAmid k.opening k.entries old
       → FaultNeedsClose k e × StandsAmid k.opening (k.entries ++ e ∷ []) new
 
 -- Finishes and Answers, until nothing is due; the Answers are in bound
@@ -159,8 +157,6 @@ pub record FinishesAll (k : LogState) (new : QueueState) : Type 0 where
   pub in_bound : AnswersInBound k results
   pub after : StandsAfter k.opening (k.entries ++ results) new
 
--- All that was due was ended, for each log that describes old within a block and says how it searches. Runs search as
--- before.
-pub record FinishesEach (old new : QueueState) : Type 0 where
-  pub search : new.search ≡ old.search
-  pub each : (k : LogState) → old.search ≡ k.search → StandsAmid k.opening k.entries old → FinishesAll k new
+-- all that was due was ended, for each log that describes old within a block
+abbrev pub FinishesEach : QueueState → QueueState → Type 0
+FinishesEach old new = (k : LogState) → StandsAmid k.opening k.entries old → FinishesAll k new

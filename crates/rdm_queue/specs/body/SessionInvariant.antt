@@ -13,18 +13,16 @@ use Rattle.rdm_queue.specs.body.Agrees.{StandsAmid, StandsAfter}
 abbrev pub HasRoom : LogState → Type 0
 HasRoom k = length k.entries + reserved k.opening k.entries ≤ k.room
 
--- the log describes the controller's state, and says how it searches; the log is legal, in bound, and large enough
+-- the log describes the controller's state; it is legal, in bound, and large enough
 pub record SessionInvariant (s : QueueState) (k : LogState) : Type 0 where
   pub after : StandsAfter k.opening k.entries s
   pub room : HasRoom k
-  pub search_is : s.search ≡ k.search
   pub in_bound : InBound k
 
 -- the same within a block of entries: Finishes and Answers may still be due
 pub record SessionAmid (s : QueueState) (k : LogState) : Type 0 where
   pub amid : StandsAmid k.opening k.entries s
   pub room : HasRoom k
-  pub search_is : s.search ≡ k.search
   pub in_bound : InBound k
 
 -- all that was due was ended: the log has one more Finish or Answer for each, and the session's invariant holds again

@@ -250,6 +250,7 @@ opening_of s = record {
   source = s.source;
   greatest = s.greatest;
   budget = s.budget;
+  search = s.search;
   places = record { items = s.places };
   paused = s.paused;
   closed = s.closed;

@@ -37,7 +37,6 @@ impl Queue {
             → HearsRequest sent event.now self.old self.new }
         ensures heard_by_run { (tn : ℕ) → self.old.awaited ≡ Some (awaiting.Run tn) → next_op self.old.agent ≢ End
             → self.new ≡ hears_run tn event.now self.old }
-        ensures search { self.new.search ≡ self.old.search }
     {
         match self.awaited.take() {
             None => {}
@@ -51,7 +50,6 @@ impl Queue {
         requires { self.old.awaited ≡ None }
         ensures free { self.new.awaited ≡ None }
         ensures heard { HearsRequest sent.now event.now self.old self.new }
-        ensures search { self.new.search ≡ self.old.search }
     {
         if let Step::Done(status) = self.joiner.add(judge(sent, event)) {
             let done = completion_of(&self.joiner, alloc, status);
@@ -65,7 +63,6 @@ impl Queue {
         requires { self.old.awaited ≡ None }
         ensures free { self.new.awaited ≡ None }
         ensures heard { next_op self.old.agent ≢ End → self.new ≡ hears_run tn event.now self.old }
-        ensures search { self.new.search ≡ self.old.search }
     {
         let op = self.agent.next();
         if op == Op::End {

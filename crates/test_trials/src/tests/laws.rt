@@ -61,7 +61,7 @@ fn serves<R: Threads + Wait + Sync>(
 // `Port::finish` says so.
 fn is_by_default(session: &Session) -> bool
     ensures budget { result ≡ true → session.now.opening.budget ≡ default_budget }
-    ensures search { result ≡ true → session.now.search ≡ Steady }
+    ensures search { result ≡ true → session.now.opening.search ≡ Steady }
     ensures devices { result ≡ true → session.now.opening.devices ≡ [] }
     ensures promised { Promised session.now }
 {
@@ -69,7 +69,7 @@ fn is_by_default(session: &Session) -> bool
     let opening = log.opening();
     opening.devices.is_empty()
         && opening.budget == DEFAULT_BUDGET
-        && matches!(log.search(), Search::Steady)
+        && matches!(opening.search, Search::Steady)
 }
 
 // Runs a session in which devices stay and no exchange fails.

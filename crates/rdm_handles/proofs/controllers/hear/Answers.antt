@@ -8,8 +8,7 @@ returns-in-Err-clause-not_asked c asked o h after =
       opening = o;
       entries = h;
       room = 0;
-      search = c.args.controller.now.search;
       gone = 0;
       keeps = true;
     } in
-    (c.in-Err.ensures.adds.each k refl after).adds.0
+    (c.in-Err.ensures.adds k after).adds.0

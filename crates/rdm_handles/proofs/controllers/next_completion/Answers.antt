@@ -19,12 +19,11 @@ returns-clause-collected c done = (
         opening = o;
         entries = h;
         room = 0;
-        search = c.args.controller.now.search;
         gone = 0;
         keeps = true;
       } in
       let outcome : Outcome = request_outcome (c.in-Some.number, c.in-Some.done) in
-      let is : IsOldest o h c.args.client outcome = (c.in-Some.ensures.adds.each k refl after).adds.0 in
+      let is : IsOldest o h c.args.client outcome = (c.in-Some.ensures.adds k after).adds.0 in
       let shown : IsOldest o h c.args.client
       (request_outcome (c.in-Some-Request.field-0-0, c.in-Some-Request.done.now)) =
       subst (λ (x : Oldest). IsOldest o h c.args.client (outcome_shown x)) c.in-Some-Request.field-0-is

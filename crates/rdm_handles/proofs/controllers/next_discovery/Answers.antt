@@ -20,12 +20,11 @@ returns-clause-collected c done = (
         opening = o;
         entries = h;
         room = 0;
-        search = c.args.controller.now.search;
         gone = 0;
         keeps = true;
       } in
       let outcome : Outcome = discovery_outcome c.in-Some.ended c.next_discovery.new.set in
-      let is : IsOldest o h c.args.client outcome = (c.in-Some.ensures.adds.each k refl after).adds.0 in
+      let is : IsOldest o h c.args.client outcome = (c.in-Some.ensures.adds k after).adds.0 in
       let shown : IsOldest o h c.args.client
       (discovery_outcome c.in-Some-Discovery.field-0-0 c.in-Some-Discovery.set.now) =
       subst (λ (x : Oldest). IsOldest o h c.args.client (outcome_shown x)) c.in-Some-Discovery.field-0-is

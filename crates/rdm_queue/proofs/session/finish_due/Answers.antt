@@ -9,11 +9,11 @@ loop-entry-preserved c =
     let old = c.args.log.now in
     let e = c.in-Some.entry in
     let ends = c.in-Some.ensures.ended in
-    let here = ends.each c.loop-entry.log amid.search_is amid.amid in
+    let here = ends.each c.loop-entry.log amid.amid in
     let bound : FaultNeedsClose (grown old so_far.0) e = rw so_far.3 at here.0 in
     record {
       amid = rw c.append.ensures
-          (amid_grown c.loop-entry.controller c.finish_next.new.self c.loop-entry.log e amid here.1 ends.search here.0
+          (amid_grown c.loop-entry.controller c.finish_next.new.self c.loop-entry.log e amid here.1 here.0
           (result_added e ends.is));
       grows = (
         so_far.0 ++ e ∷ [],

@@ -6,5 +6,5 @@ use Rattle.rdm_reports.proofs.opening_text.write_log.Goals as goal
 pub returns : goal.returns
 returns g c =
     logs_more c.args.log.now c.write_opening.new.log c.write_entries.new.log
-    (session_opening c.args.opening.now c.args.search c.args.first) (log_text c.args.entries.now)
+    (session_opening c.args.opening.now c.args.first) (log_text c.args.entries.now)
     c.write_opening.ensures c.write_entries.ensures

@@ -69,7 +69,7 @@ fn opens(rt: &impl Abort, opening: &Opening) {
 // The log is like a new one.
 fn is_blank(rt: &impl Abort, log: &Log) {
     check(rt, log.entries().is_empty() && log.opening().greatest == 0);
-    check_eq(rt, log.search(), Search::Steady);
+    check_eq(rt, log.opening().search, Search::Steady);
 }
 
 #[test]
@@ -79,8 +79,8 @@ fn a_new_log_opens_as_the_old_one_ended(rt: HostRuntime) {
     let (session, old) = rotated.expect(&rt, "an idle session");
     check_eq(&rt, old.entries().len(), 30);
     opens(&rt, session.log().opening());
-    check_eq(&rt, session.log().search(), Search::Quick);
-    check_eq(&rt, old.search(), Search::Quick);
+    check_eq(&rt, session.log().opening().search, Search::Quick);
+    check_eq(&rt, old.opening().search, Search::Quick);
     is_blank(&rt, &old.cleared());
     let (controller, _) = session.end();
     check_eq(&rt, controller.search(), Search::Quick);

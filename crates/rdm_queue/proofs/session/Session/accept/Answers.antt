@@ -6,18 +6,18 @@ pub invariant_of-self : goal.invariant_of-self
 invariant_of-self c =
     let k = c.self.inside.log in
     let free = (rw (← c.self.view_is) at (free_of c.args.self.now (sym c.is_full.ensures ∙ c.if-is_full.false))) in
-    let stands = c.in-Ok.ensures.adds.each k c.self.invariant.search_is c.self.invariant.after in
+    let stands = c.in-Ok.ensures.adds k c.self.invariant.after in
     rw (c.append.ensures, c.accepted.ensures, c.copied-copy.ensures)
     (session_grown c.self.inside.controller c.accept.new.self k
     (work_accepted c.args.client c.in-Ok.number c.args.work ∷ []) c.self.invariant (rw stands.adds.2 at stands.after)
-    c.in-Ok.ensures.adds.search (work_in_bound k c.args.client c.in-Ok.number c.args.work)
+    (work_in_bound k c.args.client c.in-Ok.number c.args.work)
     (omega (arith, work_added c.args.client c.in-Ok.number c.args.work)))
 
 pub invariant_of-self-in-Err : goal.invariant_of-self-in-Err
 invariant_of-self-in-Err c =
     let k = c.self.inside.log in
     let free = (rw (← c.self.view_is) at (free_of c.args.self.now (sym c.is_full.ensures ∙ c.if-is_full.false))) in
-    let stands = c.in-Err.ensures.adds.each k c.self.invariant.search_is c.self.invariant.after in
+    let stands = c.in-Err.ensures.adds k c.self.invariant.after in
     rw (c.append-in-Err.ensures, c.refused.ensures, c.copied-copy.ensures)
     (session_grown c.self.inside.controller c.accept.new.self k _ c.self.invariant
-    (rw stands.adds.1 at stands.after) c.in-Err.ensures.adds.search (tt, tt) (omega arith))
+    (rw stands.adds.1 at stands.after) (tt, tt) (omega arith))

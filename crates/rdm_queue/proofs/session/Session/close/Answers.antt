@@ -8,8 +8,8 @@ finish_due-requires c =
     let after = c.self.invariant.after in
     rw c.append.ensures
     (amid_begun c.self.inside.controller c.shut.new.self k Close c.self.invariant
-    (c.shut.ensures.each k.opening k.entries after
-    (sym (c.is_closed.ensures k.opening k.entries after) ∙ c.if-is_closed.false)) c.shut.ensures.search tt refl)
+    (c.shut.ensures k.opening k.entries after
+    (sym (c.is_closed.ensures k.opening k.entries after) ∙ c.if-is_closed.false)) tt refl)
 
 pub returns-clause-adds : goal.returns-clause-adds
 returns-clause-adds c =

@@ -8,8 +8,8 @@ finish_due-requires c =
     let after = c.self.invariant.after in
     rw c.append.ensures
     (amid_begun c.self.inside.controller c.hear.new.self k (Came c.args.event) c.self.invariant
-    (c.hear.ensures.each k.opening k.entries after
-    (sym (c.awaits.ensures k.opening k.entries after) ∙ c.if-not-awaits.false)) c.hear.ensures.search tt refl)
+    (c.hear.ensures k.opening k.entries after
+    (sym (c.awaits.ensures k.opening k.entries after) ∙ c.if-not-awaits.false)) tt refl)
 
 pub returns-clause-adds : goal.returns-clause-adds
 returns-clause-adds c =

@@ -6,16 +6,16 @@ pub invariant_of-self : goal.invariant_of-self
 invariant_of-self c =
     let k = c.self.inside.log in
     let free = (rw (← c.self.view_is) at (free_of c.args.self.now (sym c.is_full.ensures ∙ c.if-is_full.false))) in
-    let stands = c.in-Ok.ensures.adds.each k c.self.invariant.search_is c.self.invariant.after in
+    let stands = c.in-Ok.ensures.adds k c.self.invariant.after in
     rw c.append.ensures
     (session_grown c.self.inside.controller c.join_client.new.self k (Join c.in-Ok.client c.args.places ∷ [])
-    c.self.invariant (rw stands.adds.2 at stands.after) c.in-Ok.ensures.adds.search (tt, tt) (omega arith))
+    c.self.invariant (rw stands.adds.2 at stands.after) (tt, tt) (omega arith))
 
 pub invariant_of-self-in-Err : goal.invariant_of-self-in-Err
 invariant_of-self-in-Err c =
     let k = c.self.inside.log in
     let free = (rw (← c.self.view_is) at (free_of c.args.self.now (sym c.is_full.ensures ∙ c.if-is_full.false))) in
-    let stands = c.in-Err.ensures.adds.each k c.self.invariant.search_is c.self.invariant.after in
+    let stands = c.in-Err.ensures.adds k c.self.invariant.after in
     rw (c.append-in-Err.ensures, c.number.ensures)
     (session_grown c.self.inside.controller c.join_client.new.self k _ c.self.invariant
-    (rw stands.adds.1 at stands.after) c.in-Err.ensures.adds.search (tt, tt) (omega arith))
+    (rw stands.adds.1 at stands.after) (tt, tt) (omega arith))

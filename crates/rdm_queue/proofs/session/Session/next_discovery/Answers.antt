@@ -9,9 +9,9 @@ kept : (g : Over) (c : In_ok-end g)
     → SessionInvariant c.next_discovery.new.self (grown c.self.inside.log (Collect c.args.client ∷ []))
 kept g c =
     let k = c.self.inside.log in
-    let stands = c.in_ok-end.ensures.adds.each k c.self.invariant.search_is c.self.invariant.after in
+    let stands = c.in_ok-end.ensures.adds k c.self.invariant.after in
     session_grown c.self.inside.controller c.next_discovery.new.self k (Collect c.args.client ∷ []) c.self.invariant
-    (rw stands.adds.1 at stands.after) c.in_ok-end.ensures.adds.search (tt, tt) (omega arith)
+    (rw stands.adds.1 at stands.after) (tt, tt) (omega arith)
 
 pub append-requires : goal.append-requires
 append-requires g c =

@@ -8,9 +8,9 @@ kept : (c : In_ok-outcome)
     → SessionInvariant c.next_outcome.new.self (grown c.self.inside.log (Collect c.args.client ∷ []))
 kept c =
     let k = c.self.inside.log in
-    let stands = c.in_ok-outcome.ensures.adds.each k c.self.invariant.search_is c.self.invariant.after in
+    let stands = c.in_ok-outcome.ensures.adds k c.self.invariant.after in
     session_grown c.self.inside.controller c.next_outcome.new.self k (Collect c.args.client ∷ []) c.self.invariant
-    (rw stands.adds.1 at stands.after) c.in_ok-outcome.ensures.adds.search (tt, tt) (omega arith)
+    (rw stands.adds.1 at stands.after) (tt, tt) (omega arith)
 
 pub append-requires : goal.append-requires
 append-requires c =

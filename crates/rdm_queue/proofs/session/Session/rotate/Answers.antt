@@ -13,7 +13,6 @@ invariant_of-self c =
       c.after-next_log.ensures.log,
       c.requires.empty,
       c.opening.ensures k.opening k.entries after,
-      c.search.ensures,
     )
     (session_rotated k.opening k.entries c.self.inside.controller c.args.log.room c.args.log.gone c.args.log.keeps
     c.after-next_log.ensures.some idle after)
