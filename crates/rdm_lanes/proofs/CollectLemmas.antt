@@ -1,14 +1,12 @@
 -- What collects leave as it is.
 use Rattle.rdm_lanes.proofs.Common.{◌≡◌, ℕ, Bool, true, false, true≢false, List, [], ◌∷◌, ◌++◌, None, refl, sym, ap}
 use Rattle.rdm_lanes.proofs.Common.{◌∙◌, subst, inl, inr, append-nil, append_assoc, arith, nat_lt, AllByRecursion}
-use Rattle.rdm_lanes.proofs.Common.{ArrayVec, EachAfter, ClientId, Opening, Entry, Collect, join_of}
-use Rattle.rdm_lanes.proofs.Common.{answered_of, NoSend, MayBegin, Legal, MayFollow, LogState, is_full_log}
-use Rattle.rdm_lanes.proofs.Common.{free_entries, sends_same, answered_same, awaited-push, is_closed-push}
-use Rattle.rdm_lanes.proofs.Common.{is_paused-push, last_run_same, NoExchange, OnlyCollects, SameSwitches}
+use Rattle.rdm_lanes.proofs.Common.{ArrayVec, EachAfter, ClientId, Opening, Entry, Collect, join_of, answered_of}
+use Rattle.rdm_lanes.proofs.Common.{NoSend, MayBegin, Legal, MayFollow, LogState, is_full_log, free_entries, NoExchange}
+use Rattle.rdm_lanes.proofs.Common.{OnlyCollects, SameSwitches}
 use Rattle.rdm_log.specs.declared.entry.Owner.TheVariants as owners
 use Rattle.rdm_log.specs.log.MaySend.{MaySendRequest, MaySendRun}
-use Rattle.rdm_log.proofs.LogLemmas.PushLemmas.{accepts_same, asks_same, finishes_same}
-use Rattle.rdm_log.proofs.LogLemmas.RunLemmas.{open_run_same, asked_before_same}
+use Rattle.rdm_log.proofs.LogLemmas.RunningLemmas.{run_pushes}
 use Rattle.rdm_log.proofs.LogLemmas.RoomLemmas.{added, added_by, used_block}
 use Rattle.rdm_lanes.specs.body.Quiet.{is_collect}
 use Rattle.rdm_lanes.proofs.FoundLemmas.{quiet_views}
@@ -95,57 +93,34 @@ module _ (o : Opening) (h : List Entry) (c : ClientId) where
   request_before : (n : ℕ) (frame : ArrayVec ℕ) → MaySendRequest o (h ++ Collect c ∷ []) n frame
       → MaySendRequest o h n frame
   request_before n frame may = record {
-    not_awaited = sym (awaited-push h (Collect c)) ∙ may.not_awaited;
-    not_closed = sym (is_closed-push o h (Collect c)) ∙ may.not_closed;
-    not_paused = sym (is_paused-push o h (Collect c)) ∙ may.not_paused;
-    no_run = sym
-        (open_run_same h (h ++ Collect c ∷ []) (sends_same h (Collect c) refl) (answered_same h (Collect c) refl))
-        ∙ may.no_run;
+    not_awaited = simp run_pushes at may.not_awaited;
+    not_closed = simp run_pushes at may.not_closed;
+    not_paused = simp run_pushes at may.not_paused;
+    no_run = simp run_pushes at may.no_run;
     accepted = may.accepted;
-    lowest = rw (finishes_same h (Collect c) refl, accepts_same h (Collect c) refl) at may.lowest;
+    lowest = simp run_pushes at may.lowest;
     number = may.number;
-    turn = rw (
-      sends_same h (Collect c) refl,
-      asked_before_same h (Collect c) refl,
-      answered_same h (Collect c) refl,
-      asks_same h (Collect c) refl,
-    ) at may.turn;
-    packet = rw (sends_same h (Collect c) refl) at may.packet;
+    turn = simp run_pushes at may.turn;
+    packet = simp run_pushes at may.packet;
   }
 
   begin_before : (r : ℕ) → MayBegin o (h ++ Collect c ∷ []) r → MayBegin o h r
   begin_before r may = record {
-    not_paused = sym (is_paused-push o h (Collect c)) ∙ may.not_paused;
-    no_run = sym
-        (open_run_same h (h ++ Collect c ∷ []) (sends_same h (Collect c) refl) (answered_same h (Collect c) refl))
-        ∙ may.no_run;
-    no_request =
-        rw (
-          sends_same h (Collect c) refl,
-          finishes_same h (Collect c) refl,
-          accepts_same h (Collect c) refl,
-        ) at may.no_request;
-    asked = rw (
-      asked_before_same h (Collect c) refl,
-      answered_same h (Collect c) refl,
-      asks_same h (Collect c) refl,
-    ) at may.asked;
-    number = rw (last_run_same h (h ++ Collect c ∷ []) (sends_same h (Collect c) refl)) at may.number;
+    not_paused = simp run_pushes at may.not_paused;
+    no_run = simp run_pushes at may.no_run;
+    no_request = simp run_pushes at may.no_request;
+    asked = simp run_pushes at may.asked;
+    number = simp run_pushes at may.number;
     from_one = may.from_one;
   }
 
   run_before : (r : ℕ) (frame : ArrayVec ℕ) → MaySendRun o (h ++ Collect c ∷ []) r frame → MaySendRun o h r frame
   run_before r frame may = record {
-    not_awaited = sym (awaited-push h (Collect c)) ∙ may.not_awaited;
-    not_closed = sym (is_closed-push o h (Collect c)) ∙ may.not_closed;
-    turn = elim may.turn [
-      | inl begins ↦ inl (begin_before r begins)
-      | inr open_ ↦ inr
-          (sym (open_run_same h (h ++ Collect c ∷ []) (sends_same h (Collect c) refl)
-          (answered_same h (Collect c) refl)) ∙ open_)
-    ];
-    in_budget = rw (sends_same h (Collect c) refl) at may.in_budget;
-    packet = rw (sends_same h (Collect c) refl) at may.packet;
+    not_awaited = simp run_pushes at may.not_awaited;
+    not_closed = simp run_pushes at may.not_closed;
+    turn = elim may.turn [ inl begins ↦ inl (begin_before r begins) | inr open_ ↦ inr (simp run_pushes at open_) ];
+    in_budget = simp run_pushes at may.in_budget;
+    packet = simp run_pushes at may.packet;
   }
 
   pub no_send_one : NoSend o h → NoSend o (h ++ Collect c ∷ [])

@@ -1,5 +1,6 @@
 -- How what a log says grows with its last entries.
-use Rattle.rdm_log.proofs.Common.{◌≡◌, ℕ, false, List, [], ◌∷◌, ◌++◌, Some, None, ◌∙◌, ◌≤◌, length, drop, refl, sym}
+use Rattle.rdm_log.proofs.Common.{◌≡◌, ℕ, false, List, [], ◌∷◌, ◌++◌, Option, Some, None, ◌∙◌, ◌≤◌, length, drop}
+use Rattle.rdm_log.proofs.Common.{refl, sym, filter_map, append-nil, cons_option}
 use Rattle.rdm_log.proofs.Common.{filter_map-append, length_push, drop-append-le, fold_push, Request, Status, LineEvent}
 use Rattle.rdm_log.proofs.Common.{ClientId, Opening, Entry, Accept, Finish, Accepted, AskedDiscovery, Sending, Finished}
 use Rattle.rdm_log.proofs.Common.{Answered, accepted_of, asked_of, sending_of, came_of, finished_of, answered_of}
@@ -121,6 +122,65 @@ pub is_closed-push : (o : Opening) (h : List Entry) (e : Entry)
     → is_closed o (h ++ e ∷ []) ≡ closed_after (is_closed o h) e
 unfolding is_closed
 is_closed-push o h e = fold_push closed_after o.closed h e
+
+-- as rules for `simp` and `search`: one more, if there is one
+abbrev pub more : {X : Type 0} → List X → Option X → List X
+more xs None = xs
+more xs (Some x) = xs ++ x ∷ []
+
+filter_map-push : {X Y : Type 0} (f : X → Option Y) (xs : List X) (x : X)
+    → filter_map f (xs ++ x ∷ []) ≡ more (filter_map f xs) (f x)
+filter_map-push {X} {Y} f xs x = filter_map-append f xs (x ∷ []) ∙ by_option (f x)
+  where
+    by_option : (y : Option Y) → filter_map f xs ++ cons_option y [] ≡ more (filter_map f xs) y
+    by_option None = append-nil (filter_map f xs)
+    by_option (Some y) = refl
+
+pub joins-push : (h : List Entry) (e : Entry) → joins (h ++ e ∷ []) ≡ more (joins h) (join_of e)
+unfolding joins
+joins-push h e = filter_map-push join_of h e
+
+pub accepts-push : (h : List Entry) (e : Entry) → accepts (h ++ e ∷ []) ≡ more (accepts h) (accepted_of e)
+unfolding accepts
+accepts-push h e = filter_map-push accepted_of h e
+
+pub asks-push : (h : List Entry) (e : Entry) → asks (h ++ e ∷ []) ≡ more (asks h) (asked_of e)
+unfolding asks
+asks-push h e = filter_map-push asked_of h e
+
+pub sends-push : (h : List Entry) (e : Entry) → sends (h ++ e ∷ []) ≡ more (sends h) (sending_of e)
+unfolding sends
+sends-push h e = filter_map-push sending_of h e
+
+pub cames-push : (h : List Entry) (e : Entry) → cames (h ++ e ∷ []) ≡ more (cames h) (came_of e)
+unfolding cames
+cames-push h e = filter_map-push came_of h e
+
+pub finishes-push : (h : List Entry) (e : Entry) → finishes (h ++ e ∷ []) ≡ more (finishes h) (finished_of e)
+unfolding finishes
+finishes-push h e = filter_map-push finished_of h e
+
+pub answers-push : (h : List Entry) (e : Entry) → answers (h ++ e ∷ []) ≡ more (answers h) (answered_of e)
+unfolding answers
+answers-push h e = filter_map-push answered_of h e
+
+pub collectors-push : (h : List Entry) (e : Entry) → collectors (h ++ e ∷ []) ≡ more (collectors h) (collector_of e)
+unfolding collectors
+collectors-push h e = filter_map-push collector_of h e
+
+pub ruleset pushes = (
+  joins-push,
+  accepts-push,
+  asks-push,
+  sends-push,
+  cames-push,
+  finishes-push,
+  answers-push,
+  collectors-push,
+  awaited-push,
+  is_paused-push,
+  is_closed-push,
+)
 
 -- the same requests and exchanges
 pub record SameRequests (h k : List Entry) : Type 0 where

@@ -1,21 +1,17 @@
 -- How much of a log's room an entry uses, what is reserved for later ones among it.
-use Rattle.rdm_log.proofs.Common.{◌≡◌, ℕ, ◌+◌, ◌<◌, ◌≤◌, true, false, Option, None, List, [], ◌∷◌, ◌++◌, length, refl}
-use Rattle.rdm_log.proofs.Common.{append_assoc, append-nil, length-drop, arith, length_push, slice_get_within, ArrayVec}
-use Rattle.rdm_log.proofs.Common.{EachAfter, Request, LineEvent, Status, Kind, AgentFault, ClientId, Owner, Opening}
-use Rattle.rdm_log.proofs.Common.{Entry, Join, Refuse, Accept, Ask, Send, Came, Finish, Answer, Collect, Pause, Resume}
-use Rattle.rdm_log.proofs.Common.{Close, Accepted, AskedDiscovery, Finished, Answered, asked_of, answered_of, accepts}
-use Rattle.rdm_log.proofs.Common.{asks, finishes, answers, collectors, awaited, is_closed, unfinished, unanswered}
-use Rattle.rdm_log.proofs.Common.{MayFollow}
+use Rattle.rdm_log.proofs.Common.{◌≡◌, ℕ, ◌+◌, ◌<◌, ◌≤◌, true, false, Option, List, [], ◌∷◌, ◌++◌, length, refl}
+use Rattle.rdm_log.proofs.Common.{append_assoc, append-nil, length-drop, drop-append-le, arith, length_push}
+use Rattle.rdm_log.proofs.Common.{slice_get_within, ArrayVec, EachAfter, Request, LineEvent, Status, Kind, AgentFault}
+use Rattle.rdm_log.proofs.Common.{ClientId, Owner, Opening, Entry, Join, Refuse, Accept, Ask, Send, Came, Finish}
+use Rattle.rdm_log.proofs.Common.{Answer, Collect, Pause, Resume, Close, accepts, asks, finishes, answers, collectors}
+use Rattle.rdm_log.proofs.Common.{awaited, unfinished, unanswered, MayFollow}
 use Rattle.rdm_log.specs.declared.entry.Owner.TheVariants as owners
 use Rattle.rdm_log.specs.log.History.{reserved}
 use Rattle.rdm_log.proofs.LogLemmas.Grows.{front, pushed}
 use Rattle.rdm_log.proofs.LogLemmas.LegalFacts.{legal_facts}
 use Rattle.rdm_log.proofs.LogLemmas.AskFacts.{ask_facts}
 use Rattle.rdm_log.proofs.LogLemmas.ClientFacts.{client_facts, collects_within}
-use Rattle.rdm_log.proofs.LogLemmas.PushLemmas.{SameRequests, same_after, finishes_more, answered_more, accepts_same}
-use Rattle.rdm_log.proofs.LogLemmas.PushLemmas.{asks_same, finishes_same, answered_same, collectors_same}
-use Rattle.rdm_log.proofs.LogLemmas.PushLemmas.{collectors_more, unfinished_accept, unfinished_finish, unanswered_ask}
-use Rattle.rdm_log.proofs.LogLemmas.PushLemmas.{unanswered_answer, awaited-push, is_closed-push}
+use Rattle.rdm_log.proofs.LogLemmas.PushLemmas.{pushes}
 
 -- the entries and those that are reserved
 abbrev pub used : Opening → List Entry → ℕ
@@ -38,159 +34,40 @@ added_by [] = 0
 added_by (e ∷ block) = added e + added_by block
 
 -- each kind of entry
-used_same : (o : Opening) (h : List Entry) (e : Entry) → SameRequests h (h ++ e ∷ []) → asked_of e ≡ None
-    → answered_of e ≡ None → collectors (h ++ e ∷ []) ≡ collectors h → is_closed o (h ++ e ∷ []) ≡ is_closed o h
-    → used o (h ++ e ∷ []) ≡ used o h + 1
-used_same o h e same ask reply collect closed =
-    rw (
-      length_push h e,
-      closed,
-      same.same_awaited,
-      same.same_accepts,
-      same.same_finishes,
-      asks_same h e ask,
-      answered_same h e reply,
-      collect,
-    ) (omega arith)
-
 used_accept : (o : Opening) (h : List Entry) (c : ClientId) (n : ℕ) (request : Request)
     → length (finishes h) ≤ length (accepts h) → used o (h ++ Accept c n request ∷ []) ≡ used o h + 3
-used_accept o h c n request within =
-    let a : Accepted = record { client = c.0; number = n; request = request } in
-    let e = Accept c n request in
-    rw (
-      unfinished_accept h c n request within,
-      length_push (unfinished h) a,
-      length_push h e,
-      is_closed-push o h e,
-      awaited-push h e,
-      finishes_same h e refl,
-      asks_same h e refl,
-      answered_same h e refl,
-      collectors_same h e refl,
-    )
-    (omega arith)
+used_accept o h c n request within = simp (pushes, drop-append-le, length_push) (omega arith)
 
 used_ask : (o : Opening) (h : List Entry) (c : ClientId) (n : ℕ) (kind : Kind) → length (answers h) ≤ length (asks h)
     → used o (h ++ Ask c n kind ∷ []) ≡ used o h + 3
-used_ask o h c n kind within =
-    let a : AskedDiscovery = record { client = c.0; number = n; kind = kind } in
-    let e = Ask c n kind in
-    rw (
-      unanswered_ask h e a refl refl within,
-      length_push (unanswered h) a,
-      length_push h e,
-      is_closed-push o h e,
-      awaited-push h e,
-      accepts_same h e refl,
-      finishes_same h e refl,
-      answered_same h e refl,
-      collectors_same h e refl,
-    ) (omega arith)
+used_ask o h c n kind within = simp (pushes, drop-append-le, length_push) (omega arith)
 
 used_send : (o : Opening) (h : List Entry) (owner : Owner) (frame : ArrayVec ℕ) → awaited h ≡ false
     → used o (h ++ Send owner frame ∷ []) ≡ used o h + 2
-used_send o h owner frame idle =
-    let e = Send owner frame in
-    rw (
-      length_push h e,
-      is_closed-push o h e,
-      awaited-push h e,
-      idle,
-      accepts_same h e refl,
-      finishes_same h e refl,
-      asks_same h e refl,
-      answered_same h e refl,
-      collectors_same h e refl,
-    ) (omega arith)
+used_send o h owner frame idle = simp (pushes, length_push, idle) (omega arith)
 
 used_came : (o : Opening) (h : List Entry) (event : LineEvent) → awaited h ≡ true
     → used o (h ++ Came event ∷ []) ≡ used o h + 0
-used_came o h event waits =
-    let e = Came event in
-    rw (
-      length_push h e,
-      is_closed-push o h e,
-      awaited-push h e,
-      waits,
-      accepts_same h e refl,
-      finishes_same h e refl,
-      asks_same h e refl,
-      answered_same h e refl,
-      collectors_same h e refl,
-    ) (omega arith)
+used_came o h event waits = simp (pushes, length_push, waits) (omega arith)
 
 used_finish : (o : Opening) (h : List Entry) (n : ℕ) (status : Status) (len : ℕ) → 0 < length (unfinished h)
     → length (collectors h) ≤ length (finishes h) + length (answers h)
     → used o (h ++ Finish n status len ∷ []) ≡ used o h + 0
 used_finish o h n status len some within =
-    let f : Finished = record { number = n; status = status; len = len } in
-    let e = Finish n status len in
-    rw (
-      unfinished_finish h n status len,
-      length-drop 1 (unfinished h),
-      length_push h e,
-      is_closed-push o h e,
-      awaited-push h e,
-      finishes_more h e f refl,
-      length_push (finishes h) f,
-      asks_same h e refl,
-      answered_same h e refl,
-      collectors_same h e refl,
-    ) (omega arith)
+    let some = simp length-drop at some in simp (pushes, length_push, length-drop) (omega arith)
 
 used_answer : (o : Opening) (h : List Entry) (n r : ℕ) (fault : Option AgentFault) → 0 < length (unanswered h)
     → length (collectors h) ≤ length (finishes h) + length (answers h)
     → used o (h ++ Answer n r fault ∷ []) ≡ used o h + 0
 used_answer o h n r fault some within =
-    let b : Answered = record { number = n; run = r; fault = fault } in
-    let e = Answer n r fault in
-    rw (
-      unanswered_answer h e b refl refl,
-      length-drop 1 (unanswered h),
-      length_push h e,
-      is_closed-push o h e,
-      awaited-push h e,
-      answered_more h e b refl,
-      length_push (answers h) b,
-      accepts_same h e refl,
-      finishes_same h e refl,
-      collectors_same h e refl,
-    ) (omega arith)
+    let some = simp length-drop at some in simp (pushes, length_push, length-drop) (omega arith)
 
 used_collect : (o : Opening) (h : List Entry) (c : ClientId)
     → length (collectors (h ++ Collect c ∷ []))
     ≤ length (finishes (h ++ Collect c ∷ [])) + length (answers (h ++ Collect c ∷ []))
     → used o (h ++ Collect c ∷ []) ≡ used o h + 0
 used_collect o h c within =
-    let e = Collect c in
-    let more = length_push (collectors h) c.0 in
-    let fewer = rw (collectors_more h e c.0 refl, finishes_same h e refl, answered_same h e refl) at within in
-    rw (
-      length_push h e,
-      is_closed-push o h e,
-      awaited-push h e,
-      accepts_same h e refl,
-      finishes_same h e refl,
-      asks_same h e refl,
-      answered_same h e refl,
-      collectors_more h e c.0 refl,
-    ) (omega arith)
-
-used_close : (o : Opening) (h : List Entry) → is_closed o h ≡ false → used o (h ++ Close ∷ []) ≡ used o h + 0
-used_close o h not_closed =
-    rw (
-      length_push h Close,
-      is_closed-push o h Close,
-      not_closed,
-      awaited-push h Close,
-      accepts_same h Close refl,
-      finishes_same h Close refl,
-      asks_same h Close refl,
-      answered_same h Close refl,
-      collectors_same h Close refl,
-    )
-    (omega arith)
+    let within = simp (pushes, length_push) at within in simp (pushes, length_push) (omega arith)
 
 -- the Collects of such a log are within its Finishes and Answers
 collects_fit : (o : Opening) (h : List Entry) → EachAfter (MayFollow o) h
@@ -211,10 +88,8 @@ used_step o h (Answer n r fault) each may =
     used_answer o h n r fault (slice_get_within (unanswered h) 0 may.asked may.oldest) (collects_fit o h each)
 used_step o h (Collect c) each may =
     used_collect o h c (collects_fit o (h ++ Collect c ∷ []) (pushed o h (Collect c) each may))
-used_step o h Close each may = used_close o h may.1
-used_step o h e each may =
-    used_same o h e (same_after h e refl refl refl refl refl) refl refl (collectors_same h e refl)
-    (is_closed-push o h e)
+used_step o h Close each may = let not_closed = may.1 in simp (pushes, length_push, not_closed) (omega arith)
+used_step o h e each may = simp (pushes, length_push) (omega arith)
 
 -- what a block uses
 pub used_block : (o : Opening) (h block : List Entry) → EachAfter (MayFollow o) (h ++ block)

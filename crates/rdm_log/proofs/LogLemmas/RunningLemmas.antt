@@ -5,7 +5,7 @@ use Rattle.rdm_log.proofs.Common.{sending_of, came_of, answered_of, answers, ask
 use Rattle.rdm_log.proofs.Common.{is_closed, has_begun, entries_before_run, last_run, unless_answered, open_run}
 use Rattle.rdm_log.proofs.Common.{asked_before, served, run_exchanges, run_kind, known_at_run, known_devices}
 use Rattle.rdm_log.specs.declared.entry.Owner.TheVariants as owners
-use Rattle.rdm_log.proofs.LogLemmas.PushLemmas.{sends_same, answered_same, awaited-push, is_closed-push}
+use Rattle.rdm_log.proofs.LogLemmas.PushLemmas.{sends_same, answered_same, awaited-push, is_closed-push, pushes}
 use Rattle.rdm_log.proofs.LogLemmas.ExchangeLemmas.{IsUnanswered}
 use Rattle.rdm_log.proofs.LogLemmas.RunLemmas.{last_run_same, last_begun, served_stays, entries_before_run_stays}
 use Rattle.rdm_log.proofs.LogLemmas.RunLemmas.{asked_before_same, run_exchanges_came_other, same_runs}
@@ -35,6 +35,21 @@ pub asked_stays : (h : List Entry) (e : Entry) (last : Option ℕ) → last_run 
 asked_stays h e None is = refl
 asked_stays h e (Some r) is =
     ap (λ (l : List Entry). length (asks l)) (entries_before_run_stays r h (e ∷ []) (last_begun r h is))
+
+-- rules for `simp` and `search`, beside those of what an entry adds
+pub last_run_other : (h : List Entry) (e : Entry) → sending_of e ≡ None → last_run (h ++ e ∷ []) ≡ last_run h
+last_run_other h e other = last_run_same h (h ++ e ∷ []) (sends_same h e other)
+
+pub unless_other : (last : Option ℕ) (h : List Entry) (e : Entry) → answered_of e ≡ None
+    → unless_answered last (h ++ e ∷ []) ≡ unless_answered last h
+unless_other None h e other = refl
+unless_other (Some r) h e other = rw (answered_same h e other) refl
+
+pub asked_before_other : (h : List Entry) (e : Entry)
+    → asked_before (last_run h) (h ++ e ∷ []) ≡ asked_before (last_run h) h
+asked_before_other h e = asked_stays h e (last_run h) refl
+
+pub ruleset run_pushes = (pushes, unless_other, asked_before_other, last_run_other)
 
 pub same_running : (o : Opening) (h : List Entry) (e : Entry) → sending_of e ≡ None → came_of e ≡ None
     → answered_of e ≡ None → SameRunning o h (h ++ e ∷ [])

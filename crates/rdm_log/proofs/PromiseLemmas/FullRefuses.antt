@@ -11,12 +11,10 @@ use Rattle.rdm_log.specs.declared.work.Work.TheVariants.{Submit, Discover}
 use Rattle.rdm_log.specs.promises.Headline.{SameQueue, FullRefuses}
 use Rattle.rdm_log.specs.promises.Discoveries.{FullRefusesDiscoveries}
 use Rattle.rdm_log.proofs.LogLemmas.Grows.{front}
-use Rattle.rdm_log.proofs.LogLemmas.PushLemmas.{joins_same, accepts_same, asks_same, answered_same, finishes_same}
-use Rattle.rdm_log.proofs.LogLemmas.PushLemmas.{sends_same, cames_same, unfinished_same, awaited-push, is_paused-push}
-use Rattle.rdm_log.proofs.LogLemmas.PushLemmas.{is_closed-push}
 use Rattle.rdm_log.proofs.LogLemmas.ExchangeLemmas.{result_same}
 use Rattle.rdm_log.proofs.LogLemmas.RefusalLemmas.{full_at, at_full}
-use Rattle.rdm_log.proofs.LogLemmas.RunLemmas.{SameRuns, same_runs, last_run_same, asked_before_same, known_same}
+use Rattle.rdm_log.proofs.LogLemmas.RunLemmas.{SameRuns, same_runs, known_same}
+use Rattle.rdm_log.proofs.LogLemmas.RunningLemmas.{run_pushes}
 use Rattle.rdm_log.proofs.LogLemmas.ClientSteps.{uncollected_same, outstanding_same, outstanding_discoveries_same}
 
 -- of two bounds one is reached
@@ -58,39 +56,22 @@ third_fault (Some faults.LogFull) cause is three = absurd (omega (arith, same_So
 
 pub refusal_changes_nothing : (o : Opening) (h : List Entry) (c : Option ClientId) (call : Call) (cause : Cause)
     → EachAfter (MayFollow o) (h ++ Refuse c call cause ∷ []) → SameQueue o h (h ++ Refuse c call cause ∷ [])
-refusal_changes_nothing o h c call cause each = record {
-  paused = is_paused-push o h e;
-  closed = is_closed-push o h e;
-  awaiting = awaited-push h e;
-  clients = rw (joins_same h e refl) refl;
-  next_number = rw (accepts_same h e refl) refl;
-  frames = rw (sends_same h e refl) refl;
-  waiting = unfinished_same h k (accepts_same h e refl) (finishes_same h e refl);
-  sent = rw (unfinished_same h k (accepts_same h e refl) (finishes_same h e refl), sends_same h e refl) refl;
-  results = λ n. result_same h (h ++ e ∷ []) n (sends_same h e refl) (cames_same h e refl);
-  uncollected_of = λ d. uncollected_same o d h e refl refl refl;
-  outstanding = λ d. outstanding_same o d h e each refl refl;
-  next_discovery = rw (asks_same h e refl) refl;
-  asked = rw (asks_same h e refl, answered_same h e refl) refl;
-  unserved_ones = rw (asked_before_same h e refl, asks_same h e refl, answered_same h e refl) refl;
-  served_ones = runs.same_served;
-  run = runs.same_open;
-  next_run_number = rw (last_run_same h k (sends_same h e refl)) refl;
-  run_sent = λ r. rw (sends_same h e refl) refl;
-  exchanges = runs.same_exchanges;
-  devices = known_same o h k (answered_same h e refl) runs.same_exchanges;
-  devices_from = rw (answered_same h e refl) refl;
-  outstanding_asked = λ d. outstanding_discoveries_same o d h e each refl refl;
-}
-  where
-    e : Entry
-    e = Refuse c call cause
-
-    k : List Entry
-    k = h ++ e ∷ []
-
-    runs : SameRuns h k
-    runs = same_runs h e refl refl refl
+refusal_changes_nothing o h c call cause each =
+    let e = Refuse c call cause in
+    let k : List Entry = h ++ Refuse c call cause ∷ [] in
+    let runs : SameRuns h k = same_runs h e refl refl refl in
+    let devices = known_same o h k runs.same_answers runs.same_exchanges in
+    search (
+      run_pushes,
+      runs.same_served,
+      runs.same_exchanges,
+      runs,
+      devices,
+      result_same,
+      uncollected_same,
+      outstanding_same,
+      outstanding_discoveries_same,
+    )
 
 full_at_refusal : (o : Opening) (h : List Entry) (c : ℕ) (work : Work) (cause : ℕ)
     → option_map number_of_work_fault (work_fault o h c work) ≡ Some cause → cause ≡ 3 → HasMost o h c work

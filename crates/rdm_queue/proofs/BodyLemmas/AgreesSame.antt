@@ -1,19 +1,18 @@
 -- What an entry leaves of a queue's agreement with its log: all, what is about the line, or all else.
 use Rattle.rdm_queue.proofs.Common.{◌≡◌, ℕ, ◌+◌, Bool, true, false, List, [], ◌∷◌, ◌++◌, length, Option, Some, None}
-use Rattle.rdm_queue.proofs.Common.{refl, sym, ap, ◌∙◌, inl, false≢true, EachAfter, Opening, Entry, Send, Came, Awaited}
-use Rattle.rdm_queue.proofs.Common.{Sending, joins, accepts, asks, sends, cames, finishes, answers, collectors}
-use Rattle.rdm_queue.proofs.Common.{verdicts, awaited, is_paused, is_closed, next_tn, was_sent, answers_to, devices_run}
-use Rattle.rdm_queue.proofs.Common.{MayFollow, OutcomeValue, QueueState, owed_to, IsStanding, IsLast, IsPending, RunIs}
-use Rattle.rdm_queue.proofs.Common.{oldest_number, Agrees, joins_same, accepts_same, asks_same, answered_same}
-use Rattle.rdm_queue.proofs.Common.{sends_same, cames_same, finishes_same, collectors_same, awaited-push}
-use Rattle.rdm_queue.proofs.Common.{is_paused-push, is_closed-push, unfinished_same, verdicts_same, answers_same}
-use Rattle.rdm_queue.proofs.Common.{outcomes_step, known_step, SameRunning, same_running}
+use Rattle.rdm_queue.proofs.Common.{refl, sym, ap, ◌∙◌, inl, EachAfter, Opening, Entry, Send, Came, Awaited, Sending}
+use Rattle.rdm_queue.proofs.Common.{asks, sends, cames, finishes, answers, collectors, verdicts, awaited, is_paused}
+use Rattle.rdm_queue.proofs.Common.{is_closed, next_tn, was_sent, answers_to, devices_run, MayFollow, OutcomeValue}
+use Rattle.rdm_queue.proofs.Common.{QueueState, owed_to, IsStanding, IsLast, IsPending, RunIs, oldest_number, Agrees}
+use Rattle.rdm_queue.proofs.Common.{asks_same, answered_same, sends_same, cames_same, finishes_same, collectors_same}
+use Rattle.rdm_queue.proofs.Common.{awaited-push, verdicts_same, answers_same, outcomes_step, known_step, SameRunning}
+use Rattle.rdm_queue.proofs.Common.{same_running, filter_map, uncollected, outcome_of}
 use Rattle.rdm_queue.specs.declared.pending.Awaited.TheVariants as awaiting
-use Rattle.rdm_log.specs.log.Entries.{join_of, sending_of, came_of, collector_of}
-use Rattle.rdm_log.specs.log.History.{awaits_after, paused_after, closed_after, places}
+use Rattle.rdm_log.specs.log.Entries.{sending_of, came_of, collector_of}
+use Rattle.rdm_log.specs.log.History.{awaits_after, places}
 use Rattle.rdm_log.specs.log.Runs.{next_run}
 use Rattle.rdm_queue.specs.body.State.{uncollected as uncollected_by}
-use Rattle.rdm_log.proofs.LogLemmas.PushLemmas.{SameRequests, same_after}
+use Rattle.rdm_log.proofs.LogLemmas.PushLemmas.{SameRequests, same_after, pushes}
 use Rattle.rdm_log.proofs.LogLemmas.ClientLemmas.{brings_work, ends_work, no_accept, no_ask, no_finish, no_reply}
 use Rattle.rdm_queue.proofs.BodyLemmas.RunningLemmas.{run_same}
 
@@ -127,87 +126,24 @@ is_traded (Send owner frame) = true
 is_traded (Came event) = true
 is_traded _ = false
 
-record AddsNothing (e : Entry) : Type 0 where
-  join : join_of e ≡ None
-  collect : collector_of e ≡ None
-  brings : brings_work e ≡ false
-  ends : ends_work e ≡ false
-  paused : (b : Bool) → paused_after b e ≡ b
-  closed : (b : Bool) → closed_after b e ≡ b
-
-adds_nothing : (e : Entry) → is_traded e ≡ true → AddsNothing e
-adds_nothing (Send owner frame) is = record {
-  join = refl;
-  collect = refl;
-  brings = refl;
-  ends = refl;
-  paused = λ b. refl;
-  closed = λ b. refl;
-}
-adds_nothing (Came event) is = record {
-  join = refl;
-  collect = refl;
-  brings = refl;
-  ends = refl;
-  paused = λ b. refl;
-  closed = λ b. refl;
-}
-adds_nothing _ is = absurd (false≢true is)
-
 pub traded : (o : Opening) (h : List Entry) (e : Entry) (s new : QueueState) → EachAfter (MayFollow o) h
     → MayFollow o h e → is_traded e ≡ true → Agrees o h s → AgreesOnLine o (h ++ e ∷ []) (with_line s new)
     → Agrees o (h ++ e ∷ []) (with_line s new)
-traded o h e s new each may is stands line = record {
-  source_is = stands.source_is;
-  greatest_is = stands.greatest_is;
-  budget_is = stands.budget_is;
-  search_is = stands.search_is;
-  places_are = rw joins_are stands.places_are;
-  paused_is = stands.paused_is ∙ sym (is_paused-push o h e ∙ none.paused (is_paused o h));
-  closed_is = stands.closed_is ∙ sym (is_closed-push o h e ∙ none.closed (is_closed o h));
-  next_request_is = rw accepts_are stands.next_request_is;
-  next_tn_is = line.next_tn_is;
-  waiting_are = stands.waiting_are ∙ sym (unfinished_same h k accepts_are finishes_are);
-  awaited_is = line.awaited_is;
-  under_way_is = line.under_way_is;
-  standing = line.standing;
-  next_ask_is = rw asks_are stands.next_ask_is;
-  next_run_is = line.next_run_is;
-  asked_are = rw (asks_are, answers_are) stands.asked_are;
-  run_is = line.run_is;
-  devices_are = stands.devices_are ∙ sym (known_step o h e each may answers_are);
-  devices_run_is = devices_run_same o h k s.devices_run answers_are stands.devices_run_is;
-  owed_for_each = rw joins_are stands.owed_for_each;
-  outcomes_are =
-      λ c. rw (answers_same o c h e none.brings none.ends, collectors_are)
-      (stands.outcomes_are c ∙ sym (outcomes_step o h e each may c));
-  all_outcomes = rw (collectors_are, finishes_are, answers_are) stands.all_outcomes;
-  first_run = stands.first_run;
-}
-  where
-    k : List Entry
-    k = h ++ e ∷ []
-
-    none : AddsNothing e
-    none = adds_nothing e is
-
-    joins_are : joins k ≡ joins h
-    joins_are = joins_same h e none.join
-
-    accepts_are : accepts k ≡ accepts h
-    accepts_are = accepts_same h e (no_accept e none.brings)
-
-    asks_are : asks k ≡ asks h
-    asks_are = asks_same h e (no_ask e none.brings)
-
-    finishes_are : finishes k ≡ finishes h
-    finishes_are = finishes_same h e (no_finish e none.ends)
-
-    answers_are : answers k ≡ answers h
-    answers_are = answered_same h e (no_reply e none.ends)
-
-    collectors_are : collectors k ≡ collectors h
-    collectors_are = collectors_same h e none.collect
+traded o h (Send owner frame) s new each may is stands line =
+    let e = Send owner frame in
+    let known = stands.devices_are ∙ sym (known_step o h e each may (answered_same h e refl)) in
+    let outcomes : (c : ℕ) → owed_to c s ≡ filter_map (outcome_of (h ++ e ∷ [])) (uncollected o c (h ++ e ∷ [])) =
+    λ c. rw (answers_same o c h e refl refl, collectors_same h e refl)
+    (stands.outcomes_are c ∙ sym (outcomes_step o h e each may c)) in
+    search (pushes, known, outcomes, line, stands)
+traded o h (Came event) s new each may is stands line =
+    let e = Came event in
+    let known = stands.devices_are ∙ sym (known_step o h e each may (answered_same h e refl)) in
+    let outcomes : (c : ℕ) → owed_to c s ≡ filter_map (outcome_of (h ++ e ∷ [])) (uncollected o c (h ++ e ∷ [])) =
+    λ c. rw (answers_same o c h e refl refl, collectors_same h e refl)
+    (stands.outcomes_are c ∙ sym (outcomes_step o h e each may c)) in
+    search (pushes, known, outcomes, line, stands)
+traded o h _ s new each may is stands line = cc
 
 -- the entry is about neither the line nor the work
 pub stands_same : (o : Opening) (h : List Entry) (e : Entry) (s : QueueState) (ps : List ℕ) (paused closed : Bool)

@@ -6,127 +6,86 @@ use Rattle.rdm_queue.proofs.Common.{list_any, cases_Bool, cases_eq, cases_lt, ne
 use Rattle.rdm_queue.proofs.Common.{length-drop, get_or-set_same, get_or-set_other, get_or_past, list_any-append}
 use Rattle.rdm_queue.proofs.Common.{filter-append, ArrayVec, EachAfter, Request, LineEvent, Sent, verdict, sent_by}
 use Rattle.rdm_queue.proofs.Common.{Joined, JoinerStanding, Kind, ClientId, Opening, Entry, Accept, Ask, Send, Came}
-use Rattle.rdm_queue.proofs.Common.{Collect, Accepted, AskedDiscovery, Sending, accepts, asks, sends, cames, finishes}
-use Rattle.rdm_queue.proofs.Common.{collectors, verdicts, result, is_request, is_run, awaited, unfinished, answers_to}
-use Rattle.rdm_queue.proofs.Common.{uncollected, last_run, MayFollow, OutcomeValue, outcome_of, completion_of}
-use Rattle.rdm_queue.proofs.Common.{QueueState, owed_for, owed_to, owed_value, owes, accepts_request, asks_discovery}
-use Rattle.rdm_queue.proofs.Common.{collects_oldest, finishes_oldest, finish_of, IsStanding, sent_for, IsLast}
-use Rattle.rdm_queue.proofs.Common.{AwaitsRequest, IsNotRunning, oldest_number, Agrees, joins_same, accepts_same}
-use Rattle.rdm_queue.proofs.Common.{asks_same, answered_same, sends_same, sends_more, cames_same, finishes_same}
-use Rattle.rdm_queue.proofs.Common.{collectors_same, awaited-push, is_paused-push, is_closed-push, unfinished_same}
-use Rattle.rdm_queue.proofs.Common.{index_within, IsUnanswered, verdicts_sent, verdicts_unsent, LogFacts}
-use Rattle.rdm_queue.proofs.Common.{unfinished_number, AskFacts, answers_same, ClientFacts, last_run_same}
+use Rattle.rdm_queue.proofs.Common.{Collect, Accepted, Sending, sends, cames, finishes, collectors, verdicts, result}
+use Rattle.rdm_queue.proofs.Common.{is_request, is_run, awaited, unfinished, answers_to, uncollected, last_run}
+use Rattle.rdm_queue.proofs.Common.{MayFollow, OutcomeValue, outcome_of, completion_of, QueueState, owed_for, owed_to}
+use Rattle.rdm_queue.proofs.Common.{owed_value, owes, accepts_request, asks_discovery, collects_oldest, finishes_oldest}
+use Rattle.rdm_queue.proofs.Common.{finish_of, IsStanding, sent_for, IsLast, AwaitsRequest, IsNotRunning, oldest_number}
+use Rattle.rdm_queue.proofs.Common.{Agrees, joins_same, accepts_same, asks_same, answered_same, sends_same, sends_more}
+use Rattle.rdm_queue.proofs.Common.{cames_same, finishes_same, collectors_same, awaited-push, is_paused-push}
+use Rattle.rdm_queue.proofs.Common.{is_closed-push, index_within, IsUnanswered, verdicts_sent, verdicts_unsent}
+use Rattle.rdm_queue.proofs.Common.{LogFacts, unfinished_number, AskFacts, answers_same, ClientFacts, last_run_same}
 use Rattle.rdm_queue.proofs.Common.{last_run_sent, outcomes_step, known_step, answers_passed, same_running, asked_stays}
-use Rattle.std.proofs.lemmas.List.{same_from_push, drop-drop}
+use Rattle.std.proofs.lemmas.List.{same_from_push, drop-drop, length_push, drop-append-le}
 use Rattle.std.proofs.lemmas.List.Elements.{filter_map-append}
 use Rattle.rdm_log.specs.declared.entry.Owner.TheVariants as owners
 use Rattle.rdm_queue.specs.declared.pending.Awaited.TheVariants as awaiting
 use Rattle.rdm_log.specs.log.Clients.{collects_by, client_of_request}
 use Rattle.rdm_queue.specs.body.Sending.{sends_request}
-use Rattle.rdm_log.proofs.LogLemmas.PushLemmas.{accepts_more, asks_more, finishes_more, collectors_more}
-use Rattle.rdm_log.proofs.LogLemmas.PushLemmas.{unfinished_accept, unfinished_finish, unanswered_ask}
+use Rattle.rdm_log.specs.log.Runs.{known_devices}
+use Rattle.rdm_log.specs.log.History.{next_request, next_ask, unanswered, places, awaits_after}
+use Rattle.rdm_log.specs.log.Entries.{sending_of, came_of, answers}
+use Rattle.rdm_queue.specs.body.State.{accepted_as, asked_as, uncollected as uncollected_by}
+use Rattle.rdm_log.proofs.LogLemmas.PushLemmas.{pushes, finishes_more, collectors_more, unfinished_finish}
 use Rattle.rdm_log.proofs.LogLemmas.ExchangeLemmas.{verdicts_came_own, result_same}
 use Rattle.rdm_log.proofs.LogLemmas.LegalFacts.{unfinished_index}
 use Rattle.rdm_log.proofs.LogLemmas.ClientLemmas.{answers_accept, answers_ask, answers_finish_own, answers_finish_other}
-use Rattle.rdm_log.proofs.LogLemmas.ClientLemmas.{client_of_accepted}
+use Rattle.rdm_log.proofs.LogLemmas.ClientLemmas.{client_of_accepted, ends_work, no_reply}
 use Rattle.rdm_log.proofs.LogLemmas.RunLemmas.{SameRuns, same_runs_sent}
 use Rattle.rdm_log.proofs.PromiseLemmas.OutcomeLemmas.{uncollected_more, outcomes_rest}
 use Rattle.rdm_queue.proofs.BodyLemmas.OutstandingLemmas.{in_all, in_all-cons, removed_at, put_at, owes-own, owes-other}
 use Rattle.rdm_log.proofs.LogLemmas.RunningLemmas.{same_running_came}
 use Rattle.rdm_queue.proofs.BodyLemmas.RunningLemmas.{run_same}
-use Rattle.rdm_queue.proofs.BodyLemmas.AgreesSame.{devices_run_same, AgreesOnLine, same_line, line_same, traded}
+use Rattle.rdm_queue.proofs.BodyLemmas.AgreesSame.{devices_run_same, AgreesOnLine, with_line, same_line, line_same}
+use Rattle.rdm_queue.proofs.BodyLemmas.AgreesSame.{traded}
+
+-- what an entry that ends no work leaves as it was
+record Kept (o : Opening) (h k : List Entry) (s new : QueueState) : Type 0 where
+  line : AgreesOnLine o k (with_line new s)
+  devices_are : s.devices ≡ known_devices o k
+  outcomes : (c : ℕ) → filter_map (outcome_of k) (uncollected o c h) ≡ filter_map (outcome_of h) (uncollected o c h)
+
+kept : (o : Opening) (h : List Entry) (e : Entry) (s new : QueueState) → EachAfter (MayFollow o) h → MayFollow o h e
+    → sending_of e ≡ None → came_of e ≡ None → ends_work e ≡ false → awaits_after (awaited h) e ≡ awaited h
+    → Agrees o h s → Kept o h (h ++ e ∷ []) s new
+kept o h e s new each may send came ends waits stands = record {
+  line = line_same o h (h ++ e ∷ []) s new (same_line o h e send came ends waits) stands;
+  devices_are = stands.devices_are ∙ sym (known_step o h e each may (answered_same h e (no_reply e ends)));
+  outcomes = outcomes_step o h e each may;
+}
 
 -- a request is accepted
 pub stands_accept : (o : Opening) (h : List Entry) (s : QueueState) (c : ClientId) (n : ℕ) (request : Request)
     → EachAfter (MayFollow o) h → MayFollow o h (Accept c n request) → LogFacts o h → AskFacts o h → n ≡ s.next_request
     → Agrees o h s → Agrees o (h ++ Accept c n request ∷ []) (accepts_request s c.0 request)
-stands_accept o h s c n request each may facts ask_facts number stands = record {
-  source_is = stands.source_is;
-  greatest_is = stands.greatest_is;
-  budget_is = stands.budget_is;
-  search_is = stands.search_is;
-  places_are = rw (joins_same h e refl) stands.places_are;
-  paused_is = stands.paused_is ∙ sym (is_paused-push o h e);
-  closed_is = stands.closed_is ∙ sym (is_closed-push o h e);
-  next_request_is =
-      rw (accepts_more h e a refl, length-append (accepts h) (a ∷ [])) (omega (arith, stands.next_request_is));
-  next_tn_is = line.next_tn_is;
-  waiting_are =
-      rw (unfinished_accept h c n request facts.finished_within, number)
-      (ap (λ l. l ++ record { client = c.0; number = s.next_request; request = request } ∷ []) stands.waiting_are);
-  awaited_is = line.awaited_is;
-  under_way_is = line.under_way_is;
-  standing = line.standing;
-  next_ask_is = rw (asks_same h e refl) stands.next_ask_is;
-  next_run_is = line.next_run_is;
-  asked_are = rw (asks_same h e refl, answered_same h e refl) stands.asked_are;
-  run_is = line.run_is;
-  devices_are = stands.devices_are ∙ sym (known_step o h e each may (answered_same h e refl));
-  devices_run_is = devices_run_same o h k s.devices_run (answered_same h e refl) stands.devices_run_is;
-  owed_for_each = rw (joins_same h e refl) stands.owed_for_each;
-  outcomes_are =
-      λ client. rw (answers_accept o client h facts ask_facts c n request, collectors_same h e refl)
-      (stands.outcomes_are client ∙ sym (outcomes_step o h e each may client));
-  all_outcomes = rw (collectors_same h e refl, finishes_same h e refl, answered_same h e refl) stands.all_outcomes;
-  first_run = stands.first_run;
-}
-  where
-    e : Entry
-    e = Accept c n request
-
-    k : List Entry
-    k = h ++ e ∷ []
-
-    line : AgreesOnLine o k (accepts_request s c.0 request)
-    line = line_same o h k s (accepts_request s c.0 request) (same_line o h e refl refl refl refl) stands
-
-    a : Accepted
-    a = record { client = c.0; number = n; request = request }
+stands_accept o h s c n request each may facts ask_facts number stands =
+    let k : List Entry = h ++ Accept c n request ∷ [] in
+    let within = facts.finished_within in
+    let rest = kept o h (Accept c n request) s (accepts_request s c.0 request) each may refl refl refl refl stands in
+    let next : s.next_request + 1 ≡ next_request o k =
+    simp (pushes, length_push) (omega (arith, stands.next_request_is)) in
+    let waiting : s.waiting ++ accepted_as s c.0 request ∷ [] ≡ unfinished k =
+    simp (pushes, drop-append-le, number) (ap (λ l. l ++ accepted_as s c.0 request ∷ []) stands.waiting_are) in
+    let outcomes : (d : ℕ) → owed_to d s ≡ filter_map (outcome_of k) (uncollected o d k) =
+    λ d. rw (answers_accept o d h facts ask_facts c n request, collectors_same h (Accept c n request) refl)
+    (stands.outcomes_are d ∙ sym (rest.outcomes d)) in
+    search (pushes, next, waiting, outcomes, rest.line, rest, stands)
 
 -- a discovery is asked
 pub stands_ask : (o : Opening) (h : List Entry) (s : QueueState) (c : ClientId) (n : ℕ) (kind : Kind)
     → EachAfter (MayFollow o) h → MayFollow o h (Ask c n kind) → LogFacts o h → AskFacts o h → n ≡ s.next_ask
     → Agrees o h s → Agrees o (h ++ Ask c n kind ∷ []) (asks_discovery s c.0 kind)
-stands_ask o h s c n kind each may facts ask_facts number stands = record {
-  source_is = stands.source_is;
-  greatest_is = stands.greatest_is;
-  budget_is = stands.budget_is;
-  search_is = stands.search_is;
-  places_are = rw (joins_same h e refl) stands.places_are;
-  paused_is = stands.paused_is ∙ sym (is_paused-push o h e);
-  closed_is = stands.closed_is ∙ sym (is_closed-push o h e);
-  next_request_is = rw (accepts_same h e refl) stands.next_request_is;
-  next_tn_is = line.next_tn_is;
-  waiting_are = stands.waiting_are ∙ sym (unfinished_same h k (accepts_same h e refl) (finishes_same h e refl));
-  awaited_is = line.awaited_is;
-  under_way_is = line.under_way_is;
-  standing = line.standing;
-  next_ask_is = rw (asks_more h e a refl, length-append (asks h) (a ∷ [])) (omega (arith, stands.next_ask_is));
-  next_run_is = line.next_run_is;
-  asked_are = rw (unanswered_ask h e a refl refl ask_facts.answered_within, number)
-      (ap (λ l. l ++ record { client = c.0; number = s.next_ask; kind = kind } ∷ []) stands.asked_are);
-  run_is = line.run_is;
-  devices_are = stands.devices_are ∙ sym (known_step o h e each may (answered_same h e refl));
-  devices_run_is = devices_run_same o h k s.devices_run (answered_same h e refl) stands.devices_run_is;
-  owed_for_each = rw (joins_same h e refl) stands.owed_for_each;
-  outcomes_are =
-      λ client. rw (answers_ask o client h facts ask_facts c n kind, collectors_same h e refl)
-      (stands.outcomes_are client ∙ sym (outcomes_step o h e each may client));
-  all_outcomes = rw (collectors_same h e refl, finishes_same h e refl, answered_same h e refl) stands.all_outcomes;
-  first_run = stands.first_run;
-}
-  where
-    e : Entry
-    e = Ask c n kind
-
-    k : List Entry
-    k = h ++ e ∷ []
-
-    line : AgreesOnLine o k (asks_discovery s c.0 kind)
-    line = line_same o h k s (asks_discovery s c.0 kind) (same_line o h e refl refl refl refl) stands
-
-    a : AskedDiscovery
-    a = record { client = c.0; number = n; kind = kind }
+stands_ask o h s c n kind each may facts ask_facts number stands =
+    let k : List Entry = h ++ Ask c n kind ∷ [] in
+    let within = ask_facts.answered_within in
+    let rest = kept o h (Ask c n kind) s (asks_discovery s c.0 kind) each may refl refl refl refl stands in
+    let next : s.next_ask + 1 ≡ next_ask o k = simp (pushes, length_push) (omega (arith, stands.next_ask_is)) in
+    let asked : s.asked ++ asked_as s c.0 kind ∷ [] ≡ unanswered k =
+    simp (pushes, drop-append-le, number) (ap (λ l. l ++ asked_as s c.0 kind ∷ []) stands.asked_are) in
+    let outcomes : (d : ℕ) → owed_to d s ≡ filter_map (outcome_of k) (uncollected o d k) =
+    λ d. rw (answers_ask o d h facts ask_facts c n kind, collectors_same h (Ask c n kind) refl)
+    (stands.outcomes_are d ∙ sym (rest.outcomes d)) in
+    search (pushes, next, asked, outcomes, rest.line, rest, stands)
 
 -- a request's frame is sent
 pub was_sent_own : (n : ℕ) (ss : List Sending) (frame : ArrayVec ℕ)
@@ -250,7 +209,7 @@ stands_came o h s sent event decided joiner each may facts was standing stands =
       standing = rw (finishes_same h e refl) (rw (came_verdicts o h sent event facts w x) standing);
       next_run_is = rw (last_run_same h k (sends_same h e refl)) stands.next_run_is;
       run_is =
-          run_same o h k s new s.run (same_running_came o h (oldest_number o h) w.frame event x) refl refl (inl refl)
+          run_same o h k s new s.run (same_running_came o h (oldest_number o h) w.frame event x) refl (inl refl)
           stands.run_is;
     }
 
@@ -285,47 +244,20 @@ count_less (ds ∷ lists) (suc c) d at =
 pub stands_collect : (o : Opening) (h : List Entry) (s : QueueState) (c : ClientId) (d : OutcomeValue)
     → EachAfter (MayFollow o) h → MayFollow o h (Collect c) → slice_get (owed_to c.0 s) 0 ≡ Some d → Agrees o h s
     → Agrees o (h ++ Collect c ∷ []) (collects_oldest s c.0)
-stands_collect o h s c d each may first stands = record {
-  source_is = stands.source_is;
-  greatest_is = stands.greatest_is;
-  budget_is = stands.budget_is;
-  search_is = stands.search_is;
-  places_are = rw (joins_same h e refl) stands.places_are;
-  paused_is = stands.paused_is ∙ sym (is_paused-push o h e);
-  closed_is = stands.closed_is ∙ sym (is_closed-push o h e);
-  next_request_is = rw (accepts_same h e refl) stands.next_request_is;
-  next_tn_is = line.next_tn_is;
-  waiting_are = stands.waiting_are ∙ sym (unfinished_same h k (accepts_same h e refl) (finishes_same h e refl));
-  awaited_is = line.awaited_is;
-  under_way_is = line.under_way_is;
-  standing = line.standing;
-  next_ask_is = rw (asks_same h e refl) stands.next_ask_is;
-  next_run_is = line.next_run_is;
-  asked_are = rw (asks_same h e refl, answered_same h e refl) stands.asked_are;
-  run_is = line.run_is;
-  devices_are = stands.devices_are ∙ sym (known_step o h e each may (answered_same h e refl));
-  devices_run_is = devices_run_same o h k s.devices_run (answered_same h e refl) stands.devices_run_is;
-  owed_for_each = length-set s.owed c.0 _ ∙ rw (joins_same h e refl) stands.owed_for_each;
-  outcomes_are = outcomes;
-  all_outcomes =
-      rw (
-        collectors_more h e c.0 refl,
-        finishes_same h e refl,
-        answered_same h e refl,
-        length-append (collectors h) (c.0 ∷ []),
-      )
-      (let less = count_less s.owed c.0 d first in let all = stands.all_outcomes in omega arith);
-  first_run = stands.first_run;
-}
+stands_collect o h s c d each may first stands =
+    let rest = kept o h e s (collects_oldest s c.0) each may refl refl refl refl stands in
+    let long : length (collects_oldest s c.0).owed ≡ length (places o k) =
+    length-set s.owed c.0 _ ∙ simp pushes stands.owed_for_each in
+    let all : uncollected_by (collects_oldest s c.0) + length (collectors k) ≡ length (finishes k) + length (answers k) =
+    let less = count_less s.owed c.0 d first in let all = stands.all_outcomes in
+    simp (pushes, length_push) (omega arith) in
+    search (pushes, long, all, outcomes, rest.line, rest, stands)
   where
     e : Entry
     e = Collect c
 
     k : List Entry
     k = h ++ e ∷ []
-
-    line : AgreesOnLine o k (collects_oldest s c.0)
-    line = line_same o h k s (collects_oldest s c.0) (same_line o h e refl refl refl refl) stands
 
     collects : (client : ℕ) → collects_by client k ≡ collects_by client h ++ filter (λ b. client == b) (c.0 ∷ [])
     collects client =
@@ -429,7 +361,7 @@ stands_finish o h s a rest done each may facts clients oldest completes idle non
   next_ask_is = rw (asks_same h e refl) stands.next_ask_is;
   next_run_is = rw (last_run_same h k (sends_same h e refl)) stands.next_run_is;
   asked_are = rw (asks_same h e refl, answered_same h e refl) stands.asked_are;
-  run_is = run_same o h k s new s.run (same_running o h e refl refl refl) refl refl (inr refl) stands.run_is;
+  run_is = run_same o h k s new s.run (same_running o h e refl refl refl) refl (inr refl) stands.run_is;
   devices_are = stands.devices_are ∙ sym (known_step o h e each may (answered_same h e refl));
   devices_run_is = devices_run_same o h k s.devices_run (answered_same h e refl) stands.devices_run_is;
   owed_for_each = length-set s.owed a.client _ ∙ rw (joins_same h e refl) stands.owed_for_each;
