@@ -2,13 +2,12 @@
 use Rattle.rdm_log.proofs.Common.{◌≡◌, ℕ, suc, zero, true, false, List, [], ◌∷◌, ◌++◌, take, drop, Option, Some, None}
 use Rattle.rdm_log.proofs.Common.{slice_get, filter_map, refl, sym, ap, ◌∙◌, inl, inr, fold, ◌⊎◌, ◌≢◌, ◌==◌, Contains}
 use Rattle.rdm_log.proofs.Common.{cons_option, cases_Bool, false≢true, eqb-true, eq-eqb, none-some, same_Some}
-use Rattle.rdm_log.proofs.Common.{EachAfter, has, uids_of, Device, Seen, HonestTrace, Unmute, acked_in, Certificate}
+use Rattle.rdm_log.proofs.Common.{EachAfter, has, uids_of, Device, Seen, Unmute, acked_in, Certificate}
 use Rattle.rdm_log.proofs.Common.{Kind, AgentFault, Aborted, Opening, Entry, Answer, Answered, answered_of, answers}
 use Rattle.rdm_log.proofs.Common.{run_kind, known_at_run, run_exchanges, run_devices, answer_devices, if_without_fault}
 use Rattle.rdm_log.proofs.Common.{last_run_without_fault, known_devices, MayAnswer, MayFollow, Legal}
 use Rattle.rdm_log.proofs.Common.{AnswersReportTheLine}
 use Rattle.rdm_wire.specs.Uid.{IsDevice}
-use Rattle.rdm_wire.specs.Honest.{HonestTo}
 use Rattle.rdm_wire.specs.HonestOver.{HonestOver}
 use Rattle.rdm_wire.specs.Noisy.{NoisyTo, NoisyTrace}
 use Rattle.rdm_wire.proofs.NoisyLemmas.{honest_is_noisy, honest_to_is_noisy}

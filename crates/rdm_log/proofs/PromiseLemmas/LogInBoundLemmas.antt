@@ -3,7 +3,6 @@ use Rattle.rdm_log.proofs.Common.{◌≡◌, List, [], ◌∷◌, ◌++◌, Some
 use Rattle.rdm_log.proofs.Common.{EachAfter, EachAfter-push, Entry, LogState, grown, with_entries}
 use Rattle.rdm_log.proofs.Common.{FaultNeedsClose, AnswersInBound, Legal}
 use Rattle.rdm_log.specs.declared.entry.Entry.TheVariants as entries
-use Rattle.rdm_log.specs.declared.event.Answer.{Answer}
 use Rattle.rdm_log.specs.promises.LogInBound.{InBound}
 use Rattle.rdm_log.proofs.PromiseLemmas.Promises.{promised}
 use Rattle.rdm_log.specs.promises.Promised.{Promised}
