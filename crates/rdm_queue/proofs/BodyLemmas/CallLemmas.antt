@@ -14,7 +14,6 @@ use Rattle.rdm_queue.proofs.Common.{ByClose, Accepted, Joined, none-some, drop, 
 use Rattle.rdm_queue.proofs.Common.{NoSend, IsGiven, to_send, false≢true, is_some}
 use Rattle.rdm_log.specs.declared.outcome.OutcomeKind.{OutcomeKind}
 use Rattle.rdm_log.specs.declared.outcome.DiscoveryEnd.{DiscoveryEnd}
-use Rattle.rdm_log.specs.declared.work.Work.TheVariants.{Submit, Discover}
 use Rattle.rdm_log.specs.promises.Blocks.{JoinAdds, CollectAdds, IsOldest}
 use Rattle.rdm_queue.specs.declared.oldest.Oldest.{Oldest}
 use Rattle.rdm_queue.specs.declared.oldest.Oldest.TheVariants as shown

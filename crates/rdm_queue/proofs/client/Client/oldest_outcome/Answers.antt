@@ -1,5 +1,4 @@
-use Rattle.rdm_queue.proofs.Common.{◌≡◌, Some, None, slice_get, sym, ap, ◌∙◌, option_map, refl}
-use Rattle.rdm_queue.specs.body.Rings.{value_shown}
+use Rattle.rdm_queue.proofs.Common.{Some, sym, ap, ◌∙◌, refl}
 use Rattle.rdm_queue.proofs.BodyLemmas.ValueLemmas.{none_first, request_first, discovery_first, has_first}
 use Rattle.rdm_queue.proofs.BodyLemmas.FieldLemmas.{found_at}
 use Rattle.rdm_queue.proofs.client.Client.oldest_outcome.Goals as goal

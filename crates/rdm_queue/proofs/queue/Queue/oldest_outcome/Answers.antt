@@ -1,4 +1,4 @@
-use Rattle.rdm_queue.proofs.Common.{◌≡◌, List, Some, slice_get, sym, ◌∙◌, refl, Client, state_of, HasSets, all_at}
+use Rattle.rdm_queue.proofs.Common.{◌≡◌, List, Some, slice_get, sym, ◌∙◌, refl, Client, state_of}
 use Rattle.rdm_queue.proofs.BodyLemmas.FieldLemmas.{found_at}
 use Rattle.rdm_queue.proofs.BodyLemmas.RingSteps.{first_at}
 use Rattle.rdm_queue.proofs.queue.Queue.oldest_outcome.Goals as goal
