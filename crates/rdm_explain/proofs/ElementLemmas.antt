@@ -1,7 +1,7 @@
 -- The first element of a list without something.
-use Rattle.std.proofs.Common.{◌≡◌, ℕ, ◌+◌, ◌<◌, ◌≤◌, Bool, true, false, ◌&&◌, ◌||◌, not, List}
-use Rattle.std.proofs.Common.{[], ◌∷◌, ◌++◌, Option, Some, None}
-use Rattle.std.proofs.Common.{refl, sym, ap, ◌∙◌, subst, inl, inr, true≢false, arith, rules, take, drop, length, get_or}
+use Rattle.std.proofs.Common.{◌≡◌, ℕ, ◌+◌, ◌<◌, ◌≤◌, Bool, true, false, ◌&&◌, ◌||◌, not, List, [], ◌∷◌, ◌++◌, Option}
+use Rattle.std.proofs.Common.{Some, None, append_assoc, refl, sym, ap, ◌∙◌, subst, inl, inr, true≢false, arith, rules}
+use Rattle.std.proofs.Common.{take, drop, length, get_or}
 use Rattle.std.specs.Prelude.{◌==◌, if◌then◌else◌}
 use Rattle.std.specs.List.{AllByRecursion}
 use Rattle.std.proofs.lemmas.List.{take_more, drop_more, take-append-drop, map-append}
@@ -61,6 +61,14 @@ has_middle (v ∷ front) back u = ap (λ b. (u == v) || b) (has_middle front bac
     or_true : (b : Bool) → (b || true) ≡ true
     or_true true = refl
     or_true false = refl
+
+-- each element of a list is one of the list
+pub own_elements : (us vs : List ℕ) → AllByRecursion (λ v. has (us ++ vs) v ≡ true) vs
+own_elements us [] = tt
+own_elements us (v ∷ vs) = (
+  has_middle us vs v,
+  subst (λ l. AllByRecursion (λ w. has l w ≡ true) vs) (append_assoc us (v ∷ []) vs) (own_elements (us ++ v ∷ []) vs),
+)
 
 both_true : (a b : Bool) → a ≡ true → b ≡ false → (a && not b) ≡ true
 both_true true false p q = refl

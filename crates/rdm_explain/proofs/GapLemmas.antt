@@ -1,7 +1,7 @@
 -- The first gap between stretches that ascend by their lower bounds.
 use Rattle.std.proofs.Common.{◌≡◌, ℕ, zero, suc, ◌+◌, ◌<◌, ◌≤◌, ◌^◌, Bool, true, false, List, [], ◌∷◌, ◌++◌, Option}
-use Rattle.std.proofs.Common.{Some, None}
-use Rattle.std.proofs.Common.{true≢false, refl, sym, ap, ◌∙◌, subst, inl, inr, length, take, drop, get_or, arith}
+use Rattle.std.proofs.Common.{Some, None, true≢false, refl, sym, ap, ◌∙◌, subst, inl, inr, length, take, drop, get_or}
+use Rattle.std.proofs.Common.{arith}
 use Rattle.std.specs.Prelude.{◌⊎◌, ◌↔◌, IsSome, IfSome, nat_le, if◌then◌else◌}
 use Rattle.std.specs.List.{AllByRecursion}
 use Rattle.std.specs.List.Sorted.{IsNonDecreasingBy}

@@ -4,8 +4,8 @@ use Rattle.std.proofs.Common.{ap, ◌∙◌, subst, inl, inr, true≢false, arit
 use Rattle.std.proofs.Common.{append_assoc, append-nil, rules}
 use Rattle.std.specs.Prelude.{◌⊎◌, ◌≢◌, ◌==◌, nat_le, filter, fold, MatchBool, if◌then◌else◌}
 use Rattle.std.specs.List.{AllByRecursion}
-use Rattle.std.proofs.lemmas.List.{map-append, take_more, take_at, get_or_at, drop_more}
-use Rattle.std.proofs.lemmas.List.{take-append-drop, length-take-le}
+use Rattle.std.proofs.lemmas.List.{map-append, take_more, take_at, get_or_at, drop_more, take-append-drop}
+use Rattle.std.proofs.lemmas.List.{length-take-le}
 use Rattle.std.proofs.lemmas.Bool.{and_parts, and_from, or_cases, cases_lt, eqb-true, eq-eqb, leb-true}
 use Rattle.std.proofs.lemmas.List.Sums.{fold-append}
 use Rattle.rdm_wire.specs.Uid.{has, is_broadcast, is_within, IsAscending, IsDevice, IsDeviceSet}
@@ -17,10 +17,10 @@ use Rattle.rdm_wire.specs.Honest.Heard.{Failed, Silent, One, Acked, Noise}
 use Rattle.rdm_explain.specs.declared.exchange.Exchange.{Exchange}
 use Rattle.rdm_explain.specs.Exchanges.{seen_of, seen_all}
 use Rattle.rdm_explain.specs.Garbled.{StaysMuted, IsNoAnswer, IsGarbledExchange, IsGarbled}
-use Rattle.rdm_explain.specs.body.Garbling.{muted_after, muted_with, stays_muted, is_wrong_reply}
-use Rattle.rdm_explain.specs.body.Garbling.{is_no_acknowledgement, is_garbled_by, is_garbled}
+use Rattle.rdm_explain.specs.body.Garbling.{muted_after, muted_with, stays_muted, is_wrong_reply, is_no_acknowledgement}
+use Rattle.rdm_explain.specs.body.Garbling.{is_garbled_by, is_garbled}
 use Rattle.rdm_explain.proofs.EndLemmas.{all_append}
-use Rattle.rdm_explain.proofs.PartingLemmas.{own_elements}
+use Rattle.rdm_explain.proofs.ElementLemmas.{own_elements}
 use Rattle.rdm_explain.proofs.StrayLemmas.{NoFailure, failed_in}
 
 pub cons_head : {X : Type 0} (x y : X) (xs ys : List X) → x ∷ xs ≡ y ∷ ys → x ≡ y

@@ -12,8 +12,8 @@ use Rattle.rdm_explain.specs.declared.exchange.Exchange.{Exchange}
 use Rattle.rdm_explain.specs.Exchanges.{seen_of, seen_all}
 use Rattle.rdm_explain.specs.Garbled.{StaysMuted, IsNoAnswer, IsGarbled}
 use Rattle.rdm_explain.proofs.StrayLemmas.{NoFailure}
-use Rattle.rdm_explain.proofs.GarbledLemmas.{Waits, step_keeps, step_mutes, not_answered}
-use Rattle.rdm_explain.proofs.GarbledLemmas.{seen_whole, cons_head, cons_tail}
+use Rattle.rdm_explain.proofs.GarbledLemmas.{Waits, step_keeps, step_mutes, not_answered, seen_whole, cons_head}
+use Rattle.rdm_explain.proofs.GarbledLemmas.{cons_tail}
 
 -- a device that was there and is muted, unless it has left, and stays so to the end of these exchanges
 record IsMutedOver (earlier last : List ℕ) (muted : ℕ → Bool) (u : ℕ) (x : List Seen) : Type 0 where

@@ -1,6 +1,6 @@
 -- Which UIDs exchanges mute, by what was known and read before.
-use Rattle.std.proofs.Common.{◌≡◌, ℕ, Bool, true, false, ◌||◌, not, cond, List, [], ◌∷◌, ◌++◌, Some, None}
-use Rattle.std.proofs.Common.{one-add, refl, sym, ap, ◌∙◌, inl, inr, true≢false, ◌+◌, take}
+use Rattle.std.proofs.Common.{◌≡◌, ℕ, Bool, true, false, ◌||◌, not, cond, List, [], ◌∷◌, ◌++◌, Some, None, one-add}
+use Rattle.std.proofs.Common.{refl, sym, ap, ◌∙◌, inl, inr, true≢false, ◌+◌, take}
 use Rattle.std.specs.Prelude.{◌⊎◌}
 use Rattle.std.specs.List.{AllByRecursion, before_first, position_or_len}
 use Rattle.std.proofs.lemmas.Bool.{or_cases}

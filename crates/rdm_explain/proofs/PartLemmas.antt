@@ -17,9 +17,8 @@ use Rattle.rdm_explain.specs.declared.certificate.KnownFinding.{KnownFinding}
 use Rattle.rdm_explain.specs.Exchanges.{seen_all}
 use Rattle.rdm_explain.specs.Covers.{FirstUncovered, IsCovered}
 use Rattle.rdm_explain.specs.Certificates.{FirstWithout, FirstElementWithout, FirstMissing, FirstMisreported, NoFailure}
-use Rattle.rdm_explain.specs.Certificates.{AreTried}
-use Rattle.rdm_explain.specs.Certificates.{IsAsFirstAcked, IsMutedFirst, MutesAreNamed, ExplainsRun, ExplainsKnown}
-use Rattle.rdm_explain.specs.Certificates.{IsComplete, IsKnownComplete}
+use Rattle.rdm_explain.specs.Certificates.{AreTried, IsAsFirstAcked, IsMutedFirst, MutesAreNamed, ExplainsRun}
+use Rattle.rdm_explain.specs.Certificates.{ExplainsKnown, IsComplete, IsKnownComplete}
 
 is_none : {X : Type 0} (P : Option X → Type 0) (o : Option X) → P o → ((x : X) → P (Some x) → ⊥) → o ≡ None
 is_none P None p never = refl

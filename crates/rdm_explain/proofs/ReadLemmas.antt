@@ -1,6 +1,5 @@
 -- What is read off exchanges, one after another.
-use Rattle.std.proofs.Common.{◌≡◌, ℕ, ◌+◌, ◌<◌, Bool, true, false, ◌||◌, List, [], ◌∷◌}
-use Rattle.std.proofs.Common.{◌++◌, Option, length, take}
+use Rattle.std.proofs.Common.{◌≡◌, ℕ, ◌+◌, ◌<◌, Bool, true, false, ◌||◌, List, [], ◌∷◌, ◌++◌, Option, length, take}
 use Rattle.std.proofs.Common.{drop, refl, sym, ap, ◌∙◌, subst, get_or}
 use Rattle.std.specs.Prelude.{◌==◌, filter_map}
 use Rattle.std.proofs.lemmas.List.{map-append, take_more, drop_more, take-append-drop}

@@ -1,16 +1,15 @@
 -- An exchange after which a device may be in no state breaks a rule.
-use Rattle.std.proofs.Common.{◌≡◌, ℕ, ◌+◌, ◌<◌, Bool, true, false, ◌&&◌, ◌||◌, List, [], ◌∷◌, ◌++◌, refl}
-use Rattle.std.proofs.Common.{sym, ap, ◌∙◌, subst, inl, inr, true≢false, arith}
+use Rattle.std.proofs.Common.{◌≡◌, ℕ, ◌+◌, ◌<◌, Bool, true, false, ◌&&◌, ◌||◌, List, [], ◌∷◌, ◌++◌, refl, sym, ap, ◌∙◌}
+use Rattle.std.proofs.Common.{subst, inl, inr, true≢false, arith}
 use Rattle.std.specs.Prelude.{◌⊎◌, ◌≢◌, ◌==◌, nat_le, if◌then◌else◌}
 use Rattle.std.proofs.lemmas.Bool.{cases_Bool, and_parts, leb-false, eqb-true}
 use Rattle.rdm_wire.specs.Uid.{is_within}
 use Rattle.rdm_wire.specs.Honest.{Asked, Heard, Seen, is_acked, is_silent}
 use Rattle.rdm_wire.specs.Honest.Asked.{Unmute, Branch, Mute, Other}
 use Rattle.rdm_wire.specs.Honest.Heard.{Failed, Silent, One, Acked, Noise}
-use Rattle.rdm_explain.specs.body.Standings.{Standing}
+use Rattle.rdm_explain.specs.declared.standing.Standing.{Standing}
 use Rattle.rdm_explain.specs.Rules.{EndsWith, EndsBy, IsSilentAround, IsSilentMute, IsGarbledMute}
-use Rattle.rdm_explain.specs.body.Standings.{is_alive, with_counts, after_branch, after_mute, after_asked}
-use Rattle.rdm_explain.specs.body.Standings.{after}
+use Rattle.rdm_explain.specs.body.Standings.{is_alive, with_counts, after_branch, after_mute, after_asked, after}
 use Rattle.rdm_explain.specs.body.Watching.{rule_heard, rule_by}
 use Rattle.rdm_explain.proofs.EndLemmas.{ends_none, ends_more, ends_fewer}
 use Rattle.rdm_explain.proofs.StandingLemmas.{heard_failed, after_failure, after_other, or_left, or_right}

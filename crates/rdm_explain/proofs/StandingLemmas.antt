@@ -1,6 +1,6 @@
 -- What is known of a device's state decides whether the line was honest to it.
-use Rattle.std.proofs.Common.{◌≡◌, ℕ, ◌+◌, ◌<◌, ◌≤◌, Bool, true, false, ◌&&◌, ◌||◌, not, List, [], ◌∷◌, cond, refl}
-use Rattle.std.proofs.Common.{sym, ap, ◌∙◌, subst, inl, inr, true≢false, arith}
+use Rattle.std.proofs.Common.{◌≡◌, ℕ, ◌+◌, ◌<◌, ◌≤◌, Bool, true, false, ◌&&◌, ◌||◌, not, List, [], ◌∷◌, cond, refl, sym}
+use Rattle.std.proofs.Common.{ap, ◌∙◌, subst, inl, inr, true≢false, arith}
 use Rattle.std.specs.Prelude.{◌⊎◌, ◌≢◌, ◌==◌, nat_le, fold, MatchBool, if◌then◌else◌}
 use Rattle.std.proofs.lemmas.Bool.{cases_Bool, or_cases, and_parts, and_from, leb-true, leb-false, le-leb}
 use Rattle.rdm_wire.specs.Uid.{is_within}
@@ -8,7 +8,7 @@ use Rattle.rdm_wire.specs.Honest.{Asked, Heard, Seen, LineState, HonestToStep, H
 use Rattle.rdm_wire.specs.Honest.{lost_after, KeepsMuted, MuteMoves, UnmuteMoves, is_acked, is_silent, before_run}
 use Rattle.rdm_wire.specs.Honest.Asked.{Unmute, Branch, Mute, Other}
 use Rattle.rdm_wire.specs.Honest.Heard.{Failed, Silent, One, Acked, Noise}
-use Rattle.rdm_explain.specs.body.Standings.{Standing}
+use Rattle.rdm_explain.specs.declared.standing.Standing.{Standing}
 use Rattle.rdm_explain.specs.body.Standings.{is_alive, with_counts, after_branch, after_mute, after_unmute, after_asked}
 use Rattle.rdm_explain.specs.body.Standings.{stopped_at, after_heard, after_either, after, at_start, standing}
 

@@ -4,8 +4,8 @@ use Rattle.std.proofs.Common.{ap, ◌∙◌, subst, inl, inr, true≢false, arit
 use Rattle.std.proofs.Common.{get_or, length-append}
 use Rattle.std.specs.Prelude.{◌⊎◌, ◌≢◌, ◌==◌, ◌||◌, fold, if◌then◌else◌}
 use Rattle.std.specs.List.{AllByRecursion}
-use Rattle.std.proofs.lemmas.List.{map-append, take_more, take_at}
-use Rattle.std.proofs.lemmas.List.{get_or_at, drop_more, take-append-drop, length-take-le}
+use Rattle.std.proofs.lemmas.List.{map-append, take_more, take_at, get_or_at, drop_more, take-append-drop}
+use Rattle.std.proofs.lemmas.List.{length-take-le}
 use Rattle.std.proofs.lemmas.Bool.{cases_Bool, or_cases, and_parts, and_from, cases_lt}
 use Rattle.rdm_wire.specs.Uid.{has, is_within}
 use Rattle.rdm_wire.specs.Honest.{Asked, Heard, Seen, LineState, before_run, is_silent}
@@ -15,10 +15,11 @@ use Rattle.rdm_explain.specs.declared.exchange.Exchange.{Exchange}
 use Rattle.rdm_explain.specs.declared.rule.Breach.{Breach}
 use Rattle.rdm_explain.specs.Exchanges.{seen_of, seen_all}
 use Rattle.rdm_explain.specs.Strays.{Leads, MayBeUnmuted, IsMuted, NobodyIsDue, IsStray}
-use Rattle.rdm_explain.specs.body.Standings.{Standing, is_alive, after, after_asked, at_start, standing}
-use Rattle.rdm_explain.specs.body.Watching.{Watched, uids_watched, Fits, Watches}
-use Rattle.rdm_explain.specs.declared.ends.Ends.{Ends}
-use Rattle.rdm_explain.specs.body.Straying.{is_muted, is_quiet_one, is_listed, is_quiet, is_stray_by, is_stray}
+use Rattle.rdm_explain.specs.declared.standing.Standing.{Standing}
+use Rattle.rdm_explain.specs.declared.watch.Watch.{Watch}
+use Rattle.rdm_explain.specs.body.Standings.{is_alive, after, after_asked, at_start, standing}
+use Rattle.rdm_explain.specs.body.Watching.{uids_watched, Watches, is_muted, is_quiet_one, is_listed, are_quiet}
+use Rattle.rdm_explain.specs.body.Watching.{is_stray_by, is_stray}
 use Rattle.rdm_explain.proofs.StandingLemmas.{Allows, keeps, back, after_other, goes_on, start_allows, at_start_is}
 use Rattle.rdm_explain.proofs.StandingLemmas.{state_of, unmuted_state, alive_honest}
 use Rattle.rdm_explain.proofs.EndLemmas.{all_append}
@@ -69,36 +70,40 @@ not_of : (b : Bool) → b ≡ false → not b ≡ true
 not_of b e = rw e refl
 
 -- whether a device is known to be muted
-known_muted : (xs : List Exchange) (l : Ends) (w : Watched) → NoFailure (seen_all xs) → Watches xs l w
-    → is_muted w ≡ true → IsMuted w.uid (seen_all xs)
-known_muted xs l w ok is holds = by_breach w.breach is
+known_muted : (xs : List Exchange) (w : Watch) → NoFailure (seen_all xs) → Watches xs w → is_muted w ≡ true
+    → IsMuted w.uid (seen_all xs)
+known_muted xs w ok is holds = by_breach w.breach is
   where
-    both : (w.muted ≡ true) × (not w.unmuted ≡ true)
-    both = and_parts w.muted (not w.unmuted) holds
+    both : (w.standing.muted ≡ true) × (not w.standing.unmuted ≡ true)
+    both = and_parts w.standing.muted (not w.standing.unmuted) holds
 
-    by_breach : (o : Option Breach) → Known xs l w o → IsMuted w.uid (seen_all xs)
+    by_breach : (o : Option Breach) → Known xs w o → IsMuted w.uid (seen_all xs)
     by_breach None known = record {
-      honest = alive_honest w.uid (seen_all xs) known.1;
-      muted = λ m. not_true w.unmuted both.1 (known.0.unmuted ∙ unmuted_of w.uid (seen_all xs) ok m);
+      honest = alive_honest w.uid (seen_all xs) (ap is_alive (sym known.0) ∙ known.1);
+      muted = λ m. not_true w.standing.unmuted both.1
+          (ap (λ p. p.unmuted) known.0 ∙ unmuted_of w.uid (seen_all xs) ok m);
     }
-    by_breach (Some b) known = absurd (true≢false (sym both.0 ∙ known.1.0))
+    by_breach (Some b) known =
+        absurd (true≢false (sym (ap (λ m. m || w.standing.unmuted) both.0) ∙ known.1))
 
-muted_known : (xs : List Exchange) (l : Ends) (w : Watched) → NoFailure (seen_all xs) → Watches xs l w
+muted_known : (xs : List Exchange) (w : Watch) → NoFailure (seen_all xs) → Watches xs w
     → IsMuted w.uid (seen_all xs) → is_muted w ≡ true
-muted_known xs l w ok is m = by_breach w.breach is
+muted_known xs w ok is m = by_breach w.breach is
   where
     p : Standing
-    p = standing w.uid (seen_all xs)
+    p = w.standing
 
-    by_unmuted : Fits l w p → is_alive p ≡ true → (p.unmuted ≡ true) ⊎ (p.unmuted ≡ false) → is_muted w ≡ true
-    by_unmuted fits alive (inl holds) = absurd (m.muted (of_unmuted w.uid (seen_all xs) ok holds))
-    by_unmuted fits alive (inr no_more) =
-        and_from w.muted (not w.unmuted)
-        (fits.muted ∙ elim (or_cases p.muted p.unmuted alive)
+    by_unmuted : p ≡ standing w.uid (seen_all xs) → is_alive p ≡ true → (p.unmuted ≡ true) ⊎ (p.unmuted ≡ false)
+        → is_muted w ≡ true
+    by_unmuted same alive (inl holds) =
+        absurd (m.muted (of_unmuted w.uid (seen_all xs) ok (ap (λ q. q.unmuted) (sym same) ∙ holds)))
+    by_unmuted same alive (inr no_more) =
+        and_from p.muted (not p.unmuted)
+        (elim (or_cases p.muted p.unmuted alive)
         [ inl holds ↦ holds | inr holds ↦ absurd (true≢false (sym holds ∙ no_more)) ])
-        (not_of w.unmuted (fits.unmuted ∙ no_more))
+        (not_of p.unmuted no_more)
 
-    by_breach : (o : Option Breach) → Known xs l w o → is_muted w ≡ true
+    by_breach : (o : Option Breach) → Known xs w o → is_muted w ≡ true
     by_breach None known = by_unmuted known.0 known.1 (cases_Bool p.unmuted)
     by_breach (Some b) known = absurd (known.0.never m.honest)
 
@@ -106,36 +111,33 @@ muted_known xs l w ok is m = by_breach w.breach is
 abbrev Nobody : List Exchange → ℕ → ℕ → List ℕ → Type 0
 Nobody xs lo hi us = AllByRecursion (λ (u : ℕ). is_within lo hi u ≡ true → IsMuted u (seen_all xs)) us
 
-quiet_nobody : (xs : List Exchange) (l : Ends) (lo hi : ℕ) (ws : List Watched) → NoFailure (seen_all xs)
-    → AllByRecursion (Watches xs l) ws → is_quiet lo hi ws ≡ true → Nobody xs lo hi (uids_watched ws)
-quiet_nobody xs l lo hi [] ok all holds = tt
-quiet_nobody xs l lo hi (w ∷ ws) ok all holds =
-    let both = and_parts (is_quiet_one lo hi w) (is_quiet lo hi ws) holds in (
-      λ within. known_muted xs l w ok all.0 (sym (ap (λ b. if b then is_muted w else true) within) ∙ both.0),
-      quiet_nobody xs l lo hi ws ok all.1 both.1,
+quiet_nobody : (xs : List Exchange) (lo hi : ℕ) (ws : List Watch) → NoFailure (seen_all xs)
+    → AllByRecursion (Watches xs) ws → are_quiet lo hi ws ≡ true → Nobody xs lo hi (uids_watched ws)
+quiet_nobody xs lo hi [] ok all holds = tt
+quiet_nobody xs lo hi (w ∷ ws) ok all holds =
+    let both = and_parts (is_quiet_one lo hi w) (are_quiet lo hi ws) holds in (
+      λ within. known_muted xs w ok all.0 (sym (ap (λ b. if b then is_muted w else true) within) ∙ both.0),
+      quiet_nobody xs lo hi ws ok all.1 both.1,
     )
 
-nobody_quiet : (xs : List Exchange) (l : Ends) (lo hi : ℕ) (ws : List Watched) → NoFailure (seen_all xs)
-    → AllByRecursion (Watches xs l) ws → Nobody xs lo hi (uids_watched ws) → is_quiet lo hi ws ≡ true
-nobody_quiet xs l lo hi [] ok all none = refl
-nobody_quiet xs l lo hi (w ∷ ws) ok all none =
-    and_from (is_quiet_one lo hi w) (is_quiet lo hi ws) (by_within (is_within lo hi w.uid) none.0)
-    (nobody_quiet xs l lo hi ws ok all.1 none.1)
+nobody_quiet : (xs : List Exchange) (lo hi : ℕ) (ws : List Watch) → NoFailure (seen_all xs)
+    → AllByRecursion (Watches xs) ws → Nobody xs lo hi (uids_watched ws) → are_quiet lo hi ws ≡ true
+nobody_quiet xs lo hi [] ok all none = refl
+nobody_quiet xs lo hi (w ∷ ws) ok all none =
+    and_from (is_quiet_one lo hi w) (are_quiet lo hi ws) (by_within (is_within lo hi w.uid) none.0)
+    (nobody_quiet xs lo hi ws ok all.1 none.1)
   where
     by_within : (b : Bool) → (b ≡ true → IsMuted w.uid (seen_all xs)) → (if b then is_muted w else true) ≡ true
-    by_within true muted = muted_known xs l w ok all.0 (muted refl)
+    by_within true muted = muted_known xs w ok all.0 (muted refl)
     by_within false muted = refl
 
 -- whether a UID is in the list
-listed : (u : ℕ) (ws : List Watched) → is_listed u ws ≡ has (uids_watched ws) u
+listed : (u : ℕ) (ws : List Watch) → is_listed u ws ≡ has (uids_watched ws) u
 listed u [] = refl
 listed u (w ∷ ws) = ap (λ b. (u == w.uid) || b) (listed u ws)
 
-pub listed_in : (u : ℕ) (us : List ℕ) (ws : List Watched) → uids_watched ws ≡ us → is_listed u ws ≡ has us u
-listed_in u us ws same = listed u ws ∙ ap (λ l. has l u) same
-
 -- an exchange that is stray by what is known
-record StrayBy (xs : List Exchange) (ws : List Watched) (a : Asked) (h : Heard) : Type 0 where
+record StrayBy (xs : List Exchange) (ws : List Watch) (a : Asked) (h : Heard) : Type 0 where
   not_silent : h ≢ Silent
   nobody : NobodyIsDue (uids_watched ws) (seen_all xs) a
 
@@ -146,16 +148,16 @@ not_is false e = refl
 loud : (h : Heard) → not (is_silent h) ≡ true → h ≢ Silent
 loud h holds silent = not_true (is_silent h) holds (ap is_silent silent)
 
-stray_by : (xs : List Exchange) (l : Ends) (ws : List Watched) (a : Asked) (h : Heard) → NoFailure (seen_all xs)
-    → AllByRecursion (Watches xs l) ws → is_stray_by ws a h ≡ true → StrayBy xs ws a h
-stray_by xs l ws Unmute h ok all holds = absurd (true≢false (sym holds))
-stray_by xs l ws Other h ok all holds = absurd (true≢false (sym holds))
-stray_by xs l ws (Mute u) h ok all holds =
+stray_by : (xs : List Exchange) (ws : List Watch) (a : Asked) (h : Heard) → NoFailure (seen_all xs)
+    → AllByRecursion (Watches xs) ws → is_stray_by ws a h ≡ true → StrayBy xs ws a h
+stray_by xs ws Unmute h ok all holds = absurd (true≢false (sym holds))
+stray_by xs ws Other h ok all holds = absurd (true≢false (sym holds))
+stray_by xs ws (Mute u) h ok all holds =
     let both = and_parts (not (is_silent h)) (not (is_listed u ws)) holds in
     record { not_silent = loud h both.0; nobody = sym (listed u ws) ∙ not_is (is_listed u ws) both.1 }
-stray_by xs l ws (Branch lo hi) h ok all holds =
-    let both = and_parts (not (is_silent h)) (is_quiet lo hi ws) holds in
-    record { not_silent = loud h both.0; nobody = quiet_nobody xs l lo hi ws ok all both.1 }
+stray_by xs ws (Branch lo hi) h ok all holds =
+    let both = and_parts (not (is_silent h)) (are_quiet lo hi ws) holds in
+    record { not_silent = loud h both.0; nobody = quiet_nobody xs lo hi ws ok all both.1 }
 
 silence_of : (h : Heard) → h ≢ Silent → is_silent h ≡ false
 silence_of Failed other = refl
@@ -164,25 +166,25 @@ silence_of (One u) other = refl
 silence_of (Acked ack) other = refl
 silence_of Noise other = refl
 
-by_stray : (xs : List Exchange) (l : Ends) (ws : List Watched) (a : Asked) (h : Heard) → NoFailure (seen_all xs)
-    → AllByRecursion (Watches xs l) ws → h ≢ Silent → NobodyIsDue (uids_watched ws) (seen_all xs) a
+by_stray : (xs : List Exchange) (ws : List Watch) (a : Asked) (h : Heard) → NoFailure (seen_all xs)
+    → AllByRecursion (Watches xs) ws → h ≢ Silent → NobodyIsDue (uids_watched ws) (seen_all xs) a
     → is_stray_by ws a h ≡ true
-by_stray xs l ws Unmute h ok all other nobody = absurd nobody
-by_stray xs l ws Other h ok all other nobody = absurd nobody
-by_stray xs l ws (Mute u) h ok all other nobody =
+by_stray xs ws Unmute h ok all other nobody = absurd nobody
+by_stray xs ws Other h ok all other nobody = absurd nobody
+by_stray xs ws (Mute u) h ok all other nobody =
     and_from (not (is_silent h)) (not (is_listed u ws)) (not_of (is_silent h) (silence_of h other))
     (not_of (is_listed u ws) (listed u ws ∙ nobody))
-by_stray xs l ws (Branch lo hi) h ok all other nobody =
-    and_from (not (is_silent h)) (is_quiet lo hi ws) (not_of (is_silent h) (silence_of h other))
-    (nobody_quiet xs l lo hi ws ok all nobody)
+by_stray xs ws (Branch lo hi) h ok all other nobody =
+    and_from (not (is_silent h)) (are_quiet lo hi ws) (not_of (is_silent h) (silence_of h other))
+    (nobody_quiet xs lo hi ws ok all nobody)
 
 -- at an index
-pub stray_at : (us : List ℕ) (xs : List Exchange) (at : ℕ) (e : Exchange) (l : Ends) (ws : List Watched)
+pub stray_at : (us : List ℕ) (xs : List Exchange) (at : ℕ) (e : Exchange) (ws : List Watch)
     → at < length xs
-    → e ≡ get_or xs at e → NoFailure (seen_all (take at xs)) → WatchesAll (take at xs) l us ws
+    → e ≡ get_or xs at e → NoFailure (seen_all (take at xs)) → WatchesAll (take at xs) us ws
     → (seen_of e).heard ≢ Failed → is_stray ws (seen_of e) ≡ true → IsStray us xs at
-stray_at us xs at e l ws within read ok all fine holds =
-    let s = stray_by (take at xs) l ws (seen_of e).asked (seen_of e).heard ok all.0 holds in record {
+stray_at us xs at e ws within read ok all fine holds =
+    let s = stray_by (take at xs) ws (seen_of e).asked (seen_of e).heard ok all.watches holds in record {
       front = take at xs;
       exchange = e;
       back = drop (at + 1) xs;
@@ -192,17 +194,17 @@ stray_at us xs at e l ws within read ok all fine holds =
       no_failure = ok;
       not_failed = fine;
       not_silent = s.not_silent;
-      nobody = subst (λ l. NobodyIsDue l (seen_all (take at xs)) (seen_of e).asked) all.1 s.nobody;
+      nobody = subst (λ l. NobodyIsDue l (seen_all (take at xs)) (seen_of e).asked) all.same s.nobody;
     }
 
-pub at_stray : (us : List ℕ) (xs : List Exchange) (at : ℕ) (e : Exchange) (l : Ends) (ws : List Watched)
+pub at_stray : (us : List ℕ) (xs : List Exchange) (at : ℕ) (e : Exchange) (ws : List Watch)
     → e ≡ get_or xs at e
-    → NoFailure (seen_all (take at xs)) → WatchesAll (take at xs) l us ws → IsStray us xs at
+    → NoFailure (seen_all (take at xs)) → WatchesAll (take at xs) us ws → IsStray us xs at
     → is_stray ws (seen_of e) ≡ true
-at_stray us xs at e l ws read ok all s =
+at_stray us xs at e ws read ok all s =
     subst (λ x. is_stray ws (seen_of x) ≡ true) same
-    (by_stray (take at xs) l ws (seen_of s.exchange).asked (seen_of s.exchange).heard ok all.0 s.not_silent
-    (subst (λ l. NobodyIsDue l (seen_all (take at xs)) (seen_of s.exchange).asked) (sym all.1) nobody))
+    (by_stray (take at xs) ws (seen_of s.exchange).asked (seen_of s.exchange).heard ok all.watches s.not_silent
+    (subst (λ l. NobodyIsDue l (seen_all (take at xs)) (seen_of s.exchange).asked) (sym all.same) nobody))
   where
     same : s.exchange ≡ e
     same = sym (read ∙ ap (λ l. get_or l at e) s.whole ∙ get_or_at s.front s.exchange s.back e at s.index)

@@ -1,6 +1,6 @@
 -- The covered points are the UIDs that were tried.
-use Rattle.std.proofs.Common.{◌≡◌, ℕ, ◌≤◌, Bool, true, false, ◌||◌, List, [], ◌∷◌, ◌++◌, map, length, fold}
-use Rattle.std.proofs.Common.{refl, sym, ap, ◌∙◌, subst, inl, inr, true≢false, arith}
+use Rattle.std.proofs.Common.{◌≡◌, ℕ, ◌≤◌, Bool, true, false, ◌||◌, List, [], ◌∷◌, ◌++◌, map, length, fold, refl, sym}
+use Rattle.std.proofs.Common.{ap, ◌∙◌, subst, inl, inr, true≢false, arith}
 use Rattle.std.specs.Prelude.{◌⊎◌, ◌==◌, nat_le, if◌then◌else◌}
 use Rattle.std.specs.List.{AllByRecursion}
 use Rattle.std.proofs.lemmas.List.{map-append, length-map}
@@ -13,8 +13,8 @@ use Rattle.rdm_agent.specs.Run.{acked_in, acked_by, acked_uid, InSuccession, IsS
 use Rattle.rdm_agent.proofs.Members.{heads, tails}
 use Rattle.rdm_explain.specs.declared.cover.Stretch.{Stretch}
 use Rattle.rdm_explain.specs.Covers.{IsCovered}
-use Rattle.rdm_explain.specs.body.Covering.{IsIn, CoverState, covered_after, cover_start, silence_after}
-use Rattle.rdm_explain.specs.body.Covering.{count_after, stretch}
+use Rattle.rdm_explain.specs.body.Covering.{IsIn, CoverState, covered_after, cover_start, silence_after, count_after}
+use Rattle.rdm_explain.specs.body.Covering.{stretch}
 use Rattle.rdm_explain.specs.body.Trying.{alone, alone_of, lows, tried_points}
 use Rattle.rdm_explain.proofs.CoverLemmas.{in_covered, covered_in}
 use Rattle.rdm_explain.proofs.EndLemmas.{all_append}

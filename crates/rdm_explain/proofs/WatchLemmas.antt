@@ -1,26 +1,26 @@
 -- What is known of the devices of a list stays right with each exchange.
-use Rattle.std.proofs.Common.{◌≡◌, ℕ, ◌+◌, ◌<◌, Bool, true, false, ◌||◌, List, [], ◌∷◌, ◌++◌, refl, sym, ap}
-use Rattle.std.proofs.Common.{◌∙◌, subst}
-use Rattle.std.proofs.Common.{append-nil, append_assoc, true≢false, arith, length, take, map}
-use Rattle.std.proofs.Common.{Option, Some, None, get_or}
-use Rattle.std.specs.Prelude.{MatchOption, fold, if◌then◌else◌}
+use Rattle.std.proofs.Common.{◌≡◌, ℕ, zero, suc, ◌+◌, ◌<◌, Bool, true, false, List, [], ◌∷◌, ◌++◌, refl, sym, ap, ◌∙◌}
+use Rattle.std.proofs.Common.{subst, append-nil, append_assoc, true≢false, arith, length, take, drop, map, Option, Some}
+use Rattle.std.proofs.Common.{None, get_or}
+use Rattle.std.specs.Prelude.{◌==◌, ◌&&◌, nat_le, MatchOption, fold, set, if◌then◌else◌}
 use Rattle.std.specs.List.{AllByRecursion}
-use Rattle.std.proofs.lemmas.List.{map-append, take-append-le, take_all, length_push}
-use Rattle.std.proofs.lemmas.List.{take_at, take_more, length-take-le}
+use Rattle.std.proofs.lemmas.List.{map-append, take-append-le, take_all, length_push, take_at, take_more}
+use Rattle.std.proofs.lemmas.List.{length-take-le}
 use Rattle.std.proofs.lemmas.List.Sums.{fold-append}
-use Rattle.rdm_wire.specs.Honest.{Seen, HonestTo}
+use Rattle.rdm_wire.specs.Uid.{is_within}
+use Rattle.rdm_wire.specs.Honest.{Asked, Heard, Seen, HonestTo, is_acked, is_silent}
+use Rattle.rdm_wire.specs.Honest.Asked.{Unmute, Branch, Mute, Other}
+use Rattle.rdm_wire.specs.Honest.Heard.{Failed, Silent, One, Acked, Noise}
 use Rattle.rdm_explain.specs.declared.exchange.Exchange.{Exchange}
 use Rattle.rdm_explain.specs.declared.rule.Breach.{Breach}
+use Rattle.rdm_explain.specs.declared.standing.Standing.{Standing}
+use Rattle.rdm_explain.specs.declared.watch.Watch.{Watch}
 use Rattle.rdm_explain.specs.Exchanges.{seen_of, seen_all}
-use Rattle.rdm_explain.specs.Rules.{FirstBreach, IsFirstBreach, EndsBy, AreFirstBreaches}
-use Rattle.rdm_explain.specs.body.Standings.{Standing, is_alive, after, at_start, standing}
-use Rattle.rdm_explain.specs.body.Watching.{Watched, uids_watched, watched_with, with_flags, heard_by, watch_of}
-use Rattle.rdm_explain.specs.body.Watching.{finding_of}
-use Rattle.rdm_explain.specs.body.Watching.{rule_by, muted_by_change, unmuted_by_change, Fits, FitsCounts, Watches}
-use Rattle.rdm_explain.specs.declared.ends.Ends.{Ends}
-use Rattle.rdm_explain.specs.declared.ends.Change.{Change}
-use Rattle.rdm_explain.specs.body.Endings.{ended_after, change_after, at_first}
-use Rattle.rdm_explain.proofs.EndingLemmas.{steps_after, first_fits}
+use Rattle.rdm_explain.specs.Rules.{FirstBreach, IsFirstBreach, EndsBy, AreFirstBreaches, uids_of_findings}
+use Rattle.rdm_explain.specs.body.Standings.{is_alive, with_counts, after_branch, after_mute, after_asked, after_heard}
+use Rattle.rdm_explain.specs.body.Standings.{after_either, after, at_start, standing}
+use Rattle.rdm_explain.specs.body.Watching.{uids_watched, with_standing, heard_with, heard_by, watch_of, finding_of}
+use Rattle.rdm_explain.specs.body.Watching.{rule_by, IsCounted, Watches}
 use Rattle.rdm_explain.proofs.StandingLemmas.{honest_alive, alive_honest, alive_through}
 use Rattle.rdm_explain.proofs.EndLemmas.{ends_none}
 use Rattle.rdm_explain.proofs.RuleLemmas.{EndsUnlessStopped, ends_after, breaks_rule}
@@ -85,21 +85,15 @@ new_breach u xs e alive dead = record {
     never h = true≢false (sym (honest_alive u _ (subst (HonestTo u) (seen_push xs e) h))
         ∙ ap is_alive (standing_push u (seen_all xs) (seen_of e)) ∙ dead)
 
--- what is known of a device after one more exchange
-abbrev pub Known : List Exchange → Ends → Watched → Option Breach → Type 0
-Known xs l w o =
-    MatchOption o (Fits l w (standing w.uid (seen_all xs)) × (is_alive (standing w.uid (seen_all xs)) ≡ true))
-    (λ b. IsFirstBreach w.uid xs b × ((w.muted ≡ false) × (w.unmuted ≡ false)))
+-- what is known of a device, by its breach
+abbrev pub Known : List Exchange → Watch → Option Breach → Type 0
+Known xs w o =
+    MatchOption o ((w.standing ≡ standing w.uid (seen_all xs)) × (is_alive w.standing ≡ true))
+    (λ b. IsFirstBreach w.uid xs b × (is_alive w.standing ≡ false))
 
-neither : (m n : Bool) → (m || n) ≡ false → (m ≡ false) × (n ≡ false)
-neither true n e = absurd (true≢false e)
-neither false n e = (refl, e)
-
-pub watches_more : (xs : List Exchange) (e : Exchange) (l : Ends) (w : Watched) → Watches xs l w
-    → Watches (xs ++ e ∷ []) (ended_after l (seen_of e))
-    (heard_by (ended_after l (seen_of e)) (length xs) (seen_of e) w)
-watches_more xs e l w is =
-    by_breach w.breach refl is
+watches_more : (xs : List Exchange) (e : Exchange) (w : Watch) → Watches xs w
+    → Watches (xs ++ e ∷ []) (heard_by (length xs) (seen_of e) w)
+watches_more xs e w is = by_breach w.breach refl is
   where
     s : Seen
     s = seen_of e
@@ -107,105 +101,220 @@ watches_more xs e l w is =
     b : Breach
     b = record { at = length xs; rule = rule_by s }
 
-    m : Bool
-    m = muted_by_change (change_after (ended_after l s) s) w.uid w.muted w.unmuted
-
-    n : Bool
-    n = unmuted_by_change (change_after (ended_after l s) s) w.uid w.muted w.unmuted
-
     p : Standing
     p = standing w.uid (seen_all xs)
 
     next : after w.uid p s ≡ standing w.uid (seen_all (xs ++ e ∷ []))
     next = sym (standing_push w.uid (seen_all xs) s) ∙ ap (standing w.uid) (sym (seen_push xs e))
 
-    known_after : (t : Bool) → (m || n) ≡ t → Fits l w p → is_alive p ≡ true
-        → Known (xs ++ e ∷ []) (ended_after l s) (with_flags b w m n) (if t then None else Some b)
-    known_after true now fits alive =
-        let steps = steps_after l w.uid w.muted w.unmuted p s fits.muted fits.unmuted fits.counts in
-        let live : is_alive (after w.uid p s) ≡ true
-        = sym (ap (λ k. k || (after w.uid p s).unmuted) steps.muted) ∙ ap (λ k. m || k) (sym steps.unmuted) ∙ now in (
-          record {
-            muted = steps.muted ∙ ap (λ q. q.muted) next;
-            unmuted = steps.unmuted ∙ ap (λ q. q.unmuted) next;
-            counts = subst (FitsCounts (ended_after l s) w.uid) next (steps.counts live);
-          },
-          ap is_alive (sym next) ∙ live,
-        )
-    known_after false now fits alive =
-        let steps = steps_after l w.uid w.muted w.unmuted p s fits.muted fits.unmuted fits.counts in
-        let dead : is_alive (after w.uid p s) ≡ false
-        = sym (ap (λ k. k || (after w.uid p s).unmuted) steps.muted) ∙ ap (λ k. m || k) (sym steps.unmuted) ∙ now in
-        (new_breach w.uid xs e alive dead, neither m n now)
+    known_after : (q : Standing) (t : Bool) → is_alive q ≡ t → q ≡ after w.uid p s → is_alive p ≡ true
+        → Known (xs ++ e ∷ []) (with_standing b w q) (if t then None else Some b)
+    known_after q true now is alive = (is ∙ next, now)
+    known_after q false now is alive = (new_breach w.uid xs e alive (sym (ap is_alive is) ∙ now), now)
 
-    by_breach : (o : Option Breach) → w.breach ≡ o → Known xs l w o
-        → Watches (xs ++ e ∷ []) (ended_after l s) (watched_with (change_after (ended_after l s) s) b w o)
+    by_breach : (o : Option Breach) → w.breach ≡ o → Known xs w o
+        → Watches (xs ++ e ∷ []) (heard_with (length xs) s w o)
     by_breach (Some c) has known = rw has (breach_stays w.uid xs e c known.0, known.1)
-    by_breach None has known = known_after (m || n) refl known.0 known.1
-
-fits_start : (u : ℕ) → Fits at_first (watch_of u) at_start
-fits_start u = record { muted = refl; unmuted = refl; counts = first_fits u }
-
-pub watches_start : (u : ℕ) → Watches [] at_first (watch_of u)
-watches_start u = (fits_start u, refl)
+    by_breach None has known =
+        known_after (after w.uid w.standing s) (is_alive (after w.uid w.standing s)) refl
+        (ap (λ q. after w.uid q s) known.0) (sym (ap is_alive known.0) ∙ known.1)
 
 -- the same of all devices
-pub all_watch_more : (xs : List Exchange) (e : Exchange) (l : Ends) (ws : List Watched)
-    → AllByRecursion (Watches xs l) ws → AllByRecursion (Watches (xs ++ e ∷ []) (ended_after l (seen_of e)))
-    (map (heard_by (ended_after l (seen_of e)) (length xs) (seen_of e)) ws)
-all_watch_more xs e l [] all = tt
-all_watch_more xs e l (w ∷ ws) all = (watches_more xs e l w all.0, all_watch_more xs e l ws all.1)
+all_watch_more : (xs : List Exchange) (e : Exchange) (ws : List Watch) → AllByRecursion (Watches xs) ws
+    → AllByRecursion (Watches (xs ++ e ∷ [])) (map (heard_by (length xs) (seen_of e)) ws)
+all_watch_more xs e [] all = tt
+all_watch_more xs e (w ∷ ws) all = (watches_more xs e w all.0, all_watch_more xs e ws all.1)
 
-pub all_watch_start : (us : List ℕ) → AllByRecursion (Watches [] at_first) (map watch_of us)
+all_watch_start : (us : List ℕ) → AllByRecursion (Watches []) (map watch_of us)
 all_watch_start [] = tt
-all_watch_start (u ∷ us) = (watches_start u, all_watch_start us)
+all_watch_start (u ∷ us) = ((refl, refl), all_watch_start us)
 
 -- the devices stay the same
-same_uid : (c : Change) (b : Breach) (w : Watched) (o : Option Breach) → (watched_with c b w o).uid ≡ w.uid
-same_uid c b w None = refl
-same_uid c b w (Some _) = refl
+same_uid : (at : ℕ) (e : Seen) (w : Watch) (o : Option Breach) → (heard_with at e w o).uid ≡ w.uid
+same_uid at e w None = refl
+same_uid at e w (Some _) = refl
 
-pub same_uids : (l : Ends) (at : ℕ) (e : Seen) (ws : List Watched)
-    → uids_watched (map (heard_by l at e) ws) ≡ uids_watched ws
-same_uids l at e [] = refl
-same_uids l at e (w ∷ ws) =
-    rw (
-      same_uid (change_after l e) (record { at = at; rule = rule_by e }) w w.breach,
-      same_uids l at e ws,
-    ) refl
+same_uids : (at : ℕ) (e : Seen) (ws : List Watch) → uids_watched (map (heard_by at e) ws) ≡ uids_watched ws
+same_uids at e [] = refl
+same_uids at e (w ∷ ws) = rw (same_uid at e w w.breach, same_uids at e ws) refl
 
-pub start_uids : (us : List ℕ) → uids_watched (map watch_of us) ≡ us
+start_uids : (us : List ℕ) → uids_watched (map watch_of us) ≡ us
 start_uids [] = refl
 start_uids (u ∷ us) = ap (λ l. u ∷ l) (start_uids us)
 
--- what is found is what is known
-found : (xs : List Exchange) (l : Ends) (w : Watched) (o : Option Breach) → Known xs l w o → FirstBreach w.uid xs o
-found xs l w None known = alive_honest w.uid (seen_all xs) known.1
-found xs l w (Some b) known = known.0
+-- what is counted grows by one at most
+counted_asked : (u n : ℕ) (b : Option Breach) (p : Standing) (a : Asked) (h : Heard)
+    → IsCounted n (record { uid = u; standing = p; breach = b })
+    → IsCounted (n + 1) (record { uid = u; standing = after_asked u p a h; breach = b })
+counted_asked u n b p Unmute h c = by_third (nat_le 3 (p.unmutes + 1))
+  where
+    by_third : (t : Bool) → IsCounted (n + 1) (record {
+      uid = u;
+      standing = if t then record (with_counts p 0 0 (p.unmutes + 1)) { muted = false; unmuted = is_alive p }
+          else record (with_counts p 0 0 (p.unmutes + 1)) { unmuted = is_alive p };
+      breach = b;
+    })
+    by_third true = record { branches = omega arith; mutes = omega arith; unmutes = omega (arith, c.unmutes) }
+    by_third false = record { branches = omega arith; mutes = omega arith; unmutes = omega (arith, c.unmutes) }
+counted_asked u n b p (Branch lo hi) h c = by_silence (is_within lo hi u && is_silent h)
+  where
+    by_silence : (t : Bool) → IsCounted (n + 1) (record {
+      uid = u;
+      standing = after_branch p (if t then p.lost_branches + 1 else 0);
+      breach = b;
+    })
+    by_silence true = record { branches = omega (arith, c.branches); mutes = omega arith; unmutes = omega arith }
+    by_silence false = record { branches = omega arith; mutes = omega arith; unmutes = omega arith }
+counted_asked u n b p (Mute v) h c = by_uid (u == v)
+  where
+    by_heard : (acked lost : Bool) → IsCounted (n + 1) (record {
+      uid = u;
+      standing = if acked then record (with_counts p 0 0 0) { muted = is_alive p; unmuted = false }
+          else (if lost then record (with_counts p 0 (p.lost_mutes + 1) 0) { muted = is_alive p }
+          else record (with_counts p 0 0 0) { muted = false; unmuted = false });
+      breach = b;
+    })
+    by_heard true lost = record { branches = omega arith; mutes = omega arith; unmutes = omega arith }
+    by_heard false true = record { branches = omega arith; mutes = omega (arith, c.mutes); unmutes = omega arith }
+    by_heard false false = record { branches = omega arith; mutes = omega arith; unmutes = omega arith }
 
-pub all_found : (xs : List Exchange) (l : Ends) (ws : List Watched) → AllByRecursion (Watches xs l) ws
-    → AreFirstBreaches xs (map finding_of ws)
-all_found xs l [] all = tt
-all_found xs l (w ∷ ws) all = (found xs l w w.breach all.0, all_found xs l ws all.1)
+    by_uid : (t : Bool)
+        → IsCounted (n + 1) (record {
+          uid = u;
+          standing = if t then after_mute p h else with_counts p 0 0 0;
+          breach = b;
+        })
+    by_uid true = by_heard (is_acked h) (is_silent h && nat_le (p.lost_mutes + 1) 4)
+    by_uid false = record { branches = omega arith; mutes = omega arith; unmutes = omega arith }
+counted_asked u n b p Other h c = record { branches = omega arith; mutes = omega arith; unmutes = omega arith }
+
+counted_later : (n : ℕ) (w : Watch) → IsCounted n w → IsCounted (n + 1) w
+counted_later n w c = record {
+  branches = omega (arith, c.branches);
+  mutes = omega (arith, c.mutes);
+  unmutes = omega (arith, c.unmutes);
+}
+
+counted_heard : (at n : ℕ) (e : Seen) (w : Watch) → IsCounted n w → IsCounted (n + 1) (heard_by at e w)
+counted_heard at n e w c = by_breach w.breach
+  where
+    b : Option Breach
+    b = if is_alive (after w.uid w.standing e) then None else Some (record { at = at; rule = rule_by e })
+
+    With : Standing → Type 0
+    With p = IsCounted (n + 1) (record { uid = w.uid; standing = p; breach = b })
+
+    same : With w.standing
+    same = record {
+      branches = omega (arith, c.branches);
+      mutes = omega (arith, c.mutes);
+      unmutes = omega (arith, c.unmutes);
+    }
+
+    asked : With (after_asked w.uid w.standing e.asked e.heard)
+    asked = counted_asked w.uid n b w.standing e.asked e.heard
+        (record { branches = c.branches; mutes = c.mutes; unmutes = c.unmutes })
+
+    by_heard : (h : Heard) → With (after_asked w.uid w.standing e.asked h) → With (after_heard w.uid w.standing e.asked h)
+    by_heard Failed is = record { branches = same.branches; mutes = same.mutes; unmutes = same.unmutes }
+    by_heard Silent is = is
+    by_heard (One v) is = is
+    by_heard (Acked ack) is = is
+    by_heard Noise is = is
+
+    by_stopped : (t : Bool) → With (after_either w.uid t w.standing e.asked e.heard)
+    by_stopped true = same
+    by_stopped false = by_heard e.heard asked
+
+    by_breach : (o : Option Breach) → IsCounted (n + 1) (heard_with at e w o)
+    by_breach (Some x) = counted_later n w c
+    by_breach None = by_stopped w.standing.stopped
+
+abbrev pub AllCounted : ℕ → List Watch → Type 0
+AllCounted n ws = AllByRecursion (IsCounted n) ws
+
+all_counted_more : (at n : ℕ) (e : Seen) (ws : List Watch) → AllCounted n ws
+    → AllCounted (n + 1) (map (heard_by at e) ws)
+all_counted_more at n e [] all = tt
+all_counted_more at n e (w ∷ ws) all = (counted_heard at n e w all.0, all_counted_more at n e ws all.1)
+
+all_counted_start : (us : List ℕ) → AllCounted 0 (map watch_of us)
+all_counted_start [] = tt
+all_counted_start (u ∷ us) =
+    (record { branches = omega arith; mutes = omega arith; unmutes = omega arith }, all_counted_start us)
+
+-- one device after the other hears it
+pub counted_at : (n : ℕ) (ws : List Watch) (i : ℕ) (w : Watch) → AllCounted n ws → i < length ws
+    → IsCounted n (get_or ws i w)
+counted_at n [] i w all within = absurd (omega arith)
+counted_at n (x ∷ ws) zero w all within = all.0
+counted_at n (x ∷ ws) (suc i) w all within = counted_at n ws i w all.1 (omega arith)
+
+pub some_heard : (f : Watch → Watch) (ws : List Watch) (i : ℕ) → i < length ws
+    → length (map f (take i ws) ++ drop i ws) ≡ length ws
+some_heard f [] i within = absurd (omega arith)
+some_heard f (x ∷ ws) zero within = refl
+some_heard f (x ∷ ws) (suc i) within = ap suc (some_heard f ws i (omega arith))
+
+pub next_unheard : (f : Watch → Watch) (ws : List Watch) (i : ℕ) (w : Watch) → i < length ws
+    → get_or (map f (take i ws) ++ drop i ws) i w ≡ get_or ws i w
+next_unheard f [] i w within = absurd (omega arith)
+next_unheard f (x ∷ ws) zero w within = refl
+next_unheard f (x ∷ ws) (suc i) w within = next_unheard f ws i w (omega arith)
+
+one_more : (f : Watch → Watch) (ws : List Watch) (i : ℕ) (w : Watch) → i < length ws
+    → set (map f (take i ws) ++ drop i ws) i (f (get_or ws i w)) ≡ map f (take (suc i) ws) ++ drop (suc i) ws
+one_more f [] i w within = absurd (omega arith)
+one_more f (x ∷ ws) zero w within = refl
+one_more f (x ∷ ws) (suc i) w within = ap (λ l. f x ∷ l) (one_more f ws i w (omega arith))
+
+pub one_more_heard : (f : Watch → Watch) (ws : List Watch) (i : ℕ) (w : Watch) → i < length ws
+    → set (map f (take i ws) ++ drop i ws) i (f (get_or ws i w)) ≡ map f (take (i + 1) ws) ++ drop (i + 1) ws
+one_more_heard f ws i w within =
+    subst (λ n. set (map f (take i ws) ++ drop i ws) i (f (get_or ws i w)) ≡ map f (take n ws) ++ drop n ws) next
+    (one_more f ws i w within)
+  where
+    next : suc i ≡ i + 1
+    next = omega arith
 
 -- what is known of the devices of a list is right
-abbrev pub WatchesAll : List Exchange → Ends → List ℕ → List Watched → Type 0
-WatchesAll xs l us ws = AllByRecursion (Watches xs l) ws × (uids_watched ws ≡ us)
+pub record WatchesAll (xs : List Exchange) (us : List ℕ) (ws : List Watch) : Type 0 where
+  pub watches : AllByRecursion (Watches xs) ws
+  pub same : uids_watched ws ≡ us
+  pub counted : AllCounted (length xs) ws
+
+pub none_heard : (us : List ℕ) → WatchesAll [] us (map watch_of us)
+none_heard us = record { watches = all_watch_start us; same = start_uids us; counted = all_counted_start us }
 
 -- after one more exchange
-pub heard : (xs : List Exchange) (us : List ℕ) (at : ℕ) (e : Exchange) (l k : Ends) (old new : List Watched)
-    → at < length xs → e ≡ get_or xs at e → WatchesAll (take at xs) l us old → k ≡ ended_after l (seen_of e)
-    → new ≡ map (heard_by k at (seen_of e)) old → WatchesAll (take (at + 1) xs) k us new
-heard xs us at e l k old new within read all ends is =
-    let long : length (take at xs) ≡ at = length-take-le at xs (omega arith) in
-    let whole : take (at + 1) xs ≡ take at xs ++ e ∷ []
-    = take_more xs at e within ∙ ap (λ x. take at xs ++ x ∷ []) (sym read) in
-    let k2 = ended_after l (seen_of e) in
-    subst (λ d. WatchesAll (take (at + 1) xs) d us new) (sym ends)
-    (subst (WatchesAll (take (at + 1) xs) k2 us)
-    (sym (is ∙ ap (λ d. map (heard_by d at (seen_of e)) old) ends)) (
-      subst (λ x. AllByRecursion (Watches x k2) (map (heard_by k2 at (seen_of e)) old)) (sym whole)
-          (subst (λ j. AllByRecursion (Watches (take at xs ++ e ∷ []) k2) (map (heard_by k2 j (seen_of e)) old)) long
-          (all_watch_more (take at xs) e l old all.0)),
-      same_uids k2 at (seen_of e) old ∙ all.1,
-    ))
+pub heard : (xs : List Exchange) (us : List ℕ) (at : ℕ) (e : Exchange) (old new : List Watch) → at < length xs
+    → e ≡ get_or xs at e → WatchesAll (take at xs) us old → new ≡ map (heard_by at (seen_of e)) old
+    → WatchesAll (take (at + 1) xs) us new
+heard xs us at e old new within read all is =
+    subst (λ x. WatchesAll x us new) (sym whole) (subst (WatchesAll (take at xs ++ e ∷ []) us) (sym is) (record {
+      watches = subst (λ j. AllByRecursion (Watches (take at xs ++ e ∷ [])) (map (heard_by j (seen_of e)) old)) long
+          (all_watch_more (take at xs) e old all.watches);
+      same = same_uids at (seen_of e) old ∙ all.same;
+      counted = subst (λ n. AllCounted n (map (heard_by at (seen_of e)) old)) (sym (length_push (take at xs) e))
+          (all_counted_more at (length (take at xs)) (seen_of e) old all.counted);
+    }))
+  where
+    long : length (take at xs) ≡ at
+    long = length-take-le at xs (omega arith)
+
+    whole : take (at + 1) xs ≡ take at xs ++ e ∷ []
+    whole = take_more xs at e within ∙ ap (λ x. take at xs ++ x ∷ []) (sym read)
+
+-- what is found is what is known
+found : (xs : List Exchange) (w : Watch) (o : Option Breach) → Known xs w o → FirstBreach w.uid xs o
+found xs w None known = alive_honest w.uid (seen_all xs) (ap is_alive (sym known.0) ∙ known.1)
+found xs w (Some b) known = known.0
+
+pub all_found : (xs : List Exchange) (ws : List Watch) → AllByRecursion (Watches xs) ws
+    → AreFirstBreaches xs (map finding_of ws)
+all_found xs [] all = tt
+all_found xs (w ∷ ws) all = (found xs w w.breach all.0, all_found xs ws all.1)
+
+pub found_uids : (ws : List Watch) → uids_of_findings (map finding_of ws) ≡ uids_watched ws
+found_uids [] = refl
+found_uids (w ∷ ws) = ap (λ l. w.uid ∷ l) (found_uids ws)

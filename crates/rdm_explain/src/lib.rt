@@ -4,9 +4,6 @@
 
 mod certificate;
 mod cover;
-mod devices;
-mod due;
-mod ends;
 mod exchange;
 mod firsts;
 mod frame;
@@ -14,12 +11,13 @@ mod garbled;
 mod known;
 pub mod laws;
 mod order;
-mod quiet;
 mod reported;
 mod rule;
+mod standing;
 mod stray;
 mod tried;
 mod uids;
+mod watch;
 
 pub use certificate::{KnownFinding, RunFinding, explain_known, explain_run};
 pub use cover::first_uncovered;

@@ -1,13 +1,11 @@
 //! Which devices broke a rule of an honest line, where first, and which rule.
-ghost use Rattle.std.specs.Prelude.{◌≡◌, IfOk, map};
+ghost use Rattle.std.specs.Prelude.{◌≡◌, IfOk};
 ghost use Rattle.rdm_explain.specs.Exchanges.{seen_of};
 ghost use Rattle.rdm_explain.specs.Rules.{AreFirstBreaches, uids_of_findings};
 ghost use Rattle.rdm_explain.specs.body.Watching.{rule_by};
-ghost use Rattle.rdm_explain.specs.body.Parting.{finding_in};
 
-use crate::devices::Devices;
-use crate::ends::Ends;
 use crate::exchange::{Asked, Exchange, Heard};
+use crate::watch::{findings, hear_all, watch_all};
 use rdm_wire::{NoMemory, Uid};
 use std::alloc::Global;
 
@@ -52,25 +50,9 @@ pub(crate) fn rule_by(exchange: &Exchange) -> Rule
     }
 }
 
-fn findings(alloc: Global, devices: &Devices, uids: &[Uid]) -> Result<Vec<DeviceFinding>, NoMemory>
-    ensures { IfOk result (λ v. v.items ≡ map (finding_in devices.now) uids.now) }
-{
-    let mut found = Vec::new(alloc);
-    for uid in uids {
-        let finding = DeviceFinding {
-            uid: *uid,
-            breach: devices.breach(*uid),
-        };
-        if found.push(finding).is_err() {
-            return Err(NoMemory);
-        }
-    }
-    Ok(found)
-}
-
 /// For each device of a list, in order, the first exchange that breaks a rule towards it. One pass serves all
-/// devices, and an exchange takes time only for those that it changes. Nothing that follows a failure of the line
-/// breaks a rule. The only error: out of memory.
+/// devices; each of them hears each exchange. Nothing that follows a failure of the line breaks a rule. The only error:
+/// out of memory.
 ///
 /// The list has UIDs of devices that are on the line during the whole run. A finding says nothing about a device that
 /// came or left. This is for runs of this project's agent, or of another that sends no mute to several devices and no
@@ -83,11 +65,9 @@ pub fn first_breaches(
     ensures devices { IfOk result (λ found. uids_of_findings found.items ≡ uids.now) }
     ensures first { IfOk result (λ found. AreFirstBreaches exchanges.now found.items) }
 {
-    let mut devices = Devices::new(alloc, uids)?;
-    let mut ends = Ends::start();
+    let mut watches = watch_all(alloc, uids)?;
     for (at, exchange) in exchanges.iter().enumerate() {
-        ends = ends.after(exchange);
-        devices.hear_exchange(&ends, at, exchange)?;
+        hear_all(&mut watches, at, exchange);
     }
-    findings(alloc, &devices, uids)
+    findings(alloc, &watches)
 }

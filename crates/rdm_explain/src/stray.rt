@@ -1,13 +1,11 @@
 //! Bytes that came although no device of a list was due to send any.
-ghost use Rattle.std.specs.Prelude.{◌≡◌, IfOk, List, ℕ};
+ghost use Rattle.std.specs.Prelude.{◌≡◌, IfOk};
 ghost use Rattle.rdm_explain.specs.Exchanges.{seen_of};
 ghost use Rattle.rdm_explain.specs.Strays.{FirstStray};
-ghost use Rattle.rdm_explain.specs.body.Watching.{Watched};
-ghost use Rattle.rdm_explain.specs.body.Straying.{KnowsAll, is_stray};
+ghost use Rattle.rdm_explain.specs.body.Watching.{is_stray};
 
-use crate::due::Due;
-use crate::ends::Ends;
 use crate::exchange::{Asked, Exchange};
+use crate::watch::{Watch, are_quiet, hear_all, is_listed, watch_all};
 use rdm_wire::{NoMemory, Uid};
 use std::alloc::Global;
 
@@ -29,29 +27,26 @@ pub fn first_stray(
 ) -> Result<Option<usize>, NoMemory>
     ensures { IfOk result (λ found. FirstStray uids.now exchanges.now found) }
 {
-    let mut due = Due::new(alloc, uids)?;
-    let mut ends = Ends::start();
+    let mut watches = watch_all(alloc, uids)?;
     for (at, exchange) in exchanges.iter().enumerate() {
         if exchange.heard.is_failed() {
             return Ok(None);
         }
-        if is_stray(&due, exchange) {
+        if is_stray(&watches, exchange) {
             return Ok(Some(at));
         }
-        ends = ends.after(exchange);
-        due.hear(&ends, at, exchange)?;
+        hear_all(&mut watches, at, exchange);
     }
     Ok(None)
 }
 
 // Whether an exchange was answered although nobody was due.
-fn is_stray(due: &Due, exchange: &Exchange) -> bool
-    ensures { (us : List ℕ) (ws : List Watched) → KnowsAll us ws due.now
-        → result ≡ is_stray ws (seen_of exchange.now) }
+fn is_stray(watches: &[Watch], exchange: &Exchange) -> bool
+    ensures { result ≡ is_stray watches.now (seen_of exchange.now) }
 {
     match exchange.asked {
-        Asked::Branch { lo, hi } => !exchange.heard.is_silent() && due.is_quiet(lo, hi),
-        Asked::Mute(uid) => !exchange.heard.is_silent() && !due.is_listed(uid),
+        Asked::Branch { lo, hi } => !exchange.heard.is_silent() && are_quiet(watches, lo, hi),
+        Asked::Mute(uid) => !exchange.heard.is_silent() && !is_listed(watches, uid),
         _ => false,
     }
 }

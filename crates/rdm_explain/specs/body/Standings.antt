@@ -4,19 +4,7 @@ use Rattle.rdm_wire.specs.Uid.{is_within}
 use Rattle.rdm_wire.specs.Honest.{Asked, Heard, Seen, is_silent, is_acked}
 use Rattle.rdm_wire.specs.Honest.Asked.{Unmute, Branch, Mute, Other}
 use Rattle.rdm_wire.specs.Honest.Heard.{Failed, Silent, One, Acked, Noise}
-
--- whether a device may be muted, and whether it may be unmuted. If it is unmuted, that many of its replies to branches
--- were lost in a row. If it may be neither, the line wasn't honest to it
-pub record Standing : Type 0 where
-  pub muted : Bool
-  pub unmuted : Bool
-  -- replies to branches, and acknowledgements of its mutes, that were lost in a row
-  pub lost_branches : ℕ
-  pub lost_mutes : ℕ
-  -- unmutes in a row
-  pub unmutes : ℕ
-  -- the line has failed, and nothing is known of what follows
-  pub stopped : Bool
+use Rattle.rdm_explain.specs.declared.standing.Standing.{Standing}
 
 -- whether the device may be in some state
 abbrev pub is_alive : Standing → Bool

@@ -1,7 +1,6 @@
-use Rattle.std.proofs.Common.{◌≤◌, take}
-use Rattle.rdm_explain.proofs.PartingLemmas.{Parted}
+use Rattle.std.proofs.Common.{take}
+use Rattle.rdm_explain.proofs.WatchLemmas.{WatchesAll}
 use Rattle.rdm_explain.proofs.rule.first_breaches.Given as goal
 
 abbrev pub invariant-loop-at : goal.invariant-loop-at
-invariant-loop-at l =
-    Parted (take l.at l.exchanges) l.ends l.uids l.devices × (l.ends.lost_mutes ≤ l.at) × (l.ends.unmutes ≤ l.at)
+invariant-loop-at l = WatchesAll (take l.at l.exchanges) l.uids l.watches.items
