@@ -215,7 +215,8 @@ counted_heard at n e w c = by_breach w.breach
     asked = counted_asked w.uid n b w.standing e.asked e.heard
         (record { branches = c.branches; mutes = c.mutes; unmutes = c.unmutes })
 
-    by_heard : (h : Heard) → With (after_asked w.uid w.standing e.asked h) → With (after_heard w.uid w.standing e.asked h)
+    by_heard : (h : Heard) → With (after_asked w.uid w.standing e.asked h)
+        → With (after_heard w.uid w.standing e.asked h)
     by_heard Failed is = record { branches = same.branches; mutes = same.mutes; unmutes = same.unmutes }
     by_heard Silent is = is
     by_heard (One v) is = is

@@ -36,12 +36,7 @@ pub fn write_log<W: Write>(
     write_entries(alloc, log, entries);
 }
 
-fn write_opening<W: Write>(
-    alloc: Global,
-    log: &mut LogOutput<W>,
-    opening: &Opening,
-    first: u64,
-)
+fn write_opening<W: Write>(alloc: Global, log: &mut LogOutput<W>, opening: &Opening, first: u64)
     ensures { Logs log.old log.new (session_opening opening.now first) }
 {
     if !log.would_write() {
@@ -75,11 +70,7 @@ pub(crate) fn write_discovery_opening<W: Write>(
 }
 
 /// The first line of a session's log. Err: there was no memory.
-pub fn session_opening(
-    alloc: Global,
-    opening: &Opening,
-    first: u64,
-) -> Result<Vec<u8>, AllocError>
+pub fn session_opening(alloc: Global, opening: &Opening, first: u64) -> Result<Vec<u8>, AllocError>
     ensures { IfOk result (λ line. line.items ≡ session_opening opening.now first) }
 {
     let mut line = Vec::new(alloc);

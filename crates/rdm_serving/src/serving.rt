@@ -198,9 +198,7 @@ fn is_set_up(log: &Log, file: &SessionFile) -> bool
     ensures { OnTrue result (IsSetUp file.now.source file.now.budget file.now.search log.now) }
 {
     let opening = log.opening();
-    opening.source == file.source
-        && opening.budget == file.budget
-        && opening.search == file.search
+    opening.source == file.source && opening.budget == file.budget && opening.search == file.search
 }
 
 // Whether a client made at most this many turns, and at least two for each outcome.

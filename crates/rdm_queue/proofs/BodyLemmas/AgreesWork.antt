@@ -248,7 +248,8 @@ stands_collect o h s c d each may first stands =
     let rest = kept o h e s (collects_oldest s c.0) each may refl refl refl refl stands in
     let long : length (collects_oldest s c.0).owed ≡ length (places o k) =
     length-set s.owed c.0 _ ∙ simp pushes stands.owed_for_each in
-    let all : uncollected_by (collects_oldest s c.0) + length (collectors k) ≡ length (finishes k) + length (answers k) =
+    let all : uncollected_by (collects_oldest s c.0) + length (collectors k)
+    ≡ length (finishes k) + length (answers k) =
     let less = count_less s.owed c.0 d first in let all = stands.all_outcomes in
     simp (pushes, length_push) (omega arith) in
     search (pushes, long, all, outcomes, rest.line, rest, stands)

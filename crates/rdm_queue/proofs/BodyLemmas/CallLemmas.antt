@@ -36,21 +36,21 @@ pub join_adds : (r : Result ClientId JoinFault) (s new : QueueState) (n : ℕ)
     → AddsToEach s (λ k. JoinAdds k.opening k.entries n r) new
 join_adds (Ok c) s new n joined refused same =
     λ k after.
-        let passes = sym (join_fault_is k.opening k.entries s n after.stands) ∙ joined.0 in
-        record {
-          block = Join c n ∷ [];
-          adds = (passes, joined.1 ∙ ap length after.stands.places_are, refl);
-          after = rw joined.2 (join_after k.opening k.entries s c n passes joined.1 after);
-        }
+    let passes = sym (join_fault_is k.opening k.entries s n after.stands) ∙ joined.0 in
+    record {
+      block = Join c n ∷ [];
+      adds = (passes, joined.1 ∙ ap length after.stands.places_are, refl);
+      after = rw joined.2 (join_after k.opening k.entries s c n passes joined.1 after);
+    }
 join_adds (Err fault) s new n joined refused same =
     λ k after.
-        let refuses : RefusesJoin (join_fault k.opening k.entries n)
-        fault = rw (join_fault_is k.opening k.entries s n after.stands) at refused in
-        record {
-          block = join_refused n fault ∷ [];
-          adds = (refuses, refl);
-          after = rw same (join_refused_after k.opening k.entries s n fault refuses after);
-        }
+    let refuses : RefusesJoin (join_fault k.opening k.entries n)
+    fault = rw (join_fault_is k.opening k.entries s n after.stands) at refused in
+    record {
+      block = join_refused n fault ∷ [];
+      adds = (refuses, refl);
+      after = rw same (join_refused_after k.opening k.entries s n fault refuses after);
+    }
 
 pub work_adds : (r : Result ℕ (WorkFault × Work)) (s new : QueueState) (c : ClientId) (work : Work)
     → IfOk r (λ n. (first_fault s c.0 work ≡ None) × (n ≡ number_for s work) × (new ≡ accepts_work s c.0 work))
@@ -58,20 +58,20 @@ pub work_adds : (r : Result ℕ (WorkFault × Work)) (s new : QueueState) (c : C
     → AddsToEach s (λ k. WorkAdds k.opening k.entries c work (number_or_fault r)) new
 work_adds (Ok n) s new c work accepted refused same =
     λ k after.
-        let passes = sym (first_fault_is k.opening k.entries s c.0 work after) ∙ accepted.0 in
-        record {
-          block = work_accepted c n work ∷ [];
-          adds = (passes, accepted.1 ∙ number_is k.opening k.entries s work after, refl);
-          after = rw accepted.2 (work_after k.opening k.entries s c n work passes accepted.1 after);
-        }
+    let passes = sym (first_fault_is k.opening k.entries s c.0 work after) ∙ accepted.0 in
+    record {
+      block = work_accepted c n work ∷ [];
+      adds = (passes, accepted.1 ∙ number_is k.opening k.entries s work after, refl);
+      after = rw accepted.2 (work_after k.opening k.entries s c n work passes accepted.1 after);
+    }
 work_adds (Err e) s new c work accepted refused same =
     λ k after.
-        let refuses = sym (first_fault_is k.opening k.entries s c.0 work after) ∙ refused.0 in
-        record {
-          block = work_refused c work e.0 ∷ [];
-          adds = (refuses, refl);
-          after = rw same (work_refused_after k.opening k.entries s c work e.0 refuses after);
-        }
+    let refuses = sym (first_fault_is k.opening k.entries s c.0 work after) ∙ refused.0 in
+    record {
+      block = work_refused c work e.0 ∷ [];
+      adds = (refuses, refl);
+      after = rw same (work_refused_after k.opening k.entries s c work e.0 refuses after);
+    }
 
 pub given_each : (r : Option (Owner × ArrayVec ℕ)) (s new : QueueState)
     → IfSome r (λ given. IsGiven s given.0 given.1 new)
@@ -80,7 +80,7 @@ pub given_each : (r : Option (Owner × ArrayVec ℕ)) (s new : QueueState)
 given_each None s new given = tt
 given_each (Some g) s new given =
     λ k after. let sent = take_after k.opening k.entries s g.0 g.1 new given after in
-        record { block = Send g.0 g.1 ∷ []; adds = (sent.may, refl); after = sent.after }
+    record { block = Send g.0 g.1 ∷ []; adds = (sent.may, refl); after = sent.after }
 
 pub none_each : (r : Option (Owner × ArrayVec ℕ)) (s new : QueueState) → IfNone r ((to_send s ≡ None) × (new ≡ s))
     → IfNone r (ForEachLog s (λ o h. NoSend o h) × (new ≡ s))

@@ -150,8 +150,8 @@ in_bound_at k n r a aborted s closed end None is = tt
 in_bound_at k n r a true s closed end (Some fault) is = λ present calm. closed refl
 in_bound_at k n r a false s closed end (Some fault) is =
     λ present calm. absurd (none-some fault
-    (sym ((ends_in_bound_by k.opening.search _ _ _ (run_exchanges r k.entries) a s.devices (runs-own _ _ _ _ a s) present
-    calm.calm calm.budgeted).no_fault (next_none a end)) ∙ is))
+    (sym ((ends_in_bound_by k.opening.search _ _ _ (run_exchanges r k.entries) a s.devices (runs-own _ _ _ _ a s)
+    present calm.calm calm.budgeted).no_fault (next_none a end)) ∙ is))
 
 pub ends_in_bound_amid : (k : LogState) (s new : QueueState) (entry : Entry) → IsEnded s entry new
     → StandsAmid k.opening k.entries s → FaultNeedsClose k entry

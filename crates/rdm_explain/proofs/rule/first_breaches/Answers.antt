@@ -26,6 +26,7 @@ returns-clause-first c =
     let all : take c.loop-at.at c.args.exchanges.now ≡ c.args.exchanges.now = take_all _ _ c.loop-at-test.false in
     let known = subst (λ xs. WatchesAll xs c.args.uids.now c.loop-at.watches.items) all c.loop-at.invariant in
     if_ok _ _ c.findings.result
-    (λ v is. subst (AreFirstBreaches c.args.exchanges.now) (sym (is ∙ ap (λ ws. map finding_of ws) c.deref.ensures.value))
+    (λ v is. subst (AreFirstBreaches c.args.exchanges.now)
+    (sym (is ∙ ap (λ ws. map finding_of ws) c.deref.ensures.value))
     (all_found c.args.exchanges.now c.loop-at.watches.items known.watches))
     c.findings.ensures
