@@ -361,7 +361,9 @@ class Adapters(Place):
         path = self.plug("ttyUSB0", to=str(self.folder / "ttyUSB0"))
         (self.locks / "LCK..ttyUSB0").write_text(f"{os.getppid():10d}\n")
         found = adapters.look_at(path, self.locks)
-        self.assertEqual(found.fault, f"{path} is used by process {os.getppid()}: {self.locks}/LCK..ttyUSB0")
+        name = Path(f"/proc/{os.getppid()}/comm").read_text().strip()
+        who = f"process {os.getppid()} ({name})"
+        self.assertEqual(found.fault, f"{path} is used by {who}: {self.locks}/LCK..ttyUSB0")
 
     @unittest.skipUnless(os.geteuid(), "root may open everything")
     def test_no_permission(self) -> None:
