@@ -14,7 +14,7 @@ ROOT = Path(__file__).resolve().parents[2]
 SCRIPTS = ("wurstlinen", "rdm_port", "tools", "VERSION", "HANDLES", "bindings/c", "bindings/cpp",
            "bindings/python/wurstlinen", "bindings/examples", "bindings/packages", "bindings/rust",
            "bindings/README.md", "bindings/python/ADAPTER.md", "bindings/python/COMMANDS.md",
-           "bindings/python/LINES.md", "docs/FORMATS.md", "crates/rdm_arguments/src")
+           "bindings/python/LINES.md", "bindings/python/SERVER.md", "docs/FORMATS.md", "crates/rdm_arguments/src")
 CRATES = "rdm_arguments:\nrdm_wire:\nwurstlinen: rdm_arguments rdm_wire\nrdm_c staticlib: rdm_arguments\n"
 # A program that prints its arguments, and rt, which notes its calls and builds that program, or a library.
 PROGRAM = '#!/bin/sh\necho "the program: $*"\n'

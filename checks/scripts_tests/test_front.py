@@ -361,7 +361,7 @@ class Adapters(Place):
         path = self.plug("ttyUSB0", to=str(self.folder / "ttyUSB0"))
         (self.locks / "LCK..ttyUSB0").write_text(f"{os.getppid():10d}\n")
         found = adapters.look_at(path, self.locks)
-        self.assertEqual(found.fault, f"{path} is used by process {os.getppid()}: {self.locks}/LCK..ttyUSB0")
+        self.assertRegex(found.fault or "", rf"{path} is used by process {os.getppid()} \(\S.*\): {self.locks}/LCK")
 
     @unittest.skipUnless(os.geteuid(), "root may open everything")
     def test_no_permission(self) -> None:
@@ -416,7 +416,7 @@ class Repository(unittest.TestCase):
                 (["save", "x", "--line", "enttec:/dev/nope"], 1, "/dev/nope can't be opened: No such file"),
                 (["fixtures", "--line", "exec:no-such-command x"], 1, "can't be started"),
                 (["fixtures", "--line", "text:/no/out,/no/in"], 1, "can't be opened"),
-                (["fixtures", "--line", "exec:'"], 2, "can't be split"),
+                (["fixtures", "--line", "exec:'"], 2, "can't be split"), (["serve", rig, "--idle=x"], 2, "'x' isn't"),
                 (["discover", "--line", "enttec:/dev/nope"], 1, "/dev/nope can't be opened: No such file"),
                 (["discover", rig, "--quik"], 2, "unrecognized arguments: --quik")):
             done = self.clone.run("./wurstlinen", *words)
@@ -429,7 +429,7 @@ class Repository(unittest.TestCase):
         for words in (["fixtures", "--line", f"exec:touch {note}"], ["apply", str(rows), rig], ["apply", "-", rig],
                       ["check", str(rows), rig, "--log", str(note)], ["save", str(rows), rig], ["save", str(note), rig],
                       ["fixtures", "--line", f"text:{rows}"], ["fixtures", "--line", f"rig:{rows}"],
-                      ["explain", str(FIXTURES), "--page", str(note)]):
+                      ["serve", rig, "--log", str(note)], ["explain", str(FIXTURES), "--page", str(note)]):
             if not rows.exists():
                 os.mkfifo(rows)
             done = self.clone.run("tools/check_words", *words)

@@ -190,15 +190,23 @@ class Packages(unittest.TestCase):
         self.assertIn("device_label", self.run_python(path, front, "pids", "label"))
 
     def test_there_is_a_rig_to_try_the_commands_on(self) -> None:
-        for name in ("five_fixtures.json", "lossy_fixtures.json", "silent_fixture.json"):
+        for name in ("five_fixtures.json", "lossy_fixtures.json", "share.c", "silent_fixture.json"):
             wanted = (ROOT / "bindings/examples" / name).read_bytes()
             for share in (self.unpacked("wurstlinen") / "usr/share", self.unpacked_archive() / "share"):
                 self.assertEqual((share / "doc/wurstlinen/examples" / name).read_bytes(), wanted)
 
+    def test_systemd_can_start_a_server(self) -> None:
+        units = self.unpacked("wurstlinen") / "usr/lib/systemd/user"
+        socket, service = (units / f"wurstlinen@.{kind}" for kind in ("socket", "service"))
+        # The program looks for a socket of this name.
+        self.assertIn("ListenStream=%t/wurstlinen/%i.socket\n", socket.read_text())
+        command, = re.findall("^ExecStart=/usr/bin/(.*)$", service.read_text(), re.M)
+        self.assertEqual(command, "wurstlinen serve --line enttec:/%I --idle 600")
+
     def test_pages_are_there(self) -> None:
         for share in (self.unpacked("wurstlinen") / "usr/share", self.unpacked_archive() / "share"):
             folder = share / "doc/wurstlinen"
-            for name in ("ADAPTER.md", "COMMANDS.md", "LINES.md", "FORMATS.md"):
+            for name in ("ADAPTER.md", "COMMANDS.md", "LINES.md", "SERVER.md", "FORMATS.md"):
                 links = re.findall(r"\]\(([^)#]+)(?:#[^)]*)?\)", (folder / name).read_text())
                 self.assertEqual([link for link in links if not (folder / link).is_file()], [], name)
         self.assertIn("of the C library.", (folder / "COMMANDS.md").read_text())

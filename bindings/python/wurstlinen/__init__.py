@@ -31,32 +31,36 @@ from ._wire import (
     read_branch_reply, read_command, read_mute_ack, write_branch_reply)
 from ._ask import Answer, Asker, Unserved
 from ._queue import Client, Controller
-from .line import Line, LineFailed
+from .line import Line, LineBusy, LineFailed
 
 if _TYPE_CHECKING:
     from . import entries
     from ._agent import DiscoveryAgent
     from ._session import Log, Page, Session
+    from .shared.client import SharedClient, connect
+    from .shared.connection import NotServed
 
 __version__ = "0.1.0"
 
 # What the commands don't need, and is loaded when it is first used.
-_MODULES = {"DiscoveryAgent": "_agent", "Log": "_session", "Page": "_session", "Session": "_session"}
+_MODULES = {"DiscoveryAgent": "_agent", "Log": "_session", "NotServed": "shared.connection", "Page": "_session",
+            "Session": "_session", "SharedClient": "shared.client", "connect": "shared.client"}
 
 __all__ = [
     "AckType", "AlreadyOpen", "Answer", "Asker", "BadClass", "BadKind", "BadPreamble", "BadRange", "BadResponseType",
     "BadSearch", "BadUid", "BranchReply", "BranchReplyKind", "BroadcastUid", "BufferTooSmall", "Client", "Closed",
     "Command", "CommandKind", "Completion", "Controller", "DEFAULT_BUDGET", "DataTooLong", "Device", "Discovery",
     "DiscoveryAgent", "Fault", "Full", "HasEnded", "InvalidClass", "InvalidResponseType", "Kind", "LengthMismatch",
-    "LibraryNotFound", "Line", "LineFailed", "Log", "LogFull", "MOST_CLIENTS", "MOST_DEVICES", "MOST_ENTRIES",
-    "MOST_FRAME_BYTES", "MOST_JOINED_BYTES", "MOST_PARAMETER_BYTES", "MOST_PLACES", "MuteAck", "NoBudget", "NoEntry",
-    "NoPlaces", "NotAsked", "NotEnded", "NotIdle", "NotOpen", "NotText", "Operation", "OtherOutcome", "OutOfMemory",
-    "OutcomeKind", "PacketFault", "Page", "ParamLengthMismatch", "ReplyHead", "ReplyTooLong", "Request", "RequestClass",
-    "Response", "ResponseClass", "RunFault", "RunFaultKind", "Search", "Session", "Status", "TooManyClients",
-    "TooManyDevices", "TooManyEntries", "TooManyPlaces", "TooShort", "Uid", "UidDigit", "UidFault", "UidLength",
-    "UidSeparator", "UnknownClient", "Unserved", "VersionDiffers", "WrongChecksum", "WrongStart", "WrongSubStart",
-    "decode_response", "encode_branch", "encode_mute", "encode_mute_ack", "encode_request", "encode_response",
-    "encode_unmute", "entries", "line", "read_branch_reply", "read_command", "read_mute_ack", "write_branch_reply",
+    "LibraryNotFound", "Line", "LineBusy", "LineFailed", "Log", "LogFull", "MOST_CLIENTS", "MOST_DEVICES",
+    "MOST_ENTRIES", "MOST_FRAME_BYTES", "MOST_JOINED_BYTES", "MOST_PARAMETER_BYTES", "MOST_PLACES", "MuteAck",
+    "NoBudget", "NoEntry", "NoPlaces", "NotAsked", "NotEnded", "NotIdle", "NotOpen", "NotServed", "NotText",
+    "Operation", "OtherOutcome", "OutOfMemory", "OutcomeKind", "PacketFault", "Page", "ParamLengthMismatch",
+    "ReplyHead", "ReplyTooLong", "Request", "RequestClass", "Response", "ResponseClass", "RunFault", "RunFaultKind",
+    "Search", "Session", "SharedClient", "Status", "TooManyClients", "TooManyDevices", "TooManyEntries",
+    "TooManyPlaces", "TooShort", "Uid", "UidDigit", "UidFault", "UidLength", "UidSeparator", "UnknownClient",
+    "Unserved", "VersionDiffers", "WrongChecksum", "WrongStart", "WrongSubStart", "connect", "decode_response",
+    "encode_branch", "encode_mute", "encode_mute_ack", "encode_request", "encode_response", "encode_unmute", "entries",
+    "line", "read_branch_reply", "read_command", "read_mute_ack", "write_branch_reply",
 ]
 
 

@@ -7,15 +7,12 @@ from __future__ import annotations
 
 import time
 from dataclasses import dataclass, field
-from typing import TYPE_CHECKING, Any, Callable, Dict, List, Optional, Tuple, Union
+from typing import Any, Callable, Dict, List, Optional, Protocol, Tuple, Union
 
 from ._types import (
     AckType, Completion, Discovery, ReplyHead, Request, RequestClass, ResponseClass, Status, Uid, data_of, pid_of,
     uid_of)
 from .line import Line
-
-if TYPE_CHECKING:
-    from ._queue import Client
 
 QUEUED_MESSAGE = 0x0020
 STATUS_MESSAGES = 0x0030
@@ -41,6 +38,35 @@ FETCH_SECONDS = 5.0
 LAST_FETCH_SECONDS = 2.0
 
 Outcome = Union[Completion, Discovery]
+
+
+class AnyQueue(Protocol):
+    """What an asker needs of a client's queue, in this process or at a server."""
+
+    def run(self, line: Line) -> int:
+        """Has frames sent until there is none to send now."""
+        ...
+
+    def _sleep(self, seconds: float) -> None:
+        """Waits, unless the queue ends."""
+        ...
+
+
+class AnyClient(Protocol):
+    """What an asker needs of a client."""
+
+    @property
+    def queue(self) -> AnyQueue:
+        """The queue that it is a client of."""
+        ...
+
+    def submit(self, request: Request) -> int:
+        """Accepts a request, and returns its number."""
+        ...
+
+    def next_outcome(self) -> Optional[Outcome]:
+        """Its oldest outcome; None if it has none."""
+        ...
 
 
 class Unserved(Exception):
@@ -91,7 +117,7 @@ class Kept:
         # Those of them that are messages which a device had queued.
         self._messages: List[Outcome] = []
 
-    def collect(self, client: Client) -> Optional[Outcome]:
+    def collect(self, client: AnyClient) -> Optional[Outcome]:
         """The client's next outcome. It is kept in the same step."""
         before = len(self.outcomes)
         self.outcomes.extend(filter(None, (client.next_outcome(),)))
@@ -132,7 +158,7 @@ class Asker:
     raised; at once, unless the caller has a `sleep` of its own.
     """
 
-    def __init__(self, client: Client, line: Line, wait: float = DEFAULT_WAIT, *,
+    def __init__(self, client: AnyClient, line: Line, wait: float = DEFAULT_WAIT, *,
                  clock: Callable[[], float] = time.monotonic, sleep: Optional[Callable[[float], None]] = None,
                  on_wait: Optional[Callable[[float], None]] = None) -> None:
         self.client = client

@@ -11,15 +11,16 @@ import json
 import os
 import re
 import sys
-from typing import TYPE_CHECKING, Optional, Sequence, TextIO, Tuple, Type
+from typing import TYPE_CHECKING, Optional, Sequence, TextIO, Tuple, Type, Union
 
 from .line import Line, LineFailed
 from .lines import open_line
 from .lines.opening import FORMS
 from .lines.packets import is_broadcast, parse_uid, uid_text
+from .lines.waiting import DEFAULT_SECONDS, when_free
 
 if TYPE_CHECKING:
-    from . import Completion, Device, RunFault
+    from . import Client, Completion, Device, RunFault, SharedClient
     from .lines import OpenLine
 
 DONE = 0
@@ -30,6 +31,7 @@ SOURCE = 0x7FF000000001
 DEFAULT_BUDGET = 384_008
 MOST_BUDGET = 1_000_000_000
 MOST_SECONDS = 86_400
+MOST_WAIT = 3600.0
 MOST_DATA_BYTES = 231
 # Python refuses to read very long numbers.
 MOST_DIGITS = 40
@@ -149,6 +151,12 @@ def add_rig(commands: argparse._SubParsersAction) -> None:  # type: ignore[type-
     made.add_argument("--json", action="store_true", help="print one JSON object a line")
 
 
+def add_wait_line(made: argparse.ArgumentParser) -> None:
+    """How long another program may have the line."""
+    made.add_argument("--wait-line", type=some_seconds, default=DEFAULT_SECONDS, metavar="SECONDS",
+                      help=f"how long to wait for another program that has the line ({DEFAULT_SECONDS:g})")
+
+
 def command(commands: argparse._SubParsersAction, name: str, run: object, text: str,  # type: ignore[type-arg]
             needs_line: bool = True) -> argparse.ArgumentParser:
     """A command with its option --line."""
@@ -157,6 +165,7 @@ def command(commands: argparse._SubParsersAction, name: str, run: object, text: 
     made.add_argument("--line", required=needs_line, metavar="LINE", help=FORMS)
     made.add_argument("--seconds", type=seconds, metavar="N",
                       help="how long a far end of text may take for each reply; without a limit if absent")
+    add_wait_line(made)
     return made
 
 
@@ -166,7 +175,7 @@ def run_discover(chosen: argparse.Namespace) -> int:
     kind = Kind.INCREMENTAL if chosen.incremental else Kind.FULL
     known = [Uid.from_number(each) for each in chosen.known]
     search = Search.QUICK if chosen.quick else Search.STEADY
-    with open_line(chosen.line, chosen.seconds) as line:
+    with opened(chosen) as line:
         watched = WatchedLine(line)
         source = Uid.from_number(source_of(chosen, line))
         with DiscoveryAgent(source, kind, known, budget=chosen.budget, search=search) as agent:
@@ -194,26 +203,64 @@ def run_set(chosen: argparse.Namespace) -> int:
 
 def run_request(chosen: argparse.Namespace, is_set: bool) -> int:
     """Sends one request with a queue of its own."""
-    from . import Controller, Status, Uid
-    with open_line(chosen.line, chosen.seconds) as line:
-        watched = WatchedLine(line)
-        with Controller(Uid.from_number(source_of(chosen, line)), 1) as controller:
-            client = controller.join(1)
-            submit = client.set if is_set else client.get
-            submit(Uid.from_number(chosen.uid), chosen.pid, chosen.data, chosen.sub)
-            controller.run(watched)
-            completion = client.next_completion()
+    from . import Status
+    completion, reason = completed(chosen, is_set)
     assert completion is not None
     print(completion_text(completion))
     if completion.status == Status.COMPLETED or (is_set and completion.status == Status.WAS_BROADCAST):
         return DONE
-    return fail(str(watched.failure or completion.status.name.lower().replace("_", " ")))
+    return fail(reason or completion.status.name.lower().replace("_", " "))
+
+
+def completed(chosen: argparse.Namespace, is_set: bool) -> Tuple[Completion, str]:
+    """How a request ends, and why the line failed if it did. Raises LineFailed."""
+    from . import Controller, Uid
+    client = served(chosen)
+    if client is not None:
+        with client:
+            return request_of(client, chosen, is_set, client.queue.line), client.queue.reason
+    with opened(chosen) as line:
+        watched = WatchedLine(line)
+        with Controller(Uid.from_number(source_of(chosen, line)), 1) as controller:
+            completion = request_of(controller.join(1), chosen, is_set, watched)
+    return completion, str(watched.failure or "")
+
+
+def request_of(client: Union[Client, SharedClient], chosen: argparse.Namespace, is_set: bool,
+               line: Line) -> Completion:
+    """How a client's request ends."""
+    from . import Uid
+    submit = client.set if is_set else client.get
+    submit(Uid.from_number(chosen.uid), chosen.pid, chosen.data, chosen.sub)
+    client.queue.run(line)
+    completion = client.next_completion()
+    if completion is None:
+        raise LineFailed("the request wasn't sent: the queue is paused, or the server has no line now")
+    return completion
+
+
+def served(chosen: argparse.Namespace) -> Optional[SharedClient]:
+    """A client of the server that runs for the line, if one does. Raises LineFailed."""
+    from .shared import place
+    try:
+        if not place.may_be_served(chosen.line):
+            return None
+        from .shared.client import client_of
+        return client_of(chosen.line, chosen.source)
+    except place.BadPlace as fault:
+        fail(str(fault))
+        return None
+
+
+def opened(chosen: argparse.Namespace) -> OpenLine:
+    """The line, once whoever has it has closed it. Raises LineFailed."""
+    return when_free(lambda: open_line(chosen.line, chosen.seconds), chosen.wait_line, fail)
 
 
 def run_bridge(chosen: argparse.Namespace) -> int:
     """Serves frames until standard input ends."""
     from .lines import serve_text
-    with open_line(chosen.line, chosen.seconds) as line:
+    with opened(chosen) as line:
         try:
             serve_text(line)
         except KeyboardInterrupt:
@@ -229,7 +276,8 @@ def run_rig(chosen: argparse.Namespace) -> int:
     if (chosen.file is None) == (chosen.line is None):
         chosen.error("one of FILE and --line is required")
     text = chosen.line or f"rig:{chosen.file}"
-    with open_line(text, chosen.seconds) as line, Emulator(line, Widget(firmware=chosen.firmware)) as emulator:
+    chosen.line = text
+    with opened(chosen) as line, Emulator(line, Widget(firmware=chosen.firmware)) as emulator:
         try:
             name = f"enttec:{emulator.path}"
             print(json.dumps({"line": name}) if chosen.json else name, flush=True)
@@ -323,6 +371,17 @@ def number_to(text: str, least: int, most: int) -> int:
     if not (text.isascii() and text.isdigit() and len(text) <= MOST_DIGITS and least <= int(text) <= most):
         raise argparse.ArgumentTypeError(f"'{text}' isn't a number from {least} to {most}")
     return int(text)
+
+
+def some_seconds(text: str) -> float:
+    """An argument that is a time."""
+    try:
+        found = float(text)
+    except ValueError:
+        found = -1.0
+    if not 0 <= found <= MOST_WAIT:
+        raise argparse.ArgumentTypeError(f"'{text}' isn't a number of seconds from 0 to {MOST_WAIT:g}")
+    return found
 
 
 def version(text: str) -> Tuple[int, int]:

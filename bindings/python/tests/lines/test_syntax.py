@@ -16,8 +16,9 @@ MOST_COLUMNS = 120
 STANDARD_MODULES = {
     "__future__", "abc", "argparse", "array", "base64", "collections", "contextlib", "csv", "dataclasses", "decimal",
     "difflib", "enum", "errno", "fcntl", "functools", "grp", "hashlib", "html", "importlib", "io", "ipaddress", "json",
-    "os", "pathlib", "pkgutil", "queue", "random", "re", "secrets", "select", "shlex", "signal", "stat", "subprocess",
-    "sys", "tempfile", "termios", "threading", "time", "tty", "types", "typing", "weakref", "zlib",
+    "os", "pathlib", "pkgutil", "queue", "random", "re", "secrets", "select", "selectors", "shlex", "signal", "socket",
+    "stat", "struct", "subprocess", "sys", "tempfile", "termios", "threading", "time", "tty", "types", "typing",
+    "weakref", "zlib",
 }
 LINES = PACKAGE / "wurstlinen"
 Function = Union[ast.FunctionDef, ast.AsyncFunctionDef]
@@ -30,7 +31,7 @@ def files() -> List[Path]:
 
 def own_files() -> List[Path]:
     """The files of lines, parameters and commands."""
-    folders = [LINES / name for name in ("front", "lines", "parameters", "tool")]
+    folders = [LINES / name for name in ("front", "lines", "parameters", "shared", "tool")]
     below = [path for folder in folders for path in sorted(folder.glob("*.py"))]
     return [*below, LINES / "line.py", LINES / "commands.py", LINES / "__main__.py", LINES / "_ask.py"]
 

@@ -18,7 +18,6 @@ from .output import BAD_ARGUMENTS, FAILED, INTERRUPTED, LINE_VARIABLE, Failure, 
 
 PROGRAM = "wurstlinen"
 DEFAULT_WAIT = 10.0
-MOST_WAIT = 3600.0
 LAST_SLOT = 512
 ALL = "all"
 RAW_COMMANDS = ("get", "set")
@@ -144,8 +143,9 @@ def add_command(made: Any, name: str, text: str, example: str, run_name: str, ne
     if needs_line:
         command.add_argument("--line", metavar="LINE", help=f"{FORMS}; WURSTLINEN_LINE if absent")
         command.add_argument("--source", type=commands.device, metavar="UID", help="the controller's UID")
-        command.add_argument("--wait", type=seconds, default=DEFAULT_WAIT, metavar="SECONDS",
+        command.add_argument("--wait", type=commands.some_seconds, default=DEFAULT_WAIT, metavar="SECONDS",
                              help="how long to wait for devices that need time (10)")
+        commands.add_wait_line(command)
         add_frames(command)
     return command
 
@@ -273,17 +273,6 @@ def add_trace(made: Any, name: str) -> None:
                           needs_line=False)
     command.add_argument("file", metavar="FILE", help="what --log has written; - is standard input")
     add_frames(command)
-
-
-def seconds(text: str) -> float:
-    """An argument that is a time."""
-    try:
-        found = float(text)
-    except ValueError:
-        found = -1.0
-    if not 0 <= found <= MOST_WAIT:
-        raise argparse.ArgumentTypeError(f"'{text}' isn't a number of seconds from 0 to {MOST_WAIT:g}")
-    return found
 
 
 def slot(text: str) -> int:

@@ -1,7 +1,7 @@
 """A line that counts and shows what goes over it."""
 from __future__ import annotations
 
-from typing import Optional, Set
+from typing import Callable, Optional, Set
 
 from ..line import Line, LineFailed
 from ..lines.numbers import Pid
@@ -12,11 +12,10 @@ from .main import AS_BYTES
 from .output import Output
 
 
-class WatchedLine:
-    """A line that counts its exchanges, shows them, and remembers why it failed."""
+class Watched:
+    """Counts a line's exchanges, shows them, and remembers why it failed."""
 
-    def __init__(self, line: Line, output: Output, shown: Optional[str]) -> None:
-        self._line = line
+    def __init__(self, output: Output, shown: Optional[str]) -> None:
         self._output = output
         # How frames are shown, as the option --frames has it; None if they aren't.
         self._shown = shown
@@ -31,22 +30,32 @@ class WatchedLine:
         self.talkative: Set[int] = set()
         self.spelled: Optional[int] = None
 
+    @property
+    def absence(self) -> str:
+        """Why nothing can be sent at all now, if that is known."""
+        return ""
+
     def exchange(self, frame: bytes) -> bytes:
-        """The line's exchange."""
-        number = self.frames
+        """A line's exchange. Who watches another program's line makes none."""
+        raise LineFailed("another program makes the exchanges of this line")
+
+    def begin(self, make_log: Optional[Callable[[], DiscoveryLog]]) -> None:
+        """A discovery is to begin, of which somebody wants a log or not."""
+        self.found = set()
+        self.log = None if make_log is None else make_log()
+
+    def end(self) -> None:
+        """The discovery has ended, or isn't awaited any more."""
+        self.found = self.log = None
+        self._output.end_progress()
+
+    def saw(self, frame: bytes, reply: Optional[bytes]) -> None:
+        """An exchange was made. None is a line that failed."""
+        self._show(self.frames, frame, reply)
         self.frames += 1
-        try:
-            reply = self._line.exchange(frame)
-        except LineFailed as failure:
-            self.failure = failure
-            self._show(number, frame, None)
-            self._record(frame, None)
-            raise
-        self._show(number, frame, reply)
         self._record(frame, reply)
-        if self.found is not None:
+        if self.found is not None and reply is not None:
             self._note(self.found, frame, reply)
-        return reply
 
     def _note(self, found: Set[int], frame: bytes, reply: bytes) -> None:
         """What a discovery's frame and reply say of devices."""
@@ -71,3 +80,22 @@ class WatchedLine:
         self._output.frame(exchange_text(number, frame, self._parts.joined(frame, reply)))
         for line in bytes_of(frame, reply) if self._shown == AS_BYTES else ():
             self._output.frame(line)
+
+
+class WatchedLine(Watched):
+    """A line whose exchanges are watched."""
+
+    def __init__(self, line: Line, output: Output, shown: Optional[str]) -> None:
+        super().__init__(output, shown)
+        self._line = line
+
+    def exchange(self, frame: bytes) -> bytes:
+        """The line's exchange."""
+        try:
+            reply = self._line.exchange(frame)
+        except LineFailed as failure:
+            self.failure = failure
+            self.saw(frame, None)
+            raise
+        self.saw(frame, reply)
+        return reply

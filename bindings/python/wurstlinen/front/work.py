@@ -4,30 +4,39 @@ from __future__ import annotations
 import argparse
 import contextlib
 import os
-from typing import Iterator, Optional, Set, Tuple
+import time
+from functools import partial
+from typing import TYPE_CHECKING, Iterator, Optional, Set, Tuple, Union
 
 from .. import (
-    AckType, Asker, Client, Completion, Controller, Device, Kind, Request, RequestClass, ResponseClass, Search, Status,
-    Uid, Unserved,
+    AckType, Asker, Client, Completion, Controller, Device, Discovery, Kind, Request, RequestClass, ResponseClass,
+    Search, Status, Uid, Unserved,
 )
 from ..commands import RUN_FAULTS, source_of
 from ..line import LineFailed
-from ..lines import open_line
+from ..lines import OpenLine, open_line
 from ..lines.numbers import Pid
+from ..lines.waiting import when_free
 from ..parameters import Misfit, Parameter, Reading, decode, described
 from .discovery_log import DiscoveryLog, Sink
 from .naming import is_manufacturers, known_or_raw, nack_of, raw_parameter, table_of
+from .opening import failures_of_lines, served
 from .output import BAD_ARGUMENTS, FAILED, LINE_FAILED, LINE_VARIABLE, REFUSED, Failure, Output
-from .watched import WatchedLine
+from .watched import Watched, WatchedLine
+
+if TYPE_CHECKING:
+    from ..shared.client import SharedClient
 
 # More than one command has outstanding.
 PLACES = 4
+GLANCE_SECONDS = 0.01
 
 
 class Work:
-    """What a command does on its line."""
+    """What a command does on its line, by a queue of its own or by a server's."""
 
-    def __init__(self, line: WatchedLine, source: Uid, client: Client, wait: float, output: Output) -> None:
+    def __init__(self, line: Watched, source: Uid, client: Union[Client, SharedClient], wait: float,
+                 output: Output) -> None:
         self.line = line
         self.output = output
         # The devices that asked for time.
@@ -51,14 +60,19 @@ class Work:
         request_class = RequestClass.SET if is_set else RequestClass.GET
         try:
             answer = self._asker.ask(Request(uid, pid, data, sub_device, request_class))
-        except Unserved as fault:
-            raise Failure(FAILED, str(fault), reason="unserved") from None
+        except Unserved:
+            raise self._unserved("request") from None
         for message in answer.queued:
             self._report(uid, message)
         if answer.is_late:
             raise Failure(FAILED, f"{uid} didn't answer within {self._asker.wait:g} s, since it needs more time",
                           uid=str(uid), reason="late")
         return self._acknowledged(uid, answer.completion)
+
+    def _unserved(self, what: str) -> Failure:
+        """Why the server hasn't sent something in time."""
+        reason = self.line.absence or "the queue is paused, or has too much to do"
+        return Failure(FAILED, f"the {what} wasn't sent: {reason}", reason="unserved")
 
     def _acknowledged(self, uid: Uid, completion: Completion) -> Completion:
         """A completion that is an acknowledgement. Raises Failure for any other."""
@@ -115,21 +129,32 @@ class Work:
 
     def discover(self, sink: Optional[Sink] = None) -> Tuple[Tuple[Device, ...], Optional[str]]:
         """The devices on the line, and why the run ended early; None if it didn't. A sink gets the run's log."""
-        self._client.discover(Kind.FULL)
-        self.line.found = set()
-        self.line.log = None if sink is None else DiscoveryLog(self._source, sink)
-        try:
-            self._client.queue.run(self.line)
-        finally:
-            self.line.found = self.line.log = None
-            self.output.end_progress()
-        found = self._client.next_discovery()
-        assert found is not None
+        found = self.search(sink)
         self.unmuted = None if found.fault is None else found.fault.uid
         if found.fault is None:
             return found.devices, None
         reason = str(self.line.failure or RUN_FAULTS[found.fault.kind].format(uid=found.fault.uid))
         return found.devices, reason
+
+    def search(self, sink: Optional[Sink] = None) -> Discovery:
+        """The end of a full discovery. Raises Failure if a server doesn't begin it in time."""
+        self.line.begin(None if sink is None else partial(DiscoveryLog, self._source, sink))
+        try:
+            self._client.discover(Kind.FULL)
+            return self._discovered()
+        finally:
+            self.line.end()
+
+    def _discovered(self) -> Discovery:
+        until = time.monotonic() + self._asker.wait
+        while True:
+            self._client.queue.run(self.line)
+            found = self._client.next_discovery()
+            if found is not None:
+                return found
+            if time.monotonic() >= until:
+                raise self._unserved("discovery")
+            self._client.queue._sleep(GLANCE_SECONDS)
 
 
 @contextlib.contextmanager
@@ -138,16 +163,36 @@ def open_work(chosen: argparse.Namespace, output: Output) -> Iterator[Work]:
     text = chosen.line or os.environ.get(LINE_VARIABLE, "")
     if not text:
         raise Failure(BAD_ARGUMENTS, f"which line? --line LINE or {LINE_VARIABLE} says it", reason="line")
+    def open_any() -> Tuple[Optional[SharedClient], Optional[OpenLine]]:
+        """A client of the line's server, or else the line."""
+        client = served(text, chosen.source, output)
+        return client, None if client is not None else open_line(text)
+
+    with failures_of_lines():
+        shared, line = when_free(open_any, chosen.wait_line, output.note)
+    if shared is not None:
+        with shared, failures_of_server():
+            yield shared_work(shared, chosen, output)
+    elif line is not None:
+        with line:
+            watched = WatchedLine(line, output, chosen.frames)
+            source = Uid.from_number(source_of(chosen, line))
+            with Controller(source, PLACES, search=Search.QUICK) as controller:
+                yield Work(watched, source, controller.join(PLACES), chosen.wait, output)
+
+
+def shared_work(client: SharedClient, chosen: argparse.Namespace, output: Output) -> Work:
+    """What a command does by a server."""
+    # A command without a server doesn't load it.
+    from .shared_line import SharedLine
+    queue = client.queue
+    return Work(SharedLine(queue, output, chosen.frames), queue.source, client, chosen.wait, output)
+
+
+@contextlib.contextmanager
+def failures_of_server() -> Iterator[None]:
+    """Raises Failure if the server of the line ends."""
     try:
-        line = open_line(text)
-    except ValueError as fault:
-        raise Failure(BAD_ARGUMENTS, str(fault), reason="line") from None
+        yield
     except LineFailed as fault:
-        raise Failure(FAILED, str(fault), reason="line") from None
-    except OSError as fault:
-        raise Failure(FAILED, f"{fault.filename}: {fault.strerror}", reason="line") from None
-    with line:
-        watched = WatchedLine(line, output, chosen.frames)
-        source = Uid.from_number(source_of(chosen, line))
-        with Controller(source, PLACES, search=Search.QUICK) as controller:
-            yield Work(watched, source, controller.join(PLACES), chosen.wait, output)
+        raise Failure(FAILED, str(fault), reason=LINE_FAILED) from None

@@ -14,6 +14,11 @@ class OpenLine(ABC):
     # The UID that a controller on this line should have as its own, as a number; None if the line doesn't care.
     source: Optional[int] = None
 
+    @property
+    def is_there(self) -> bool:
+        """Whether exchanges can be made. If not, the line has to be opened again, as after an adapter was unplugged."""
+        return True
+
     @abstractmethod
     def exchange(self, frame: bytes) -> bytes:
         """Sends a frame, and returns the reply's bytes; `LineFailed` if the exchange failed."""

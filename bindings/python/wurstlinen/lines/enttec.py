@@ -89,6 +89,12 @@ class EnttecPro(OpenLine):
         """Whether the adapter sends its end after a good response."""
         return self._response_ends.known
 
+    @property
+    def is_there(self) -> bool:
+        """Whether the adapter is plugged in, as far as the system knows."""
+        terminal = self._terminal
+        return terminal is not None and terminal.is_there
+
     def open(self) -> None:
         """Opens and locks the device, and asks who it is; `LineFailed` if it isn't an adapter with RDM."""
         self._turns.alone(self._open)

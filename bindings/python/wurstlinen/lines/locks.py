@@ -14,7 +14,7 @@ import stat
 from pathlib import Path
 from typing import List, Optional
 
-from ..line import LineFailed
+from ..line import LineBusy, LineFailed
 
 # The number of the owner's process, ten characters wide, and a newline.
 LOCK_FORMAT = "{:10d}\n"
@@ -99,7 +99,8 @@ class LockFile:
             is_free = _try_flock(found.fileno())
             # A lock with this process's own number that nobody holds is from a process before.
             if _is_alive(process) and not (is_free and process == os.getpid()):
-                raise LineFailed(f"{self._device} is used by process {process}: {self._path}")
+                holder = f"process {process}{_named(process)}"
+                raise LineBusy(f"{self._device} is used by {holder}: {self._path}", holder)
             if not is_free:
                 raise self._being_opened()
             self._move_away(os.fstat(found.fileno()))
@@ -151,7 +152,7 @@ class LockFile:
         self._asides.remove(aside)
 
     def _being_opened(self) -> LineFailed:
-        return LineFailed(f"{self._device} is being opened by another program: {self._path}")
+        return LineBusy(f"{self._device} is being opened by another program: {self._path}")
 
     def _unclear(self) -> LineFailed:
         return LineFailed(f"{self._path} can't be understood; remove it if no program uses {self._device}")
@@ -176,3 +177,12 @@ def _is_alive(process: int) -> bool:
     except OverflowError:
         return False
     return True
+
+
+def _named(process: int) -> str:
+    """What a process calls itself, in brackets, if the system says it."""
+    try:
+        name = Path(f"/proc/{process}/comm").read_text(encoding="utf-8", errors="replace").strip()
+    except OSError:
+        return ""
+    return f" ({name})" if name.isprintable() and name else ""

@@ -1,6 +1,7 @@
 """A serial device that is opened only for this process."""
 from __future__ import annotations
 
+import errno
 import fcntl
 import io
 import os
@@ -10,7 +11,7 @@ import weakref
 from pathlib import Path
 from typing import Optional
 
-from ..line import LineFailed
+from ..line import LineBusy, LineFailed
 from .alarm import Alarm, Ended
 from .locks import LockFile
 
@@ -33,7 +34,10 @@ class Terminal:
         try:
             self._device.open()
         except (OSError, termios.error) as error:
-            raise self._closed(f"{path} can't be opened: {_reason(error)}") from error
+            failure = self._closed(f"{path} can't be opened: {_reason(error)}")
+            # Who has it made it exclusive, and has no lock file.
+            is_busy = getattr(error, "errno", None) == errno.EBUSY
+            raise (LineBusy(str(failure)) if is_busy else failure) from error
         except BaseException:
             self.close()
             raise
@@ -42,6 +46,17 @@ class Terminal:
     def is_open(self) -> bool:
         """Whether the device is still there, according to past reads and writes."""
         return self._device.descriptor >= 0
+
+    @property
+    def is_there(self) -> bool:
+        """Whether the device is still there, according to the system."""
+        descriptor = self._device.descriptor
+        if descriptor < 0:
+            return False
+        ready = select.poll()
+        # The system reports a device that is gone, whatever else is asked for.
+        ready.register(descriptor, 0)
+        return not ready.poll(0)
 
     def close(self) -> None:
         """Closes the device, and removes its lock file."""
@@ -111,7 +126,7 @@ class _Device:
         try:
             fcntl.flock(self.descriptor, fcntl.LOCK_EX | fcntl.LOCK_NB)
         except BlockingIOError:
-            raise LineFailed(f"{self._path} is used by another program") from None
+            raise LineBusy(f"{self._path} is used by another program") from None
         _make_raw(self.descriptor)
         self._is_exclusive = True
         fcntl.ioctl(self.descriptor, termios.TIOCEXCL)

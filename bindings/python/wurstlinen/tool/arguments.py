@@ -76,6 +76,7 @@ def add_line(command: Parser) -> None:
     """Where the frames go."""
     command.add_argument("--line", metavar="LINE", help=f"{FORMS}; or a stream that another program serves")
     command.add_argument("--replies", metavar="IN", help="the stream of that program's replies")
+    commands.add_wait_line(command)
     command.add_argument("--frames", action="store_true", help=f"show the frames and replies, on {FORMS}")
 
 
@@ -115,6 +116,19 @@ def add_bridge(made: Any, name: str) -> None:
     made.choices[name].epilog = f"example: {PROGRAM} bridge --line enttec:/dev/ttyUSB0"
 
 
+def add_serve(made: Any, name: str) -> None:
+    """The arguments of serve."""
+    command = add_command(made, name, "have a line, and share it with up to sixteen programs of this user",
+                          "serve --line enttec:/dev/ttyUSB0 &", "tool.sharing.run_serve", needs_line=False)
+    command.add_argument("--line", metavar="LINE", help=f"{FORMS}; WURSTLINEN_LINE if absent")
+    command.add_argument("--source", type=commands.device, metavar="UID", help="the controller's UID")
+    command.add_argument("--log", metavar="LOG", help="a file to add all that is done to; at 100 MB it becomes LOG.1")
+    command.add_argument("--idle", type=commands.some_seconds, metavar="SECONDS",
+                         help="end when nobody was connected for so long")
+    command.add_argument("--group", metavar="NAME", help="share it with the users of this group, in /run/wurstlinen")
+    commands.add_wait_line(command)
+
+
 def add_rig(made: Any, name: str) -> None:
     """The arguments of rig."""
     commands.add_rig(made)
@@ -137,6 +151,7 @@ COMMANDS: Dict[str, Callable[[Any, str], None]] = {
     "doctor": add_doctor,
     "adapters": add_adapters,
     **FRONT_COMMANDS,
+    "serve": add_serve,
     **PROVED,
     **OF_LINES,
     "completion": add_completion,

@@ -1,12 +1,13 @@
 """Which part does a command: the proved program, the package `front`, or the commands of lines."""
 from __future__ import annotations
 
+import argparse
 import os
 import signal
 import sys
 from pathlib import Path
 from types import FrameType
-from typing import Iterator, List, Optional, Sequence, Tuple
+from typing import TYPE_CHECKING, Iterator, List, Optional, Sequence, Tuple
 
 from .. import commands
 from .._endings import end_by
@@ -14,16 +15,23 @@ from .._standard_streams import mend
 from ..front import main as front
 from ..front.main import AS_BYTES, AS_TEXT, PROGRAM
 from ..front.main import run as run_chosen
+from ..front.opening import served
 from ..front.output import BAD_ARGUMENTS, DONE, FAILED, INTERRUPTED, LINE_VARIABLE, Failure, Output
 from ..lines.opening import FORMS, is_device
+from ..lines.waiting import DEFAULT_SECONDS
 from ..parameters.words import hint
 from . import arguments, places
 from .places import NO_PROGRAM
 
+if TYPE_CHECKING:
+    from ..shared.client import SharedClient
+
 VERSION_WORDS = ("version", "--version", "-V")
 HELP_WORDS = ("-h", "--help")
+WAIT_LINE = "--wait-line"
 # The options with a value.
-VALUED = ("--line", "--replies", "--source", "--known", "--budget", "--port", "--log", "--present", "--rig", "--page")
+VALUED = (WAIT_LINE, "--line", "--replies", "--source", "--known", "--budget", "--port", "--log", "--present", "--rig",
+          "--page")
 FRAMES = "--frames"
 PAGE = "--page"
 # The most bytes of the first record of a log that are read.
@@ -123,7 +131,38 @@ def run_proved(words: List[str]) -> int:
     elif words[0] not in ("discover", "run") or not serving.is_served(line):
         return become(program, words)
     assert line is not None
-    return serving.serve(program, without(without(words, "--line"), FRAMES), line, frames_of(words))
+    waits, frames = wait_line_of(words), frames_of(words)
+    words = without(without(without(words, "--line"), FRAMES), WAIT_LINE)
+    if words[0] == "discover":
+        client = served(line, None, Output(False))
+        if client is not None:
+            return discover_shared(client, words, frames)
+    return serving.serve(program, words, line, frames, waits)
+
+
+def discover_shared(client: SharedClient, words: Sequence[str], frames: Optional[str]) -> int:
+    """A discovery by the server of a line, printed as the proved program prints it. Raises Failure."""
+    from .shared_discovery import discover
+    with client:
+        source = str(client.queue.source)
+        known = {"--quick": None, "--log": None, "--source": source}
+        for at, name in parts(words):
+            if name not in known or known[name] not in (None, (option(words, name) or "").lower()):
+                print(WRONG_WORDS, flush=True)
+                raise Failure(BAD_ARGUMENTS, f"process {client.queue.process} shares this line as {source}, and "
+                                             f"searches it in its own way: leave out {words[at]}", reason="arguments")
+        return discover(client, option(words, "--log"), frames)
+
+
+def wait_line_of(words: Sequence[str]) -> float:
+    """How long another program may have the line. Raises Failure."""
+    if place_of(words, WAIT_LINE) is None:
+        return DEFAULT_SECONDS
+    try:
+        return commands.some_seconds(option(words, WAIT_LINE) or "")
+    except argparse.ArgumentTypeError as fault:
+        print(WRONG_WORDS, flush=True)
+        raise Failure(BAD_ARGUMENTS, f"argument {WAIT_LINE}: {fault}", reason="arguments") from None
 
 
 def note_other_log(words: Sequence[str]) -> None:

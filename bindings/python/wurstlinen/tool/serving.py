@@ -11,9 +11,9 @@ from threading import Thread
 from typing import IO, Any, Dict, List, Optional, Sequence
 
 from ..commands import SOURCE
-from ..front.output import BAD_ARGUMENTS, FAILED, Failure, Output
+from ..front.opening import opened
+from ..front.output import Output
 from ..front.watched import WatchedLine
-from ..line import LineFailed
 from ..lines import OpenLine, open_line, serve_text
 from ..lines.packets import uid_text
 
@@ -28,22 +28,10 @@ def is_served(text: Optional[str]) -> bool:
     return text is not None and text.partition(":")[0] in KINDS and ":" in text
 
 
-def opened(text: str) -> OpenLine:
-    """Opens a line. Raises Failure."""
-    try:
-        return open_line(text)
-    except ValueError as fault:
-        raise Failure(BAD_ARGUMENTS, str(fault), reason="line") from None
-    except LineFailed as fault:
-        raise Failure(FAILED, str(fault), reason="line") from None
-    except OSError as fault:
-        raise Failure(FAILED, f"{fault.filename}: {fault.strerror}", reason="line") from None
-
-
-def serve(program: Path, words: Sequence[str], text: str, frames: Optional[str]) -> int:
+def serve(program: Path, words: Sequence[str], text: str, frames: Optional[str], wait_line: float) -> int:
     """Runs the program with these words on a line, and returns its status."""
     output = Output(False)
-    with opened(text) as line, ExitStack() as stack:
+    with opened(open_line, text, wait_line, output) as line, ExitStack() as stack:
         words = [words[0], *source_words(words, line), *words[1:]]
         watched = WatchedLine(line, output, frames)
         shows_progress = words[0] == "discover" and frames is None and sys.stderr.isatty()

@@ -1,0 +1,381 @@
+"""The command serve as a process, and the other commands with it and without it."""
+from __future__ import annotations
+
+import contextlib
+import io
+import json
+import os
+import shutil
+import signal
+import socket
+import subprocess
+import sys
+import time
+import unittest
+from pathlib import Path
+from typing import Iterator, List, Tuple
+from unittest import mock
+
+from common import ENTTEC, ROOT, TestCase, folder, needs_library
+from fronts import called
+from servers import HELLO, SECONDS, TOOL, Program, command, environment, here, runtime, serve
+from test_serve import FIVE, FOUND, GET, LABEL, LEFT, five
+from wurstlinen import LineFailed, OutcomeKind, RunFaultKind, Status, connect, tool
+from wurstlinen._queue import kind_of
+from wurstlinen.front.output import Failure
+from wurstlinen.lines import EnttecPro, Rig
+from wurstlinen.lines.emulator import Emulator, Widget
+from wurstlinen.lines.packets import uid_text
+from wurstlinen.shared import place, worker
+from wurstlinen.shared.listening import checked
+from wurstlinen.shared.log_file import LogFile
+from wurstlinen.tool import places
+
+LINE = f"rig:{FIVE}"
+WIDGET = Widget(manufacturer=ENTTEC)
+
+
+@needs_library
+class Commands(TestCase):
+    """Each command uses a server that runs for its line."""
+
+    def test_what_commands_print_is_the_same_with_a_server(self) -> None:
+        rows = [["get", LEFT, "device_label"], ["get", LEFT, "device_label", "dmx_start_address"],
+                ["get", "all", "device_label"], ["set", LEFT, "device_label", "Lamp"], ["fixtures"],
+                ["show", "454e:0a000017"], ["save", "-"], ["get", LEFT, "0x9999"], ["identify", LEFT],
+                ["get", "9abc:00000002", "device_label"], ["get", LEFT, "device_label", "--frames"]]
+        for words in rows:
+            with here(five, name=LINE):
+                with_server = called(*words, "--line", LINE)
+            with runtime():
+                alone = called(*words, "--line", LINE)
+            self.assertEqual([with_server[0], *map(self.counted, with_server[1:])],
+                             [alone[0], *map(self.counted, alone[1:])], words)
+
+    def test_bytes_by_a_server(self) -> None:
+        with here(five, name=LINE) as made:
+            with Program(made.place.path) as program:
+                for words in (["set", LEFT, "0082", "41"], ["get", LEFT, "0082"]):
+                    status, out, _ = called(*words[:1], "--raw", *words[1:], "--line", LINE)
+                self.assertEqual((status, out), (0, "0 00 41\n"))
+                program.ask(GET)
+                self.assertEqual(program.read()["data"], "41")
+
+    @staticmethod
+    def counted(text: str) -> str:
+        """A text without what depends on how often a slow device was asked, and on the numbers of frames."""
+        return "\n".join(line.partition(" frames;")[0].rpartition(",")[0] if " frames;" in line else
+                         line.partition("  GET")[2] or line for line in text.splitlines())
+
+    def test_a_discovery(self) -> None:
+        with folder() as place, here(five, name=LINE):
+            log = place / "log"
+            status, _, errors = called("fixtures", "--line", LINE, "--log", str(log))
+            self.assertEqual(status, 0, errors)
+            entries = [json.loads(line) for line in log.read_text().splitlines()]
+            self.assertEqual((entries[0]["entry"], entries[0]["search"]), ("opening", "quick"))
+            self.assertEqual([entry["number"] for entry in entries[1:]], list(range(len(entries) - 1)))
+            self.assertEqual(entries[1]["operation"], "unmute")
+            mutes = {uid_text(int(entry["frame"][6:18], 16)) for entry in entries[1:]
+                     if entry["operation"] == "mute" and entry["reply"]}
+            self.assertEqual(mutes, {device["uid"] for device in FOUND})
+
+    def test_discover_prints_what_the_program_does(self) -> None:
+        with folder() as place, here(five, name=LINE):
+            made_out, errors = io.StringIO(), io.StringIO()
+
+            def discovered(*words: str) -> int:
+                with contextlib.redirect_stdout(made_out), contextlib.redirect_stderr(errors), \
+                        mock.patch.object(places, "program", lambda: Path("/nowhere/program")):
+                    return tool.main(["discover", "--line", LINE, *words])
+            self.assertEqual(discovered("--quick", "--log", str(place / "log")), 0)
+            *lines, frames = made_out.getvalue().splitlines()
+            self.assertEqual(lines, [" ".join(filter(None, (each["uid"], each["control"].replace("0000", ""),
+                                                            each.get("binding", "")))) for each in FOUND])
+            self.assertEqual(frames, f"frames {len((place / 'log').read_text().splitlines()) - 1}")
+            for words in (["--budget", "9"], ["--known", LEFT], ["--source", "7a70:00000001"]):
+                with self.assertRaises(Failure) as raised:
+                    discovered(*words)
+                self.assertEqual((raised.exception.status, str(raised.exception)), (
+                    2, f"process {os.getpid()} shares this line as 7ff0:00000001, and searches it in its own way: "
+                       f"leave out {words[0]}"))
+
+    def test_the_log_has_its_own_run_alone(self) -> None:
+        with folder() as place, here(five, name=LINE) as made, Program(made.place.path) as other:
+            for _ in range(3):
+                other.say({"do": "discover"})
+            status, _, errors = called("fixtures", "--line", LINE, "--log", str(place / "log"))
+            self.assertEqual(status, 0, errors)
+            numbers = [json.loads(line).get("number") for line in (place / "log").read_text().splitlines()]
+            self.assertEqual(numbers, [None, *range(len(numbers) - 1)])
+
+    def test_another_source_is_refused(self) -> None:
+        with here(five, name=LINE):
+            for words in (["fixtures"], ["get", "--raw", LEFT, "0082"]):
+                status, _, errors = called(*words, "--line", LINE, "--source", "7a70:00000001")
+                self.assertEqual((status, errors), (1, f"wurstlinen: process {os.getpid()} shares this line as "
+                                                       "7ff0:00000001: leave out --source\n"))
+            self.assertEqual(called("fixtures", "--line", LINE, "--source", "7ff0:00000001")[0], 0)
+
+    def test_a_paused_queue(self) -> None:
+        with here(five, name=LINE) as made, Program(made.place.path) as operator:
+            operator.say({"do": "pause", "id": 1})
+            operator.next("id")
+            for words, what in ((["get", LEFT, "device_label"], "request"), (["fixtures"], "discovery")):
+                status, _, errors = called(*words, "--line", LINE, "--wait", "0.2")
+                self.assertEqual((status, errors), (
+                    1, f"wurstlinen: the {what} wasn't sent: the queue is paused, or has too much to do\n"))
+
+    def test_a_folder_that_is_not_safe_is_named_and_not_used(self) -> None:
+        with runtime() as made:
+            (made / "wurstlinen").mkdir()
+            (made / "wurstlinen").chmod(0o755)
+            (made / "wurstlinen" / place.name_of(LINE)).write_text("")
+            text = f"wurstlinen: {made}/wurstlinen isn't used: it isn't this user's own, with mode 0700\n"
+            self.assertEqual(called("get", LEFT, "device_label", "--line", LINE), (0, "Front left\n", text))
+            done = command(made, "serve", "--line", LINE)
+            self.assertEqual((done.returncode, done.stderr), (1, text))
+
+    def test_a_server_that_dies_amid_a_command(self) -> None:
+        with folder() as made, serve(made, "--line", LINE) as server, Program(server.socket) as operator:
+            operator.say({"do": "pause", "id": 1})
+            operator.next("id")
+            waiting = subprocess.Popen([*TOOL, "get", LEFT, "device_label", "--line", LINE], env=environment(made),
+                                       stdout=subprocess.PIPE, stderr=subprocess.PIPE, text=True)
+            while operator.ask({"do": "status"})["outstanding"] < 1:
+                time.sleep(0.02)
+            server.kill()
+            self.assertEqual(waiting.communicate(timeout=SECONDS), (
+                "", f"wurstlinen: the server of {LINE} has ended\n"))
+            self.assertEqual(waiting.returncode, 1)
+            # What it has left behind is in nobody's way.
+            self.assertEqual(command(made, "get", LEFT, "device_label", "--line", LINE).stdout, "Front left\n")
+            with serve(made, "--line", LINE):
+                pass
+
+
+@needs_library
+@unittest.skipUnless(shutil.which("cc"), "needs cc")
+class Example(TestCase):
+    """The protocol in C."""
+
+    def test_share(self) -> None:
+        with folder() as place, here(five) as made:
+            flags = ["-std=c11", "-Wall", "-Wextra", "-Werror", "-pedantic"]
+            subprocess.run(["cc", *flags, ROOT / "bindings/examples/share.c", "-o", place / "share"], check=True)
+            for words, wanted in (([LEFT], (0, "Front left\n", "")), (["1234:00000009"], (1, "", '"status":3')),
+                                  (["x"], (1, "", "uid isn't a UID")), ([], (2, "", "usage"))):
+                done = subprocess.run([place / "share", made.place.path, *words], check=False, capture_output=True,
+                                      text=True, timeout=SECONDS)
+                self.assertEqual((done.returncode, done.stdout), wanted[:2])
+                self.assertIn(wanted[2], done.stderr)
+
+
+@needs_library
+class Adapters(TestCase):
+    """An adapter that several commands want, and one that is unplugged."""
+
+    @contextlib.contextmanager
+    def adapter(self, made: Path) -> Iterator[Tuple[str, Emulator]]:
+        """An emulated adapter behind a link, as those of /dev/serial/by-id are."""
+        with Emulator(Rig(FIVE), WIDGET) as emulator:
+            link = made / "adapter"
+            link.unlink(missing_ok=True)
+            link.symlink_to(emulator.path)
+            yield f"enttec:{link}", emulator
+
+    def test_two_commands_at_once(self) -> None:
+        with folder() as made, self.adapter(made) as (line, _):
+            for serves in (False, True):
+                with serve(made, "--line", line) if serves else contextlib.nullcontext():
+                    running = [subprocess.Popen([*TOOL, "fixtures", "--line", line], env=environment(made),
+                                                stdout=subprocess.PIPE, stderr=subprocess.PIPE, text=True)
+                               for _ in range(2)]
+                    for each in running:
+                        out, errors = each.communicate(timeout=SECONDS)
+                        self.assertEqual((each.returncode, out.count("\n")), (0, 7), errors)
+
+    def test_who_waits_says_for_whom(self) -> None:
+        with runtime() as made, self.adapter(made) as (line, emulator), EnttecPro(emulator.path):
+            name = Path(f"/proc/{os.getpid()}/comm").read_text().strip()
+            who = f"process {os.getpid()} ({name})"
+            for words, seconds in ((["fixtures"], "0.2"), (["get", "--raw", LEFT, "0082"], "0.2"), (["fixtures"], "0")):
+                status, _, errors = called(*words, "--line", line, "--wait-line", seconds)
+                said = [f"wurstlinen: waiting for {who}"] if seconds != "0" else []
+                fault = f"wurstlinen: {line.partition(':')[2]} is used by {who}: "
+                self.assertEqual((status, errors.splitlines()[:-1]), (1, said), words)
+                self.assertTrue(errors.splitlines()[-1].startswith(fault), errors)
+
+    def test_an_adapter_that_is_unplugged_is_waited_for(self) -> None:
+        with folder() as made:
+            with self.adapter(made) as (line, emulator), mock.patch.object(worker, "LOOK_SECONDS", 0.05):
+                stack = contextlib.ExitStack()
+                served = stack.enter_context(here(lambda: EnttecPro(str(made / "adapter"), made), name=line))
+                program = stack.enter_context(Program(served.place.path))
+                program.ask(GET)
+                self.assertEqual(program.read()["data"], LABEL)
+                emulator.__exit__(None, None, None)
+                self.assertEqual(program.read(), {"event": "line", "there": False, "reason": "the adapter is gone"})
+                program.ask(GET)
+                self.assertFalse(program.ask({"do": "status"})["there"])
+                with self.adapter(made):
+                    # The request has waited for it.
+                    self.assertEqual(program.read(), {"event": "line", "there": True})
+                    self.assertEqual(program.read()["data"], LABEL)
+                    stack.close()
+
+    def test_requests_do_not_wait_for_it_for_ever(self) -> None:
+        with folder() as made, mock.patch.object(worker, "LOOK_SECONDS", 0.05), \
+                mock.patch.object(worker, "GRACE_SECONDS", 0.2):
+            with self.adapter(made) as (line, emulator), \
+                    here(lambda: EnttecPro(str(made / "adapter"), made), name=line), connect(line) as client:
+                emulator.__exit__(None, None, None)
+                began = time.monotonic()
+                client.get(LEFT, 0x82)
+                client.discover()
+                while len(client.queue.outcomes) < 2 and time.monotonic() < began + SECONDS:
+                    client.queue._sleep(0.05)
+                ends = {kind_of(each): each for each in client.queue.outcomes}
+                self.assertIs(ends[OutcomeKind.REQUEST].status, Status.FAILED_TO_SEND)
+                self.assertIs(ends[OutcomeKind.DISCOVERY].fault.kind, RunFaultKind.LINE_FAILED)
+
+
+@needs_library
+class Ends(TestCase):
+    """Signals, time, and systemd."""
+
+    def test_a_signal_answers_everybody(self) -> None:
+        hangs = f"exec:{sys.executable} -c 'import time; time.sleep(99)'"
+        with folder() as made, serve(made, "--line", hangs) as server:
+            path = server.socket
+            with Program(path) as first, Program(path) as second:
+                first.ask(GET)
+                second.ask(GET)
+                second.ask({"do": "discover"})
+                server.send_signal(signal.SIGTERM)
+                said = first.rest(), second.rest()
+            # FORMATS: 2 is FailedToSend. Of a discovery, 4 is LineFailed, and 5 is Aborted.
+            self.assertEqual([each.get("status") for one in said for each in one if "status" in each], [2, 2])
+            self.assertIn([each["fault"] for each in said[1] if "fault" in each], ([4], [5]))
+            self.assertEqual([one[-1]["error"] for one in said], ["Closed", "Closed"])
+            self.assertEqual(server.wait(SECONDS), 0)
+            self.assertFalse(os.path.lexists(path))
+
+    def test_other_signals(self) -> None:
+        for number in (signal.SIGINT, signal.SIGHUP):
+            with folder() as made, serve(made, "--line", LINE) as server, Program(server.socket) as program:
+                server.send_signal(number)
+                self.assertEqual([each["error"] for each in program.rest()], ["Closed"])
+                self.assertEqual(server.wait(SECONDS), 0)
+
+    def test_an_idle_server(self) -> None:
+        with folder() as made, serve(made, "--line", LINE, "--idle", "0.1") as server:
+            self.assertEqual(server.wait(SECONDS), 0)
+
+    def test_a_socket_of_systemd(self) -> None:
+        with folder() as made, socket.socket(socket.AF_UNIX) as listener:
+            (made / "wurstlinen").mkdir(mode=0o700)
+            path = str(made / "wurstlinen" / place.name_of(LINE))
+            listener.bind(path)
+            listener.listen()
+            with Program(path, None) as program:
+                # systemd starts the server when somebody connects, and passes the socket as the descriptor 3.
+                code = ("import os, sys; os.dup2(int(sys.argv[1]), 3); os.environ.update(LISTEN_FDS='1', "
+                        "LISTEN_PID=str(os.getpid())); os.execv(sys.executable, [sys.executable, *sys.argv[2:]])")
+                server = subprocess.Popen([sys.executable, "-c", code, str(listener.fileno()), *TOOL[1:], "serve",
+                                           "--line", LINE, "--idle", "0.1"], env=environment(made),
+                                          pass_fds=[listener.fileno()], stdout=subprocess.PIPE, text=True)
+                self.assertEqual(program.ask(HELLO)["line"], LINE)
+                program.ask(GET)
+                self.assertEqual(program.read()["data"], LABEL)
+                self.assertEqual(command(made, "get", LEFT, "device_label", "--line", LINE).stdout, "Front left\n")
+            self.assertEqual(server.communicate(timeout=SECONDS)[0], f"{LINE} is shared at {path}\n")
+            # The socket is systemd's, and stays.
+            self.assertEqual((server.returncode, os.path.lexists(path)), (0, True))
+
+    def test_a_wrong_socket(self) -> None:
+        for kind in (socket.AF_INET, socket.AF_UNIX):
+            text = "isn't one that listens on a path"
+            with socket.socket(kind) as listener, self.assertRaisesRegex(LineFailed, text):
+                checked(listener)
+
+    def test_two_servers_of_a_line(self) -> None:
+        with folder() as made, serve(made, "--line", LINE) as server:
+            done = command(made, "serve", "--line", LINE)
+            self.assertEqual((done.returncode, done.stderr),
+                             (1, f"wurstlinen: {LINE} is served by process {server.pid}\n"))
+
+    def test_what_cannot_be_served(self) -> None:
+        with folder() as made:
+            rows = ((["--line", "rig:/nowhere"], "wurstlinen: /nowhere: No such file or directory\n"),
+                    (["--line", LINE, "--log", "/nowhere/log"],
+                     "wurstlinen: /nowhere/log: No such file or directory\n"),
+                    (["--line", LINE, "--group", "no such"], "wurstlinen: there is no group no such\n"))
+            for words, text in rows:
+                done = command(made, "serve", *words)
+                self.assertEqual((done.returncode, done.stderr), (1, text))
+                self.assertEqual(list(made.glob("wurstlinen/*.socket")), [])
+
+
+@needs_library
+class Logs(TestCase):
+    """The log of a server."""
+
+    def test_it_is_a_sessions_log(self) -> None:
+        with folder() as made:
+            log = made / "log"
+            with serve(made, "--line", LINE, "--log", str(log)) as server, Program(server.socket) as program:
+                program.ask({"do": "discover"})
+                program.ask(GET)
+                program.next("data")
+            entries = [json.loads(line) for line in log.read_text().splitlines()]
+            self.assertEqual([each["entry"] for each in entries[:17]], ["opening", *["join"] * 16])
+            self.assertEqual(entries[-1], {"entry": "close"})
+            self.assertEqual(sum(each["entry"] == "accept" for each in entries),
+                             sum(each["entry"] == "finish" for each in entries))
+            done = command(made, "trace", str(log))
+            self.assertEqual((done.returncode, done.stdout.count("\n")),
+                             (0, sum(each["entry"] == "send" for each in entries)))
+
+    def test_it_does_not_grow_for_ever(self) -> None:
+        with folder() as made:
+            said: List[str] = []
+            log = LogFile(str(made / "log"), said.append, 100)
+            log.open()
+            for number in range(50):
+                log.add([b"%09d\n" % number] * 2)
+            log.close()
+            self.assertEqual([(made / name).stat().st_size for name in ("log", "log.1")], [100, 100])
+            self.assertEqual((made / "log").read_bytes()[-10:], b"000000049\n")
+            self.assertEqual((said, sorted(each.name for each in made.iterdir())), ([], ["log", "log.1"]))
+
+    def test_it_goes_on_in_a_new_file_if_it_is_moved(self) -> None:
+        with folder() as made:
+            log = LogFile(str(made / "log"), self.fail)
+            log.add([b"1\n"])
+            (made / "log").rename(made / "old")
+            log.add([b"2\n"])
+            (made / "log").unlink()
+            log.add([b"3\n"])
+            log.close()
+            self.assertEqual(((made / "old").read_bytes(), (made / "log").read_bytes()), (b"1\n", b"3\n"))
+
+    def test_a_full_disk_is_reported_once_and_loses_no_half_line(self) -> None:
+        with folder() as made:
+            said: List[str] = []
+            log = LogFile(str(made / "log"), said.append)
+            log.add([b"first\n"])
+            full = LogFile("/dev/full", said.append)
+            full.open()
+            file, log._file = log._file, None
+            with mock.patch.object(log, "_name", "/dev/full"):
+                log.add([b"lost\n"])
+                log.add([b"lost\n", b"too\n"])
+            file.close()
+            log.add([b"last\n"])
+            log.close()
+            full.close()
+            self.assertEqual((made / "log").read_bytes(), b"first\nlast\n")
+            self.assertEqual(len(said), 2, said)
+            self.assertTrue(said[0].endswith("the log goes on when it can be written again"), said)
+            self.assertTrue(said[1].endswith("the log goes on after 3 lost lines"), said)

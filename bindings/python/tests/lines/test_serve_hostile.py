@@ -1,0 +1,307 @@
+"""Programs that do a server harm, and places that aren't what they should be: refused by name, and nobody is hurt."""
+from __future__ import annotations
+
+import contextlib
+import errno
+import os
+import random
+import socket
+import stat
+import threading
+import time
+import unittest
+from typing import Any, Iterator, Tuple
+from unittest import mock
+
+from common import TestCase, folder, needs_library
+from servers import HELLO, SECONDS, Here, Program, here, runtime
+from test_serve import GET, LABEL, five
+from wurstlinen.shared import listening, peer, place, server
+from wurstlinen.shared.listening import Place
+from wurstlinen.shared.place import BadPlace
+
+NOBODY = 65534
+GIGABYTE = 1 << 30
+PIECE = 1 << 16
+
+
+@needs_library
+class Hostile(TestCase):
+    """While a program does harm, another one is served."""
+
+    @contextlib.contextmanager
+    def served(self) -> Iterator[Tuple[Here, Program]]:
+        """A server with a good program, which is served at the end as at the beginning."""
+        with here(five) as made, Program(made.place.path) as good:
+            self.check(good)
+            yield made, good
+            self.check(good)
+
+    def check(self, good: Program) -> None:
+        began = time.monotonic()
+        good.say(GET)
+        self.assertEqual(good.next("data")["data"], LABEL)
+        self.assertLess(time.monotonic() - began, 2.0)
+
+    def test_garbage(self) -> None:
+        chance = random.Random(1)
+        for says in (HELLO, None):
+            with self.served() as (made, good), Program(made.place.path, says) as bad:
+                with contextlib.suppress(OSError):
+                    for _ in range(200):
+                        bad.write(chance.randbytes(chance.randrange(1, 2000)))
+                said = bad.rest()
+                self.assertIn(said[-1]["error"], ("TooManyFaults", "LineTooLong"))
+                self.assertLessEqual(len(said), peer.MOST_FAULTS + 1)
+
+    def test_a_line_without_an_end(self) -> None:
+        with self.served() as (made, good), Program(made.place.path) as bad:
+            sent = 0
+            try:
+                while sent < GIGABYTE:
+                    bad.write(bytes(PIECE))
+                    sent += PIECE
+            except OSError:
+                pass
+            self.assertLess(sent, 1 << 22)
+            self.assertEqual(bad.read(), {"error": "LineTooLong", "text": "a line has more than 4096 bytes"})
+
+    def test_half_a_request(self) -> None:
+        with mock.patch.object(peer, "HELLO_SECONDS", 0.3), mock.patch.object(server, "HOUSEKEEPING_SECONDS", 0.05), \
+                self.served() as (made, good):
+            with Program(made.place.path, None) as bad, Program(made.place.path) as other:
+                bad.write(b'{"do":"hel')
+                other.write(b'{"do":"get","uid":"1234:')
+                self.assertEqual([each["error"] for each in bad.rest()], ["NoHello"])
+                # One that has begun may take its time.
+                other.write(b'00000001","pid":"0082"}\n')
+                self.assertEqual(other.next("data")["data"], LABEL)
+
+    def test_who_reads_nothing(self) -> None:
+        with mock.patch.object(peer, "STALL_SECONDS", 0.5), mock.patch.object(server, "HOUSEKEEPING_SECONDS", 0.05), \
+                self.served() as (made, good), Program(made.place.path) as bad:
+            bad.ask({"do": "subscribe", "to": ["frames"]})
+            bad.socket.settimeout(0.2)
+            with contextlib.suppress(OSError):
+                while True:
+                    bad.say({"do": "devices", "id": 1})
+            for _ in range(50):
+                self.check(good)
+            time.sleep(0.7)
+            self.check(good)
+            self.assertEqual(good.ask({"do": "status"})["clients"], 1)
+
+    def test_who_reads_slowly_misses_events_and_no_result(self) -> None:
+        with mock.patch.object(peer, "MOST_UNREAD_BYTES", 2000), self.served() as (made, good), \
+                Program(made.place.path) as slow:
+            slow.ask({"do": "subscribe", "to": ["frames"]})
+            slow.ask(GET)
+            # The socket itself takes some hundred kilobytes.
+            while not any(each._missed for each in made.server._peers):
+                self.check(good)
+            found = [slow.read()]
+            while "count" not in found[-1]:
+                self.check(good)
+                found.append(slow.read())
+            self.assertGreater(found[-1]["count"], 0)
+            self.assertEqual(sum("data" in each for each in found), 1)
+
+    def test_thousands_of_connections_at_once(self) -> None:
+        with self.served() as (made, good):
+            held = []
+            try:
+                for _ in range(3000):
+                    bad = Program(made.place.path, None)
+                    held.append(bad)
+                    if len(held) == 200:
+                        self.check(good)
+                        for each in held:
+                            each.close()
+                        held.clear()
+            finally:
+                for each in held:
+                    each.close()
+
+    def test_too_many_connections_are_refused_by_name(self) -> None:
+        with self.served() as (made, good):
+            held = [Program(made.place.path, None) for _ in range(server.MOST_CONNECTIONS - 1)]
+            with Program(made.place.path, None) as bad:
+                self.assertEqual(bad.read(), {"error": "TooManyConnections", "text": "64 programs are connected"})
+            for each in held:
+                each.close()
+
+    def test_who_says_nothing_has_to_leave(self) -> None:
+        with mock.patch.object(peer, "HELLO_SECONDS", 0.2), mock.patch.object(server, "HOUSEKEEPING_SECONDS", 0.05), \
+                self.served() as (made, good), Program(made.place.path, None) as bad:
+            self.assertEqual([each["error"] for each in bad.rest()], ["NoHello"])
+
+    def test_a_flood_of_requests(self) -> None:
+        with self.served() as (made, good):
+            def flood() -> None:
+                with contextlib.suppress(OSError, AssertionError), Program(made.place.path) as bad:
+                    end = time.monotonic() + 1.0
+                    while time.monotonic() < end:
+                        bad.ask({"do": "status"})
+            threads = [threading.Thread(target=flood) for _ in range(4)]
+            for thread in threads:
+                thread.start()
+            for _ in range(20):
+                self.check(good)
+            for thread in threads:
+                thread.join(SECONDS)
+
+    def test_no_descriptors_are_left(self) -> None:
+        accept = socket.socket.accept
+        faults = iter([OSError(errno.EMFILE, "too many open files"), OSError(errno.ENOBUFS, "no room")])
+
+        def scarce(listener: socket.socket) -> Any:
+            for fault in faults:
+                raise fault
+            return accept(listener)
+        with self.served() as (made, good), mock.patch.object(server, "HOUSEKEEPING_SECONDS", 0.05), \
+                mock.patch.object(socket.socket, "accept", scarce), Program(made.place.path) as program:
+            self.check(program)
+            self.assertIsNone(next(faults, None))
+
+    def test_another_user_is_refused(self) -> None:
+        with here(five, users=frozenset({NOBODY})) as made, Program(made.place.path, None) as program:
+            self.assertEqual(program.read(), {"error": "OtherUser", "text": "this line is another user's"})
+
+
+class Places(TestCase):
+    """The folder and the socket: made with these modes, and refused if they aren't what they should be."""
+
+    def test_modes(self) -> None:
+        with runtime() as made:
+            found = Place("rig:/it")
+            self.assertEqual(found.path.parent, made / "wurstlinen")
+            self.assertEqual([stat.S_IMODE(os.lstat(path).st_mode) for path in (found.path.parent, found.path)],
+                             [0o700, 0o600])
+            found.close()
+            self.assertFalse(found.path.exists())
+
+    def test_names(self) -> None:
+        self.assertEqual(place.name_of("enttec:/dev/ttyUSB0"), "dev-ttyUSB0.socket")
+        # As `systemd-escape --path` has it.
+        self.assertEqual(place.name_of("enttec:/dev/a-b/ü"), "dev-a\\x2db-\\xc3\\xbc.socket")
+        with folder() as made:
+            (made / "link").symlink_to(made / "rig.json")
+            self.assertEqual(place.name_of(f"rig:{made}/link"), place.name_of(f"rig:{made}/x/../rig.json"))
+        self.assertNotEqual(place.name_of("exec:one"), place.name_of("exec:two"))
+
+    def test_without_a_runtime_folder(self) -> None:
+        with folder() as made, mock.patch.object(place, "TEMPORARY_FOLDER", made):
+            for runtime_folder in ("", "relative", "/nowhere", str(made / "file")):
+                with mock.patch.dict(os.environ, {"XDG_RUNTIME_DIR": runtime_folder}):
+                    self.assertEqual(place.own_folder(), made / f"wurstlinen-{os.geteuid()}")
+            open_to_all = made / "open"
+            open_to_all.mkdir()
+            open_to_all.chmod(0o777)
+            with mock.patch.dict(os.environ, {"XDG_RUNTIME_DIR": str(open_to_all)}):
+                self.assertEqual(place.own_folder().parent, made)
+                found = Place("rig:/it")
+                self.assertEqual(stat.S_IMODE(os.lstat(found.path.parent).st_mode), 0o700)
+                found.close()
+
+    def test_a_hostile_folder(self) -> None:
+        with runtime() as made:
+            target = made / "wurstlinen"
+            other = made / "other"
+            other.mkdir(mode=0o700)
+            own = "isn't used: it isn't this user's own, with mode 0700"
+            def make_anothers() -> None:
+                target.mkdir(mode=0o700)
+                os.chown(target, NOBODY, -1)
+            made_by = [(lambda: target.symlink_to(other), "isn't used: it is no folder"),
+                       (lambda: target.write_text(""), "isn't used: it is no folder"),
+                       (lambda: (target.mkdir(), target.chmod(0o750)), own),
+                       *([(make_anothers, own)] if os.geteuid() == 0 else [])]
+            for make, text in made_by:
+                make()
+                with self.assertRaises(BadPlace) as raised:
+                    Place("rig:/it")
+                self.assertEqual(str(raised.exception), f"{target} {text}")
+                self.assertRaisesRegex(BadPlace, text, place.connected, "rig:/it")
+                target.rmdir() if target.is_dir() and not target.is_symlink() else target.unlink()
+
+    def test_what_is_in_the_place_of_the_socket(self) -> None:
+        with runtime() as made:
+            (made / "wurstlinen").mkdir(mode=0o700)
+            path = made / "wurstlinen" / place.name_of("rig:/it")
+            for make, text in ((lambda: path.symlink_to("/elsewhere"), "it is a link"),
+                               (lambda: path.write_text("kept"), "it is no socket"), (path.mkdir, "it is no socket")):
+                make()
+                for call in (Place, place.connected):
+                    with self.assertRaises(BadPlace) as raised:
+                        call("rig:/it")
+                    self.assertEqual(str(raised.exception), f"{path} isn't used: {text}")
+                self.assertTrue(os.path.lexists(path))
+                path.rmdir() if path.is_dir() and not path.is_symlink() else path.unlink()
+
+    def test_a_socket_that_was_left_behind(self) -> None:
+        with runtime():
+            first = Place("rig:/it")
+            first.listener.close()
+            os.close(first._lock)
+            self.assertIsNone(place.connected("rig:/it"))
+            second = Place("rig:/it")
+            with place.connected("rig:/it") as connection:
+                self.assertEqual(place.user_of(connection), os.geteuid())
+            second.close()
+
+    def test_two_servers(self) -> None:
+        with runtime():
+            first = Place("rig:/it")
+            with self.assertRaises(BadPlace) as raised:
+                Place("rig:/it")
+            self.assertEqual(str(raised.exception), f"rig:/it is served by process {os.getpid()}")
+            Place("rig:/other").close()
+            first.close()
+            Place("rig:/it").close()
+
+    def test_a_long_name(self) -> None:
+        with runtime(), self.assertRaisesRegex(BadPlace, "is longer than the 107 bytes"):
+            Place(f"enttec:/{'x' * 100}")
+
+    def test_another_users_server(self) -> None:
+        with runtime():
+            made = Place("rig:/it")
+            with mock.patch.object(place, "user_of", lambda connection: NOBODY):
+                self.assertRaisesRegex(BadPlace, "another user's program has it", place.connected, "rig:/it")
+            made.close()
+
+    @unittest.skipUnless(os.geteuid() == 0, "needs root")
+    def test_the_socket_is_nobody_elses(self) -> None:
+        with runtime() as made:
+            found = Place("rig:/it")
+            made.chmod(0o755)
+            found.path.parent.chmod(0o755)
+            child = os.fork()
+            if not child:
+                try:
+                    os.setuid(NOBODY)
+                    socket.socket(socket.AF_UNIX).connect(str(found.path))
+                except PermissionError:
+                    os._exit(0)
+                finally:
+                    os._exit(1)
+            self.assertEqual(os.waitpid(child, 0)[1], 0)
+            found.close()
+
+    @unittest.skipUnless(os.geteuid() == 0, "needs root")
+    def test_a_group(self) -> None:
+        with folder() as made:
+            made.chmod(0o755)
+            with mock.patch.object(place, "SYSTEM_FOLDER", made / "wurstlinen"), \
+                    mock.patch.object(listening, "SYSTEM_FOLDER", made / "wurstlinen"), runtime():
+                found = Place("rig:/it", "nogroup")
+                modes = [(stat.S_IMODE(each.st_mode), each.st_gid)
+                         for each in map(os.lstat, (found.path.parent, found.path))]
+                self.assertEqual(modes, [(0o750, NOBODY), (0o660, NOBODY)])
+                self.assertIsNone(found.users)
+                with place.connected("rig:/it"):
+                    pass
+                found.path.parent.chmod(0o777)
+                self.assertRaisesRegex(BadPlace, "others may write to it", place.connected, "rig:/it")
+                found.close()
+                self.assertRaisesRegex(BadPlace, "there is no group none", Place, "rig:/it", "none")

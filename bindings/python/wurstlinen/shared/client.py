@@ -1,0 +1,227 @@
+"""A client of a queue that a server has: the calls of `wurstlinen.Client`."""
+from __future__ import annotations
+
+import time
+from collections import deque
+from types import TracebackType
+from typing import Callable, Deque, Iterable, Optional, Set, Tuple, Type, Union, cast
+
+from .._ask import DEFAULT_WAIT, Answer, Asker, Kept
+from .._faults import OtherOutcome
+from .._queue import Outcome, kind_of
+from .._types import (
+    Completion, Device, Discovery, Kind, OutcomeKind, Request, RequestClass, Uid, data_of, pid_of, uid_of,
+)
+from ..line import Line, LineFailed
+from .connection import Connection, NotServed
+from .words import Keys, completion_of, devices_of, discovery_of, keys_of_request
+
+KIND_WORDS = {Kind.FULL: "full", Kind.INCREMENTAL: "incremental"}
+SLICE_SECONDS = 0.1
+
+
+class ServersLine:
+    """The line of a server, on which its clients make no exchanges themselves."""
+
+    def exchange(self, frame: bytes) -> bytes:
+        """Always fails."""
+        raise LineFailed("the server makes the exchanges of this line")
+
+
+class SharedQueue:
+    """The queue of a line that a server has, as far as one of its clients has to do with it."""
+
+    def __init__(self, line: str) -> None:
+        self.connection = Connection(line)
+        self.connection.on_object = self._take
+        hello = self.connection.hello
+        self.line = ServersLine()
+        # What the server calls its line, the controller's UID, and how many requests may be outstanding.
+        self.name = str(hello["line"])
+        self.source = Uid.parse(hello["source"])
+        self.process = int(hello["process"])
+        self.depth = int(hello["depth"])
+        self._is_paused = bool(hello["paused"])
+        # Whether the server has its line, and why not.
+        self.is_there = bool(hello["there"])
+        self.reason = str(hello.get("reason", ""))
+        self.outcomes: Deque[Outcome] = deque()
+        self.outstanding: Set[Tuple[OutcomeKind, int]] = set()
+        # What takes the frames that the server has sent, for any client, if this one has subscribed to them.
+        self.on_frame: Callable[[Keys], None] = lambda keys: None
+        # What is told why something of this client's failed to be sent.
+        self.on_failure: Callable[[str], None] = lambda reason: None
+        # The numbers of all requests of this client.
+        self.requests: Set[int] = set()
+
+    def _take(self, keys: Keys) -> None:
+        """A result, or an event."""
+        if "status" in keys:
+            self._end(completion_of(keys), keys)
+        elif "fault" in keys:
+            self._end(discovery_of(keys), keys)
+        elif keys.get("event") == "pause":
+            self._is_paused = bool(keys["paused"])
+        elif keys.get("event") == "line":
+            self.is_there, self.reason = bool(keys["there"]), str(keys.get("reason", ""))
+        elif keys.get("event") == "frame":
+            self.on_frame(keys)
+
+    def _end(self, outcome: Outcome, keys: Keys) -> None:
+        if "reason" in keys:
+            self.on_failure(str(keys["reason"]))
+        self.outcomes.append(outcome)
+        self.outstanding.discard((kind_of(outcome), outcome.number))
+
+    def run(self, line: object = None) -> int:
+        """Waits until all that is outstanding has ended, and returns how many outcomes have come.
+
+        It returns earlier if the queue is paused, or if the server's adapter is unplugged.
+        """
+        before = len(self.outcomes)
+        self.connection.receive(0.0)
+        while self.outstanding and not self._is_paused and self.is_there:
+            self.connection.wait()
+        return len(self.outcomes) - before
+
+    def _sleep(self, seconds: float) -> None:
+        """Waits. Raises LineFailed when the server ends."""
+        end = time.monotonic() + seconds
+        while time.monotonic() < end:
+            self.connection.receive(max(0.0, min(SLICE_SECONDS, end - time.monotonic())))
+
+    def pause(self) -> None:
+        """Has no run begun and no request sent until `resume`, or until this connection ends."""
+        self._is_paused = bool(self.connection.ask({"do": "pause"})["paused"])
+
+    def resume(self) -> None:
+        """Has them sent again. Another operator may still have paused the queue."""
+        self._is_paused = bool(self.connection.ask({"do": "resume"})["paused"])
+
+    def is_paused(self) -> bool:
+        """Whether sending is paused."""
+        self.connection.receive(0.0)
+        return self._is_paused
+
+    def devices(self) -> Tuple[Device, ...]:
+        """The devices that the last run without a fault found, ascending by UID."""
+        return devices_of(self.connection.ask({"do": "devices"}))
+
+    def devices_run(self) -> int:
+        """The number of the run that found them; 0 before the first."""
+        return int(self.connection.ask({"do": "devices"})["run"])
+
+    def subscribe(self, to: Iterable[str]) -> None:
+        """Has these changes reported, and no others."""
+        self.connection.ask({"do": "subscribe", "to": list(to)})
+
+    def status(self) -> Keys:
+        """How things are at the server."""
+        return self.connection.ask({"do": "status"})
+
+    def is_idle(self) -> bool:
+        """Whether nothing of this client is outstanding or uncollected."""
+        self.connection.receive(0.0)
+        return not self.outstanding and not self.outcomes
+
+
+class SharedClient:
+    """A client of a server's queue. It is a context manager, which ends the connection.
+
+    One thread at a time may use it. Raises LineFailed when the server has ended.
+    """
+
+    def __init__(self, line: str) -> None:
+        self.queue = SharedQueue(line)
+        self._kept = Kept()
+        self.last_request: Optional[int] = None
+        self.last_discovery: Optional[int] = None
+
+    def __enter__(self) -> SharedClient:
+        return self
+
+    def __exit__(self, kind: Optional[Type[BaseException]], error: Optional[BaseException],
+                 trace: Optional[TracebackType]) -> None:
+        self.close()
+
+    def close(self) -> None:
+        """Ends the connection. What is outstanding is finished, and nobody hears of it."""
+        self.queue.connection.close()
+
+    def submit(self, request: Request) -> int:
+        """Has a request accepted, and returns its number."""
+        self.last_request = None
+        number = int(self.queue.connection.ask(keys_of_request(request))["request"])
+        self.queue.outstanding.add((OutcomeKind.REQUEST, number))
+        self.queue.requests.add(number)
+        self.last_request = number
+        return number
+
+    def get(self, target: Union[Uid, str], pid: Union[int, str], data: Union[bytes, str] = b"",
+            sub_device: int = 0) -> int:
+        """Submits a GET."""
+        return self.submit(Request(uid_of(target), pid_of(pid), data_of(data), sub_device, RequestClass.GET))
+
+    def set(self, target: Union[Uid, str], pid: Union[int, str], data: Union[bytes, str] = b"",
+            sub_device: int = 0) -> int:
+        """Submits a SET."""
+        return self.submit(Request(uid_of(target), pid_of(pid), data_of(data), sub_device, RequestClass.SET))
+
+    def ask(self, target: Union[Uid, str], pid: Union[int, str], data: Union[bytes, str] = b"", sub_device: int = 0,
+            request_class: RequestClass = RequestClass.GET, *, line: Optional[Line] = None,
+            wait: float = DEFAULT_WAIT) -> Answer:
+        """The answer to a request, as `Client.ask` gives it. The line is the server's, whatever is given."""
+        asker = Asker(self, line or self.queue.line, wait)
+        asker.kept = self._kept
+        return asker.ask(Request(uid_of(target), pid_of(pid), data_of(data), sub_device, request_class))
+
+    def discover(self, kind: Kind = Kind.FULL) -> int:
+        """Asks for a discovery, and returns its number."""
+        self.last_discovery = None
+        answer = self.queue.connection.ask({"do": "discover", "kind": KIND_WORDS[Kind(kind)]})
+        number = int(answer["discovery"])
+        self.queue.outstanding.add((OutcomeKind.DISCOVERY, number))
+        self.last_discovery = number
+        return number
+
+    def oldest(self) -> Optional[OutcomeKind]:
+        """The kind of its oldest outcome that has come; None if there is none."""
+        # If the connection has ended, what came before is still there.
+        if not self.queue.outcomes:
+            self.queue.connection.receive(0.0)
+        return kind_of(self.queue.outcomes[0]) if self.queue.outcomes else None
+
+    def next_completion(self) -> Optional[Completion]:
+        """Its oldest outcome, if a request's; None if it has none. Raises OtherOutcome for a discovery's."""
+        return cast(Optional[Completion], self._next(OutcomeKind.REQUEST))
+
+    def next_discovery(self) -> Optional[Discovery]:
+        """Its oldest outcome, if a discovery's; None if it has none. Raises OtherOutcome for a request's."""
+        return cast(Optional[Discovery], self._next(OutcomeKind.DISCOVERY))
+
+    def next_outcome(self) -> Optional[Outcome]:
+        """Its oldest outcome; None if it has none."""
+        return self.queue.outcomes.popleft() if self.oldest() is not None else None
+
+    def _next(self, kind: OutcomeKind) -> Optional[Outcome]:
+        oldest = self.oldest()
+        if oldest is not None and oldest != kind:
+            raise OtherOutcome()
+        return None if oldest is None else self.queue.outcomes.popleft()
+
+
+def connect(line: str) -> SharedClient:
+    """A client of the server that runs for a line, such as `enttec:/dev/ttyUSB0`. Raises NotServed, a LineFailed."""
+    return SharedClient(line)
+
+
+def client_of(line: str, source: Optional[int] = None) -> Optional[SharedClient]:
+    """A client of a line's server, if one runs, whose controller has this UID, or any. Raises LineFailed."""
+    try:
+        client = connect(line)
+    except NotServed:
+        return None
+    if source in (None, client.queue.source.number):
+        return client
+    client.close()
+    raise LineFailed(f"process {client.queue.process} shares this line as {client.queue.source}: leave out --source")

@@ -1,0 +1,161 @@
+"""A client's end of a connection to the server of a line."""
+from __future__ import annotations
+
+import json
+import os
+import select
+import sys
+import time
+from collections import deque
+from typing import Callable, Deque, List, Optional
+
+from .. import _faults
+from .._faults import Fault
+from ..line import LineFailed
+from . import place
+from .words import MOST_ANSWER_BYTES, MOST_NAME, VERSION, BadRequest, Keys, Lines, line_of
+
+READ_BYTES = 1 << 16
+# A server that says nothing for this time is asked whether it is still there, and has so long to answer.
+QUIET_SECONDS = 2.0
+ANSWER_SECONDS = 10.0
+MILLISECONDS = 1000
+
+
+class NotServed(LineFailed):
+    """No server runs for this line."""
+
+
+class Refused(LineFailed):
+    """The server refused a request, or the connection, for a reason that no exception of the queue stands for."""
+
+    def __init__(self, name: str, text: str) -> None:
+        super().__init__(f"the server of the line refused it: {text}")
+        self.name = name
+
+
+class Connection:
+    """Sends requests, and receives answers, results and events. One thread at a time has it."""
+
+    def __init__(self, line: str) -> None:
+        found = place.connected(line)
+        if found is None:
+            raise NotServed(f"no server runs for {line}: 'wurstlinen serve --line {line}' starts one")
+        self._line = line
+        self._socket = found
+        self._lines = Lines(MOST_ANSWER_BYTES)
+        self._objects: Deque[Keys] = deque()
+        self._number = 0
+        # Why the server has ended the connection, which is raised when all before it is taken.
+        self._farewell: Optional[Refused] = None
+        # What takes results and events, as they come.
+        self.on_object: Callable[[Keys], None] = lambda keys: None
+        try:
+            self.hello = self.ask({"do": "hello", "version": VERSION, "name": name_of_program()})
+        except BaseException:
+            self.close()
+            raise
+
+    def close(self) -> None:
+        """Ends the connection. What is outstanding is finished and dropped."""
+        self._socket.close()
+
+    def ask(self, request: Keys) -> Keys:
+        """The answer to a request. Raises the queue's faults, Refused and LineFailed."""
+        self._number += 1
+        number = self._number
+        self._send({**request, "id": number})
+        until = time.monotonic() + ANSWER_SECONDS
+        while True:
+            found = self._next(until)
+            if found is None:
+                raise self._lost("doesn't answer")
+            if found.get("id") == number:
+                return checked(found)
+            self._take(found)
+
+    def receive(self, seconds: float) -> bool:
+        """Takes what has come, and else waits so long for it. Whether something has come."""
+        found = self._next(time.monotonic() + seconds)
+        if found is None:
+            return False
+        self._take(found)
+        while self._objects:
+            self._take(self._objects.popleft())
+        return True
+
+    def wait(self) -> None:
+        """Takes what comes next. Raises LineFailed if the server doesn't live any more."""
+        if not self.receive(QUIET_SECONDS):
+            self.ask({"do": "status"})
+
+    def _take(self, keys: Keys) -> None:
+        """An object that answers no request."""
+        if "error" in keys:
+            self._farewell = Refused(str(keys["error"]), str(keys.get("text")))
+        else:
+            self.on_object(keys)
+
+    def _send(self, request: Keys) -> None:
+        data = line_of(request)
+        try:
+            self._socket.settimeout(ANSWER_SECONDS)
+            self._socket.sendall(data)
+        except OSError:
+            # What has come until then says why.
+            while self.receive(0.0):
+                pass
+            raise self._lost("has ended") from None
+
+    def _next(self, until: float) -> Optional[Keys]:
+        """The next object that comes before the time `until` of `time.monotonic`; None if none comes."""
+        while not self._objects:
+            if self._farewell is not None:
+                raise self._farewell
+            if not self._is_ready(until):
+                return None
+            try:
+                self._socket.setblocking(False)
+                data = self._socket.recv(READ_BYTES)
+            except BlockingIOError:
+                continue
+            except OSError:
+                data = b""
+            if not data:
+                raise self._lost("has ended")
+            self._objects.extend(self._read(data))
+        return self._objects.popleft()
+
+    def _is_ready(self, until: float) -> bool:
+        ready = select.poll()
+        ready.register(self._socket, select.POLLIN)
+        return bool(ready.poll(max(0.0, until - time.monotonic()) * MILLISECONDS))
+
+    def _read(self, data: bytes) -> List[Keys]:
+        """The objects that these bytes complete."""
+        try:
+            found = [json.loads(line) for line in self._lines.add(data)]
+        except (ValueError, BadRequest):
+            raise self._lost("says what is no object of the protocol") from None
+        if not all(isinstance(each, dict) for each in found):
+            raise self._lost("says what is no object of the protocol")
+        return found
+
+    def _lost(self, why: str) -> LineFailed:
+        return LineFailed(f"the server of {self._line} {why}")
+
+
+def checked(answer: Keys) -> Keys:
+    """An answer that is no fault. Raises the fault of the queue that it names, or Refused."""
+    name = answer.get("error")
+    if name is None:
+        return answer
+    kind = getattr(_faults, str(name), None)
+    if isinstance(kind, type) and issubclass(kind, Fault):
+        raise kind()
+    raise Refused(str(name), str(answer.get("text")))
+
+
+def name_of_program() -> str:
+    """What this program is called."""
+    return os.path.basename(sys.argv[0] if sys.argv else "")[:MOST_NAME]

@@ -1,0 +1,147 @@
+"""Where the socket of a line's server is, and what has to hold of it before somebody uses it.
+
+It is in the folder `wurstlinen` of the user's runtime folder, or else in one of the user's own below /tmp. A line that
+a group shares has it in /run/wurstlinen.
+"""
+from __future__ import annotations
+
+import os
+import re
+import stat
+import time
+from pathlib import Path
+from typing import TYPE_CHECKING, FrozenSet, Optional
+
+from ..line import LineFailed
+from ..lines.opening import is_device
+
+if TYPE_CHECKING:
+    import socket
+
+FOLDER = "wurstlinen"
+RUNTIME_VARIABLE = "XDG_RUNTIME_DIR"
+# Only root makes folders there.
+SYSTEM_FOLDER = Path("/run") / FOLDER
+TEMPORARY_FOLDER = Path("/tmp")
+OWN_MODE = 0o700
+OTHERS = 0o077
+WRITERS = 0o022
+DIGITS = 16
+ROOT = 0
+SECONDS_TO_CONNECT = 5.0
+AGAIN_SECONDS = 0.01
+
+
+class BadPlace(LineFailed):
+    """A folder or a socket isn't what it should be, so it isn't used."""
+
+
+def canonical(text: str) -> str:
+    """A line's text, the same for each way to name that line."""
+    kind, _, rest = ("enttec", "", text) if is_device(text) else text.partition(":")
+    if kind not in ("enttec", "rig", "text"):
+        return text
+    names = rest.split(",") if kind == "text" else [rest]
+    return f"{kind}:{','.join(os.path.realpath(name) for name in names)}"
+
+
+def name_of(line: str) -> str:
+    """The name of the socket of a line: as systemd escapes a device's path, or the kind and a checksum."""
+    kind, _, rest = canonical(line).partition(":")
+    if kind == "enttec":
+        words = (re.sub(rb"[^A-Za-z0-9:_.]", lambda byte: b"\\x%02x" % ord(byte[0]), part)
+                 for part in os.fsencode(rest).strip(b"/").split(b"/"))
+        return f"{os.fsdecode(b'-'.join(words))}.socket"
+    # The usual line needs no checksum.
+    import hashlib
+    return f"{kind}-{hashlib.sha256(os.fsencode(rest)).hexdigest()[:DIGITS]}.socket"
+
+
+def own_folder() -> Path:
+    """The user's folder for sockets."""
+    runtime = os.environ.get(RUNTIME_VARIABLE, "")
+    try:
+        found = os.stat(runtime)
+        if os.path.isabs(runtime) and found.st_uid == os.geteuid() and not found.st_mode & WRITERS:
+            return Path(runtime) / FOLDER
+    except (OSError, ValueError):
+        pass
+    return TEMPORARY_FOLDER / f"{FOLDER}-{os.geteuid()}"
+
+
+def check_folder(folder: Path) -> FrozenSet[int]:
+    """The users whose servers may be in a folder that is there. Raises BadPlace and OSError."""
+    found = os.lstat(folder)
+    if not stat.S_ISDIR(found.st_mode):
+        raise BadPlace(f"{folder} isn't used: it is no folder")
+    if folder == SYSTEM_FOLDER:
+        if found.st_mode & WRITERS:
+            raise BadPlace(f"{folder} isn't used: others may write to it")
+        return frozenset((os.geteuid(), ROOT, found.st_uid))
+    if found.st_uid != os.geteuid() or found.st_mode & OTHERS:
+        raise BadPlace(f"{folder} isn't used: it isn't this user's own, with mode 0700")
+    return frozenset((os.geteuid(), ROOT))
+
+
+def check_socket(path: Path) -> None:
+    """Raises BadPlace if something else than a socket is there, and OSError if nothing is."""
+    mode = os.lstat(path).st_mode
+    if not stat.S_ISSOCK(mode):
+        raise BadPlace(f"{path} isn't used: it is {'a link' if stat.S_ISLNK(mode) else 'no socket'}")
+
+
+def may_be_served(line: str) -> bool:
+    """Whether there is something where the socket of a line's server would be."""
+    name = name_of(line)
+    return any(os.path.lexists(folder / name) for folder in (own_folder(), SYSTEM_FOLDER))
+
+
+def connected(line: str) -> Optional[socket.socket]:
+    """A connection to the server of a line; None if there is none. Raises BadPlace."""
+    name = name_of(line)
+    for folder in (own_folder(), SYSTEM_FOLDER):
+        try:
+            users = check_folder(folder)
+            check_socket(folder / name)
+            return _connected(folder / name, users)
+        except (FileNotFoundError, NotADirectoryError, ConnectionRefusedError):
+            continue
+        except OSError as fault:
+            raise BadPlace(f"{folder}: {fault.strerror or fault}") from None
+    return None
+
+
+def _connected(path: Path, users: FrozenSet[int]) -> socket.socket:
+    # A command without a server doesn't load it.
+    import socket
+    found = socket.socket(socket.AF_UNIX)
+    try:
+        _connect(found, path)
+        if user_of(found) not in users:
+            raise BadPlace(f"{path} isn't used: another user's program has it")
+        return found
+    except BaseException:
+        found.close()
+        raise
+
+
+def _connect(connection: socket.socket, path: Path) -> None:
+    """Connects, as soon as the server has accepted those that came before."""
+    until = time.monotonic() + SECONDS_TO_CONNECT
+    connection.setblocking(False)
+    while True:
+        try:
+            connection.connect(str(path))
+            return
+        except BlockingIOError:
+            if time.monotonic() >= until:
+                raise BadPlace(f"{path} isn't used: too many programs connect to it") from None
+        time.sleep(AGAIN_SECONDS)
+
+
+def user_of(connection: socket.socket) -> int:
+    """The number of the user whose program is at the other end."""
+    import socket
+    import struct
+    form = struct.Struct("3i")
+    return int(form.unpack(connection.getsockopt(socket.SOL_SOCKET, socket.SO_PEERCRED, form.size))[1])

@@ -1,0 +1,174 @@
+"""The thread that has a server's line."""
+from __future__ import annotations
+
+import threading
+import time
+from collections import deque
+from typing import Any, Callable, Deque, Dict, List, Optional
+
+from .. import LineFailed, LogFull, Session
+from ..entries import Entry
+from ..lines import OpenLine
+from .journal import Exchange, Journal, entry_keys, entry_line
+from .log_file import LogFile
+
+# How often it is looked whether an adapter is still there, or there again.
+LOOK_SECONDS = 0.5
+# How long requests wait for an adapter that is gone. Then each fails at once.
+GRACE_SECONDS = 5.0
+GLANCE_SECONDS = 0.01
+# If the server's other thread is behind by so many frames, the line waits for it.
+MOST_EVENTS = 1000
+
+
+class Worker:
+    """Makes the session's exchanges until it is ended. If the adapter is gone, it waits for another.
+
+    `open_line` opens the line again, and `notify` is called after each exchange and each event.
+    """
+
+    def __init__(self, session: Session, line: OpenLine, open_line: Callable[[], OpenLine],
+                 notify: Callable[[], None], log: Optional[LogFile] = None) -> None:
+        self._session = session
+        self._line = line
+        self._open_line = open_line
+        self._notify = notify
+        self._log = log
+        self._journal = Journal(session)
+        self._exchange_shown = Exchange()
+        self._has_work = threading.Event()
+        self._is_ending = threading.Event()
+        self._gone_since: Optional[float] = None
+        self._next_look = 0.0
+        self._thread = threading.Thread(target=self._run, name="line", daemon=True)
+        # Objects for subscribers, oldest first.
+        self.events: Deque[Dict[str, Any]] = deque()
+        # Whether somebody wants frames.
+        self.shows_frames = False
+        # Why the last exchange failed that did.
+        self.reason = ""
+        # What the line has raised besides LineFailed, which ends the server.
+        self.fault: Optional[BaseException] = None
+
+    @property
+    def is_line_there(self) -> bool:
+        """Whether the line can be used."""
+        return self._gone_since is None
+
+    def start(self) -> None:
+        """Begins."""
+        self._thread.start()
+
+    def wake(self) -> None:
+        """There may be a frame to send."""
+        self._has_work.set()
+
+    def end(self, seconds: float) -> None:
+        """Ends it when its exchange has ended, after this time by closing the line."""
+        self._is_ending.set()
+        self._has_work.set()
+        self._thread.join(seconds)
+        self._line.close()
+        self._thread.join(seconds)
+        if not self._thread.is_alive():
+            self._record()
+
+    def _run(self) -> None:
+        try:
+            while not self._is_ending.is_set():
+                self._has_work.wait(LOOK_SECONDS)
+                self._has_work.clear()
+                self._look_at_line()
+                while not self._is_ending.is_set() and self._exchange():
+                    self._look_at_line()
+        except BaseException as fault:  # A line may raise anything, and nobody else would report it.
+            self.fault = fault
+        self._notify()
+
+    def _exchange(self) -> bool:
+        """Makes one exchange. False: there is nothing to send, or the adapter is awaited."""
+        if self._gone_since is not None and time.monotonic() < self._gone_since + GRACE_SECONDS:
+            return False
+        try:
+            frame = self._session.take()
+        except LogFull:
+            self._record()
+            time.sleep(GLANCE_SECONDS)
+            return True
+        if frame is None:
+            return False
+        try:
+            reply = self._reply(frame)
+        except BaseException:
+            self._session.fail()
+            raise
+        self._report(reply)
+        return True
+
+    def _reply(self, frame: bytes) -> Optional[bytes]:
+        """What the line answers to a frame; None if it failed."""
+        if self._gone_since is not None:
+            return None
+        try:
+            return self._line.exchange(frame)
+        except LineFailed as failure:
+            self.reason = str(failure)
+            return None
+
+    def _report(self, reply: Optional[bytes]) -> None:
+        """Hands on what came, and what the session has logged: events before the results that they lead to."""
+        def report() -> List[Entry]:
+            """Both in one step."""
+            self._session.fail() if reply is None else self._session.deliver(reply)
+            return self._show_new()
+
+        self._write(self._session._turns.alone(report))
+        self._notify()
+
+    def _look_at_line(self) -> None:
+        """Notes whether the adapter is gone, and opens it again if it is there."""
+        if self._gone_since is None and not self._line.is_there:
+            self._line.close()
+            self._gone_since = time.monotonic()
+            self.reason = self.reason or "the adapter is gone"
+            self._say({"event": "line", "there": False, "reason": self.reason})
+        if self._gone_since is not None and time.monotonic() >= self._next_look:
+            self._open_again()
+
+    def _open_again(self) -> None:
+        self._next_look = time.monotonic() + LOOK_SECONDS
+        try:
+            self._line = self._open_line()
+        except (LineFailed, OSError, ValueError) as fault:
+            self.reason = str(fault)
+            return
+        self._gone_since = None
+        self._has_work.set()
+        self._say({"event": "line", "there": True})
+
+    def _say(self, event: Dict[str, Any]) -> None:
+        self.events.append(event)
+        self._notify()
+
+    def _record(self) -> None:
+        """Hands on what the session has logged."""
+        self._write(self._show_new())
+
+    def _show_new(self) -> List[Entry]:
+        """The session's new entries. Subscribers get the exchanges among them."""
+        if self._log is None and not self.shows_frames:
+            self._journal.skip()
+            self._journal.drain()
+            return []
+        entries = [*self._journal.new(), *self._journal.drain()]
+        shown = [self._exchange_shown.keys(entry) for entry in entries]
+        self.events.extend(filter(None, shown if self.shows_frames else []))
+        return entries
+
+    def _write(self, entries: List[Entry]) -> None:
+        """Writes entries to the log, and waits for a thread that is behind."""
+        if self._log is not None:
+            self._log.add([entry_line(entry_keys(entry)) for entry in entries])
+        while len(self.events) > MOST_EVENTS and not self._is_ending.is_set():
+            self._notify()
+            time.sleep(GLANCE_SECONDS)
