@@ -1,10 +1,7 @@
 """checks/linters: what it skips, and that a finding fails it, with stand-ins for the linters."""
 from __future__ import annotations
 
-import os
-import tempfile
 import unittest
-from pathlib import Path
 
 from clone import ROOT, Clone, new_clone
 
@@ -16,13 +13,7 @@ class Linters(unittest.TestCase):
         context = new_clone()
         self.clone: Clone = context.__enter__()
         self.addCleanup(context.__exit__, None, None, None)
-        folder = tempfile.TemporaryDirectory(prefix="linters.")
-        self.addCleanup(folder.cleanup)
-        # All commands of the machine but the linters.
-        for command in Path("/usr/bin").iterdir():
-            if command.name not in LINTERS:
-                (Path(folder.name) / command.name).symlink_to(command)
-        self.environment = {**self.clone.environment, "PATH": os.pathsep.join((str(self.clone.bin), folder.name))}
+        self.environment = self.clone.environment_without(*LINTERS)
 
     def expect(self, status: int, out: str, *words: str) -> None:
         """What the part prints for some linters, and its status."""
