@@ -2,8 +2,8 @@
 
 import wurstlinen
 from wurstlinen import (
-    AckType, CommandKind, Controller, Device, RequestClass, Response, ResponseClass, Status, Uid, encode_mute_ack,
-    encode_response, read_command, write_branch_reply)
+    AckType, Command, CommandKind, Controller, Device, RequestClass, Response, ResponseClass, Status, Uid,
+    encode_mute_ack, encode_response, read_command, write_branch_reply)
 
 DEVICE_LABEL = 0x0082
 
@@ -23,23 +23,23 @@ class SimulatedLine:
         asked = read_command(frame)
         if asked is None:
             return b""
-        if asked.kind == CommandKind.BRANCH:
-            return self.branched(asked)
+        if asked.lo is not None and asked.hi is not None:
+            return self.branched(asked.lo, asked.hi)
         replies = [self.answer(fixture, asked) for fixture in self.fixtures]
         return b"".join(replies)
 
-    def branched(self, asked) -> bytes:
+    def branched(self, lo: Uid, hi: Uid) -> bytes:
         replies = [write_branch_reply(fixture.uid) for fixture in self.fixtures
-                   if not fixture.is_muted and asked.lo <= fixture.uid <= asked.hi]
+                   if not fixture.is_muted and lo <= fixture.uid <= hi]
         # Replies at the same time overlap.
         return bytes(map(lambda *same: sum(same) & 0xFF, *replies)) if replies else b""
 
-    def answer(self, fixture: Fixture, asked) -> bytes:
+    def answer(self, fixture: Fixture, asked: Command) -> bytes:
         if asked.kind == CommandKind.UNMUTE:
             fixture.is_muted = False
         if asked.target != fixture.uid:
             return b""
-        if asked.kind == CommandKind.MUTE:
+        if asked.request is None:
             fixture.is_muted = True
             return encode_mute_ack(Device(fixture.uid), asked.source, asked.tn)
         is_set = asked.request.request_class == RequestClass.SET
@@ -56,14 +56,19 @@ def main() -> None:
         client = controller.join(16)
         client.discover()
         controller.run(line)
-        devices = client.next_discovery().devices
+        discovery = client.next_discovery()
+        assert discovery is not None
+        devices = discovery.devices
         client.set(devices[0].uid, DEVICE_LABEL, b"Front")
         for device in devices:
             client.get(device.uid, DEVICE_LABEL)
         controller.run(line)
-        assert client.next_completion().status == Status.COMPLETED
+        renamed = client.next_completion()
+        assert renamed is not None and renamed.status == Status.COMPLETED
         for device in devices:
-            print(device.uid, client.next_completion().data.decode("ascii"))
+            asked = client.next_completion()
+            assert asked is not None
+            print(device.uid, asked.data.decode("ascii"))
         print("wurstlinen", wurstlinen.__version__)
 
 

@@ -47,7 +47,8 @@ static Bytes bytes_of(const RDMReply &reply) {
         }
     }
     // Some adapters add bytes after the checksum.
-    return Bytes(raw.begin(), raw.begin() + std::min<std::ptrdiff_t>(raw.size(), WURST_MOST_FRAME_BYTES));
+    raw.resize(std::min<std::size_t>(raw.size(), WURST_MOST_FRAME_BYTES));
+    return Bytes(raw.begin(), raw.end());
 }
 
 static Bytes written(const wurst_response &response, const wurst::Bytes &data) {

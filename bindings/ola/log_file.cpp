@@ -10,6 +10,7 @@
 #include <fcntl.h>
 #include <memory>
 #include <new>
+#include <system_error>
 #include <unistd.h>
 #include <utility>
 
@@ -33,7 +34,7 @@ bool LogFile::add(const std::string &lines) {
     }
     const int fault = is_torn_ ? write_whole('\n' + lines) : write_whole(lines);
     if (fault != 0) {
-        return fail(std::strerror(fault));
+        return fail(std::generic_category().message(fault));
     }
     succeed();
     return true;
@@ -99,7 +100,7 @@ bool LogFile::open() {
     }
     file_ = ::open(name_.c_str(), HOW, MODE);
     if (file_ < 0) {
-        return fail(std::strerror(errno));
+        return fail(std::generic_category().message(errno));
     }
     if (fstat(file_, &found) != 0 || !S_ISREG(found.st_mode)) {
         close();
@@ -142,7 +143,7 @@ bool LogFile::make_room(std::size_t bytes) {
     }
     const std::string real = real_name(name_);
     if (std::rename(real.c_str(), (real + ".1").c_str()) != 0) {
-        return fail("it has reached its limit, and can't be renamed: " + std::string(std::strerror(errno)));
+        return fail("it has reached its limit, and can't be renamed: " + std::generic_category().message(errno));
     }
     return open();
 }

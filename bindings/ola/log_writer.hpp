@@ -20,7 +20,7 @@ public:
     struct Options {
         std::string name;                          // of the file
         std::uint64_t most_bytes = 0;              // that the file may have; 0: no limit
-        std::size_t queue_bytes = 4 * 1024 * 1024; // of records or runs that wait
+        std::size_t queue_bytes = 4UL * 1024 * 1024; // of records or runs that wait
         Content content = Content::Records;
     };
 

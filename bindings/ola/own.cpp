@@ -35,7 +35,7 @@ constexpr std::size_t FIRST_STOP = static_cast<std::size_t>(Replaced::StopArduin
 constexpr std::array<const char *, 3> VERSION{
     "_ZN3ola4base7Version8GetMajorEv", "_ZN3ola4base7Version8GetMinorEv", "_ZN3ola4base7Version11GetRevisionEv"};
 
-const char *symbol_of(Replaced function) { return SYMBOLS[static_cast<std::size_t>(function)]; }
+const char *symbol_of(Replaced function) { return SYMBOLS.at(static_cast<std::size_t>(function)); }
 
 // The version of OLA that runs.
 static std::string running_version(const std::function<void *(const char *)> &find) {
@@ -77,7 +77,8 @@ static void *find(const char *symbol) {
 static void show(const std::string &fault) {
     const int file = memfd_create(("wurstlinen-ola: " + fault).c_str(), MFD_CLOEXEC);
     if (file >= 0) {
-        mmap(nullptr, 1, PROT_NONE, MAP_PRIVATE, file, 0);
+        // Without it the fault is only in the log.
+        static_cast<void>(mmap(nullptr, 1, PROT_NONE, MAP_PRIVATE, file, 0));
         close(file);
     }
 }

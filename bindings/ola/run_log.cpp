@@ -8,7 +8,7 @@ namespace stand_in {
 // The low byte of the PID in a frame (E1.20, packet format).
 constexpr std::size_t PID_AT = 22;
 // A run of this size is written. About 20,000 exchanges have it, and the writer's queue takes it.
-constexpr std::size_t MOST_BYTES = 3 * 1024 * 1024;
+constexpr std::size_t MOST_BYTES = 3UL * 1024 * 1024;
 
 static std::string operation_of(wurst::Bytes frame) {
     switch (frame.data[PID_AT]) {
@@ -37,6 +37,7 @@ void RunLog::lose() noexcept {
 }
 
 void RunLog::begin(const RunOpening &opening) noexcept {
+    // cppcheck-suppress throwInNoexceptFunction ; it is caught there
     guarded([&] {
         const std::string search = opening.search == WURST_STEADY ? "steady" : "quick";
         const std::string kind = opening.kind == WURST_FULL_DISCOVERY ? "full" : "incremental";

@@ -13,7 +13,7 @@ constexpr std::uint64_t BYTES_IN_MB = 1000000;
 
 static std::string working_folder() {
     char *const path = getcwd(nullptr, 0);
-    const std::string folder = path != nullptr ? path : "";
+    std::string folder = path != nullptr ? path : "";
     std::free(path);
     return folder;
 }
@@ -24,7 +24,8 @@ static const std::string &folder_at_start = *new std::string(working_folder());
 
 // A variable's value; nothing if it is empty.
 static std::string setting(const char *name) {
-    const char *text = std::getenv(name);
+    // olad sets no variable.
+    const char *text = std::getenv(name); // NOLINT(concurrency-mt-unsafe)
     return text != nullptr ? text : "";
 }
 

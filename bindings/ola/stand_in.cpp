@@ -548,6 +548,8 @@ void StandIn::abort() {
     pass_on();
 }
 
+// Called by destructors: what is thrown here, for want of memory, may end the process.
+// NOLINTNEXTLINE(bugprone-exception-escape)
 void StandIn::end() noexcept {
     record(controller_, "call", "close");
     close(false);

@@ -33,7 +33,7 @@ public:
     void expect_abort() { is_aborted_ = true; }
     // Runs the callbacks of all outstanding requests, and no others, without a call of the layer below. What they throw
     // is dropped, since a destructor calls this.
-    void end() noexcept;
+    void end() noexcept; // NOLINT(bugprone-exception-escape)
 
 private:
     // A client's request, until its result.

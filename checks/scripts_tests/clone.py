@@ -8,7 +8,7 @@ import subprocess
 import tempfile
 import time
 from pathlib import Path
-from typing import Callable, Iterator, List, Sequence
+from typing import Callable, Dict, Iterator, List, Sequence
 
 ROOT = Path(__file__).resolve().parents[2]
 SCRIPTS = ("wurstlinen", "rdm_port", "tools", "VERSION", "HANDLES", "bindings/c", "bindings/cpp",
@@ -80,6 +80,14 @@ class Clone:
         """A command of the clone's user."""
         (self.bin / name).write_text(text)
         (self.bin / name).chmod(0o755)
+
+    def environment_without(self, *names: str) -> Dict[str, str]:
+        """The variables of a user whose machine has all commands but these."""
+        links = Path(tempfile.mkdtemp(prefix="commands.", dir=self.folder))
+        for command in Path("/usr/bin").iterdir():
+            if command.name not in names:
+                (links / command.name).symlink_to(command)
+        return {**self.environment, "PATH": f"{self.bin}:{links}"}
 
     def rt_calls(self) -> List[str]:
         """The calls of rt and cargo so far."""

@@ -203,8 +203,8 @@ class Table(unittest.TestCase):
         taken, explained = set(), set()
         commands = COMMAND.findall(text)
         self.assertEqual(len(commands), text.count(": CommandRule = "))
-        for command, arguments, forms, explains in commands:
-            own = {options[name] for name in re.findall(r"\w+", arguments) if name in options}
+        for command, takes, forms, explains in commands:
+            own = {options[name] for name in re.findall(r"\w+", takes) if name in options}
             self.assertEqual(set(re.findall(r"--(\w+)", forms)), own, command)
             taken |= own
             explained |= {options[name] for name in re.findall(r"\w+", explains)}

@@ -22,9 +22,12 @@ public:
     void tell(const std::string &what) { text += what + ". "; }
 
 private:
+    // A callback keeps what it passes as its function takes it, so `who` is a value.
+    // cppcheck-suppress passedByValue
     void found(std::string who, const UIDSet &devices) {
         tell(who + " " + std::to_string(devices.Size()) + where() + (has_port ? "" : " WITHOUT A PORT"));
     }
+    // cppcheck-suppress passedByValue
     void replied(std::string who, RDMReply *reply) {
         tell(who + " " + (reply->StatusCode() == RDM_TIMEOUT ? "timeout" : "failed") + where());
     }

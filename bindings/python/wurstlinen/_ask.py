@@ -6,7 +6,7 @@ as the device says, and then takes messages until none is left. Here all of that
 from __future__ import annotations
 
 import time
-from dataclasses import dataclass, field
+from dataclasses import dataclass
 from typing import Any, Callable, Dict, List, Optional, Protocol, Tuple, Union
 
 from ._types import (

@@ -1,7 +1,6 @@
 """An emulated adapter that damages, delays or loses some of its messages, always the same ones for a seed."""
 from __future__ import annotations
 
-import os
 import random
 import threading
 import time

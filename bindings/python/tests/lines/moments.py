@@ -7,6 +7,7 @@ import sys
 import threading
 from collections import Counter
 from dataclasses import dataclass
+from functools import partial
 from types import FrameType
 from typing import Any, Callable, Generic, List, Optional, Sequence, Tuple, Type, TypeVar
 
@@ -103,7 +104,7 @@ class Trial(Generic[Scene]):
         scene = self._make()
         returned: List[Any] = []
         try:
-            returned.append(trace.run(lambda: self._call(scene)))
+            returned.append(trace.run(partial(self._call, scene)))
         except BaseException as fault:
             if not trace.is_raised:
                 raise

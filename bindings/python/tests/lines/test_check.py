@@ -5,7 +5,6 @@ import io
 import json
 import os
 import unittest
-from pathlib import Path
 from typing import Any, Dict, List
 from unittest import mock
 

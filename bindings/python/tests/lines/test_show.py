@@ -55,6 +55,7 @@ class Show(OneRig):
         """The rows of each section."""
         self.status, out, self.errors = self.run_command("show", *arguments)
         found: Dict[str, List[str]] = {}
+        section: List[str] = []
         for line in out.splitlines()[1:]:
             if line.startswith("  "):
                 section.append(" ".join(line.split()))

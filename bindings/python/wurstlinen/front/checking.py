@@ -120,8 +120,9 @@ def changed(rows: Sequence[Row], found: Sequence[Fixture]) -> Iterator[Differenc
 def difference(row: Row, fixture: Fixture, column: str, found: str) -> Difference:
     """How a value differs from that of the file."""
     before = row.values[column]
-    label = fixture.label or row.cells.get(LABEL, "")
-    return Difference(KINDS[column], row.uid, label, f"{column} {written(before)} -> {written(found)}",
+    planned = row.cells.get(LABEL, "")
+    text = f"{column} {written(before)} -> {written(found)}"
+    return Difference(KINDS[column], row.uid, fixture.label or planned, text,
                       {"column": column, "before": before, "after": found})
 
 

@@ -179,8 +179,9 @@ class Shown:
         """Remembers the network interfaces that a device lists."""
         values = {} if reading is None else reading.values or {}
         for interface in list_in(values, "interfaces"):
-            if isinstance(interface[INTERFACE], int):
-                self._interfaces.append(interface[INTERFACE])
+            number = interface[INTERFACE]
+            if isinstance(number, int):
+                self._interfaces.append(number)
 
     def _device_info(self, parameter: Parameter) -> List[Row]:
         """What a device says about itself, without its patch."""

@@ -8,3 +8,5 @@ pub use super::vec::{CollectIn, Vec};
 pub use crate::prove;
 pub use alloc::boxed::Box;
 pub use alloc::string::String;
+// Calls of the type itself, such as `str::from_utf8`, came only with Rust 1.87.
+pub use core::str;
