@@ -100,9 +100,13 @@ first_sweep = record {
   belief = first_belief;
 }
 
+-- the steady search of the whole range, which was silent so often
+abbrev pub search_whole : ℕ → Phase
+search_whole silences = Searching silences 0 silences whole []
+
 -- the phase in which a search begins, on the whole range: a quick one sweeps first
 abbrev pub first_phase : Search → Phase
-first_phase Steady = Searching 0 0 0 whole []
+first_phase Steady = search_whole 0
 first_phase Quick = Sweeping first_sweep
 
 -- GARBLED MUTES. A quick run doesn't count bytes after a mute, other than its acknowledgement, as one of the tries. In a
@@ -198,7 +202,7 @@ sweep_suspecting u sweep = record sweep { belief = suspecting u sweep.belief }
 abbrev pub sweep_on_after : Sweep → Span → ℕ → ℕ → ℕ → Belief → Phase
 sweep_on_after sweep last silences bads found b =
     if nat_lt sweep.made (100 * (found + 2)) then Sweeping (choose sweep.made silences bads last b)
-    else (if is_whole last then Searching silences 0 silences whole [] else Searching 0 0 0 whole [])
+    else search_whole (if is_whole last then silences else 0)
 
 -- the same after what it asked
 abbrev pub sweep_on : Sweep → ℕ → ℕ → ℕ → Belief → Phase
@@ -220,7 +224,7 @@ is_last _ = false
 -- begins
 abbrev pub sweep_split : Sweep → Span → ℕ → ℕ → Phase
 sweep_split sweep last silences found =
-    if is_last sweep.question.part && sweep.belief.found_nothing then Searching 0 0 0 whole []
+    if is_last sweep.question.part && sweep.belief.found_nothing then search_whole 0
     else sweep_on_after sweep last silences 0 found
     (believed_apart sweep.question.part sweep.question.range sweep.belief)
 
@@ -266,19 +270,20 @@ to_found a d phase =
 -- what follows a silence of the top range: the fifth in a row ends it
 abbrev pub search_silent : ℕ → ℕ → Span → List Span → Phase
 search_silent silences spent top below =
-    if (silences + 1) == TRIES then search_below below else Searching (silences + 1) 0 (spent_more spent) top below
+    if (silences + 1) == TRIES then search_below below else Searching (silences + 1) 0 spent top below
 
 -- what follows if it spelt this UID: a new one is muted, if it comes soon enough
-abbrev pub search_spelt : AgentState → ℕ → ℕ → Span → List Span → ℕ → Phase
-search_spelt a bads spent top below u =
-    if is_new (found_uids a) top u && is_soon a.search top (spent_more spent)
-    then MutingRead u 0 (spare_at a.search top (bads + 1)) (bads + 1) top below
-    else search_apart a.search (bads + 1) (spent_more spent) top below
+abbrev pub search_read : Search → List ℕ → ℕ → ℕ → Span → List Span → ℕ → Phase
+search_read search found bads spent top below u =
+    if is_new found top u && is_soon search top spent then MutingRead u 0 (spare_at search top bads) bads top below
+    else search_apart search bads spent top below
 
 -- the agent after a branch. Anything but silence and a new UID is a bad answer
 abbrev pub branch_heard : AgentState → ℕ → ℕ → ℕ → Span → List Span → Heard → AgentState
-branch_heard a silences bads spent top below Silent = to_phase a (search_silent silences spent top below)
-branch_heard a silences bads spent top below (One u) = to_phase a (search_spelt a bads spent top below u)
+branch_heard a silences bads spent top below Silent =
+    to_phase a (search_silent silences (spent_more spent) top below)
+branch_heard a silences bads spent top below (One u) =
+    to_phase a (search_read a.search (found_uids a) (bads + 1) (spent_more spent) top below u)
 branch_heard a silences bads spent top below _ =
     to_phase a (search_apart a.search (bads + 1) (spent_more spent) top below)
 

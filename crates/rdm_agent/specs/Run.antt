@@ -44,6 +44,12 @@ heard_by came.Garbled = Noise
 heard_by (came.Branch reply) = heard_of_branch reply
 heard_by came.Failed = Failed
 
+-- the reply to a mute after these bytes, which acknowledge it like this
+abbrev pub mute_reply : Option MuteAck → List ℕ → OpReply
+mute_reply (Some ack) bytes = came.Mute (Some ack)
+mute_reply None [] = came.Mute None
+mute_reply None (b ∷ bs) = came.Garbled
+
 -- an operation with its reply, as an exchange
 abbrev pub seen_op : Op × OpReply → Seen
 seen_op e = record { asked = asked_by e.0; heard = heard_by e.1 }

@@ -18,6 +18,15 @@ pub(crate) const GARBLED_MUTES: u8 = 8;
 /// A sweep gives up a UID that it asked alone after this many bad answers in a row.
 pub(crate) const BADS_ASIDE: u8 = 4;
 
+/// The steady search of a quick run asks a range again after bad answers up to this many branches.
+pub(crate) const HASTE: u8 = 5;
+
+/// But not after this many bad answers in a row, which are believed.
+pub(crate) const BADS_BELIEVED: u8 = 3;
+
+/// More branches of a range than these aren't counted.
+pub(crate) const MOST_SPENT: u8 = 10;
+
 /// How many ranges are open at most: one at each of the 48 depths, and one more at the deepest. They are the
 /// ranges of E1.20's discovery unique branch.
 pub const MOST_RANGES: usize = 49;
