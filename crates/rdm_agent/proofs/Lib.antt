@@ -10,6 +10,7 @@ pub mod SampleCertificate
 pub mod Pushes
 pub mod Stacks
 pub mod Choices
+pub mod Rows
 pub mod Invariant
 pub mod CorruptLemmas
 pub mod FoundLemmas

@@ -41,7 +41,7 @@ is_bytes _ = true
 -- How often in a row the branch of u alone was answered by bytes, after one more exchange. Mutes without acknowledgement
 -- may come between the branches, and nothing else.
 abbrev pub answered_again : ℕ → ℕ → Asked → Heard → ℕ
-answered_again u n (Branch lo hi) heard = if ((lo == u) && (hi == u)) && is_bytes heard then n + 1 else 0
+answered_again u n (Branch lo hi) heard = if is_bytes heard && ((lo == u) && (hi == u)) then n + 1 else 0
 answered_again u n (Mute v) heard = if is_acked heard then 0 else n
 answered_again u n Unmute heard = 0
 answered_again u n Other heard = 0
