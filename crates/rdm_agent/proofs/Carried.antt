@@ -3,8 +3,8 @@ use Rattle.rdm_agent.proofs.Common.{◌≡◌, ℕ, ◌<◌, ◌^◌, Bool, true
 use Rattle.rdm_agent.proofs.Common.{bytes_eq, refl, sym, ap, ◌∙◌, subst, arith, ◌↔◌, nat_lt, Span, Asked, Heard, Seen}
 use Rattle.rdm_agent.proofs.Common.{Silent, Acked, Noise, MuteAck, BranchReply, Phase, AgentState, fed, heard_by_phase}
 use Rattle.rdm_agent.proofs.Common.{wanted, Unmuting, MutingKnown, Searching, MutingRead, Sweeping, MutingSwept, Ended}
-use Rattle.rdm_agent.proofs.Common.{Checking, MutingStray, unassigned}
-use Rattle.rdm_agent.proofs.Common.{asked_by, heard_by, heard_of_mute, seen_op, next_op, op_of, op_frame, Op, OpReply}
+use Rattle.rdm_agent.proofs.Common.{Checking, MutingStray}
+use Rattle.rdm_agent.proofs.Common.{asked_by, heard_by, seen_op, next_op, op_of, op_frame, Op, OpReply}
 use Rattle.std.proofs.lemmas.Slice.Eq.{bytes_eq-Decides}
 use Rattle.rdm_wire.specs.BranchText.{ReadsAs}
 use Rattle.rdm_wire.specs.Reading.{text_read, ack_read}

@@ -118,12 +118,12 @@ pub record IsMutingSwept (search : Search) (known : List ℕ) (u tries : ℕ) (s
 -- the range without devices is branched, so often in silence, after a UID was spelt by a range that it isn't in
 pub record IsChecking (search : Search) (known : List ℕ) (u silences : ℕ) (x : List Seen) (found : List ℕ) : Type 0
   where
-  pub quick : search ≡ Quick
-  pub searches : Searches known None whole [] x found
-  pub device : IsDevice u
-  pub few : silences < 2
-  pub silent : EndsWith silences (IsSilentBranch unassigned.lo unassigned.hi) x
-  pub none : (v : ℕ) → answers_in_a_row v x ≡ 0
+    pub quick : search ≡ Quick
+    pub searches : Searches known None whole [] x found
+    pub device : IsDevice u
+    pub few : silences < 2
+    pub silent : EndsWith silences (IsSilentBranch unassigned.lo unassigned.hi) x
+    pub none : (v : ℕ) → answers_in_a_row v x ≡ 0
 
 -- the UID that this range spelt is muted, n times so far in vain
 pub record IsMutingStray (search : Search) (known : List ℕ) (u tries : ℕ) (x : List Seen) (found : List ℕ) : Type 0 where

@@ -25,6 +25,7 @@ pub mod StrayRuns
 pub mod Runs
 pub mod HonestRuns
 pub mod Carried
+pub mod Garbled
 pub mod Potential
 pub mod LeftLemmas
 pub mod CoverLemmas

@@ -8,7 +8,7 @@ use Rattle.rdm_agent.proofs.Common.{with_device, MOST_DEVICES, uids_of-with_devi
 use Rattle.rdm_agent.proofs.Common.{LineState, HonestStep, MayReply, MuteMoves, KeepsMuted, Counts, due_in, is_acked}
 use Rattle.rdm_agent.proofs.Common.{Branch, Mute, Failed, Silent, One, Acked, Noise, MuteAck, Phase, AgentState}
 use Rattle.rdm_agent.proofs.Common.{to_phase, to_found, split, search_from, search_below, is_new, found_uids}
-use Rattle.rdm_agent.proofs.Common.{branch_heard, known_heard, mute_heard, heard_by_phase, Unmuting, MutingKnown}
+use Rattle.rdm_agent.proofs.Common.{branch_heard, known_heard, mute_heard, heard_by_phase, Unmuting}
 use Rattle.rdm_agent.proofs.Common.{Searching, MutingRead, Ended, TRIES, Search, Steady, Quick, TooMany}
 use Rattle.rdm_agent.proofs.Potential.{Ahead, sweep_cost, unfound, is_left, left_in, Covers, Costs, CostsKnown}
 use Rattle.rdm_agent.proofs.Potential.{CostsSearching, CostsRead, Finds, Affords}

@@ -1,10 +1,10 @@
 -- How often in a row one UID alone was answered by bytes.
-use Rattle.rdm_agent.proofs.Common.{◌≡◌, ℕ, ◌+◌, ◌<◌, ◌≤◌, Bool, true, false, ◌&&◌, fold, List, [], ◌∷◌, ◌++◌, refl, sym, ap}
+use Rattle.rdm_agent.proofs.Common.{◌≡◌, ℕ, ◌+◌, ◌<◌, true, false, ◌&&◌, fold, List, [], ◌∷◌, ◌++◌, refl, sym, ap}
 use Rattle.rdm_agent.proofs.Common.{◌∙◌, subst, inl, inr, true≢false, arith, ◌==◌, and_parts, and_from, cases_Bool}
 use Rattle.rdm_agent.proofs.Common.{cond_both, eqb-true, eq-eqb, AllByRecursion, Span, Asked, Heard, Seen, is_acked}
 use Rattle.rdm_agent.proofs.Common.{Unmute, Branch, Mute, Other, Acked, Silent, MuteAck, IsCorrupt, asks_range}
 use Rattle.rdm_agent.proofs.Common.{is_branch, Search, Steady, Quick, BAD_ANSWERS, is_bytes, answered_again}
-use Rattle.rdm_agent.proofs.Common.{answers_in_a_row, cond}
+use Rattle.rdm_agent.proofs.Common.{answers_in_a_row}
 
 -- one more exchange
 fold-push : (f : ℕ → Seen → ℕ) (n : ℕ) (x : List Seen) (e : Seen) → fold f n (x ++ e ∷ []) ≡ f (fold f n x) e

@@ -7,8 +7,8 @@ use Rattle.rdm_agent.proofs.Common.{once, uids_of, with_device, Device, uids_of-
 use Rattle.rdm_agent.proofs.Common.{is_acked, Unmute, Branch, Mute, Acked, Failed, Silent, One, Noise, MuteAck}
 use Rattle.rdm_agent.proofs.Common.{acked_by, device_from, read_in, reported, InSuccession, IsSilentBranch, IsLostMute}
 use Rattle.rdm_agent.proofs.Common.{known_of, Phase, AgentState, heard_by_phase, branch_heard, known_heard, mute_heard}
-use Rattle.rdm_agent.proofs.Common.{to_phase, to_found, search_from, search_below, split, is_new, found_uids, Unmuting}
-use Rattle.rdm_agent.proofs.Common.{MutingKnown, Searching, MutingRead, Ended, Kind, TooMany, TRIES, IsCorrupt}
+use Rattle.rdm_agent.proofs.Common.{to_phase, to_found, search_from, is_new, found_uids, Unmuting}
+use Rattle.rdm_agent.proofs.Common.{MutingKnown, Searching, MutingRead, Ended, Kind, TooMany, TRIES}
 use Rattle.rdm_agent.proofs.Common.{Search, Steady, Quick, is_bytes, is_soon, spare_at, spent_more, search_apart}
 use Rattle.rdm_agent.proofs.Common.{search_silent, search_read, known_lost, mute_lost, Bool, ◌&&◌, and_parts}
 use Rattle.rdm_agent.proofs.Common.{true≢false}

@@ -475,9 +475,11 @@ goes_on_soundly_by search kind known budget x b set run goes = by_next (next_of 
     by_next (Some asked) next = let going : IsOpen b.search kind known budget x (found_uids b) =
         subst (λ o. MatchOption o (Unit {0}) (λ q. IsOpen b.search kind known budget x (found_uids b)))
         (wanted_next kind known budget b asked next).1
-        (is_open b.search kind known budget b.phase x (found_uids b) (stands_by search kind known budget x b set run).phase) in
-        (going.no_failure, subst (λ q. (u : ℕ) → IsCorruptBy q u x → ⊥)
-        (runs-search search kind known budget x b run) going.not_corrupt)
+        (is_open b.search kind known budget b.phase x (found_uids b) (stands_by search kind known budget x b set run).phase) in (
+          going.no_failure,
+          subst (λ q. (u : ℕ) → IsCorruptBy q u x → ⊥)
+              (runs-search search kind known budget x b run) going.not_corrupt,
+        )
 
 -- one whose budget is used up asks nothing
 pub ends_at_budget_by : (search : Search) → EndsAtBudget search

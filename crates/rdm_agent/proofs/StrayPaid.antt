@@ -1,11 +1,11 @@
 -- What a check and its mutes pay on an honest line: only a device of the range without devices answers there.
-use Rattle.rdm_agent.proofs.Common.{◌≡◌, ℕ, ◌+◌, ◌-◌, ◌*◌, ◌≤◌, true, false, not, cond, List, [], ◌∷◌}
+use Rattle.rdm_agent.proofs.Common.{◌≡◌, ℕ, ◌+◌, ◌-◌, ◌*◌, ◌≤◌, true, not, cond, List, [], ◌∷◌}
 use Rattle.rdm_agent.proofs.Common.{length, refl, sym, ap, ◌∙◌, subst, inl, inr, true≢false, arith, filter, ◌==◌}
 use Rattle.rdm_agent.proofs.Common.{◌≢◌, nat_le, cond_both, and_parts, eqb-true, eqb-false, leb-true, has}
 use Rattle.rdm_agent.proofs.Common.{is_within, IsDevice, IsDeviceSet, MOST_DEVICES, Span, Heard, LineState}
-use Rattle.rdm_agent.proofs.Common.{HonestStep, MayReply, due_in, is_acked, Branch, Mute, Failed, Silent, One, Acked}
+use Rattle.rdm_agent.proofs.Common.{HonestStep, MayReply, due_in, Branch, Mute, Failed, Silent, One, Acked}
 use Rattle.rdm_agent.proofs.Common.{Noise, AgentState, found_uids, unassigned, counted}
-use Rattle.rdm_agent.proofs.Common.{counted_silent, sweep_suspecting, sweep_on, sweep_split, to_phase}
+use Rattle.rdm_agent.proofs.Common.{counted_silent, sweep_on, sweep_split, to_phase}
 use Rattle.rdm_agent.proofs.Common.{is_checked_again, check_silent, check_heard, stray_found, stray_heard, Checking}
 use Rattle.rdm_agent.proofs.Common.{MutingStray, TRIES, Sweep, garbled_mutes, stray_lost}
 use Rattle.rdm_agent.proofs.Potential.{is_left, left_in, CostsChecking, CostsStray, Finds, Affords}

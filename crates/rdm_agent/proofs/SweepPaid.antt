@@ -1,5 +1,5 @@
 -- What an exchange of a sweep on an honest line pays.
-use Rattle.rdm_agent.proofs.Common.{◌≡◌, ℕ, ◌+◌, ◌-◌, ◌*◌, ◌<◌, ◌≤◌, true, false, ◌&&◌, not, List, [], length, refl, sym, ◌∙◌}
+use Rattle.rdm_agent.proofs.Common.{◌≡◌, ℕ, ◌+◌, ◌-◌, ◌*◌, ◌<◌, ◌≤◌, true, ◌&&◌, not, List, length, refl, sym, ◌∙◌}
 use Rattle.rdm_agent.proofs.Common.{inl, inr, true≢false, arith, ◌==◌, nat_lt, ◌≢◌, cond_both, and_parts, eqb-false}
 use Rattle.rdm_agent.proofs.Common.{ltb-true, length-map, has, IsDeviceSet, MOST_DEVICES, Span, whole, Heard, LineState}
 use Rattle.rdm_agent.proofs.Common.{HonestStep, Branch, Mute, Failed, Silent, One, Acked, Noise, Phase, AgentState}

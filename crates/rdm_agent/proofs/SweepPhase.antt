@@ -1,5 +1,5 @@
 -- What a sweep's exchanges keep.
-use Rattle.rdm_agent.proofs.Common.{◌≡◌, ℕ, ◌+◌, ◌*◌, ◌<◌, true, false, ◌&&◌, List, [], ◌∷◌, ◌++◌, None, refl, sym, ◌∙◌}
+use Rattle.rdm_agent.proofs.Common.{◌≡◌, ℕ, ◌+◌, ◌*◌, ◌<◌, ◌&&◌, List, [], ◌∷◌, ◌++◌, None, refl, sym, ◌∙◌}
 use Rattle.rdm_agent.proofs.Common.{inl, inr, ◌⊎◌, subst, arith, ◌==◌, nat_lt, cond_both, eqb-true, eqb-false, Span, whole}
 use Rattle.rdm_agent.proofs.Common.{Seen, Branch, Silent, known_of, IsSilentBranch, TRIES, Belief, Sweep, Phase, is_one}
 use Rattle.rdm_agent.proofs.Common.{is_whole, is_last, choose, sweep_on_after, sweep_split, sweep_silent, sweep_apart}

@@ -3,7 +3,7 @@ use Rattle.rdm_agent.proofs.Common.{◌≡◌, ℕ, true, false, List, [], ◌�
 use Rattle.rdm_agent.proofs.Common.{◌∙◌, subst, inl, inr, true≢false, append_assoc, append-nil, ◌⊎◌, length_push, has}
 use Rattle.rdm_agent.proofs.Common.{IsDevice, Heard, Seen, is_acked, Branch, Mute, Acked, Failed, Silent, One, Noise}
 use Rattle.rdm_agent.proofs.Common.{MuteAck, EachAfter-push, acked_uid, muted_by, read_in, InSuccession, IsLostMute}
-use Rattle.rdm_agent.proofs.Common.{IsTried, MutesNamed, TRIES, length, AllByRecursion, arith, ◌≤◌, ◌<◌, zero, suc}
+use Rattle.rdm_agent.proofs.Common.{IsTried, MutesNamed, TRIES, length, AllByRecursion, arith, ◌≤◌, zero, suc}
 use Rattle.rdm_agent.proofs.Common.{cases_lt}
 use Rattle.rdm_agent.proofs.OneDevice.{NotFailed}
 use Rattle.rdm_agent.proofs.Pushes.{All-push, push-has, begun-push, IsTried-push}

@@ -148,13 +148,7 @@ pub(super) fn sweep_on_after(
 }
 
 // The same after silences or bad answers of the range that it asked.
-pub(super) fn sweep_on(
-    sweep: Sweep,
-    silences: u8,
-    bads: u8,
-    found: usize,
-    belief: Belief,
-) -> Phase
+pub(super) fn sweep_on(sweep: Sweep, silences: u8, bads: u8, found: usize, belief: Belief) -> Phase
     requires found { found ≤ 1025 }
     requires silences { silences < TRIES }
     requires bads { bads < 4 }
