@@ -11,8 +11,9 @@ use Rattle.rdm_agent.proofs.Potential.{is_left, left_in, worth, Ahead, Costs, Af
 use Rattle.rdm_agent.specs.Bound.{enough_for, EndsInBoundBy, EndsInBound, EndsByDefault}
 use Rattle.rdm_agent.proofs.OneDevice.{NotFailed}
 use Rattle.rdm_agent.proofs.LeftLemmas.{no_more_than}
-use Rattle.rdm_agent.proofs.CoverLemmas.{Covers-some, worth-fewer}
+use Rattle.rdm_agent.proofs.CoverLemmas.{worth-fewer}
 use Rattle.rdm_agent.proofs.PaidLemmas.{unmuting-affords, known-affords, searching-affords, read-affords, read-some}
+use Rattle.rdm_agent.proofs.PaidLemmas.{searching-pays}
 use Rattle.rdm_agent.proofs.SweepPaid.{sweeping-affords, swept-affords}
 use Rattle.rdm_agent.proofs.StrayPaid.{checking-affords, stray-affords}
 use Rattle.rdm_agent.proofs.Runs.{stands_by, wanted_next}
@@ -34,26 +35,26 @@ module _ (present : List ℕ) (set : IsDeviceSet present) (few : length present 
       by_phase (Unmuting more known) h sound costs =
           λ step. unmuting-affords present set few total affords.cost s new a affords.within more known h affords.finds
           costs
-      by_phase (MutingKnown u tries known) h sound costs =
-          λ step. known-affords present set few total affords.cost s new a affords.within u tries known h sound
+      by_phase (MutingKnown u tries spare known) h sound costs =
+          λ step. known-affords present set few total affords.cost s new a affords.within u tries spare known h sound
           affords.finds step costs
-      by_phase (Searching silences top below) h sound costs =
-          λ step. searching-affords present set few total affords.cost s new a affords.within silences top below h sound
-          affords.finds step costs
-      by_phase (MutingRead u tries top below) h sound costs =
-          λ step. read-affords present set few total affords.cost s new a affords.within u tries top below h sound
+      by_phase (Searching silences bads spent top below) h sound costs =
+          λ step. searching-affords present set few total affords.cost s new a affords.within silences bads spent top below h
+          sound affords.finds step costs
+      by_phase (MutingRead u tries spare bads top below) h sound costs =
+          λ step. read-affords present set few total affords.cost s new a affords.within u tries spare bads top below h sound
           affords.finds step costs
       by_phase (Sweeping sweep) h sound costs =
           λ step. sweeping-affords present set few total affords.cost s new a affords.within sweep h sound affords.finds
           step costs
-      by_phase (MutingSwept u tries sweep) h sound costs =
-          λ step. swept-affords present set few total affords.cost s new a affords.within u tries sweep h sound
+      by_phase (MutingSwept u tries spare sweep) h sound costs =
+          λ step. swept-affords present set few total affords.cost s new a affords.within u tries spare sweep h sound
           affords.finds step costs
       by_phase (Checking u silences sweep) h sound costs =
           λ step. checking-affords present set few total affords.cost s new a affords.within u silences sweep h sound
           affords.finds step costs
-      by_phase (MutingStray u tries sweep) h sound costs =
-          λ step. stray-affords present set few total affords.cost s new a affords.within u tries sweep h sound
+      by_phase (MutingStray u tries spare sweep) h sound costs =
+          λ step. stray-affords present set few total affords.cost s new a affords.within u tries spare sweep h sound
           affords.finds step costs
       by_phase (Ended fault) h sound costs = tt
 
@@ -87,20 +88,19 @@ ended_or_pays : (search : Search) (present : List ℕ) (s : LineState) (found : 
     → Costs search present s found phase cost → (phase ≡ Ended None) ⊎ ((2 ≤ cost) × (wanted phase ≢ None))
 ended_or_pays search present s found (Unmuting more known) cost c =
     let some = c.some in let is = c.cost_is in inr (omega arith, λ p. cc)
-ended_or_pays search present s found (MutingKnown u tries known) cost c =
+ended_or_pays search present s found (MutingKnown u tries spare known) cost c =
     let few = c.few in let is = c.cost_is in inr (omega arith, λ p. cc)
-ended_or_pays search present s found (Searching silences top below) cost c = let few = c.few in
-    let is = c.cost_is in let some = Covers-some present found top below c.ranges c.covered in
-    inr (omega arith, λ p. cc)
-ended_or_pays search present s found (MutingRead u tries top below) cost c = let few = c.few in
+ended_or_pays search present s found (Searching silences bads spent top below) cost c =
+    let some = searching-pays search present found silences spent top below cost c in inr (omega (arith, some), λ p. cc)
+ended_or_pays search present s found (MutingRead u tries spare bads top below) cost c = let few = c.few in
     let is = c.cost_is in let some = read-some present s found u tries top below cost c in inr (omega arith, λ p. cc)
 ended_or_pays search present s found (Sweeping sweep) cost c =
     let below = c.below in let enough = c.enough in inr (omega arith, λ p. cc)
-ended_or_pays search present s found (MutingSwept u tries sweep) cost c =
+ended_or_pays search present s found (MutingSwept u tries spare sweep) cost c =
     let few = c.few in let below = c.below in let enough = c.enough in inr (omega arith, λ p. cc)
 ended_or_pays search present s found (Checking u silences sweep) cost c =
     let few = c.few in let below = c.below in let enough = c.enough in inr (omega arith, λ p. cc)
-ended_or_pays search present s found (MutingStray u tries sweep) cost c =
+ended_or_pays search present s found (MutingStray u tries spare sweep) cost c =
     let few = c.few in let below = c.below in let enough = c.enough in inr (omega arith, λ p. cc)
 ended_or_pays search present s found (Ended fault) cost c = inl (ap Ended c)
 

@@ -12,7 +12,7 @@ use Rattle.rdm_agent.proofs.Common.{Checking, MutingStray}
 use Rattle.rdm_agent.specs.Run.{IsReport}
 use Rattle.rdm_agent.specs.Calls.{fits, ended_by_abort}
 use Rattle.rdm_agent.specs.declared.fault.AgentFault.TheVariants.{Corrupt, Aborted}
-use Rattle.rdm_agent.specs.declared.op.OpReply.TheVariants.{Done, Mute as Muted, Branch as Branched, Failed}
+use Rattle.rdm_agent.specs.declared.op.OpReply.TheVariants.{Done, Mute as Muted, Garbled, Branch as Branched, Failed}
 use Rattle.rdm_agent.proofs.Runs.{asks_in_order_by, ends_at_failure_by, ends_at_budget_by, ends_certified_by}
 use Rattle.rdm_agent.proofs.Runs.{finds_acknowledged_by}
 use Rattle.rdm_wire.proofs.NoisyLemmas.{honest_is_noisy, honest_to_is_noisy}
@@ -39,13 +39,13 @@ next_asked a goes = asked_op (next_of a) goes
 -- at the end nothing is asked
 wanted_none : (phase : Phase) → op_of (wanted phase) ≡ End → wanted phase ≡ None
 wanted_none (Unmuting more known) end = cc
-wanted_none (MutingKnown u tries known) end = cc
-wanted_none (Searching silences top below) end = cc
-wanted_none (MutingRead u tries top below) end = cc
+wanted_none (MutingKnown u tries spare known) end = cc
+wanted_none (Searching silences bads spent top below) end = cc
+wanted_none (MutingRead u tries spare bads top below) end = cc
 wanted_none (Sweeping sweep) end = cc
-wanted_none (MutingSwept u tries sweep) end = cc
+wanted_none (MutingSwept u tries spare sweep) end = cc
 wanted_none (Checking u silences sweep) end = cc
-wanted_none (MutingStray u tries sweep) end = cc
+wanted_none (MutingStray u tries spare sweep) end = cc
 wanted_none (Ended fault) end = refl
 
 pub next_none : (a : AgentState) → next_op a ≡ End → next_of a ≡ None
@@ -75,6 +75,7 @@ fits_goes reply op fitting end = never reply (subst (λ o. fits reply o ≡ true
     never : (r : OpReply) → fits r End ≡ true → ⊥
     never Done e = true≢false (sym e)
     never (Muted ack) e = true≢false (sym e)
+    never Garbled e = true≢false (sym e)
     never (Branched reply) e = true≢false (sym e)
     never Failed e = true≢false (sym e)
 
@@ -151,7 +152,7 @@ module _ (a : AgentState) (end : next_op a ≡ End) (no_fault : fault_of a.phase
   end-certified {search} kind known budget false x s =
       let all = ends_certified_by search kind known budget x a s.devices (runs-own kind known budget x a s)
       (next_none a end) in
-      (subst (λ o. MatchOption o (Certificate kind known x a.found) (λ f. Cause budget ⊥ f x)) no_fault all.0, all.1)
+      (subst (λ o. MatchOption o (Certificate kind known x a.found) (λ f. Cause search budget ⊥ f x)) no_fault all.0, all.1)
   end-certified {search} kind known budget true x s =
       absurd (some_none (fault_of a.phase) (aborted-fault a s.before s.is.1) no_fault)
 
@@ -196,28 +197,28 @@ module _ (a : AgentState) (end : next_op a ≡ End) (no_fault : fault_of a.phase
       absurd (some_none (fault_of a.phase) (aborted-fault a s.before s.is.1) no_fault)
 
 -- a cause's fact on the abort may be another
-cause-more : (budget : ℕ) (P Q : Type 0) (f : AgentFault) (x : List Seen) → (P → Q) → Cause budget P f x
-    → Cause budget Q f x
-cause-more budget P Q (Corrupt u) x more cause = cause
-cause-more budget P Q TooMany x more cause = cause
-cause-more budget P Q Exhausted x more cause = cause
-cause-more budget P Q LineFailed x more cause = cause
-cause-more budget P Q Aborted x more cause = (more cause.0, cause.1)
+cause-more : (search : Search) (budget : ℕ) (P Q : Type 0) (f : AgentFault) (x : List Seen) → (P → Q)
+    → Cause search budget P f x → Cause search budget Q f x
+cause-more search budget P Q (Corrupt u) x more cause = cause
+cause-more search budget P Q TooMany x more cause = cause
+cause-more search budget P Q Exhausted x more cause = cause
+cause-more search budget P Q LineFailed x more cause = cause
+cause-more search budget P Q Aborted x more cause = (more cause.0, cause.1)
 
 -- what is shown of an ended agent with a fault
 module _ (a : AgentState) (end : next_op a ≡ End) (fault : AgentFault) (has_fault : fault_of a.phase ≡ Some fault) where
   pub end-caused : {search : Search}
-      → OfEach search a (λ kind known budget aborted x. Cause budget (aborted ≡ true) fault x × IsReport x a.found)
+      → OfEach search a (λ kind known budget aborted x. Cause search budget (aborted ≡ true) fault x × IsReport x a.found)
   end-caused {search} kind known budget false x s =
       let all = ends_certified_by search kind known budget x a s.devices (runs-own kind known budget x a s)
       (next_none a end) in
-      let cause : Cause budget ⊥ fault x = subst
-      (λ o. MatchOption o (Certificate kind known x a.found) (λ f. Cause budget ⊥ f x)) has_fault all.0 in
-      (cause-more budget ⊥ (false ≡ true) fault x (λ never. absurd never) cause, all.1)
+      let cause : Cause search budget ⊥ fault x = subst
+      (λ o. MatchOption o (Certificate kind known x a.found) (λ f. Cause search budget ⊥ f x)) has_fault all.0 in
+      (cause-more search budget ⊥ (false ≡ true) fault x (λ never. absurd never) cause, all.1)
   end-caused {search} kind known budget true x s =
       let is : Aborted ≡ fault = cc (has_fault, aborted-fault a s.before s.is.1) in
       let all = finds_acknowledged_by search kind known budget x s.before s.devices s.runs in
-      (subst (λ f. Cause budget (true ≡ true) f x) is (refl, all.1 going), rw s.is.1 all.0)
+      (subst (λ f. Cause search budget (true ≡ true) f x) is (refl, all.1 going), rw s.is.1 all.0)
     where
       going : next_of s.before ≢ None
       going none = s.is.0 (none_ends s.before none)
@@ -231,7 +232,7 @@ fault-certified a end None is kind known budget aborted x s =
 fault-certified a end (Some fault) is kind known budget aborted x s = tt
 
 pub fault-caused : {search : Search} (a : AgentState) → next_op a ≡ End → (o : Option AgentFault) → o ≡ fault_of a.phase
-    → OfEach search a (λ kind known budget aborted x. IfSome o (λ f. Cause budget (aborted ≡ true) f x))
+    → OfEach search a (λ kind known budget aborted x. IfSome o (λ f. Cause search budget (aborted ≡ true) f x))
 fault-caused a end None is kind known budget aborted x s = tt
 fault-caused a end (Some fault) is kind known budget aborted x s =
     (end-caused a end fault (sym is) kind known budget aborted x s).0

@@ -3,8 +3,8 @@ use Rattle.rdm_agent.proofs.Common.{◌≡◌, ℕ, ◌<◌, ◌^◌, Bool, true
 use Rattle.rdm_agent.proofs.Common.{bytes_eq, refl, sym, ap, ◌∙◌, subst, arith, ◌↔◌, nat_lt, Span, Asked, Heard, Seen}
 use Rattle.rdm_agent.proofs.Common.{Silent, Acked, Noise, MuteAck, BranchReply, Phase, AgentState, fed, heard_by_phase}
 use Rattle.rdm_agent.proofs.Common.{wanted, Unmuting, MutingKnown, Searching, MutingRead, Sweeping, MutingSwept, Ended}
-use Rattle.rdm_agent.proofs.Common.{Checking, MutingStray, unassigned}
-use Rattle.rdm_agent.proofs.Common.{asked_by, heard_by, heard_of_mute, seen_op, next_op, op_of, op_frame, Op, OpReply}
+use Rattle.rdm_agent.proofs.Common.{Checking, MutingStray}
+use Rattle.rdm_agent.proofs.Common.{asked_by, heard_by, seen_op, next_op, op_of, op_frame, Op, OpReply}
 use Rattle.std.proofs.lemmas.Slice.Eq.{bytes_eq-Decides}
 use Rattle.rdm_wire.specs.BranchText.{ReadsAs}
 use Rattle.rdm_wire.specs.Reading.{text_read, ack_read}
@@ -22,6 +22,7 @@ use Rattle.rdm_wire.proofs.PacketLemmas.{fields_at-packet}
 use Rattle.rdm_wire.proofs.Text.{text_read-of, of-text_read}
 use Rattle.rdm_wire.proofs.CommandLemmas.{one_command}
 use Rattle.rdm_agent.specs.OpFrames.{IsSendable}
+use Rattle.rdm_agent.specs.Run.{mute_reply}
 use Rattle.rdm_agent.specs.declared.op.Op.TheVariants as ops
 use Rattle.rdm_agent.specs.declared.op.OpReply.TheVariants as came
 
@@ -174,58 +175,35 @@ mute_hears : (u s tn : ℕ) (bytes : List ℕ) → FitsFrame (commands.Mute u) s
 mute_hears u s tn bytes can = heard_after (mute_frame u s tn) (command_fields (commands.Mute u) s tn) (muted u) bytes
     (fields_at-packet (command_fields (commands.Mute u) s tn) can.fits) (mute_asks u s tn can)
 
-acked_heard : (u s tn : ℕ) (bytes : List ℕ) (ack : MuteAck) → (heard_bytes s tn (muted u) bytes ≡ Acked ack)
-    ↔ (ack_read u s tn bytes ≡ Some ack)
-acked_heard u s tn [] ack = (λ e. cc, λ e. cc)
-acked_heard u s tn (b ∷ bs) ack = by_option (ack_read u s tn (b ∷ bs))
-  where
-    by_option : (o : Option MuteAck) → (acked_or_noise o ≡ Acked ack) ↔ (o ≡ Some ack)
-    by_option None = (λ e. cc, λ e. cc)
-    by_option (Some a) = (λ e. cc, λ e. cc)
-
-pub mute_heard : (u s tn : ℕ) (bytes : List ℕ) (ack : MuteAck) → FitsFrame (commands.Mute u) s tn
-    → (heard_in (mute_frame u s tn) (Some bytes) ≡ Acked ack) ↔ (ack_read u s tn bytes ≡ Some ack)
-mute_heard u s tn bytes ack can =
-    subst (λ h. (h ≡ Acked ack) ↔ (ack_read u s tn bytes ≡ Some ack)) (sym (mute_hears u s tn bytes can))
-    (acked_heard u s tn bytes ack)
-
--- an agent that doesn't search takes other bytes as silence
-noise_is_silence : (a : AgentState) (phase : Phase) → ((r : Span) → op_of (wanted phase) ≡ ops.Branch r → ⊥)
+-- while an agent unmutes, any reply is the same to it
+noise_is_silence : (a : AgentState) (phase : Phase) → op_of (wanted phase) ≡ ops.UnmuteAll
     → heard_by_phase a phase Noise ≡ heard_by_phase a phase Silent
-noise_is_silence a (Unmuting more known) other = refl
-noise_is_silence a (MutingKnown u tries known) other = refl
-noise_is_silence a (Searching silences top below) other = absurd (other top refl)
-noise_is_silence a (MutingRead u tries top below) other = refl
-noise_is_silence a (Sweeping sweep) other = absurd (other sweep.question.range refl)
-noise_is_silence a (MutingSwept u tries sweep) other = refl
-noise_is_silence a (Checking u silences sweep) other = absurd (other unassigned refl)
-noise_is_silence a (MutingStray u tries sweep) other = refl
-noise_is_silence a (Ended fault) other = refl
+noise_is_silence a (Unmuting more known) is = refl
+noise_is_silence a (MutingKnown u tries spare known) is = cc
+noise_is_silence a (Searching silences bads spent top below) is = cc
+noise_is_silence a (MutingRead u tries spare bads top below) is = cc
+noise_is_silence a (Sweeping sweep) is = cc
+noise_is_silence a (MutingSwept u tries spare sweep) is = cc
+noise_is_silence a (Checking u silences sweep) is = cc
+noise_is_silence a (MutingStray u tries spare sweep) is = cc
+noise_is_silence a (Ended fault) is = cc
 
--- what an agent that goes on wants
-wants : (a : AgentState) (op : Op) → next_op a ≡ op → (op ≡ ops.End → ⊥) → op_of (wanted a.phase) ≡ op
-wants a op next goes = by_test (nat_lt a.frames a.budget) next
+noise_fed : (a : AgentState) → next_op a ≡ ops.UnmuteAll → fed a Noise ≡ fed a Silent
+noise_fed a next = by_test (nat_lt a.frames a.budget) next
   where
-    by_test : (b : Bool) → op_of (cond b (wanted a.phase) None) ≡ op → op_of (wanted a.phase) ≡ op
-    by_test true is = is
-    by_test false is = absurd (goes (sym is))
+    by_test : (b : Bool) → op_of (cond b (wanted a.phase) None) ≡ ops.UnmuteAll → fed a Noise ≡ fed a Silent
+    by_test true is = noise_is_silence a a.phase is
+    by_test false is = cc
 
-noise_fed : (a : AgentState) (op : Op) → next_op a ≡ op → (op ≡ ops.End → ⊥) → ((r : Span) → op ≡ ops.Branch r → ⊥)
-    → fed a Noise ≡ fed a Silent
-noise_fed a op next goes other = noise_is_silence a a.phase (λ r is. other r (sym (wants a op next goes) ∙ is))
-
-pub mute_fed : (a : AgentState) (u s tn : ℕ) (bytes : List ℕ) → next_op a ≡ ops.Mute u
-    → FitsFrame (commands.Mute u) s tn → fed a (heard_in (mute_frame u s tn) (Some bytes)) ≡ fed a
-    (heard_by (came.Mute (ack_read u s tn bytes)))
-mute_fed a u s tn bytes next can = ap (fed a) (mute_hears u s tn bytes can) ∙ by_bytes bytes
+-- what is heard after a mute
+reply_heard : (u s tn : ℕ) (bytes : List ℕ)
+    → heard_by (mute_reply (ack_read u s tn bytes) bytes) ≡ heard_bytes s tn (muted u) bytes
+reply_heard u s tn [] = refl
+reply_heard u s tn (b ∷ bs) = by_option (ack_read u s tn (b ∷ bs))
   where
-    by_option : (o : Option MuteAck) → fed a (acked_or_noise o) ≡ fed a (heard_of_mute o)
-    by_option None = noise_fed a (ops.Mute u) next (λ e. cc) (λ r e. cc)
+    by_option : (o : Option MuteAck) → heard_by (mute_reply o (b ∷ bs)) ≡ acked_or_noise o
+    by_option None = refl
     by_option (Some ack) = refl
-
-    by_bytes : (l : List ℕ) → fed a (heard_bytes s tn (muted u) l) ≡ fed a (heard_of_mute (ack_read u s tn l))
-    by_bytes [] = refl
-    by_bytes (b ∷ bs) = by_option (ack_read u s tn (b ∷ bs))
 
 -- after an unmute
 pub unmute_fed : (a : AgentState) (s tn : ℕ) (bytes : List ℕ) → next_op a ≡ ops.UnmuteAll
@@ -236,7 +214,7 @@ unmute_fed a s tn bytes next can =
   where
     by_bytes : (l : List ℕ) → fed a (heard_bytes s tn unmuted l) ≡ fed a Silent
     by_bytes [] = refl
-    by_bytes (b ∷ bs) = noise_fed a ops.UnmuteAll next (λ e. cc) (λ r e. cc)
+    by_bytes (b ∷ bs) = noise_fed a next
 
 -- the frame of each operation
 pub op_asks : (op : Op) (s tn : ℕ) → IsSendable op s tn → (op ≡ ops.End → ⊥) → asked_in (op_frame op s tn) ≡ asked_by op
@@ -276,20 +254,22 @@ unmute_carried op s tn bytes can is =
     )
 
 pub mute_carried : (op : Op) (u s tn : ℕ) (bytes : List ℕ) → IsSendable op s tn → op ≡ ops.Mute u
-    → Acks op s tn (Some bytes) (came.Mute (ack_read u s tn bytes))
-    × Feeds op s tn (Some bytes) (came.Mute (ack_read u s tn bytes))
-mute_carried op u s tn bytes can is = subst (λ o. Acks o s tn (Some bytes) (came.Mute (ack_read u s tn bytes))
-    × Feeds o s tn (Some bytes) (came.Mute (ack_read u s tn bytes))) (sym is)
-    (acks, λ a next. sym (mute_fed a u s tn bytes next own))
-  where
-    own : FitsFrame (commands.Mute u) s tn
-    own = subst (λ o. IsSendable o s tn) is can
+    → heard_by (mute_reply (ack_read u s tn bytes) bytes) ≡ heard_in (op_frame op s tn) (Some bytes)
+mute_carried op u s tn bytes can is = subst
+    (λ o. heard_by (mute_reply (ack_read u s tn bytes) bytes) ≡ heard_in (op_frame o s tn) (Some bytes)) (sym is)
+    (reply_heard u s tn bytes ∙ sym (mute_hears u s tn bytes (subst (λ o. IsSendable o s tn) is can)))
 
-    acks : Acks (ops.Mute u) s tn (Some bytes) (came.Mute (ack_read u s tn bytes))
-    acks ack = let read = mute_heard u s tn bytes ack own in (λ h. read.1 (some_mute h), λ h. ap came.Mute (read.0 h))
-      where
-        some_mute : {o : Option MuteAck} → came.Mute o ≡ came.Mute (Some ack) → o ≡ Some ack
-        some_mute h = cc
+-- a reply to a mute is its acknowledgement exactly if that was heard
+pub mute_acks : (op : Op) (s tn : ℕ) (bytes : List ℕ) (ack : Option MuteAck)
+    → heard_by (mute_reply ack bytes) ≡ heard_in (op_frame op s tn) (Some bytes)
+    → Acks op s tn (Some bytes) (mute_reply ack bytes)
+mute_acks op s tn bytes ack heard one = (λ is. sym heard ∙ ap heard_by is, λ is. only ack bytes (heard ∙ is))
+  where
+    only : (o : Option MuteAck) (l : List ℕ) → heard_by (mute_reply o l) ≡ Acked one
+        → mute_reply o l ≡ came.Mute (Some one)
+    only (Some a) l h = cc
+    only None [] h = cc
+    only None (b ∷ bs) h = cc
 
 pub branch_carried : (op : Op) (r : Span) (s tn : ℕ) (bytes : List ℕ) (reply : BranchReply) → IsSendable op s tn
     → ReadsAs bytes reply → op ≡ ops.Branch r → heard_by (came.Branch reply) ≡ heard_in (op_frame op s tn) (Some bytes)

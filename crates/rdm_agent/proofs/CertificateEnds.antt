@@ -11,7 +11,7 @@ use Rattle.rdm_agent.proofs.Common.{sweep_on_after, sweep_silent, believed_silen
 use Rattle.rdm_agent.proofs.Common.{counted_silent, hushing, check_silent, is_checked_again, is_last, believed_apart}
 use Rattle.rdm_agent.proofs.Common.{unassigned, Checking, MutingStray, ◌&&◌}
 use Rattle.rdm_agent.proofs.Common.{MutingKnown, Searching, MutingRead, Sweeping, MutingSwept, Ended, IsStack, Kind}
-use Rattle.rdm_agent.proofs.Common.{Search, Steady, TRIES}
+use Rattle.rdm_agent.proofs.Common.{Search, Steady, TRIES, search_silent, search_whole, spent_more}
 use Rattle.std.proofs.lemmas.List.{length-append}
 use Rattle.rdm_agent.specs.Statements.{CertificateIsTheEnd}
 use Rattle.rdm_agent.proofs.Members.{member, first_part, last_part, heads, tails, put-has, has-put, has-first}
@@ -105,16 +105,16 @@ module _ {P : Seen → Type 0} where
 
 -- while the search goes on, the range that it asks was silent no more often at the end than the phase counts
 abbrev FewSilent : Phase → List Seen → Type 0
-FewSilent (Searching silences top below) x = (n : ℕ) → EndsWith n (IsSilentBranch top.lo top.hi) x → n ≤ silences
+FewSilent (Searching silences bads spent top below) x = (n : ℕ) → EndsWith n (IsSilentBranch top.lo top.hi) x → n ≤ silences
 FewSilent (Unmuting more known) x = Unit {0}
-FewSilent (MutingKnown u tries known) x = Unit {0}
-FewSilent (MutingRead u tries top below) x = Unit {0}
+FewSilent (MutingKnown u tries spare known) x = Unit {0}
+FewSilent (MutingRead u tries spare bads top below) x = Unit {0}
 FewSilent (Sweeping sweep) x =
     (n : ℕ) → EndsWith n (IsSilentBranch sweep.question.range.lo sweep.question.range.hi) x → n ≤ sweep.silences
-FewSilent (MutingSwept u tries sweep) x = Unit {0}
+FewSilent (MutingSwept u tries spare sweep) x = Unit {0}
 FewSilent (Checking u silences sweep) x =
     (n : ℕ) → EndsWith n (IsSilentBranch unassigned.lo unassigned.hi) x → n ≤ silences
-FewSilent (MutingStray u tries sweep) x = Unit {0}
+FewSilent (MutingStray u tries spare sweep) x = Unit {0}
 FewSilent (Ended fault) x = Unit {0}
 
 -- and no range with the greatest UID was silent five times in a row, unless the run has ended without fault
@@ -138,19 +138,19 @@ other_exchange phase new x e goes loud k = record {
     none lo hi silences (suc n) ends = absurd (loud lo hi (grown_end n x e ends).0)
 
     of_phase : (p : Phase) → FewSilent p (x ++ e ∷ [])
-    of_phase (Searching silences top below) = none top.lo top.hi silences
+    of_phase (Searching silences bads spent top below) = none top.lo top.hi silences
     of_phase (Unmuting more known) = tt
-    of_phase (MutingKnown u tries known) = tt
-    of_phase (MutingRead u tries top below) = tt
+    of_phase (MutingKnown u tries spare known) = tt
+    of_phase (MutingRead u tries spare bads top below) = tt
     of_phase (Sweeping sweep) = none sweep.question.range.lo sweep.question.range.hi sweep.silences
-    of_phase (MutingSwept u tries sweep) = tt
+    of_phase (MutingSwept u tries spare sweep) = tt
     of_phase (Checking u silences sweep) = none unassigned.lo unassigned.hi silences
-    of_phase (MutingStray u tries sweep) = tt
+    of_phase (MutingStray u tries spare sweep) = tt
     of_phase (Ended fault) = tt
 
 -- the top range is silent once more
-module _ (silences : ℕ) (top : Span) (below : List Span) (x : List Seen) (stack : IsStack top below)
-    (fewer : silences < TRIES) (k : IsUncleared (Searching silences top below) x) where
+module _ (silences bads spent : ℕ) (top : Span) (below : List Span) (x : List Seen) (stack : IsStack top below)
+    (fewer : silences < TRIES) (k : IsUncleared (Searching silences bads spent top below) x) where
   abbrev again : Seen
   again = record { asked = Branch top.lo top.hi; heard = Silent }
 
@@ -163,7 +163,7 @@ module _ (silences : ℕ) (top : Span) (below : List Span) (x : List Seen) (stac
       high : Branch top.lo top.hi ≡ Branch lo hi → top.hi ≡ hi
       high e = cc
 
-  not_ended : Searching silences top below ≢ Ended None
+  not_ended : Searching silences bads spent top below ≢ Ended None
   not_ended e = cc
 
   -- five times at most: the next range is another one, and the last one ends the run
@@ -191,8 +191,9 @@ module _ (silences : ℕ) (top : Span) (below : List Span) (x : List Seen) (stac
           absurd (let same : top.lo ≡ r.lo = (same_range r.lo r.hi (grown_end n x again ends).0).0 in let at = next.0 in
           let some = next.3 in omega (arith, same, at, some))
 
-  silent_again : (silences + 1 ≡ TRIES → ⊥) → IsUncleared (Searching (silences + 1) top below) (x ++ again ∷ [])
-  silent_again not_five = record {
+  silent_again : (now : ℕ) → (silences + 1 ≡ TRIES → ⊥)
+      → IsUncleared (Searching (silences + 1) 0 now top below) (x ++ again ∷ [])
+  silent_again now not_five = record {
     cleared_last = λ lo hi far five. elim (grown_succession TRIES x again five) [
       | inl before ↦ absurd (not_ended (k.cleared_last lo hi far before))
       | inr ends ↦ absurd (five_before lo hi (grown_end 4 x again ends))
@@ -212,11 +213,10 @@ module _ (silences : ℕ) (top : Span) (below : List Span) (x : List Seen) (stac
       counted zero ends = omega arith
       counted (suc n) ends = let before : n ≤ silences = k.few n (grown_end n x again ends).1 in omega (arith, before)
 
-  branch_silent : IsUncleared (cond ((silences + 1) == TRIES) (search_below below) (Searching (silences + 1) top below))
-      (x ++ again ∷ [])
-  branch_silent =
+  branch_silent : (now : ℕ) → IsUncleared (search_silent silences now top below) (x ++ again ∷ [])
+  branch_silent now =
       cond_both ((silences + 1) == TRIES) _ _ (λ p. IsUncleared p (x ++ again ∷ [])) (λ five. popped below stack)
-      (λ not. silent_again (eqb-false (silences + 1) TRIES not))
+      (λ not. silent_again now (eqb-false (silences + 1) TRIES not))
 
 -- a range that a sweep asks is silent once more
 module _ (phase : Phase) (range : Span) (silences : ℕ) (x : List Seen) (fewer : silences < TRIES)
@@ -274,7 +274,7 @@ module _ (phase : Phase) (range : Span) (silences : ℕ) (x : List Seen) (fewer 
 
     -- the steady search begins
     begins_again : (count : ℕ) → (whole ≡ range → count ≡ silences + 1)
-        → IsUncleared (Searching count whole []) (x ++ swept_again ∷ [])
+        → IsUncleared (search_whole count) (x ++ swept_again ∷ [])
     begins_again count counts = record {
       cleared_last = λ lo hi far five. absurd (five_before lo hi far five);
       few = so_often whole count counts;
@@ -282,13 +282,13 @@ module _ (phase : Phase) (range : Span) (silences : ℕ) (x : List Seen) (fewer 
 
     -- the sweep goes on, or the steady search begins
     goes_to : (sweep : Sweep) (n : ℕ) (b : Belief)
-        → IsUncleared (sweep_on_after sweep range (silences + 1) n b) (x ++ swept_again ∷ [])
+        → IsUncleared (sweep_on_after sweep range (silences + 1) 0 n b) (x ++ swept_again ∷ [])
     goes_to sweep n b =
         cond_both (nat_lt sweep.made (100 * (n + 2))) _ _ (λ p. IsUncleared p (x ++ swept_again ∷ []))
-        (λ goes. next (choose sweep.made (silences + 1) range b)
-        (chosen sweep.made (silences + 1) range b (omega (arith, fewer, not_five_less))))
+        (λ goes. next (choose sweep.made (silences + 1) 0 range b)
+        (chosen sweep.made (silences + 1) 0 range b (omega (arith, fewer, not_five_less))))
         (λ out. cond_both (is_whole range) (silences + 1) 0
-        (λ c. IsUncleared (Searching c whole []) (x ++ swept_again ∷ []))
+        (λ c. IsUncleared (search_whole c) (x ++ swept_again ∷ []))
         (λ all. begins_again (silences + 1) (λ is. refl))
         (λ other. begins_again 0 (λ is. absurd (true≢false (sym (whole_is is) ∙ other)))))
       where
@@ -298,7 +298,7 @@ module _ (phase : Phase) (range : Span) (silences : ℕ) (x : List Seen) (fewer 
         whole_is : whole ≡ range → is_whole range ≡ true
         whole_is is = subst (λ (r : Span). is_whole r ≡ true) is refl
 
-        next : (c : Sweep) → IsChosen sweep.made (silences + 1) range c
+        next : (c : Sweep) → IsChosen sweep.made (silences + 1) 0 range c
             → IsUncleared (Sweeping c) (x ++ swept_again ∷ [])
         next c is = record {
           cleared_last = λ lo hi far five. absurd (five_before lo hi far five);
@@ -369,27 +369,27 @@ module _ (kind : Kind) (known : List ℕ) (budget : ℕ) where
         MatchOption o (Unit {0})
         (λ asked. IsUncleared (heard_by_phase a phase h).phase (x ++ record { asked = asked; heard = h } ∷ []))
 
-    by_phase : (phase : Phase) (h : Heard) → h ≢ Failed → InPhase kind known budget phase x (found_uids a)
+    by_phase : (phase : Phase) (h : Heard) → h ≢ Failed → InPhase a.search kind known budget phase x (found_uids a)
         → IsUncleared phase x → After h phase (wanted phase)
     unfolding After
     by_phase (Unmuting more left) h sound p k =
         other_exchange (Unmuting more left) _ x _ (λ e. cc) (loud Unmute h (λ lo hi e s. cc)) k
-    by_phase (MutingKnown u tries left) h sound p k =
-        other_exchange (MutingKnown u tries left) _ x _ (λ e. cc) (loud (Mute u) h (λ lo hi e s. cc)) k
-    by_phase (Searching silences top below) Silent sound p k =
-        branch_silent silences top below x p.searches.stack p.few k
-    by_phase (Searching silences top below) (One u) sound p k =
-        other_exchange (Searching silences top below) _ x _ (λ e. cc)
+    by_phase (MutingKnown u tries spare left) h sound p k =
+        other_exchange (MutingKnown u tries spare left) _ x _ (λ e. cc) (loud (Mute u) h (λ lo hi e s. cc)) k
+    by_phase (Searching silences bads spent top below) Silent sound p k =
+        branch_silent silences bads spent top below x p.searches.stack p.few k (spent_more spent)
+    by_phase (Searching silences bads spent top below) (One u) sound p k =
+        other_exchange (Searching silences bads spent top below) _ x _ (λ e. cc)
         (loud (Branch top.lo top.hi) (One u) (λ lo hi e s. cc)) k
-    by_phase (Searching silences top below) (Acked ack) sound p k =
-        other_exchange (Searching silences top below) _ x _ (λ e. cc)
+    by_phase (Searching silences bads spent top below) (Acked ack) sound p k =
+        other_exchange (Searching silences bads spent top below) _ x _ (λ e. cc)
         (loud (Branch top.lo top.hi) (Acked ack) (λ lo hi e s. cc)) k
-    by_phase (Searching silences top below) Noise sound p k =
-        other_exchange (Searching silences top below) _ x _ (λ e. cc)
+    by_phase (Searching silences bads spent top below) Noise sound p k =
+        other_exchange (Searching silences bads spent top below) _ x _ (λ e. cc)
         (loud (Branch top.lo top.hi) Noise (λ lo hi e s. cc)) k
-    by_phase (Searching silences top below) Failed sound p k = absurd (sound refl)
-    by_phase (MutingRead u tries top below) h sound p k =
-        other_exchange (MutingRead u tries top below) _ x _ (λ e. cc) (loud (Mute u) h (λ lo hi e s. cc)) k
+    by_phase (Searching silences bads spent top below) Failed sound p k = absurd (sound refl)
+    by_phase (MutingRead u tries spare bads top below) h sound p k =
+        other_exchange (MutingRead u tries spare bads top below) _ x _ (λ e. cc) (loud (Mute u) h (λ lo hi e s. cc)) k
     by_phase (Sweeping sweep) Silent sound p k = swept_silent sweep (length a.found) x p.asks.few k
     by_phase (Sweeping sweep) (One u) sound p k =
         other_exchange (Sweeping sweep) _ x _ (λ e. cc)
@@ -401,8 +401,8 @@ module _ (kind : Kind) (known : List ℕ) (budget : ℕ) where
         other_exchange (Sweeping sweep) _ x _ (λ e. cc)
         (loud (Branch sweep.question.range.lo sweep.question.range.hi) Noise (λ lo hi e s. cc)) k
     by_phase (Sweeping sweep) Failed sound p k = absurd (sound refl)
-    by_phase (MutingSwept u tries sweep) h sound p k =
-        other_exchange (MutingSwept u tries sweep) _ x _ (λ e. cc) (loud (Mute u) h (λ lo hi e s. cc)) k
+    by_phase (MutingSwept u tries spare sweep) h sound p k =
+        other_exchange (MutingSwept u tries spare sweep) _ x _ (λ e. cc) (loud (Mute u) h (λ lo hi e s. cc)) k
     by_phase (Checking u silences sweep) Silent sound p k = checked_silent u silences sweep (length a.found) x p.few k
     by_phase (Checking u silences sweep) (One v) sound p k =
         other_exchange (Checking u silences sweep) _ x _ (λ e. cc)
@@ -414,8 +414,8 @@ module _ (kind : Kind) (known : List ℕ) (budget : ℕ) where
         other_exchange (Checking u silences sweep) _ x _ (λ e. cc)
         (loud (Branch unassigned.lo unassigned.hi) Noise (λ lo hi e s. cc)) k
     by_phase (Checking u silences sweep) Failed sound p k = absurd (sound refl)
-    by_phase (MutingStray u tries sweep) h sound p k =
-        other_exchange (MutingStray u tries sweep) _ x _ (λ e. cc) (loud (Mute u) h (λ lo hi e s. cc)) k
+    by_phase (MutingStray u tries spare sweep) h sound p k =
+        other_exchange (MutingStray u tries spare sweep) _ x _ (λ e. cc) (loud (Mute u) h (λ lo hi e s. cc)) k
     by_phase (Ended fault) h sound p k = tt
 
     goes_on : (phase : Phase) (asked : Asked) → wanted phase ≡ Some asked → phase ≢ Ended None
@@ -425,7 +425,7 @@ module _ (kind : Kind) (known : List ℕ) (budget : ℕ) where
         none_some q = cc
 
     fed-uncleared : (asked : Asked) (h : Heard) → wanted a.phase ≡ Some asked
-        → InPhase kind known budget a.phase x (found_uids a) → IsUncleared a.phase x
+        → InPhase a.search kind known budget a.phase x (found_uids a) → IsUncleared a.phase x
         → IsUncleared (fed a h).phase (x ++ record { asked = asked; heard = h } ∷ [])
     unfolding After
     fed-uncleared asked Failed w p k =

@@ -2,7 +2,7 @@
 use Rattle.rdm_agent.proofs.Common.{◌≡◌, ℕ, ◌+◌, ◌<◌, ◌≤◌, ◌^◌, Bool, true, false, ◌&&◌, not, refl, sym, ap, ◌∙◌, inl}
 use Rattle.rdm_agent.proofs.Common.{inr, subst, true≢false, arith, ◌⊎◌, ◌==◌, nat_lt, min, cond_both, and_parts}
 use Rattle.rdm_agent.proofs.Common.{eqb-true, eq-eqb, ltb-false, not-true, Span, whole, TRIES, Belief, Sweep, is_whole}
-use Rattle.rdm_agent.proofs.Common.{is_one, choose}
+use Rattle.rdm_agent.proofs.Common.{is_one, choose, ◌-◌, give_up, cases_Bool, cond-false}
 use Rattle.std.proofs.Math.Nat.{min-le_right, le-min}
 use Rattle.rdm_agent.specs.declared.belief.Question.{Question}
 use Rattle.rdm_agent.specs.Machine.{asking}
@@ -49,12 +49,13 @@ pub record Asks (s : Sweep) : Type 0 where
   pub few : s.silences < TRIES
   pub last : s.silences + 1 ≡ TRIES → s.question.range ≡ whole
 
--- the silences of the last range count if it is asked again
-pub record IsChosen (made silences : ℕ) (last : Span) (s : Sweep) : Type 0 where
+-- the silences and bad answers of the last range count if it is asked again
+pub record IsChosen (made silences bads : ℕ) (last : Span) (s : Sweep) : Type 0 where
   pub made_is : s.made ≡ made
   pub asks : Asks s
   pub again : (s.silences ≡ 0) ⊎ ((s.silences ≡ silences) × (s.question.range ≡ last))
   pub counted : s.question.range ≡ last → s.silences ≡ silences
+  pub bads_are : ((s.question.range ≡ last) × (s.bads ≡ bads)) ⊎ ((s.question.range ≡ last → ⊥) × (s.bads ≡ 0))
 
 -- above a range that isn't the whole one another range is asked
 other_behind : (r : Span) (b : Belief) → is_whole r ≡ false → (question (above r b)).range ≡ r → ⊥
@@ -77,13 +78,21 @@ other_behind r b other = cond_both (nat_lt last_uid (r.hi + 1)) _ _ (λ (q : Que
         let below : r.hi + 1 ≤ min fresh.range.hi last_uid = le-min up within in omega (arith, below, same))
         (λ several same. let up = higher within in omega (arith, up, same))
 
--- what is asked after so many silences in a row
-asking-is : (made silences again : ℕ) (last : Span) (q : Question) (b : Belief) → IsRange q.range → again < TRIES
-    → (again ≡ 0) ⊎ ((again ≡ silences) × (q.range ≡ last)) → (q.range ≡ last → again ≡ silences)
-    → IsChosen made silences last (asking made again q b)
-asking-is made silences again last q b range few before counted =
-    cond_both (((again + 1) == TRIES) && not (is_whole q.range)) _ _ (IsChosen made silences last)
-    (λ fifth. let both = and_parts ((again + 1) == TRIES) (not (is_whole q.range)) fifth in record {
+-- the same range is asked again, or another one
+abbrev IsAgain : ℕ → ℕ → ℕ → ℕ → Span → Span → Type 0
+IsAgain silences bads again more last r =
+    ((r ≡ last) × (again ≡ silences) × (more ≡ bads)) ⊎ ((r ≡ last → ⊥) × (again ≡ 0) × (more ≡ 0))
+
+-- what is asked after so many silences or bad answers in a row
+asking-is : (made silences bads again more : ℕ) (last : Span) (q : Question) (b : Belief) → IsRange q.range
+    → again < TRIES → IsAgain silences bads again more last q.range
+    → IsChosen made silences bads last (asking made again more q b)
+asking-is made silences bads again more last q b range few before =
+    cond_both (((again + 1) == TRIES) && not (is_whole q.range)) _ _ (IsChosen made silences bads last)
+    (λ fifth. let both = and_parts ((again + 1) == TRIES) (not (is_whole q.range)) fifth in
+    let elsewhere : (question (above q.range b)).range ≡ last → ⊥ =
+    λ is. other_behind q.range b (not-true (is_whole q.range) both.1)
+    (is ∙ sym (asked_last before (eqb-true (again + 1) TRIES both.0))) in record {
       made_is = refl;
       asks = record {
         range = question-is (above q.range b);
@@ -91,8 +100,8 @@ asking-is made silences again last q b range few before counted =
         last = λ five. absurd (none_last five);
       };
       again = inl refl;
-      counted = λ is. absurd (other_behind q.range b (not-true (is_whole q.range) both.1)
-          (is ∙ sym (asked_last before (eqb-true (again + 1) TRIES both.0))));
+      counted = λ is. absurd (elsewhere is);
+      bads_are = inr (elsewhere, refl);
     })
     (λ other. record {
       made_is = refl;
@@ -101,17 +110,18 @@ asking-is made silences again last q b range few before counted =
         few = few;
         last = λ five. is_whole-of (eq-eqb (again + 1) TRIES five) other;
       };
-      again = before;
-      counted = counted;
+      again = elim before [ inl same ↦ inr (same.1, same.0) | inr none ↦ inl none.1 ];
+      counted = λ is. elim before [ inl same ↦ same.1 | inr none ↦ absurd (none.0 is) ];
+      bads_are = elim before [ inl same ↦ inl (same.0, same.2) | inr none ↦ inr (none.0, none.2) ];
     })
   where
     none_last : 0 + 1 ≡ TRIES → ⊥
     none_last five = omega (arith, five)
 
     -- the last range was asked again
-    asked_last : (again ≡ 0) ⊎ ((again ≡ silences) × (q.range ≡ last)) → again + 1 ≡ TRIES → q.range ≡ last
-    asked_last (inl none) five = absurd (omega (arith, none, five))
-    asked_last (inr same) five = same.1
+    asked_last : IsAgain silences bads again more last q.range → again + 1 ≡ TRIES → q.range ≡ last
+    asked_last (inl same) five = same.0
+    asked_last (inr none) five = absurd (let zero = none.1 in omega (arith, zero, five))
 
     is_whole-of : ((again + 1) == TRIES) ≡ true → (((again + 1) == TRIES) && not (is_whole q.range)) ≡ false
         → q.range ≡ whole
@@ -122,23 +132,77 @@ asking-is made silences again last q b range few before counted =
         by true p = refl
         by false p = absurd (true≢false p)
 
+same_as : (r q : Span) → r ≡ q → is_same r q ≡ true
+same_as r q is = subst (λ (s : Span). is_same r s ≡ true) is (itself r)
+  where
+    itself : (r : Span) → is_same r r ≡ true
+    itself r = rw (eq-eqb r.lo r.lo refl, eq-eqb r.hi r.hi refl) refl
+
 -- whatever it believes
-pub chosen : (made silences : ℕ) (last : Span) (b : Belief) → silences < TRIES
-    → IsChosen made silences last (choose made silences last b)
+pub chosen : (made silences bads : ℕ) (last : Span) (b : Belief) → silences < TRIES
+    → IsChosen made silences bads last (choose made silences bads last b)
 unfolding choose
-chosen made silences last b few =
-    cond_both (is_same next.range last) silences 0
-    (λ again. IsChosen made silences last (asking made again next (ready b)))
-    (λ same. asking-is made silences silences last next (ready b) (question-is (ready b)) few
-    (inr (refl, same_range next.range last same)) (λ is. refl))
-    (λ other. asking-is made silences 0 last next (ready b) (question-is (ready b)) (omega arith) (inl refl)
-    (λ is. absurd (true≢false (sym (same_as next.range last is) ∙ other))))
+chosen made silences bads last b few =
+    cond_both (is_same next.range last) _ _ (IsChosen made silences bads last)
+    (λ same. asking-is made silences bads silences bads last next (ready b) (question-is (ready b)) few
+    (inl (same_range next.range last same, refl, refl)))
+    (λ other. asking-is made silences bads 0 0 last next (ready b) (question-is (ready b)) (omega arith)
+    (inr ((λ is. true≢false (sym (same_as next.range last is) ∙ other)), refl, refl)))
   where
     next : Question
     next = question (ready b)
 
-    same_as : (r q : Span) → r ≡ q → is_same r q ≡ true
-    same_as r q is = subst (λ (s : Span). is_same r s ≡ true) is (itself r)
+-- after a UID is given up, the whole range is asked, or one above it
+module _ (u : ℕ) (b : Belief) where
+  abbrev gave_up : Belief
+  gave_up = give_up u b
+
+  asks_above : ((question gave_up).range ≡ whole) ⊎ (u + 1 ≤ (question gave_up).range.hi)
+  asks_above = cond_both (nat_lt last_uid (u + 1)) _ _ (λ (q : Question). (q.range ≡ whole) ⊎ (u + 1 ≤ q.range.hi))
+      (λ last. inl refl) (λ within. inr (past (ltb-false last_uid (u + 1) within)))
+    where
+      fresh : Question
+      fresh = part_of gave_up
+
+      higher : u + 1 ≤ last_uid → u + 1 ≤ fresh.range.hi
+      higher within = let more : u + 1 ≤ u + 1 + (2 - 1) = omega arith in le-min more within
+
+      past : u + 1 ≤ last_uid → u + 1 ≤ (with_lower gave_up fresh).range.hi
+      past within = cond_both (is_one fresh.range) _ _ (λ (q : Question). u + 1 ≤ q.range.hi)
+          (λ one. le-min (higher within) within) (λ several. higher within)
+
+  gave_up-ready : ready gave_up ≡ gave_up
+  gave_up-ready = cond-false ((question gave_up).range.hi == 0) _ _ (some asks_above)
+    where
+      some : ((question gave_up).range ≡ whole) ⊎ (u + 1 ≤ (question gave_up).range.hi)
+          → ((question gave_up).range.hi == 0) ≡ false
+      some (inl all) = ap (λ (r : Span). r.hi == 0) all
+      some (inr more) = not_zero (question gave_up).range.hi more
+        where
+          not_zero : (n : ℕ) → u + 1 ≤ n → (n == 0) ≡ false
+          not_zero n more = elim (cases_Bool (n == 0)) [
+            | inl zero ↦ absurd (let is = eqb-true n 0 zero in omega (arith, is, more))
+            | inr other ↦ other
+          ]
+
+-- so it isn't the same UID again
+pub gave_up-elsewhere : (made : ℕ) (r : Span) (b : Belief) → IsRange r → r.lo ≡ r.hi
+    → (choose made 0 0 r (give_up r.hi b)).question.range ≡ r → ⊥
+unfolding choose
+gave_up-elsewhere made r b range one =
+    cond_both (is_same (question (ready (gave_up r.hi b))).range r) _ _ (λ (s : Sweep). s.question.range ≡ r → ⊥)
+    (λ same. elsewhere) (λ other. elsewhere)
+  where
+    elsewhere : (question (ready (gave_up r.hi b))).range ≡ r → ⊥
+    elsewhere is = elim (asks_above r.hi b) [
+      | inl all ↦ narrow (sym (is_question is) ∙ all)
+      | inr more ↦ let up : r.hi + 1 ≤ r.hi = subst (λ (s : Span). r.hi + 1 ≤ s.hi) (is_question is) more in
+          omega (arith, up)
+    ]
       where
-        itself : (r : Span) → is_same r r ≡ true
-        itself r = rw (eq-eqb r.lo r.lo refl, eq-eqb r.hi r.hi refl) refl
+        is_question : (question (ready (gave_up r.hi b))).range ≡ r → (question (gave_up r.hi b)).range ≡ r
+        is_question p = subst (λ (c : Belief). (question c).range ≡ r) (gave_up-ready r.hi b) p
+
+        narrow : r ≡ whole → ⊥
+        narrow all = let lo = ap (λ (s : Span). s.lo) all in let hi = ap (λ (s : Span). s.hi) all in
+            omega (arith, lo, hi, one)

@@ -32,7 +32,8 @@ pub use Rattle.rdm_wire.specs.declared.mute_ack.MuteAck.{MuteAck}
 pub use Rattle.rdm_wire.specs.declared.uid_set.TheConstants.{MOST_DEVICES}
 pub use Rattle.rdm_agent.specs.Bound.{EndsWithin, enough_by}
 pub use Rattle.rdm_agent.specs.Calls.{next_op, HasRunBy, RunSoFar, op_of}
-pub use Rattle.rdm_agent.specs.Cause.{IsCorrupt, Cause, AllReported, EndsFailed}
+pub use Rattle.rdm_agent.specs.Cause.{IsCorrupt, Cause, AllReported, EndsFailed, IsCorruptBy, is_bytes}
+pub use Rattle.rdm_agent.specs.Cause.{answered_again, answers_in_a_row}
 pub use Rattle.rdm_agent.specs.Certificate.{SearchShows, known_of, Certificate, IsTried, IsCleared, MutesNamed}
 pub use Rattle.rdm_agent.specs.Machine.{AgentState, Phase, found_uids, fed, is_new, fault_of, heard_by_phase, Runs}
 pub use Rattle.rdm_agent.specs.Machine.{start_by, sweep_on, to_phase, wanted, counted, search_below}
@@ -45,8 +46,11 @@ pub use Rattle.rdm_agent.specs.Machine.{first_phase, is_last, known_heard, mute_
 pub use Rattle.rdm_agent.specs.Machine.{sweep_suspecting, swept_heard, unassigned, sweep_on_after, sweep_split}
 pub use Rattle.rdm_agent.specs.Machine.{counted_silent, counted_spelt, sweep_spelt, is_stray}
 pub use Rattle.rdm_agent.specs.Beliefs.{hushing, hearing}
-pub use Rattle.rdm_agent.specs.Machine.{check_silent, check_heard, stray_heard}
-pub use Rattle.rdm_agent.specs.Beliefs.{is_checked_again, stray_found}
+pub use Rattle.rdm_agent.specs.Machine.{check_silent, check_heard, stray_heard, search_whole, asks_again, is_soon}
+pub use Rattle.rdm_agent.specs.Machine.{spare_at, spare_of, spent_more, search_apart, search_silent, search_read}
+pub use Rattle.rdm_agent.specs.Machine.{known_lost, mute_lost, swept_lost, stray_lost, sweep_alone, bads_aside}
+pub use Rattle.rdm_agent.specs.Machine.{garbled_mutes}
+pub use Rattle.rdm_agent.specs.Beliefs.{is_checked_again, stray_found, give_up}
 unfoldable pub use Rattle.rdm_agent.specs.Machine.{choose}
 pub use Rattle.rdm_agent.specs.Machine.Phase.{Searching, Ended, MutingKnown, MutingRead, MutingSwept, Sweeping}
 pub use Rattle.rdm_agent.specs.Machine.Phase.{Unmuting, Checking, MutingStray}
@@ -63,7 +67,7 @@ pub use Rattle.rdm_agent.specs.declared.fault.AgentFault.{AgentFault}
 pub use Rattle.rdm_agent.specs.declared.fault.AgentFault.TheVariants.{TooMany, Exhausted, LineFailed}
 pub use Rattle.rdm_agent.specs.declared.kind.Kind.{Kind}
 pub use Rattle.rdm_agent.specs.declared.kind.Kind.TheVariants.{Full, Incremental}
-pub use Rattle.rdm_agent.specs.declared.limits.TheConstants.{TRIES, UNMUTES, DEFAULT_BUDGET}
+pub use Rattle.rdm_agent.specs.declared.limits.TheConstants.{TRIES, UNMUTES, DEFAULT_BUDGET, BAD_ANSWERS}
 pub use Rattle.rdm_agent.specs.declared.op.Op.{Op}
 pub use Rattle.rdm_agent.specs.declared.op.Op.TheVariants.{End}
 pub use Rattle.rdm_agent.specs.declared.op.OpReply.{OpReply}

@@ -4,7 +4,7 @@ use Rattle.rdm_agent.proofs.Common.{sym, ap, ap₂, ◌∙◌, subst, inl, inr, 
 use Rattle.rdm_agent.proofs.Common.{nat_le, AllByRecursion, le-leb, leb-true, and_parts, not-true, has, is_within}
 use Rattle.rdm_agent.proofs.Common.{is_broadcast, IsDevice, Span, Heard, Seen, Branch, Mute, Acked, Failed, Silent, One}
 use Rattle.rdm_agent.proofs.Common.{MuteAck, acked_by, acked_in, asks_range, is_branch, IsLostMute, IsCorrupt, is_new}
-use Rattle.rdm_agent.proofs.Common.{TRIES}
+use Rattle.rdm_agent.proofs.Common.{TRIES, Search, Steady, Quick, IsCorruptBy, spare_at, BAD_ANSWERS, cases_lt, cases_Bool, eqb-false, ◌==◌}
 use Rattle.std.proofs.lemmas.Bool.{not-false}
 use Rattle.rdm_agent.specs.Cause.{IsCorruptReply}
 use Rattle.rdm_agent.proofs.Members.{last_part, tails, heads}
@@ -12,6 +12,10 @@ use Rattle.rdm_agent.proofs.OneDevice.{NotFailed}
 use Rattle.rdm_agent.proofs.Pushes.{All-at, All-push, has-front}
 use Rattle.rdm_agent.proofs.FoundLemmas.{IsFound-has}
 use Rattle.rdm_agent.proofs.Invariant.{IsFound, WasSpelt}
+use Rattle.rdm_agent.proofs.Rows.{NotCorrupt, Answered, none-row, silent-none, acked-none, unbranched-none}
+use Rattle.rdm_agent.proofs.Rows.{few-answers, several-none}
+use Rattle.rdm_agent.proofs.Common.{◌+◌}
+use Rattle.std.proofs.lemmas.Bool.{le-ltb}
 
 -- a UID that may be a new device is one of the range, and isn't found
 pub record IsNewDevice (found : List ℕ) (top : Span) (u : ℕ) : Type 0 where
@@ -243,3 +247,48 @@ not_corrupt-acked w u tries ack top x spelt c = elim o.cause [
     none_after : (l : List Seen) → l ++ e ∷ [] ≡ [] → ⊥
     none_after [] p = cc
     none_after (d ∷ l) p = cc
+
+-- whatever range comes next: nothing is corrupt without a branch, after a silence or after an acknowledgement
+pub sound-no_branch : (search : Search) (r : Span) (x : List Seen) → AllByRecursion NoBranch x → NotCorrupt search r 0 x
+sound-no_branch Steady r x none = λ u c. not_corrupt-no_branch u x none c
+sound-no_branch Quick r x none = none-row r x (λ u. unbranched-none u x none)
+
+pub sound-silent : (search : Search) (r : Span) (x : List Seen) (lo hi : ℕ)
+    → NotCorrupt search r 0 (x ++ record { asked = Branch lo hi; heard = Silent } ∷ [])
+sound-silent Steady r x lo hi = λ u c. not_corrupt-silent u x lo hi c
+sound-silent Quick r x lo hi =
+    none-row r (x ++ record { asked = Branch lo hi; heard = Silent } ∷ []) (λ u. silent-none u x lo hi)
+
+pub sound-acked : (search : Search) (r : Span) (u tries : ℕ) (ack : MuteAck) (top : Span) (x : List Seen)
+    → WasSpelt u tries top x → NotCorrupt search r 0 (x ++ record { asked = Mute u; heard = Acked ack } ∷ [])
+sound-acked Steady r u tries ack top x spelt = λ w c. not_corrupt-acked w u tries ack top x spelt c
+sound-acked Quick r u tries ack top x spelt =
+    none-row r (x ++ record { asked = Mute u; heard = Acked ack } ∷ []) (λ w. acked-none w x u ack)
+
+-- so no UID is corrupt as its search has it
+pub not_corrupt-by : (search : Search) (r : Span) (bads : ℕ) (x : List Seen) → NotCorrupt search r bads x → (u : ℕ)
+    → IsCorruptBy search u x → ⊥
+not_corrupt-by Steady r bads x sound u c = sound u c
+not_corrupt-by Quick r bads x row u c = let few = row.few u in let many = c.1 in omega (arith, few, many)
+
+-- while what a range spelt is muted, nothing is corrupt: fewer than five mutes were lost, or the UID wasn't answered often
+-- enough
+pub read-sound : (search : Search) (u tries spare bads : ℕ) (top : Span) (x : List Seen) (found : List ℕ)
+    → IsFound x found → top.hi < 2 ^ 48 → IsNewDevice found top u → (n : ℕ) → WasSpelt u n top x → tries < TRIES
+    → n + spare ≡ tries + spare_at search top bads → spare ≤ spare_at search top bads → Answered search top bads x
+    → (w : ℕ) → IsCorruptBy search w x → ⊥
+read-sound Steady u tries spare bads top x found is_found end new n spelt few counted spared a w c =
+    not_corrupt-spelt w u n top x found is_found end new spelt (omega (arith, few, counted, spared)) c
+read-sound Quick u tries spare bads top x found is_found end new n spelt few counted spared a w c =
+    elim (cases_lt bads BAD_ANSWERS) [
+      | inl less ↦ let fewer = few-answers top bads x a (λ one. less) w in let many = c.1 in omega (arith, fewer, many)
+      | inr last ↦ elim (cases_Bool (top.lo == top.hi)) [
+        | inl one ↦ not_corrupt-spelt w u n top x found is_found end new spelt
+            (let none = none_spare one last in omega (arith, few, counted, spared, none)) c.0
+        | inr several ↦ let none = several-none top bads x a (eqb-false top.lo top.hi several) w in
+            let many = c.1 in omega (arith, none, many)
+      ]
+    ]
+  where
+    none_spare : (top.lo == top.hi) ≡ true → BAD_ANSWERS ≤ bads → spare_at Quick top bads ≡ 0
+    none_spare one last = rw (one, le-ltb bads BAD_ANSWERS last) refl

@@ -11,7 +11,7 @@ pub worth-fewer : (level m n : ℕ) → m ≤ n → worth level m ≤ worth leve
 worth-fewer level m n fewer = grind arith
 
 -- a device that is found pays for five branches and five mutes
-worth-found : (level m n : ℕ) → m + 1 ≤ n → worth level m + 20 ≤ worth level n
+pub worth-found : (level m n : ℕ) → m + 1 ≤ n → worth level m + 20 ≤ worth level n
 worth-found level m n fewer = grind arith
 
 -- a range with two devices is worth its halves, and five branches and five mutes

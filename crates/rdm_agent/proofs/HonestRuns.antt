@@ -16,7 +16,7 @@ certificate : (search : Search) (kind : Kind) (known : List ℕ) (budget : ℕ) 
     → IsDeviceSet known → Runs (start_by search kind known budget) x b → next_of b ≡ None → fault_of b.phase ≡ None
     → Certificate kind known x b.found
 certificate search kind known budget x b set run end fault =
-    subst (λ f. MatchOption f (Certificate kind known x b.found) (λ g. Cause budget ⊥ g x)) fault
+    subst (λ f. MatchOption f (Certificate kind known x b.found) (λ g. Cause search budget ⊥ g x)) fault
     (ends_certified_by search kind known budget x b set run end).0
 
 -- on a noisy line that is the devices

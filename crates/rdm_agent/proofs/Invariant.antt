@@ -3,12 +3,13 @@ use Rattle.rdm_agent.proofs.Common.{◌≡◌, ℕ, ◌+◌, ◌<◌, ◌≤◌,
 use Rattle.rdm_agent.proofs.Common.{Some, None, ◌⊎◌, MatchOption, replicate, AllByRecursion, before_first, has, set_of}
 use Rattle.rdm_agent.proofs.Common.{IsDevice, MOST_DEVICES, EachAfter, once, Span, whole, Seen, Unmute, Branch, One}
 use Rattle.rdm_agent.proofs.Common.{muted_in, acked_in, reported, is_branch, AsFirstAcked, IsSilentBranch, IsLostMute}
-use Rattle.rdm_agent.proofs.Common.{SearchShows, IsTried, IsCleared, MutesNamed, known_of, Cause, IsCorrupt, Phase}
+use Rattle.rdm_agent.proofs.Common.{SearchShows, IsTried, IsCleared, MutesNamed, known_of, Cause, Phase, Search, Quick}
 use Rattle.rdm_agent.proofs.Common.{AgentState, is_new, found_uids, Unmuting, MutingKnown, Searching, MutingRead}
 use Rattle.rdm_agent.proofs.Common.{Sweeping, MutingSwept, Ended, Kind, AgentFault, Sweep, IsStack, TRIES, UNMUTES}
-use Rattle.rdm_agent.proofs.Common.{Checking, MutingStray, unassigned}
+use Rattle.rdm_agent.proofs.Common.{Checking, MutingStray, unassigned, spare_at, answers_in_a_row}
 use Rattle.rdm_agent.proofs.OneDevice.{NotFailed}
 use Rattle.rdm_agent.proofs.Choices.{IsRange, Asks}
+use Rattle.rdm_agent.proofs.Rows.{AnswersOf, Row, NotCorrupt, Answered}
 
 -- the last n exchanges have P
 pub record EndsWith (n : ℕ) (P : Seen → Type 0) (x : List Seen) : Type 0 where
@@ -63,13 +64,13 @@ pub record IsMutingKnown (known : List ℕ) (u tries : ℕ) (left : List ℕ) (x
   pub few : tries < TRIES
   pub lost : EndsWith tries (IsLostMute u) x
 
--- the top range is branched, so often in silence
-pub record IsSearching (known : List ℕ) (silences : ℕ) (top : Span) (below : List Span) (x : List Seen)
-    (found : List ℕ) : Type 0 where
+-- the top range is branched, so often in silence, or with so many bad answers
+pub record IsSearching (search : Search) (known : List ℕ) (silences bads : ℕ) (top : Span) (below : List Span)
+    (x : List Seen) (found : List ℕ) : Type 0 where
   pub searches : Searches known None top below x found
   pub few : silences < TRIES
   pub silent : EndsWith silences (IsSilentBranch top.lo top.hi) x
-  pub not_corrupt : (u : ℕ) → IsCorrupt u x → ⊥
+  pub not_corrupt : NotCorrupt search top bads x
 
 -- the top range spelt u, and since then its mutes are lost
 pub record WasSpelt (u tries : ℕ) (top : Span) (x : List Seen) : Type 0 where
@@ -79,67 +80,89 @@ pub record WasSpelt (u tries : ℕ) (top : Span) (x : List Seen) : Type 0 where
   pub many : length mutes ≡ tries
   pub lost : AllByRecursion (IsLostMute u) mutes
 
--- what the top range spelt may be a new device, and is muted, so far in vain
-pub record IsMutingRead (known : List ℕ) (u tries : ℕ) (top : Span) (below : List Span) (x : List Seen)
-    (found : List ℕ) : Type 0 where
+-- what the top range spelt may be a new device, and is muted, n times so far in vain
+pub record IsMutingRead (search : Search) (known : List ℕ) (u tries spare bads : ℕ) (top : Span) (below : List Span)
+    (x : List Seen) (found : List ℕ) : Type 0 where
+  pub n : ℕ
   pub searches : Searches known (Some u) top below x found
   pub few : tries < TRIES
   pub new : is_new found top u ≡ true
-  pub spelt : WasSpelt u tries top x
+  pub spelt : WasSpelt u n top x
+  pub counted : n + spare ≡ tries + spare_at search top bads
+  pub spared : spare ≤ spare_at search top bads
+  pub answered : Answered search top bads x
 
--- a sweep branches a range, so often in silence; the steady search may begin at any time
-pub record IsSweeping (known : List ℕ) (sweep : Sweep) (x : List Seen) (found : List ℕ) : Type 0 where
+-- a sweep branches a range, so often in silence, or with so many bad answers; the steady search may begin at any time
+pub record IsSweeping (search : Search) (known : List ℕ) (sweep : Sweep) (x : List Seen) (found : List ℕ) : Type 0 where
+  pub quick : search ≡ Quick
   pub searches : Searches known None whole [] x found
   pub asks : Asks sweep
   pub silent : EndsWith sweep.silences (IsSilentBranch sweep.question.range.lo sweep.question.range.hi) x
-  pub not_corrupt : (u : ℕ) → IsCorrupt u x → ⊥
+  pub few_bads : sweep.bads < 4
+  pub row : Row sweep.question.range sweep.bads x
 
--- what the range spelt may be a new device, and is muted, so far in vain
-pub record IsMutingSwept (known : List ℕ) (u tries : ℕ) (sweep : Sweep) (x : List Seen) (found : List ℕ) : Type 0 where
+-- what the range spelt may be a new device, and is muted, n times so far in vain
+pub record IsMutingSwept (search : Search) (known : List ℕ) (u tries : ℕ) (sweep : Sweep) (x : List Seen)
+    (found : List ℕ) : Type 0 where
+  pub n : ℕ
+  pub quick : search ≡ Quick
   pub searches : Searches known (Some u) whole [] x found
   pub range : IsRange sweep.question.range
   pub few : tries < TRIES
   pub new : is_new found sweep.question.range u ≡ true
-  pub spelt : WasSpelt u tries sweep.question.range x
+  pub spelt : WasSpelt u n sweep.question.range x
+  pub some : tries ≤ n
+  pub few_bads : sweep.bads < 4
+  pub answers : AnswersOf sweep.question.range (sweep.bads + 1) x
 
 -- the range without devices is branched, so often in silence, after a UID was spelt by a range that it isn't in
-pub record IsChecking (known : List ℕ) (u silences : ℕ) (x : List Seen) (found : List ℕ) : Type 0 where
-  pub searches : Searches known None whole [] x found
-  pub device : IsDevice u
-  pub few : silences < 2
-  pub silent : EndsWith silences (IsSilentBranch unassigned.lo unassigned.hi) x
-  pub not_corrupt : (u : ℕ) → IsCorrupt u x → ⊥
+pub record IsChecking (search : Search) (known : List ℕ) (u silences : ℕ) (x : List Seen) (found : List ℕ) : Type 0
+  where
+    pub quick : search ≡ Quick
+    pub searches : Searches known None whole [] x found
+    pub device : IsDevice u
+    pub few : silences < 2
+    pub silent : EndsWith silences (IsSilentBranch unassigned.lo unassigned.hi) x
+    pub none : (v : ℕ) → answers_in_a_row v x ≡ 0
 
--- the UID that this range spelt is muted, so far in vain
-pub record IsMutingStray (known : List ℕ) (u tries : ℕ) (x : List Seen) (found : List ℕ) : Type 0 where
+-- the UID that this range spelt is muted, n times so far in vain
+pub record IsMutingStray (search : Search) (known : List ℕ) (u tries : ℕ) (x : List Seen) (found : List ℕ) : Type 0 where
+  pub n : ℕ
+  pub quick : search ≡ Quick
   pub searches : Searches known (Some u) whole [] x found
   pub device : IsDevice u
   pub few : tries < TRIES
-  pub spelt : WasSpelt u tries unassigned x
+  pub spelt : WasSpelt u n unassigned x
+  pub some : tries ≤ n
+  pub none : (v : ℕ) → answers_in_a_row v x ≡ 0
 
 -- a run without fault has its certificate, one with a fault its cause; a failure is last
-pub record HasEnded (kind : Kind) (known : List ℕ) (budget : ℕ) (fault : Option AgentFault) (x : List Seen)
-    (found : List ℕ) : Type 0 where
+pub record HasEnded (search : Search) (kind : Kind) (known : List ℕ) (budget : ℕ) (fault : Option AgentFault)
+    (x : List Seen) (found : List ℕ) : Type 0 where
   pub before : List Seen
   pub last : Seen
   pub whole : x ≡ before ++ last ∷ []
   pub no_failure : AllByRecursion NotFailed before
-  pub certified : MatchOption fault (SearchShows kind known x found) (λ f. Cause budget ⊥ f x)
+  pub certified : MatchOption fault (SearchShows kind known x found) (λ f. Cause search budget ⊥ f x)
 
 -- what holds in each phase
-abbrev pub InPhase : Kind → List ℕ → ℕ → Phase → List Seen → List ℕ → Type 0
-InPhase kind known budget (Unmuting more left) x found = (1 ≤ more) × IsUnmuting (known_of kind known) more left x found
-InPhase kind known budget (MutingKnown u tries left) x found = IsMutingKnown (known_of kind known) u tries left x found
-InPhase kind known budget (Searching silences top below) x found =
-    IsSearching (known_of kind known) silences top below x found
-InPhase kind known budget (MutingRead u tries top below) x found =
-    IsMutingRead (known_of kind known) u tries top below x found
-InPhase kind known budget (Sweeping sweep) x found = IsSweeping (known_of kind known) sweep x found
-InPhase kind known budget (MutingSwept u tries sweep) x found =
-    IsMutingSwept (known_of kind known) u tries sweep x found
-InPhase kind known budget (Checking u silences sweep) x found = IsChecking (known_of kind known) u silences x found
-InPhase kind known budget (MutingStray u tries sweep) x found = IsMutingStray (known_of kind known) u tries x found
-InPhase kind known budget (Ended fault) x found = HasEnded kind known budget fault x found
+abbrev pub InPhase : Search → Kind → List ℕ → ℕ → Phase → List Seen → List ℕ → Type 0
+InPhase search kind known budget (Unmuting more left) x found =
+    (1 ≤ more) × IsUnmuting (known_of kind known) more left x found
+InPhase search kind known budget (MutingKnown u tries spare left) x found =
+    IsMutingKnown (known_of kind known) u tries left x found
+InPhase search kind known budget (Searching silences bads spent top below) x found =
+    IsSearching search (known_of kind known) silences bads top below x found
+InPhase search kind known budget (MutingRead u tries spare bads top below) x found =
+    IsMutingRead search (known_of kind known) u tries spare bads top below x found
+InPhase search kind known budget (Sweeping sweep) x found = IsSweeping search (known_of kind known) sweep x found
+InPhase search kind known budget (MutingSwept u tries spare sweep) x found =
+    IsMutingSwept search (known_of kind known) u tries sweep x found
+InPhase search kind known budget (Checking u silences sweep) x found =
+    IsChecking search (known_of kind known) u silences x found
+InPhase search kind known budget (MutingStray u tries spare sweep) x found =
+    IsMutingStray search (known_of kind known) u tries x found
+InPhase search kind known budget (Ended fault) x found = HasEnded search kind known budget fault x found
 
 -- the agent stands after these exchanges
 pub record RunInvariant (kind : Kind) (known : List ℕ) (budget : ℕ) (x : List Seen) (a : AgentState) : Type 0 where
@@ -148,4 +171,4 @@ pub record RunInvariant (kind : Kind) (known : List ℕ) (budget : ℕ) (x : Lis
   pub within : length x ≤ budget
   pub reports : found_uids a ≡ reported x
   pub first : AsFirstAcked x a.found
-  pub phase : InPhase kind known budget a.phase x (found_uids a)
+  pub phase : InPhase a.search kind known budget a.phase x (found_uids a)

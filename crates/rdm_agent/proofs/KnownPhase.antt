@@ -7,7 +7,7 @@ use Rattle.rdm_agent.proofs.Common.{search_from, first_phase, Kind, Search, Stea
 use Rattle.rdm_agent.proofs.OneDevice.{NotFailed}
 use Rattle.rdm_agent.proofs.Pushes.{All-push, has-front, has-at, no_branch-before}
 use Rattle.rdm_agent.proofs.Stacks.{IsStack-whole}
-use Rattle.rdm_agent.proofs.CorruptLemmas.{not_corrupt-no_branch}
+use Rattle.rdm_agent.proofs.CorruptLemmas.{sound-no_branch}
 use Rattle.rdm_agent.proofs.FoundLemmas.{found-same}
 use Rattle.rdm_agent.proofs.UnderWay.{EndsWith-none, named-mute, lost-acks_none, under_way-lost, under_way-acked}
 use Rattle.rdm_agent.proofs.UnderWay.{under_way-given_up, under_way-next_begun}
@@ -96,24 +96,26 @@ module _ (kind : Kind) (known : List ℕ) (budget : ℕ) (x : List Seen) (found 
     cleared = λ v below. absurd (omega (arith, below));
   }
 
-  begins : (search : Search) → InPhase kind known budget (first_phase search) x found
+  begins : (search : Search) → InPhase search kind known budget (first_phase search) x found
   begins Steady = record {
     searches = searches;
     few = omega arith;
     silent = EndsWith-none _ x;
-    not_corrupt = λ u c. not_corrupt-no_branch u x m.no_branch c;
+    not_corrupt = sound-no_branch Steady whole x m.no_branch;
   }
   begins Quick = record {
+    quick = refl;
     searches = searches;
     asks = record { range = (omega arith, omega arith); few = omega arith; last = λ five. refl };
     silent = EndsWith-none _ x;
-    not_corrupt = λ u c. not_corrupt-no_branch u x m.no_branch c;
+    few_bads = omega arith;
+    row = sound-no_branch Quick whole x m.no_branch;
   }
 
 -- the next known UID is muted, or the search begins
 pub known-next : (kind : Kind) (known : List ℕ) (budget : ℕ) (search : Search) (left : List ℕ) (x : List Seen)
     (found : List ℕ) → MutesKnown (known_of kind known) None left x found
-    → InPhase kind known budget (search_from search left) x found
+    → InPhase search kind known budget (search_from search left) x found
 known-next kind known budget search [] x found m = begins kind known budget x found m search
 known-next kind known budget search (u ∷ left) x found m = record {
   muting = record {

@@ -10,6 +10,7 @@ pub mod SampleCertificate
 pub mod Pushes
 pub mod Stacks
 pub mod Choices
+pub mod Rows
 pub mod Invariant
 pub mod CorruptLemmas
 pub mod FoundLemmas
@@ -24,6 +25,7 @@ pub mod StrayRuns
 pub mod Runs
 pub mod HonestRuns
 pub mod Carried
+pub mod Garbled
 pub mod Potential
 pub mod LeftLemmas
 pub mod CoverLemmas

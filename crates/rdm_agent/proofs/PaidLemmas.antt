@@ -8,7 +8,7 @@ use Rattle.rdm_agent.proofs.Common.{with_device, MOST_DEVICES, uids_of-with_devi
 use Rattle.rdm_agent.proofs.Common.{LineState, HonestStep, MayReply, MuteMoves, KeepsMuted, Counts, due_in, is_acked}
 use Rattle.rdm_agent.proofs.Common.{Branch, Mute, Failed, Silent, One, Acked, Noise, MuteAck, Phase, AgentState}
 use Rattle.rdm_agent.proofs.Common.{to_phase, to_found, split, search_from, search_below, is_new, found_uids}
-use Rattle.rdm_agent.proofs.Common.{branch_heard, known_heard, mute_heard, heard_by_phase, Unmuting, MutingKnown}
+use Rattle.rdm_agent.proofs.Common.{branch_heard, known_heard, mute_heard, heard_by_phase, Unmuting}
 use Rattle.rdm_agent.proofs.Common.{Searching, MutingRead, Ended, TRIES, Search, Steady, Quick, TooMany}
 use Rattle.rdm_agent.proofs.Potential.{Ahead, sweep_cost, unfound, is_left, left_in, Covers, Costs, CostsKnown}
 use Rattle.rdm_agent.proofs.Potential.{CostsSearching, CostsRead, Finds, Affords}
@@ -16,6 +16,10 @@ use Rattle.rdm_agent.proofs.Members.{member}
 use Rattle.rdm_agent.proofs.Sets.{has-with_uid, length-with_uid}
 use Rattle.rdm_agent.proofs.LeftLemmas.{no_more, one_fewer, first_passes}
 use Rattle.rdm_agent.proofs.CoverLemmas.{Covers-some, Covers-left, Covers-found, Covers-device, Covers-split}
+use Rattle.rdm_agent.proofs.CoverLemmas.{worth-found, one_uid}
+use Rattle.rdm_agent.proofs.Common.{asks_again, is_soon, is_one, spare_at, spent_more, search_apart, search_silent}
+use Rattle.rdm_agent.proofs.Common.{search_read, known_lost, mute_lost, min, lt-ltb}
+use Rattle.std.proofs.Math.Nat.{min-le_left, le-min}
 
 -- a phase that costs an exchange less
 pub record Cheaper (search : Search) (present : List ℕ) (line : LineState) (found : List ℕ) (cost : ℕ)
@@ -32,7 +36,14 @@ search_from-costs Steady present found line cost [] n enough ahead =
     record {
       left = n;
       saves = omega arith;
-      costs = record { ranges = n; few = omega arith; covered = ahead; cost_is = omega arith };
+      costs = record {
+        ranges = n;
+        few = omega arith;
+        limit = omega arith;
+        either = inl refl;
+        covered = ahead;
+        cost_is = omega arith;
+      };
     }
 search_from-costs Quick present found line cost [] n enough ahead =
     record {
@@ -62,6 +73,8 @@ search_below-costs search present found line cost (r ∷ rs) n enough covered =
       costs = record {
         ranges = n;
         few = omega arith;
+        limit = omega arith;
+        either = inl refl;
         covered = covered;
         cost_is = omega arith;
       };
@@ -79,8 +92,87 @@ split-costs search present found line cost top below n ascending two enough cove
     (λ several. record {
       left = halved.1;
       saves = omega arith;
-      costs = record { ranges = halved.1; few = omega arith; covered = halved.3; cost_is = omega arith };
+      costs = record {
+        ranges = halved.1;
+        few = omega arith;
+        limit = omega arith;
+        either = inl refl;
+        covered = halved.3;
+        cost_is = omega arith;
+      };
     })
+
+-- one more branch is counted
+spent-one : (spent : ℕ) → spent ≤ 9 → spent_more spent ≡ spent + 1
+spent-one spent few =
+    let most : min (spent + 1) 10 ≤ spent + 1 = min-le_left (spent + 1) 10 in
+    let same : spent + 1 ≤ spent + 1 = omega arith in let ten : spent + 1 ≤ 10 = omega arith in
+    let least : spent + 1 ≤ min (spent + 1) 10 = le-min same ten in omega (arith, most, least)
+
+-- a range that had so many branches still pays for one more, and for the ranges below it
+pub searching-pays : (search : Search) (present found : List ℕ) (silences spent : ℕ) (top : Span) (below : List Span)
+    (cost : ℕ) → (c : CostsSearching search present found silences spent top below cost) → c.covered.1 + 2 ≤ cost
+searching-pays search present found silences spent top below cost c =
+    let fits = c.covered.3 in let few = c.few in let limit = c.limit in let is = c.cost_is in elim c.either [
+      | inl silent ↦ omega (arith, fits, few, is, silent)
+      | inr more ↦ let two = more.1 in
+          let paid = worth-found c.covered.0 0 (left_in present found top) (omega (arith, two)) in
+          omega (arith, fits, few, limit, is, paid)
+    ]
+
+module _ (present found : List ℕ) (top : Span) (ascending : IsAscending present)
+    (two : 2 ≤ left_in present found top) where
+  -- two devices are in a range of several UIDs
+  two-several : (top.lo == top.hi) ≡ false
+  two-several = elim (cases_Bool (top.lo == top.hi)) [
+    | inl one ↦ absurd (let same = eqb-true top.lo top.hi one in
+        let most = one_uid present found top (omega (arith, same)) ascending in omega (arith, two, most))
+    | inr several ↦ several
+  ]
+
+  -- a range in which two devices are left is asked again, or split
+  apart-costs : (search : Search) (line : LineState) (cost bads spent : ℕ) (below : List Span) (n : ℕ) → spent ≤ 9
+      → cost + 2 * spent ≡ n → Covers present found (top ∷ below) n
+      → Cheaper search present line found cost (search_apart search bads (spent + 1) top below)
+  apart-costs Steady line cost bads spent below n few is covered =
+      split-costs Steady present found line cost top below n ascending two (omega (arith, few, is)) covered
+  apart-costs Quick line cost bads spent below n few is covered =
+      cond_both (asks_again Quick top bads (spent + 1)) _ _ (Cheaper Quick present line found cost) again
+      (λ last. split-costs Quick present found line cost top below n ascending two (omega (arith, few, is)) covered)
+    where
+      opened : asks_again Quick top bads (spent + 1) ≡ (nat_lt (spent + 1) 6 && nat_lt bads 3)
+      opened = rw two-several refl
+
+      again : asks_again Quick top bads (spent + 1) ≡ true
+          → Cheaper Quick present line found cost (Searching 0 bads (spent + 1) top below)
+      again asks =
+          let early : spent + 1 < 6 = ltb-true (spent + 1) 6
+          (and_parts (nat_lt (spent + 1) 6) (nat_lt bads 3) (sym opened ∙ asks)).0 in
+          let some = Covers-left present found top below n (omega (arith, two)) covered in
+          record {
+            left = cost - 2;
+            saves = omega (arith, early, some, is);
+            costs = record {
+              ranges = n;
+              few = omega arith;
+              limit = omega (arith, early);
+              either = inr (refl, two);
+              covered = covered;
+              cost_is = omega (arith, early, some, is);
+            };
+          }
+
+-- what a branch spells is muted, unless it was asked too often
+soon-early : (search : Search) (top : Span) (spent : ℕ) → spent ≤ 4 → is_soon search top (spent + 1) ≡ true
+soon-early Steady top spent early = refl
+soon-early Quick top spent early =
+    or_right (is_one top) (nat_lt (spent + 1) 6) (lt-ltb (spent + 1) 6 (omega (arith, early)))
+
+early-soon : (top : Span) (spent : ℕ) → (top.lo == top.hi) ≡ false → is_soon Quick top (spent + 1) ≡ true → spent ≤ 4
+early-soon top spent several soon = elim (or_cases (is_one top) (nat_lt (spent + 1) 6) soon) [
+  | inl one ↦ absurd (true≢false (sym one ∙ several))
+  | inr early ↦ let less : spent + 1 < 6 = ltb-true (spent + 1) 6 early in omega (arith, less)
+]
 
 -- a device that is acknowledged is found already, or one more is found and one fewer left
 abbrev pub CountsOneMore : List ℕ → List ℕ → ℕ → List ℕ → Type 0
@@ -134,6 +226,17 @@ acked-mute present s new u ack step = by_presence (has present u) step.1
     by_presence true (inr silent) = absurd (loud silent.0)
     by_presence false absent = absurd (loud absent.0)
 
+-- a mute that isn't acknowledged is silent
+pub mute-quiet : (present : List ℕ) (s new : LineState) (u : ℕ) (h : Heard) → HonestStep present s (Mute u) h new
+    → is_acked h ≡ false → h ≡ Silent
+mute-quiet present s new u h step lost = by_presence (has present u) step.1
+  where
+    by_presence : (b : Bool)
+        → MatchBool b (MuteMoves u s h new) ((h ≡ Silent) × KeepsMuted u s new × Counts new 0 0 0) → h ≡ Silent
+    by_presence true (inl acked) = absurd (true≢false (sym acked.0 ∙ lost))
+    by_presence true (inr silent) = silent.0
+    by_presence false absent = absent.0
+
 -- a device's mute that is lost is one more in a row, and no more than four
 pub lost-mute : (present : List ℕ) (s new : LineState) (u : ℕ) (h : Heard) → is_acked h ≡ false
     → HonestStep present s (Mute u) h new → has present u ≡ true
@@ -145,6 +248,13 @@ lost-mute present s new u h lost step here =
     of_moves : MuteMoves u s h new → (new.lost_mutes ≡ s.lost_mutes + 1) × (s.lost_mutes + 1 ≤ 4)
     of_moves (inl acked) = absurd (true≢false (sym acked.0 ∙ lost))
     of_moves (inr silent) = (silent.2.mutes, silent.2.few_mutes)
+
+-- other bytes aren't silence
+pub one_loud : (u : ℕ) → One u ≡ Silent → ⊥
+one_loud u p = cc
+
+pub noise_loud : Noise ≡ Silent → ⊥
+noise_loud p = cc
 
 -- what is found stays so while no device is unmuted
 pub Finds-keeps : (present found : List ℕ) (s new : LineState) → ((u : ℕ) → s.muted u ≡ true → new.muted u ≡ true)
@@ -344,14 +454,13 @@ module _ (present : List ℕ) (set : IsDeviceSet present) (few : length present 
           search_from-costs a.search present (found_uids a) new cost known costs.ranges (omega arith) costs.ahead
 
   -- a mute of a known UID that is lost
-  known_lost-affords : (u tries : ℕ) (known : List ℕ) (h : Heard) → Finds present s (found_uids a)
-      → HonestStep present s (Mute u) h new → CostsKnown a.search present (found_uids a) tries known cost
-      → Affords present total new
-      (to_phase a (cond ((tries + 1) == TRIES) (search_from a.search known) (MutingKnown u (tries + 1) known)))
-  known_lost-affords u tries known h f step costs =
+  known_lost-affords : (u tries spare : ℕ) (known : List ℕ) → Finds present s (found_uids a)
+      → HonestStep present s (Mute u) Silent new → CostsKnown a.search present (found_uids a) tries known cost
+      → Affords present total new (to_phase a (known_lost a.search u tries spare known))
+  known_lost-affords u tries spare known f step costs =
       let few = costs.few in let is = costs.cost_is in
-      to_phase-affords (cond ((tries + 1) == TRIES) (search_from a.search known) (MutingKnown u (tries + 1) known))
-      (Finds-keeps present (found_uids a) s new (mute-keeps present s new u h step) f)
+      to_phase-affords (known_lost a.search u tries spare known)
+      (Finds-keeps present (found_uids a) s new (mute-keeps present s new u Silent step) f)
       (cond_both ((tries + 1) == TRIES) _ _ (Cheaper a.search present new (found_uids a) cost)
       (λ five. search_from-costs a.search present (found_uids a) new cost known costs.ranges (omega arith)
       costs.ahead)
@@ -364,98 +473,138 @@ module _ (present : List ℕ) (set : IsDeviceSet present) (few : length present 
       }))
 
   -- a mute of a known UID
-  pub known-affords : (u tries : ℕ) (known : List ℕ) (h : Heard) → h ≢ Failed → Finds present s (found_uids a)
+  pub known-affords : (u tries spare : ℕ) (known : List ℕ) (h : Heard) → h ≢ Failed → Finds present s (found_uids a)
       → HonestStep present s (Mute u) h new → CostsKnown a.search present (found_uids a) tries known cost
-      → Affords present total new (known_heard a u tries known h)
-  known-affords u tries known (Acked ack) sound f step costs =
+      → Affords present total new (known_heard a u tries spare known h)
+  known-affords u tries spare known (Acked ack) sound f step costs =
       let acked = acked-mute present s new u ack step in let few = costs.few in let is = costs.cost_is in
       to_found-affords u ack (search_from a.search known) acked.0 acked.1 (mute-keeps present s new u (Acked ack) step)
       f
       (λ more grows now one_more. search_from-costs a.search present more new cost known costs.ranges (omega arith)
       (Ahead-found a.search present (found_uids a) more u grows one_more costs.ranges costs.ahead))
-  known-affords u tries known Failed sound f step costs = absurd (sound refl)
-  known-affords u tries known Silent sound f step costs = known_lost-affords u tries known Silent f step costs
-  known-affords u tries known (One v) sound f step costs = known_lost-affords u tries known (One v) f step costs
-  known-affords u tries known Noise sound f step costs = known_lost-affords u tries known Noise f step costs
+  known-affords u tries spare known Failed sound f step costs = absurd (sound refl)
+  known-affords u tries spare known Silent sound f step costs = known_lost-affords u tries spare known f step costs
+  known-affords u tries spare known (One v) sound f step costs =
+      absurd (one_loud v (mute-quiet present s new u (One v) step refl))
+  known-affords u tries spare known Noise sound f step costs =
+      absurd (noise_loud (mute-quiet present s new u Noise step refl))
 
-  -- the top range is branched, and it is split
-  split-affords : (silences : ℕ) (top : Span) (below : List Span) → Finds present new (found_uids a)
-      → CostsSearching present (found_uids a) silences (top ∷ below) cost → 2 ≤ left_in present (found_uids a) top
-      → Affords present total new (to_phase a (split top below))
-  split-affords silences top below f costs two = let few = costs.few in let is = costs.cost_is in
-      to_phase-affords (split top below) f
-      (split-costs a.search present (found_uids a) new cost top below costs.ranges set.ascending two (omega arith)
-      costs.covered)
+  -- the top range is branched, and two devices are left in it
+  apart-affords : (silences bads spent : ℕ) (top : Span) (below : List Span) → Finds present new (found_uids a)
+      → CostsSearching a.search present (found_uids a) silences spent top below cost
+      → 2 ≤ left_in present (found_uids a) top
+      → Affords present total new (to_phase a (search_apart a.search (bads + 1) (spent_more spent) top below))
+  apart-affords silences bads spent top below f costs two =
+      let few = costs.few in let limit = costs.limit in let less : spent ≤ 9 = omega (arith, few, limit) in
+      to_phase-affords _ f
+      (subst (λ n. Cheaper a.search present new (found_uids a) cost (search_apart a.search (bads + 1) n top below))
+      (sym (spent-one spent less))
+      (apart-costs present (found_uids a) top set.ascending two a.search new cost (bads + 1) spent below costs.ranges
+      less costs.cost_is costs.covered))
 
   -- it is silent
-  silent-affords : (silences : ℕ) (top : Span) (below : List Span) → Finds present new (found_uids a)
-      → CostsSearching present (found_uids a) silences (top ∷ below) cost
-      → Affords present total new
-      (to_phase a (cond ((silences + 1) == TRIES) (search_below below) (Searching (silences + 1) top below)))
-  silent-affords silences top below f costs =
-      let few = costs.few in let is = costs.cost_is in
-      let some : 10 ≤ costs.ranges = Covers-some present (found_uids a) top below costs.ranges costs.covered in
-      to_phase-affords (cond ((silences + 1) == TRIES) (search_below below) (Searching (silences + 1) top below)) f
+  silent-affords : (silences spent : ℕ) (top : Span) (below : List Span) → Finds present new (found_uids a)
+      → CostsSearching a.search present (found_uids a) silences spent top below cost
+      → Affords present total new (to_phase a (search_silent silences (spent_more spent) top below))
+  silent-affords silences spent top below f costs =
+      let few = costs.few in let limit = costs.limit in let is = costs.cost_is in
+      let some = searching-pays a.search present (found_uids a) silences spent top below cost costs in
+      let one : spent_more spent ≡ spent + 1 = spent-one spent (omega (arith, few, limit)) in
+      to_phase-affords (search_silent silences (spent_more spent) top below) f
       (cond_both ((silences + 1) == TRIES) _ _ (Cheaper a.search present new (found_uids a) cost)
-      (λ five. let fits = costs.covered.3 in
-      search_below-costs a.search present (found_uids a) new cost below costs.covered.1 (omega arith)
-      costs.covered.4)
+      (λ five. search_below-costs a.search present (found_uids a) new cost below costs.covered.1 some costs.covered.4)
       (λ fewer. let other : silences + 1 ≡ TRIES → ⊥ = eqb-false (silences + 1) TRIES fewer in
-      let less : silences + 1 ≤ 4 = grind arith in
+      let less : silences + 1 ≤ 4 = grind (arith, few, other) in
       record {
         left = cost - 2;
-        saves = omega arith;
-        costs = record { ranges = costs.ranges; few = less; covered = costs.covered; cost_is = omega arith };
+        saves = omega (arith, some);
+        costs = record {
+          ranges = costs.ranges;
+          few = less;
+          limit = omega (arith, limit, one);
+          either = elim costs.either [
+            | inl same ↦ inl (omega (arith, same, one))
+            | inr two ↦ inr two
+          ];
+          covered = costs.covered;
+          cost_is = omega (arith, some, is, one);
+        };
       }))
 
   -- it spells a UID
-  spelt-affords : (silences : ℕ) (top : Span) (below : List Span) (u : ℕ) → Finds present new (found_uids a)
-      → CostsSearching present (found_uids a) silences (top ∷ below) cost
+  spelt-affords : (silences bads spent : ℕ) (top : Span) (below : List Span) (u : ℕ) → Finds present new (found_uids a)
+      → CostsSearching a.search present (found_uids a) silences spent top below cost
       → SpellsNew present (found_uids a) top (One u) ⊎ (2 ≤ left_in present (found_uids a) top)
       → Affords present total new
-      (to_phase a (cond (is_new (found_uids a) top u) (MutingRead u 0 top below) (split top below)))
-  spelt-affords silences top below u f costs answer =
-      cond_both (is_new (found_uids a) top u) _ _ (λ p. Affords present total new (to_phase a p)) muted
-      (λ old. split-affords silences top below f costs (several old answer))
+      (to_phase a (search_read a.search (found_uids a) (bads + 1) (spent_more spent) top below u))
+  spelt-affords silences bads spent top below u f costs answer =
+      cond_both (is_new (found_uids a) top u && is_soon a.search top (spent_more spent)) _ _
+      (λ p. Affords present total new (to_phase a p)) muted
+      (λ old. apart-affords silences bads spent top below f costs (several old answer costs.either))
     where
       same : (v : ℕ) → One u ≡ One v → u ≡ v
       same v p = cc
 
-      several : is_new (found_uids a) top u ≡ false → SpellsNew present (found_uids a) top (One u)
-          ⊎ (2 ≤ left_in present (found_uids a) top) → 2 ≤ left_in present (found_uids a) top
-      several old (inl one) =
-          absurd (true≢false (sym one.new ∙ ap (is_new (found_uids a) top) (sym (same one.uid one.heard)) ∙ old))
-      several old (inr two) = two
+      one : spent_more spent ≡ spent + 1
+      one = let few = costs.few in let limit = costs.limit in spent-one spent (omega (arith, few, limit))
+
+      soon : spent ≤ 4 → is_soon a.search top (spent_more spent) ≡ true
+      soon early = subst (λ n. is_soon a.search top n ≡ true) (sym one) (soon-early a.search top spent early)
+
+      both : (new fresh : Bool) → new ≡ true → fresh ≡ true → (new && fresh) ≡ false → ⊥
+      both true true p q never = true≢false never
+      both false fresh p q never = true≢false (sym p)
+      both true false p q never = true≢false (sym q)
+
+      several : (is_new (found_uids a) top u && is_soon a.search top (spent_more spent)) ≡ false
+          → SpellsNew present (found_uids a) top (One u) ⊎ (2 ≤ left_in present (found_uids a) top)
+          → (spent ≡ silences) ⊎ ((a.search ≡ Quick) × (2 ≤ left_in present (found_uids a) top))
+          → 2 ≤ left_in present (found_uids a) top
+      several old (inr two) either = two
+      several old (inl spells) (inr two) = two.1
+      several old (inl spells) (inl silent) = absurd (both (is_new (found_uids a) top u) _
+          (ap (is_new (found_uids a) top) (same spells.uid spells.heard) ∙ spells.new)
+          (soon (let few = costs.few in omega (arith, few, silent))) old)
 
       spelt : SpellsNew present (found_uids a) top (One u) ⊎ (2 ≤ left_in present (found_uids a) top)
           → (has present u ≡ true) ⊎ (2 ≤ left_in present (found_uids a) top)
-      spelt (inl one) = inl (ap (has present) (same one.uid one.heard) ∙ one.here)
+      spelt (inl spells) = inl (ap (has present) (same spells.uid spells.heard) ∙ spells.here)
       spelt (inr two) = inr two
 
-      muted : is_new (found_uids a) top u ≡ true → Affords present total new (to_phase a (MutingRead u 0 top below))
-      muted fresh =
-          let few = costs.few in let is = costs.cost_is in
+      early : is_soon a.search top (spent_more spent) ≡ true
+          → (spent ≡ silences) ⊎ ((a.search ≡ Quick) × (2 ≤ left_in present (found_uids a) top)) → spent ≤ 4
+      early is (inl silent) = let few = costs.few in omega (arith, few, silent)
+      early is (inr quick) = early-soon top spent (two-several present (found_uids a) top set.ascending quick.1)
+          (subst (λ n. is_soon Quick top n ≡ true) one
+          (subst (λ q. is_soon q top (spent_more spent) ≡ true) quick.0 is))
+
+      muted : (is_new (found_uids a) top u && is_soon a.search top (spent_more spent)) ≡ true
+          → Affords present total new
+          (to_phase a (MutingRead u 0 (spare_at a.search top (bads + 1)) (bads + 1) top below))
+      muted wanted =
+          let parts = and_parts (is_new (found_uids a) top u) _ wanted in
+          let few = early parts.1 costs.either in let is = costs.cost_is in
           let some : 10 ≤ costs.ranges = Covers-some present (found_uids a) top below costs.ranges costs.covered in
-          to_phase-affords (MutingRead u 0 top below) f (record {
+          to_phase-affords (MutingRead u 0 (spare_at a.search top (bads + 1)) (bads + 1) top below) f (record {
             left = costs.ranges - 10;
-            saves = omega arith;
+            saves = omega (arith, few, is, some);
             costs = record {
               ranges = costs.ranges;
               few = omega arith;
-              new = fresh;
+              new = parts.0;
               lost = λ here. omega arith;
               spelt = spelt answer;
               covered = costs.covered;
-              cost_is = omega arith;
+              cost_is = omega (arith, some);
             };
           })
 
   -- a branch of the top range
-  pub searching-affords : (silences : ℕ) (top : Span) (below : List Span) (h : Heard) → h ≢ Failed
+  pub searching-affords : (silences bads spent : ℕ) (top : Span) (below : List Span) (h : Heard) → h ≢ Failed
       → Finds present s (found_uids a) → HonestStep present s (Branch top.lo top.hi) h new
-      → CostsSearching present (found_uids a) silences (top ∷ below) cost
-      → Affords present total new (branch_heard a silences top below h)
-  searching-affords silences top below h sound f step costs = of_heard h sound step.0
+      → CostsSearching a.search present (found_uids a) silences spent top below cost
+      → Affords present total new (branch_heard a silences bads spent top below h)
+  searching-affords silences bads spent top below h sound f step costs = of_heard h sound step.0
     where
       finds : Finds present new (found_uids a)
       finds = Finds-keeps present (found_uids a) s new (λ u muted. step.1 u ∙ muted) f
@@ -470,31 +619,31 @@ module _ (present : List ℕ) (set : IsDeviceSet present) (few : length present 
           of_answer (inr two) = two
 
       of_heard : (h : Heard) → h ≢ Failed → MayReply (due_in present s.muted top.lo top.hi) h
-          → Affords present total new (branch_heard a silences top below h)
-      of_heard Silent sound reply = silent-affords silences top below finds costs
+          → Affords present total new (branch_heard a silences bads spent top below h)
+      of_heard Silent sound reply = silent-affords silences spent top below finds costs
       of_heard (One u) sound reply =
-          spelt-affords silences top below u finds costs
+          spelt-affords silences bads spent top below u finds costs
           (answered present (found_uids a) s top (One u) set (λ p. cc) f reply)
       of_heard Failed sound reply = absurd (sound refl)
       of_heard (Acked ack) sound reply =
-          split-affords silences top below finds costs (collided (Acked ack) (λ p. cc) (λ u p. cc) reply)
+          apart-affords silences bads spent top below finds costs (collided (Acked ack) (λ p. cc) (λ u p. cc) reply)
       of_heard Noise sound reply =
-          split-affords silences top below finds costs (collided Noise (λ p. cc) (λ u p. cc) reply)
+          apart-affords silences bads spent top below finds costs (collided Noise (λ p. cc) (λ u p. cc) reply)
 
   -- a mute of what the top range spelt is lost
-  read_lost-affords : (u tries : ℕ) (top : Span) (below : List Span) (h : Heard) → is_acked h ≡ false
-      → Finds present s (found_uids a) → HonestStep present s (Mute u) h new
+  read_lost-affords : (u tries spare bads : ℕ) (top : Span) (below : List Span)
+      → Finds present s (found_uids a) → HonestStep present s (Mute u) Silent new
       → CostsRead present s (found_uids a) u tries top below cost
-      → Affords present total new
-      (to_phase a (cond ((tries + 1) == TRIES) (split top below) (MutingRead u (tries + 1) top below)))
-  read_lost-affords u tries top below h lost f step costs =
+      → Affords present total new (to_phase a (mute_lost a.search u tries spare bads top below))
+  read_lost-affords u tries spare bads top below f step costs =
       let few = costs.few in let is = costs.cost_is in
       let some = read-some present s (found_uids a) u tries top below cost costs in
-      to_phase-affords (cond ((tries + 1) == TRIES) (split top below) (MutingRead u (tries + 1) top below))
-      (Finds-keeps present (found_uids a) s new (mute-keeps present s new u h step) f)
+      to_phase-affords (mute_lost a.search u tries spare bads top below)
+      (Finds-keeps present (found_uids a) s new (mute-keeps present s new u Silent step) f)
       (cond_both ((tries + 1) == TRIES) _ _ (Cheaper a.search present new (found_uids a) cost)
-      (λ five. split-costs a.search present (found_uids a) new cost top below costs.ranges set.ascending
-      (two (eqb-true (tries + 1) TRIES five) costs.spelt) (omega arith) costs.covered)
+      (λ five. let last = eqb-true (tries + 1) TRIES five in
+      apart-costs present (found_uids a) top set.ascending (two last costs.spelt) a.search new cost bads 9 below
+      costs.ranges (omega arith) (omega (arith, is, last)) costs.covered)
       (λ fewer. let other : tries + 1 ≡ TRIES → ⊥ = eqb-false (tries + 1) TRIES fewer in
       let less : tries + 1 ≤ 4 = grind arith in record {
         left = cost - 2;
@@ -513,33 +662,43 @@ module _ (present : List ℕ) (set : IsDeviceSet present) (few : length present 
       two : tries + 1 ≡ TRIES → (has present u ≡ true) ⊎ (2 ≤ left_in present (found_uids a) top)
           → 2 ≤ left_in present (found_uids a) top
       two five (inl here) =
-          let few = (lost-mute present s new u h lost step here).1 in let so_far = costs.lost here in
+          let few = (lost-mute present s new u Silent refl step here).1 in let so_far = costs.lost here in
           absurd (omega arith)
       two five (inr several) = several
 
       more_lost : has present u ≡ true → tries + 1 ≤ new.lost_mutes
       more_lost here =
-          let one_more = (lost-mute present s new u h lost step here).0 in let so_far = costs.lost here in omega arith
+          let one_more = (lost-mute present s new u Silent refl step here).0 in let so_far = costs.lost here in
+          omega arith
 
   -- a mute of what the top range spelt
-  pub read-affords : (u tries : ℕ) (top : Span) (below : List Span) (h : Heard) → h ≢ Failed
+  pub read-affords : (u tries spare bads : ℕ) (top : Span) (below : List Span) (h : Heard) → h ≢ Failed
       → Finds present s (found_uids a) → HonestStep present s (Mute u) h new
       → CostsRead present s (found_uids a) u tries top below cost
-      → Affords present total new (mute_heard a u tries top below h)
-  read-affords u tries top below (Acked ack) sound f step costs =
+      → Affords present total new (mute_heard a u tries spare bads top below h)
+  read-affords u tries spare bads top below (Acked ack) sound f step costs =
       let acked = acked-mute present s new u ack step in let few = costs.few in let is = costs.cost_is in
-      to_found-affords u ack (Searching 0 top below) acked.0 acked.1 (mute-keeps present s new u (Acked ack) step) f
+      to_found-affords u ack (Searching 0 0 0 top below) acked.0 acked.1
+      (mute-keeps present s new u (Acked ack) step) f
       (λ more grows now one_more.
       let paid = Covers-device present (found_uids a) more grows u top below costs.ranges acked.0
       (new-left (found_uids a) top u costs.new) now costs.covered in let fewer = paid.1 in
       record {
         left = paid.0;
         saves = omega arith;
-        costs = record { ranges = paid.0; few = omega arith; covered = paid.2; cost_is = omega arith };
+        costs = record {
+          ranges = paid.0;
+          few = omega arith;
+          limit = omega arith;
+          either = inl refl;
+          covered = paid.2;
+          cost_is = omega arith;
+        };
       })
-  read-affords u tries top below Failed sound f step costs = absurd (sound refl)
-  read-affords u tries top below Silent sound f step costs =
-      read_lost-affords u tries top below Silent refl f step costs
-  read-affords u tries top below (One v) sound f step costs =
-      read_lost-affords u tries top below (One v) refl f step costs
-  read-affords u tries top below Noise sound f step costs = read_lost-affords u tries top below Noise refl f step costs
+  read-affords u tries spare bads top below Failed sound f step costs = absurd (sound refl)
+  read-affords u tries spare bads top below Silent sound f step costs =
+      read_lost-affords u tries spare bads top below f step costs
+  read-affords u tries spare bads top below (One v) sound f step costs =
+      absurd (one_loud v (mute-quiet present s new u (One v) step refl))
+  read-affords u tries spare bads top below Noise sound f step costs =
+      absurd (noise_loud (mute-quiet present s new u Noise step refl))

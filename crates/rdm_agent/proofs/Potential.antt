@@ -53,12 +53,16 @@ pub record CostsKnown (search : Search) (present found : List ℕ) (tries : ℕ)
   pub ahead : Ahead search present found ranges
   pub cost_is : cost + 2 * tries ≡ 10 + 10 * length known + ranges
 
--- what covers the open ranges, without the silences
-pub record CostsSearching (present found : List ℕ) (silences : ℕ) (stack : List Span) (cost : ℕ) : Type 0 where
+-- What covers the open ranges, without the branches that the top one had. These were silent, unless a quick run asks again
+-- a range in which two devices are left
+pub record CostsSearching (search : Search) (present found : List ℕ) (silences spent : ℕ) (top : Span)
+    (below : List Span) (cost : ℕ) : Type 0 where
   pub ranges : ℕ
   pub few : silences ≤ 4
-  pub covered : Covers present found stack ranges
-  pub cost_is : cost + 2 * silences ≡ ranges
+  pub limit : spent ≤ silences + 5
+  pub either : (spent ≡ silences) ⊎ ((search ≡ Quick) × (2 ≤ left_in present found top))
+  pub covered : Covers present found (top ∷ below) ranges
+  pub cost_is : cost + 2 * spent ≡ ranges
 
 -- what covers the open ranges, without five branches and the tries made. What the top range spelt is a device, of which
 -- few mutes were lost, or two devices spelt it together
@@ -79,14 +83,11 @@ pub record CostsSweeping (present found : List ℕ) (sweep : Sweep) (cost : ℕ)
   pub enough : sweep_cost present found ≤ cost + 2 * sweep.made
 
 -- the same in the midst of a series of mutes, which may go on past the limit
-pub record CostsSwept (present : List ℕ) (line : LineState) (found : List ℕ)
-    (u tries : ℕ) (sweep : Sweep) (cost : ℕ) : Type 0 where
+pub record CostsSwept (present found : List ℕ) (u tries : ℕ) (sweep : Sweep) (cost : ℕ) : Type 0 where
   pub few : tries ≤ 4
   pub below : sweep.made ≤ 100 * (length found + 2) + tries
   pub enough : sweep_cost present found ≤ cost + 2 * sweep.made
-  pub new : is_new found sweep.question.range u ≡ true
-  pub lost : has present u ≡ true → tries ≤ line.lost_mutes
-  pub spelt : (has present u ≡ true) ⊎ (2 ≤ left_in present found sweep.question.range)
+  pub new : has found u ≡ false
 
 -- the same while a check is silent: at most twice
 pub record CostsChecking (present found : List ℕ) (silences : ℕ) (sweep : Sweep) (cost : ℕ) : Type 0 where
@@ -107,15 +108,17 @@ pub record CostsStray (present : List ℕ) (line : LineState) (found : List ℕ)
 -- a phase still costs this many half exchanges at most; a run that has ended costs nothing, and has no fault
 abbrev pub Costs : Search → List ℕ → LineState → List ℕ → Phase → ℕ → Type 0
 Costs search present line found (Unmuting more known) cost = CostsUnmuting search present found more known cost
-Costs search present line found (MutingKnown u tries known) cost = CostsKnown search present found tries known cost
-Costs search present line found (Searching silences top below) cost =
-    CostsSearching present found silences (top ∷ below) cost
-Costs search present line found (MutingRead u tries top below) cost =
+Costs search present line found (MutingKnown u tries spare known) cost =
+    CostsKnown search present found tries known cost
+Costs search present line found (Searching silences bads spent top below) cost =
+    CostsSearching search present found silences spent top below cost
+Costs search present line found (MutingRead u tries spare bads top below) cost =
     CostsRead present line found u tries top below cost
 Costs search present line found (Sweeping sweep) cost = CostsSweeping present found sweep cost
-Costs search present line found (MutingSwept u tries sweep) cost = CostsSwept present line found u tries sweep cost
+Costs search present line found (MutingSwept u tries spare sweep) cost = CostsSwept present found u tries sweep cost
 Costs search present line found (Checking u silences sweep) cost = CostsChecking present found silences sweep cost
-Costs search present line found (MutingStray u tries sweep) cost = CostsStray present line found u tries sweep cost
+Costs search present line found (MutingStray u tries spare sweep) cost =
+    CostsStray present line found u tries sweep cost
 Costs search present line found (Ended fault) cost = fault ≡ None
 
 -- the found UIDs are muted devices, and there are no more than devices

@@ -3,12 +3,13 @@ use Rattle.rdm_agent.proofs.Common.{◌≡◌, ℕ, ◌+◌, ◌<◌, ◌≤◌,
 use Rattle.rdm_agent.proofs.Common.{Option, None, Some, refl, sym, ap, ◌∙◌, subst, append_assoc, append-nil, arith, ◌≢◌}
 use Rattle.rdm_agent.proofs.Common.{nat_lt, MatchOption, AllByRecursion, ltb-false, cond-false, length-map, IsDevice}
 use Rattle.rdm_agent.proofs.Common.{IsDeviceSet, Asked, Heard, Seen, Unmute, Branch, Mute, Acked, Failed, Silent, One}
-use Rattle.rdm_agent.proofs.Common.{Noise, FailureIsLast, Certificate, SearchShows, known_of, Cause, IsCorrupt}
+use Rattle.rdm_agent.proofs.Common.{Noise, FailureIsLast, Certificate, SearchShows, known_of, Cause}
 use Rattle.rdm_agent.proofs.Common.{EndsFailed, AllReported, Phase, AgentState, Runs, start_by, next_of, wanted}
 use Rattle.rdm_agent.proofs.Common.{fed, fault_of, heard_by_phase, to_phase, found_uids, Unmuting, MutingKnown}
 use Rattle.rdm_agent.proofs.Common.{Searching, MutingRead, Sweeping, MutingSwept, Ended, IsInOrder, Kind, Search}
 use Rattle.rdm_agent.proofs.Common.{Full, Incremental, AgentFault, LineFailed, Exhausted, UNMUTES, Checking}
-use Rattle.rdm_agent.proofs.Common.{MutingStray, unassigned}
+use Rattle.rdm_agent.proofs.Common.{MutingStray, unassigned, whole, IsCorruptBy, Quick, answers_in_a_row, BAD_ANSWERS}
+use Rattle.rdm_agent.proofs.Common.{Device, device_from, to_found, has, cond_both, MOST_DEVICES}
 use Rattle.std.proofs.lemmas.Bool.{le-ltb}
 use Rattle.std.proofs.lemmas.List.{length-take}
 use Rattle.rdm_agent.specs.Machine.{open_ranges}
@@ -19,66 +20,59 @@ use Rattle.rdm_agent.proofs.OneDevice.{NotFailed}
 use Rattle.rdm_agent.proofs.AllDevices.{failed_none}
 use Rattle.rdm_agent.proofs.Pushes.{All-at}
 use Rattle.rdm_agent.proofs.FoundLemmas.{IsFound-all_reported, found-same}
-use Rattle.rdm_agent.proofs.CorruptLemmas.{is_new-device, not_corrupt-no_branch, not_corrupt-spelt}
-use Rattle.rdm_agent.proofs.CorruptLemmas.{not_corrupt-several, lost_no_branches}
+use Rattle.rdm_agent.proofs.CorruptLemmas.{is_new-device, sound-no_branch, not_corrupt-by, read-sound}
+use Rattle.rdm_agent.proofs.Rows.{few-answers}
 use Rattle.rdm_agent.proofs.UnmutePhase.{no_branches}
 use Rattle.rdm_agent.proofs.Stacks.{IsStack-length, IsStack-ends}
 use Rattle.rdm_agent.proofs.RunLemmas.{to_phase-stands, reported-same, unmuting-stands, known-stands, searching-stands}
 use Rattle.rdm_agent.proofs.RunLemmas.{muting-stands, is_muting_read-device}
 use Rattle.rdm_agent.proofs.SweepRuns.{sweeping-stands, swept-stands, is_muting_swept-device}
-use Rattle.rdm_agent.proofs.StrayRuns.{two_unassigned, checking-stands, stray-stands}
+use Rattle.rdm_agent.proofs.StrayRuns.{checking-stands, stray-stands}
 use Rattle.rdm_agent.proofs.Invariant.{IsFound, InPhase, IsUnderWay, RunInvariant}
 
-module _ (kind : Kind) (known : List ℕ) (budget : ℕ) where
+module _ (search : Search) (kind : Kind) (known : List ℕ) (budget : ℕ) where
   -- while something is wanted, no exchange has failed, there was room for what is found, and nothing is corrupt
   record IsOpen (x : List Seen) (found : List ℕ) : Type 0 where
     pub no_failure : AllByRecursion NotFailed x
     pub is_found : IsFound x found
-    pub not_corrupt : (u : ℕ) → IsCorrupt u x → ⊥
+    pub not_corrupt : (u : ℕ) → IsCorruptBy search u x → ⊥
 
-  is_open : (phase : Phase) (x : List Seen) (found : List ℕ) → InPhase kind known budget phase x found
+  opened : {left : List ℕ} {busy : Option ℕ} {x : List Seen} {found : List ℕ} → IsUnderWay left busy x found
+      → ((u : ℕ) → IsCorruptBy search u x → ⊥) → IsOpen x found
+  opened w sound = record { no_failure = w.no_failure; is_found = w.is_found; not_corrupt = sound }
+
+  -- the answers in a row are too few
+  few_sound : (x : List Seen) → search ≡ Quick → ((u : ℕ) → answers_in_a_row u x < BAD_ANSWERS) → (u : ℕ)
+      → IsCorruptBy search u x → ⊥
+  few_sound x quick few u c = let many = (subst (λ q. IsCorruptBy q u x) quick c).1 in let less = few u in
+      omega (arith, many, less)
+
+  is_open : (phase : Phase) (x : List Seen) (found : List ℕ) → InPhase search kind known budget phase x found
       → MatchOption (wanted phase) (Unit {0}) (λ asked. IsOpen x found)
   is_open (Unmuting more left) x found p = record {
     no_failure = p.1.no_failure;
     is_found = p.1.is_found;
-    not_corrupt = λ u c. not_corrupt-no_branch u x (no_branches x p.1.unmutes) c;
+    not_corrupt = not_corrupt-by search whole 0 x (sound-no_branch search whole x (no_branches x p.1.unmutes));
   }
-  is_open (MutingKnown u tries left) x found p =
-      let w = p.muting.under_way in record {
-        no_failure = w.no_failure;
-        is_found = w.is_found;
-        not_corrupt = λ v c. not_corrupt-no_branch v x p.muting.no_branch c;
-      }
-  is_open (Searching silences top below) x found p =
-      let w = p.searches.under_way in
-      record { no_failure = w.no_failure; is_found = w.is_found; not_corrupt = p.not_corrupt }
-  is_open (MutingRead u tries top below) x found p = let w = p.searches.under_way in record {
-    no_failure = w.no_failure;
-    is_found = w.is_found;
-    not_corrupt =
-        λ v c. not_corrupt-spelt v u tries top x found w.is_found (IsStack-ends top below p.searches.stack).1
-        (is_new-device found top u p.new) p.spelt p.few c;
-  }
-  is_open (Sweeping sweep) x found p =
-      let w = p.searches.under_way in
-      record { no_failure = w.no_failure; is_found = w.is_found; not_corrupt = p.not_corrupt }
-  is_open (MutingSwept u tries sweep) x found p = let w = p.searches.under_way in record {
-    no_failure = w.no_failure;
-    is_found = w.is_found;
-    not_corrupt = λ v c. not_corrupt-spelt v u tries sweep.question.range x found w.is_found p.range.1
-        (is_new-device found sweep.question.range u p.new) p.spelt p.few c;
-  }
+  is_open (MutingKnown u tries spare left) x found p = opened p.muting.under_way
+      (not_corrupt-by search whole 0 x (sound-no_branch search whole x p.muting.no_branch))
+  is_open (Searching silences bads spent top below) x found p =
+      opened p.searches.under_way (not_corrupt-by search top bads x p.not_corrupt)
+  is_open (MutingRead u tries spare bads top below) x found p = opened p.searches.under_way
+      (read-sound search u tries spare bads top x found p.searches.under_way.is_found
+      (IsStack-ends top below p.searches.stack).1 (is_new-device found top u p.new) p.n p.spelt p.few p.counted p.spared
+      p.answered)
+  is_open (Sweeping sweep) x found p = opened p.searches.under_way (few_sound x p.quick p.row.few)
+  is_open (MutingSwept u tries spare sweep) x found p = opened p.searches.under_way
+      (few_sound x p.quick (few-answers sweep.question.range (sweep.bads + 1) x p.answers
+      (λ one. let few = p.few_bads in omega arith)))
   is_open (Checking u silences sweep) x found p =
-      let w = p.searches.under_way in
-      record { no_failure = w.no_failure; is_found = w.is_found; not_corrupt = p.not_corrupt }
-  is_open (MutingStray u tries sweep) x found p = let w = p.searches.under_way in record {
-    no_failure = w.no_failure;
-    is_found = w.is_found;
-    not_corrupt = λ v c. not_corrupt-several v x p.spelt.before p.spelt.mutes unassigned.lo unassigned.hi (One u)
-        p.spelt.whole (lost_no_branches u p.spelt.mutes p.spelt.lost) two_unassigned c;
-  }
+      opened p.searches.under_way (few_sound x p.quick (λ v. let zero = p.none v in omega (arith, zero)))
+  is_open (MutingStray u tries spare sweep) x found p =
+      opened p.searches.under_way (few_sound x p.quick (λ v. let zero = p.none v in omega (arith, zero)))
   is_open (Ended fault) x found p = tt
 
+module _ (kind : Kind) (known : List ℕ) (budget : ℕ) where
   module _ (x : List Seen) (a : AgentState) (s : RunInvariant kind known budget x a)
       (goes : nat_lt a.frames a.budget ≡ true) where
     -- the agent stands after what is wanted and its reply
@@ -87,20 +81,20 @@ module _ (kind : Kind) (known : List ℕ) (budget : ℕ) where
         MatchOption o (Unit {0})
         (λ asked. RunInvariant kind known budget (x ++ record { asked = asked; heard = h } ∷ []) b)
 
-    by_phase : (phase : Phase) (h : Heard) → h ≢ Failed → InPhase kind known budget phase x (found_uids a)
+    by_phase : (phase : Phase) (h : Heard) → h ≢ Failed → InPhase a.search kind known budget phase x (found_uids a)
         → After (heard_by_phase a phase h) h (wanted phase)
     unfolding After
     by_phase (Unmuting more left) h sound p = unmuting-stands kind known budget x a s goes more left h sound p
-    by_phase (MutingKnown u tries left) h sound p = known-stands kind known budget x a s goes u tries left h sound p
-    by_phase (Searching silences top below) h sound p =
-        searching-stands kind known budget x a s goes silences top below h sound p
-    by_phase (MutingRead u tries top below) h sound p =
-        muting-stands kind known budget x a s goes u tries top below h sound p
+    by_phase (MutingKnown u tries spare left) h sound p = known-stands kind known budget x a s goes u tries spare left h sound p
+    by_phase (Searching silences bads spent top below) h sound p =
+        searching-stands kind known budget x a s goes silences bads spent top below h sound p
+    by_phase (MutingRead u tries spare bads top below) h sound p =
+        muting-stands kind known budget x a s goes u tries spare bads top below h sound p
     by_phase (Sweeping sweep) h sound p = sweeping-stands kind known budget x a s goes sweep h sound p
-    by_phase (MutingSwept u tries sweep) h sound p = swept-stands kind known budget x a s goes u tries sweep h sound p
+    by_phase (MutingSwept u tries spare sweep) h sound p = swept-stands kind known budget x a s goes u tries spare sweep h sound p
     by_phase (Checking u silences sweep) h sound p =
         checking-stands kind known budget x a s goes u silences sweep h sound p
-    by_phase (MutingStray u tries sweep) h sound p = stray-stands kind known budget x a s goes u tries sweep h sound p
+    by_phase (MutingStray u tries spare sweep) h sound p = stray-stands kind known budget x a s goes u tries spare sweep h sound p
     by_phase (Ended fault) h sound p = tt
 
     failed-stands : (asked : Asked) → wanted a.phase ≡ Some asked
@@ -120,9 +114,9 @@ module _ (kind : Kind) (known : List ℕ) (budget : ℕ) where
           );
         })
       where
-        before : IsOpen x (found_uids a)
-        before = subst (λ o. MatchOption o (Unit {0}) (λ q. IsOpen x (found_uids a))) w
-            (is_open a.phase x (found_uids a) s.phase)
+        before : IsOpen a.search kind known budget x (found_uids a)
+        before = subst (λ o. MatchOption o (Unit {0}) (λ q. IsOpen a.search kind known budget x (found_uids a))) w
+            (is_open a.search kind known budget a.phase x (found_uids a) s.phase)
 
         e : Seen
         e = record { asked = asked; heard = Failed }
@@ -212,43 +206,105 @@ not_wanted true asked end = absurd (some_none end)
     some_none : Some asked ≡ None → ⊥
     some_none p = cc
 
+-- a run keeps its search
+to_found-search : (a : AgentState) (d : Device) (phase : Phase) → (to_found a d phase).search ≡ a.search
+to_found-search a d phase =
+    cond_both (has (found_uids a) d.uid) _ _ (λ (b : AgentState). b.search ≡ a.search) (λ old. refl)
+    (λ new. cond_both (nat_lt (length (found_uids a)) MOST_DEVICES) _ _ (λ (b : AgentState). b.search ≡ a.search)
+    (λ room. refl) (λ full. refl))
+
+heard-search : (a : AgentState) (phase : Phase) (h : Heard) → (heard_by_phase a phase h).search ≡ a.search
+heard-search a (Unmuting more left) h = refl
+heard-search a (MutingKnown u tries spare left) (Acked ack) = to_found-search a (device_from u ack) _
+heard-search a (MutingKnown u tries spare left) Failed = refl
+heard-search a (MutingKnown u tries spare left) Silent = refl
+heard-search a (MutingKnown u tries spare left) (One v) = refl
+heard-search a (MutingKnown u tries spare left) Noise = refl
+heard-search a (Searching silences bads spent top below) (Acked ack) = refl
+heard-search a (Searching silences bads spent top below) Failed = refl
+heard-search a (Searching silences bads spent top below) Silent = refl
+heard-search a (Searching silences bads spent top below) (One v) = refl
+heard-search a (Searching silences bads spent top below) Noise = refl
+heard-search a (MutingRead u tries spare bads top below) (Acked ack) = to_found-search a (device_from u ack) _
+heard-search a (MutingRead u tries spare bads top below) Failed = refl
+heard-search a (MutingRead u tries spare bads top below) Silent = refl
+heard-search a (MutingRead u tries spare bads top below) (One v) = refl
+heard-search a (MutingRead u tries spare bads top below) Noise = refl
+heard-search a (Sweeping sweep) (Acked ack) = refl
+heard-search a (Sweeping sweep) Failed = refl
+heard-search a (Sweeping sweep) Silent = refl
+heard-search a (Sweeping sweep) (One v) = refl
+heard-search a (Sweeping sweep) Noise = refl
+heard-search a (MutingSwept u tries spare sweep) (Acked ack) = to_found-search a (device_from u ack) _
+heard-search a (MutingSwept u tries spare sweep) Failed = refl
+heard-search a (MutingSwept u tries spare sweep) Silent = refl
+heard-search a (MutingSwept u tries spare sweep) (One v) = refl
+heard-search a (MutingSwept u tries spare sweep) Noise = refl
+heard-search a (Checking u silences sweep) (Acked ack) = refl
+heard-search a (Checking u silences sweep) Failed = refl
+heard-search a (Checking u silences sweep) Silent = refl
+heard-search a (Checking u silences sweep) (One v) = refl
+heard-search a (Checking u silences sweep) Noise = refl
+heard-search a (MutingStray u tries spare sweep) (Acked ack) = to_found-search a (device_from u ack) _
+heard-search a (MutingStray u tries spare sweep) Failed = refl
+heard-search a (MutingStray u tries spare sweep) Silent = refl
+heard-search a (MutingStray u tries spare sweep) (One v) = refl
+heard-search a (MutingStray u tries spare sweep) Noise = refl
+heard-search a (Ended fault) h = refl
+
+fed-search : (a : AgentState) (h : Heard) → (fed a h).search ≡ a.search
+fed-search a Failed = refl
+fed-search a Silent = heard-search a a.phase Silent
+fed-search a (One u) = heard-search a a.phase (One u)
+fed-search a (Acked ack) = heard-search a a.phase (Acked ack)
+fed-search a Noise = heard-search a a.phase Noise
+
+kept-search : (a b : AgentState) (x : List Seen) → Runs a x b → b.search ≡ a.search
+kept-search a b [] run = ap (λ (c : AgentState). c.search) run
+kept-search a b (e ∷ x) run = kept-search (fed a e.heard) b x run.1 ∙ fed-search a e.heard
+
+runs-search : (search : Search) (kind : Kind) (known : List ℕ) (budget : ℕ) (x : List Seen) (b : AgentState)
+    → Runs (start_by search kind known budget) x b → b.search ≡ search
+runs-search search kind known budget x b run = kept-search (start_by search kind known budget) b x run
+
 -- what is wanted is in order
-wants_in_order : (kind : Kind) (known : List ℕ) (budget : ℕ) (phase : Phase) (x : List Seen) (found : List ℕ)
-    → InPhase kind known budget phase x found → MatchOption (wanted phase) (Unit {0}) (IsInOrder (length x))
-wants_in_order kind known budget (Unmuting more left) x found p =
+wants_in_order : (search : Search) (kind : Kind) (known : List ℕ) (budget : ℕ) (phase : Phase) (x : List Seen)
+    (found : List ℕ) → InPhase search kind known budget phase x found
+    → MatchOption (wanted phase) (Unit {0}) (IsInOrder (length x))
+wants_in_order search kind known budget (Unmuting more left) x found p =
     ((λ early. refl), λ late. absurd (too_late p.0 p.1.counted late))
   where
     too_late : 1 ≤ more → length x + more ≡ UNMUTES → UNMUTES ≤ length x → ⊥
     too_late some counted late = omega arith
-wants_in_order kind known budget (MutingKnown u tries left) x found p = (
+wants_in_order search kind known budget (MutingKnown u tries spare left) x found p = (
   (λ early. absurd (too_early (begun-length (known_of kind known) (Some u) x found p.muting.under_way) early)),
   λ late. p.muting.devices.0,
 )
-wants_in_order kind known budget (Searching silences top below) x found p = (
+wants_in_order search kind known budget (Searching silences bads spent top below) x found p = (
   (λ early. absurd (too_early (begun-length (known_of kind known) None x found p.searches.under_way) early)),
   λ late. IsStack-ends top below p.searches.stack,
 )
-wants_in_order kind known budget (MutingRead u tries top below) x found p = (
+wants_in_order search kind known budget (MutingRead u tries spare bads top below) x found p = (
   (λ early. absurd (too_early (begun-length (known_of kind known) (Some u) x found p.searches.under_way) early)),
-  λ late. is_muting_read-device (known_of kind known) u tries top below x found p,
+  λ late. is_muting_read-device search (known_of kind known) u tries spare bads top below x found p,
 )
-wants_in_order kind known budget (Sweeping sweep) x found p = (
+wants_in_order search kind known budget (Sweeping sweep) x found p = (
   (λ early. absurd (too_early (begun-length (known_of kind known) None x found p.searches.under_way) early)),
   λ late. p.asks.range,
 )
-wants_in_order kind known budget (MutingSwept u tries sweep) x found p = (
+wants_in_order search kind known budget (MutingSwept u tries spare sweep) x found p = (
   (λ early. absurd (too_early (begun-length (known_of kind known) (Some u) x found p.searches.under_way) early)),
-  λ late. is_muting_swept-device (known_of kind known) u tries sweep x found p,
+  λ late. is_muting_swept-device search (known_of kind known) u tries sweep x found p,
 )
-wants_in_order kind known budget (Checking u silences sweep) x found p = (
+wants_in_order search kind known budget (Checking u silences sweep) x found p = (
   (λ early. absurd (too_early (begun-length (known_of kind known) None x found p.searches.under_way) early)),
   λ late. (omega arith, omega arith),
 )
-wants_in_order kind known budget (MutingStray u tries sweep) x found p = (
+wants_in_order search kind known budget (MutingStray u tries spare sweep) x found p = (
   (λ early. absurd (too_early (begun-length (known_of kind known) (Some u) x found p.searches.under_way) early)),
   λ late. p.device,
 )
-wants_in_order kind known budget (Ended fault) x found p = tt
+wants_in_order search kind known budget (Ended fault) x found p = tt
 
 -- three unmutes, then branches and mutes of devices, counted and within the budget
 pub asks_in_order_by : (search : Search) → AsksInOrder search
@@ -258,13 +314,13 @@ asks_in_order_by search kind known budget x b set run = (asked (nat_lt b.frames 
     s = stands_by search kind known budget x b set run
 
     asked : (goes : Bool) → MatchOption (cond goes (wanted b.phase) None) (Unit {0}) (IsInOrder (length x))
-    asked true = wants_in_order kind known budget b.phase x (found_uids b) s.phase
+    asked true = wants_in_order b.search kind known budget b.phase x (found_uids b) s.phase
     asked false = tt
 
 -- a run that ended without being over used up its budget
-exhausted : (kind : Kind) (known : List ℕ) (budget : ℕ) (x : List Seen) (found : List ℕ)
-    → IsOpen kind known budget x found → length x ≡ budget → Cause budget ⊥ Exhausted x
-exhausted kind known budget x found o used = (
+exhausted : (search : Search) (kind : Kind) (known : List ℕ) (budget : ℕ) (x : List Seen) (found : List ℕ)
+    → IsOpen search kind known budget x found → length x ≡ budget → Cause search budget ⊥ Exhausted x
+exhausted search kind known budget x found o used = (
   record {
     used = used;
     not_failed =
@@ -274,41 +330,43 @@ exhausted kind known budget x found o used = (
   IsFound-all_reported x found o.is_found,
 )
 
-ended : (kind : Kind) (known : List ℕ) (budget : ℕ) (phase : Phase) (x : List Seen) (found : List ℕ) (goes : Bool)
-    → InPhase kind known budget phase x found → cond goes (wanted phase) None ≡ None
+ended : (search : Search) (kind : Kind) (known : List ℕ) (budget : ℕ) (phase : Phase) (x : List Seen) (found : List ℕ)
+    (goes : Bool) → InPhase search kind known budget phase x found → cond goes (wanted phase) None ≡ None
     → (goes ≡ false → length x ≡ budget)
-    → MatchOption (fault_of phase) (SearchShows kind known x found) (λ f. Cause budget ⊥ f x)
-ended kind known budget (Ended fault) x found goes p end used = p.certified
-ended kind known budget (Unmuting more left) x found goes p end used =
-    exhausted kind known budget x found (is_open kind known budget (Unmuting more left) x found p)
+    → MatchOption (fault_of phase) (SearchShows kind known x found) (λ f. Cause search budget ⊥ f x)
+ended search kind known budget (Ended fault) x found goes p end used = p.certified
+ended search kind known budget (Unmuting more left) x found goes p end used =
+    exhausted search kind known budget x found (is_open search kind known budget (Unmuting more left) x found p)
     (used (not_wanted goes Unmute end))
-ended kind known budget (MutingKnown u tries left) x found goes p end used =
-    exhausted kind known budget x found (is_open kind known budget (MutingKnown u tries left) x found p)
+ended search kind known budget (MutingKnown u tries spare left) x found goes p end used =
+    exhausted search kind known budget x found (is_open search kind known budget (MutingKnown u tries spare left) x found p)
     (used (not_wanted goes (Mute u) end))
-ended kind known budget (Searching silences top below) x found goes p end used =
-    exhausted kind known budget x found (is_open kind known budget (Searching silences top below) x found p)
+ended search kind known budget (Searching silences bads spent top below) x found goes p end used =
+    exhausted search kind known budget x found (is_open search kind known budget (Searching silences bads spent top below) x found p)
     (used (not_wanted goes (Branch top.lo top.hi) end))
-ended kind known budget (Sweeping sweep) x found goes p end used =
-    exhausted kind known budget x found (is_open kind known budget (Sweeping sweep) x found p)
+ended search kind known budget (Sweeping sweep) x found goes p end used =
+    exhausted search kind known budget x found (is_open search kind known budget (Sweeping sweep) x found p)
     (used (not_wanted goes (Branch sweep.question.range.lo sweep.question.range.hi) end))
-ended kind known budget (MutingSwept u tries sweep) x found goes p end used =
-    exhausted kind known budget x found (is_open kind known budget (MutingSwept u tries sweep) x found p)
+ended search kind known budget (MutingSwept u tries spare sweep) x found goes p end used =
+    exhausted search kind known budget x found (is_open search kind known budget (MutingSwept u tries spare sweep) x found p)
     (used (not_wanted goes (Mute u) end))
-ended kind known budget (Checking u silences sweep) x found goes p end used =
-    exhausted kind known budget x found (is_open kind known budget (Checking u silences sweep) x found p)
+ended search kind known budget (Checking u silences sweep) x found goes p end used =
+    exhausted search kind known budget x found (is_open search kind known budget (Checking u silences sweep) x found p)
     (used (not_wanted goes (Branch unassigned.lo unassigned.hi) end))
-ended kind known budget (MutingStray u tries sweep) x found goes p end used =
-    exhausted kind known budget x found (is_open kind known budget (MutingStray u tries sweep) x found p)
+ended search kind known budget (MutingStray u tries spare sweep) x found goes p end used =
+    exhausted search kind known budget x found (is_open search kind known budget (MutingStray u tries spare sweep) x found p)
     (used (not_wanted goes (Mute u) end))
-ended kind known budget (MutingRead u tries top below) x found goes p end used =
-    exhausted kind known budget x found (is_open kind known budget (MutingRead u tries top below) x found p)
+ended search kind known budget (MutingRead u tries spare bads top below) x found goes p end used =
+    exhausted search kind known budget x found (is_open search kind known budget (MutingRead u tries spare bads top below) x found p)
     (used (not_wanted goes (Mute u) end))
 
 -- its certificate, or its fault's cause; and it reports what was acknowledged
 pub ends_certified_by : (search : Search) → EndsCertified search
 ends_certified_by search kind known budget x b set run end = (
   certified (fault_of b.phase)
-      (ended kind known budget b.phase x (found_uids b) (nat_lt b.frames b.budget) s.phase end used),
+      (subst (λ q. MatchOption (fault_of b.phase) (SearchShows kind known x (found_uids b)) (λ f. Cause q budget ⊥ f x))
+      (runs-search search kind known budget x b run)
+      (ended b.search kind known budget b.phase x (found_uids b) (nat_lt b.frames b.budget) s.phase end used)),
   record { uids = s.reports; first = s.first },
 )
   where
@@ -316,8 +374,8 @@ ends_certified_by search kind known budget x b set run end = (
     s = stands_by search kind known budget x b set run
 
     certified : (f : Option AgentFault)
-        → MatchOption f (SearchShows kind known x (found_uids b)) (λ g. Cause budget ⊥ g x)
-        → MatchOption f (Certificate kind known x b.found) (λ g. Cause budget ⊥ g x)
+        → MatchOption f (SearchShows kind known x (found_uids b)) (λ g. Cause search budget ⊥ g x)
+        → MatchOption f (Certificate kind known x b.found) (λ g. Cause search budget ⊥ g x)
     certified None shows = record { search = shows; first = s.first }
     certified (Some f) cause = cause
 
@@ -330,15 +388,15 @@ pub few_open_ranges_by : (search : Search) → HasFewRanges search
 few_open_ranges_by search kind known budget x b set run =
     few b.phase (stands_by search kind known budget x b set run).phase
   where
-    few : (phase : Phase) → InPhase kind known budget phase x (found_uids b) → open_ranges phase ≤ 49
+    few : (phase : Phase) → InPhase b.search kind known budget phase x (found_uids b) → open_ranges phase ≤ 49
     few (Unmuting more left) p = omega arith
-    few (MutingKnown u tries left) p = omega arith
-    few (Searching silences top below) p = IsStack-length top below p.searches.stack
-    few (MutingRead u tries top below) p = IsStack-length top below p.searches.stack
+    few (MutingKnown u tries spare left) p = omega arith
+    few (Searching silences bads spent top below) p = IsStack-length top below p.searches.stack
+    few (MutingRead u tries spare bads top below) p = IsStack-length top below p.searches.stack
     few (Sweeping sweep) p = omega arith
-    few (MutingSwept u tries sweep) p = omega arith
+    few (MutingSwept u tries spare sweep) p = omega arith
     few (Checking u silences sweep) p = omega arith
-    few (MutingStray u tries sweep) p = omega arith
+    few (MutingStray u tries spare sweep) p = omega arith
     few (Ended fault) p = omega arith
 
 -- a failure is the last exchange
@@ -361,28 +419,28 @@ none_failed x sound = (
   λ f. absurd (All-at NotFailed x f.before [] (record { asked = f.asked; heard = Failed }) sound f.whole refl),
 )
 
-failed_phase : (kind : Kind) (known : List ℕ) (budget : ℕ) (phase : Phase) (x : List Seen) (found : List ℕ)
-    → InPhase kind known budget phase x found → FailureIsLast x × (EndsFailed x → wanted phase ≡ None)
-failed_phase kind known budget (Ended fault) x found p = (
+failed_phase : (search : Search) (kind : Kind) (known : List ℕ) (budget : ℕ) (phase : Phase) (x : List Seen)
+    (found : List ℕ) → InPhase search kind known budget phase x found → FailureIsLast x × (EndsFailed x → wanted phase ≡ None)
+failed_phase search kind known budget (Ended fault) x found p = (
   (λ front back e whole failed. not_before p.before front back p.last e p.no_failure (sym p.whole ∙ whole) failed),
   λ f. refl,
 )
-failed_phase kind known budget (Unmuting more left) x found p =
-    none_failed x (is_open kind known budget (Unmuting more left) x found p).no_failure
-failed_phase kind known budget (MutingKnown u tries left) x found p =
-    none_failed x (is_open kind known budget (MutingKnown u tries left) x found p).no_failure
-failed_phase kind known budget (Searching silences top below) x found p =
-    none_failed x (is_open kind known budget (Searching silences top below) x found p).no_failure
-failed_phase kind known budget (Sweeping sweep) x found p =
-    none_failed x (is_open kind known budget (Sweeping sweep) x found p).no_failure
-failed_phase kind known budget (MutingSwept u tries sweep) x found p =
-    none_failed x (is_open kind known budget (MutingSwept u tries sweep) x found p).no_failure
-failed_phase kind known budget (Checking u silences sweep) x found p =
-    none_failed x (is_open kind known budget (Checking u silences sweep) x found p).no_failure
-failed_phase kind known budget (MutingStray u tries sweep) x found p =
-    none_failed x (is_open kind known budget (MutingStray u tries sweep) x found p).no_failure
-failed_phase kind known budget (MutingRead u tries top below) x found p =
-    none_failed x (is_open kind known budget (MutingRead u tries top below) x found p).no_failure
+failed_phase search kind known budget (Unmuting more left) x found p =
+    none_failed x (is_open search kind known budget (Unmuting more left) x found p).no_failure
+failed_phase search kind known budget (MutingKnown u tries spare left) x found p =
+    none_failed x (is_open search kind known budget (MutingKnown u tries spare left) x found p).no_failure
+failed_phase search kind known budget (Searching silences bads spent top below) x found p =
+    none_failed x (is_open search kind known budget (Searching silences bads spent top below) x found p).no_failure
+failed_phase search kind known budget (Sweeping sweep) x found p =
+    none_failed x (is_open search kind known budget (Sweeping sweep) x found p).no_failure
+failed_phase search kind known budget (MutingSwept u tries spare sweep) x found p =
+    none_failed x (is_open search kind known budget (MutingSwept u tries spare sweep) x found p).no_failure
+failed_phase search kind known budget (Checking u silences sweep) x found p =
+    none_failed x (is_open search kind known budget (Checking u silences sweep) x found p).no_failure
+failed_phase search kind known budget (MutingStray u tries spare sweep) x found p =
+    none_failed x (is_open search kind known budget (MutingStray u tries spare sweep) x found p).no_failure
+failed_phase search kind known budget (MutingRead u tries spare bads top below) x found p =
+    none_failed x (is_open search kind known budget (MutingRead u tries spare bads top below) x found p).no_failure
 
 -- an agent asks nothing after a failure
 pub ends_at_failure_by : (search : Search) → EndsAtFailure search
@@ -390,7 +448,7 @@ ends_at_failure_by search kind known budget x b set run =
     (f.0, λ failed. nothing (nat_lt b.frames b.budget) (f.1 failed))
   where
     f : FailureIsLast x × (EndsFailed x → wanted b.phase ≡ None)
-    f = failed_phase kind known budget b.phase x (found_uids b) (stands_by search kind known budget x b set run).phase
+    f = failed_phase b.search kind known budget b.phase x (found_uids b) (stands_by search kind known budget x b set run).phase
 
     nothing : (goes : Bool) → wanted b.phase ≡ None → cond goes (wanted b.phase) None ≡ None
     nothing true none = none
@@ -402,22 +460,26 @@ pub all_reported_by : (search : Search) (kind : Kind) (known : List ℕ) (budget
     → AllReported x
 all_reported_by search kind known budget x b asked set run next = IsFound-all_reported x (found_uids b) going.is_found
   where
-    going : IsOpen kind known budget x (found_uids b)
-    going = subst (λ o. MatchOption o (Unit {0}) (λ q. IsOpen kind known budget x (found_uids b)))
+    going : IsOpen b.search kind known budget x (found_uids b)
+    going = subst (λ o. MatchOption o (Unit {0}) (λ q. IsOpen b.search kind known budget x (found_uids b)))
         (wanted_next kind known budget b asked next).1
-        (is_open kind known budget b.phase x (found_uids b) (stands_by search kind known budget x b set run).phase)
+        (is_open b.search kind known budget b.phase x (found_uids b) (stands_by search kind known budget x b set run).phase)
 
 -- nor has it met a failure or a corrupt UID
 pub goes_on_soundly_by : (search : Search) → GoesOnSoundly search
 goes_on_soundly_by search kind known budget x b set run goes = by_next (next_of b) refl
   where
-    by_next : (next : Option Asked) → next_of b ≡ next → AllByRecursion NotFailed x × ((u : ℕ) → IsCorrupt u x → ⊥)
+    by_next : (next : Option Asked) → next_of b ≡ next
+        → AllByRecursion NotFailed x × ((u : ℕ) → IsCorruptBy search u x → ⊥)
     by_next None end = absurd (goes end)
-    by_next (Some asked) next = let going : IsOpen kind known budget x (found_uids b) =
-        subst (λ o. MatchOption o (Unit {0}) (λ q. IsOpen kind known budget x (found_uids b)))
+    by_next (Some asked) next = let going : IsOpen b.search kind known budget x (found_uids b) =
+        subst (λ o. MatchOption o (Unit {0}) (λ q. IsOpen b.search kind known budget x (found_uids b)))
         (wanted_next kind known budget b asked next).1
-        (is_open kind known budget b.phase x (found_uids b) (stands_by search kind known budget x b set run).phase) in
-        (going.no_failure, going.not_corrupt)
+        (is_open b.search kind known budget b.phase x (found_uids b) (stands_by search kind known budget x b set run).phase) in (
+          going.no_failure,
+          subst (λ q. (u : ℕ) → IsCorruptBy q u x → ⊥)
+              (runs-search search kind known budget x b run) going.not_corrupt,
+        )
 
 -- one whose budget is used up asks nothing
 pub ends_at_budget_by : (search : Search) → EndsAtBudget search

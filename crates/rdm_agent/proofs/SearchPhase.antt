@@ -4,7 +4,10 @@ use Rattle.rdm_agent.proofs.Common.{sym, subst, inl, inr, arith, ◌⊎◌, ◌=
 use Rattle.rdm_agent.proofs.Common.{le-leb, and_from, cases_lt, cond_both, has, IsDevice, Span, middle, Heard, Seen}
 use Rattle.rdm_agent.proofs.Common.{is_acked, Branch, Mute, Acked, MuteAck, muted_by, muted_in, read_in, is_branch}
 use Rattle.rdm_agent.proofs.Common.{InSuccession, IsSilentBranch, IsLostMute, SearchShows, IsTried, IsCleared, known_of}
-use Rattle.rdm_agent.proofs.Common.{IsCorrupt, split, search_below, Kind, TRIES}
+use Rattle.rdm_agent.proofs.Common.{IsCorrupt, split, search_below, Kind, TRIES, Search, Steady, Quick, IsCorruptBy}
+use Rattle.rdm_agent.proofs.Common.{asks_again, spare_at, search_apart, lower_half, nat_lt, ltb-true, ltb-false, ◌≤◌}
+use Rattle.rdm_agent.proofs.Common.{eq-eqb, ◌∙◌, BAD_ANSWERS, answers_in_a_row}
+use Rattle.rdm_agent.proofs.Rows.{NotCorrupt, Answered, same-row, none-row, several-none}
 use Rattle.rdm_agent.proofs.Members.{first_part}
 use Rattle.rdm_agent.proofs.OneDevice.{NotFailed}
 use Rattle.rdm_agent.proofs.Pushes.{has-before_branch, IsCleared-push}
@@ -119,11 +122,12 @@ all_cleared kind known x found w known_first cleared = record {
     none_some u p = cc
 
 -- the top range is popped: the next one is searched, or the run ends
-pub search-next : (kind : Kind) (known : List ℕ) (budget : ℕ) (top : Span) (below : List Span) (x : List Seen)
-    (e : Seen) (found : List ℕ) → Searches (known_of kind known) None top below (x ++ e ∷ []) found
-    → InSuccession TRIES (IsSilentBranch top.lo top.hi) (x ++ e ∷ []) → ((u : ℕ) → IsCorrupt u (x ++ e ∷ []) → ⊥)
-    → InPhase kind known budget (search_below below) (x ++ e ∷ []) found
-search-next kind known budget top [] x e found s five not_corrupt = record {
+pub search-next : (search : Search) (kind : Kind) (known : List ℕ) (budget : ℕ) (top : Span) (below : List Span)
+    (x : List Seen) (e : Seen) (found : List ℕ) → Searches (known_of kind known) None top below (x ++ e ∷ []) found
+    → InSuccession TRIES (IsSilentBranch top.lo top.hi) (x ++ e ∷ [])
+    → ((r : Span) → NotCorrupt search r 0 (x ++ e ∷ []))
+    → InPhase search kind known budget (search_below below) (x ++ e ∷ []) found
+search-next search kind known budget top [] x e found s five not_corrupt = record {
   before = x;
   last = e;
   whole = refl;
@@ -132,7 +136,7 @@ search-next kind known budget top [] x e found s five not_corrupt = record {
       (λ u low. search-cleared (known_of kind known) top [] (x ++ e ∷ []) found five s u
       (subst (λ n. u < n) (sym s.stack.rest) low));
 }
-search-next kind known budget top (r ∷ rs) x e found s five not_corrupt = record {
+search-next search kind known budget top (r ∷ rs) x e found s five not_corrupt = record {
   searches = record {
     under_way = s.under_way;
     known_first = s.known_first;
@@ -142,17 +146,17 @@ search-next kind known budget top (r ∷ rs) x e found s five not_corrupt = reco
   };
   few = omega arith;
   silent = EndsWith-none _ (x ++ e ∷ []);
-  not_corrupt = not_corrupt;
+  not_corrupt = not_corrupt r;
 }
 
 -- a collision splits the top range; one UID is corrupt
-pub search-collided : (kind : Kind) (known : List ℕ) (budget : ℕ) (top : Span) (below : List Span) (x : List Seen)
-    (e : Seen) (found : List ℕ) → Searches (known_of kind known) None top below (x ++ e ∷ []) found
-    → (top.lo ≡ top.hi → IsCorrupt top.lo (x ++ e ∷ []))
-    → ((top.lo ≡ top.hi → ⊥) → (u : ℕ) → IsCorrupt u (x ++ e ∷ []) → ⊥)
-    → InPhase kind known budget (split top below) (x ++ e ∷ []) found
-search-collided kind known budget top below x e found s corrupt not_corrupt =
-    cond_both (top.lo == top.hi) _ _ (λ p. InPhase kind known budget p (x ++ e ∷ []) found)
+search-collided : (search : Search) (kind : Kind) (known : List ℕ) (budget : ℕ) (top : Span) (below : List Span)
+    (x : List Seen) (e : Seen) (found : List ℕ) → Searches (known_of kind known) None top below (x ++ e ∷ []) found
+    → (top.lo ≡ top.hi → IsCorruptBy search top.lo (x ++ e ∷ []))
+    → ((top.lo ≡ top.hi → ⊥) → NotCorrupt search (lower_half top) 0 (x ++ e ∷ []))
+    → InPhase search kind known budget (split top below) (x ++ e ∷ []) found
+search-collided search kind known budget top below x e found s corrupt not_corrupt =
+    cond_both (top.lo == top.hi) _ _ (λ p. InPhase search kind known budget p (x ++ e ∷ []) found)
     (λ one. record {
       before = x;
       last = e;
@@ -166,3 +170,37 @@ search-collided kind known budget top below x e found s corrupt not_corrupt =
       silent = EndsWith-none _ (x ++ e ∷ []);
       not_corrupt = not_corrupt (eqb-false top.lo top.hi two);
     })
+
+-- the top range had so many bad answers in a row: it is asked again, or split
+pub search-apart : (search : Search) (kind : Kind) (known : List ℕ) (budget bads spent : ℕ) (top : Span)
+    (below : List Span) (x : List Seen) (e : Seen) (found : List ℕ)
+    → Searches (known_of kind known) None top below (x ++ e ∷ []) found
+    → Answered search top bads (x ++ e ∷ [])
+    → (top.lo ≡ top.hi → spare_at search top bads ≡ 0 → IsCorrupt top.lo (x ++ e ∷ []))
+    → ((top.lo ≡ top.hi → ⊥) → (u : ℕ) → IsCorrupt u (x ++ e ∷ []) → ⊥)
+    → InPhase search kind known budget (search_apart search bads spent top below) (x ++ e ∷ []) found
+search-apart Steady kind known budget bads spent top below x e found s answered corrupt sound =
+    search-collided Steady kind known budget top below x e found s (λ one. corrupt one refl) sound
+search-apart Quick kind known budget bads spent top below x e found s answered corrupt sound =
+    cond_both (asks_again Quick top bads spent) _ _ (λ p. InPhase Quick kind known budget p (x ++ e ∷ []) found)
+    (λ again. record {
+      searches = s;
+      few = omega arith;
+      silent = EndsWith-none _ (x ++ e ∷ []);
+      not_corrupt = same-row top bads (x ++ e ∷ []) answered
+          (λ one. ltb-true bads BAD_ANSWERS (sym (opened one) ∙ again));
+    })
+    (λ last. search-collided Quick kind known budget top below x e found s
+    (λ one. (corrupt one (none_spare one last), enough one last))
+    (λ several. none-row (lower_half top) (x ++ e ∷ []) (several-none top bads (x ++ e ∷ []) answered several)))
+  where
+    opened : top.lo ≡ top.hi → asks_again Quick top bads spent ≡ nat_lt bads BAD_ANSWERS
+    opened one = rw (eq-eqb top.lo top.hi one) refl
+
+    none_spare : top.lo ≡ top.hi → asks_again Quick top bads spent ≡ false → spare_at Quick top bads ≡ 0
+    none_spare one last = rw (eq-eqb top.lo top.hi one, sym (opened one) ∙ last) refl
+
+    enough : top.lo ≡ top.hi → asks_again Quick top bads spent ≡ false
+        → BAD_ANSWERS ≤ answers_in_a_row top.lo (x ++ e ∷ [])
+    enough one last = let is = answered.own one in
+        let many = ltb-false bads BAD_ANSWERS (sym (opened one) ∙ last) in omega (arith, is, many)

@@ -1,19 +1,20 @@
 -- What a check and its mutes pay on an honest line: only a device of the range without devices answers there.
-use Rattle.rdm_agent.proofs.Common.{◌≡◌, ℕ, ◌+◌, ◌-◌, ◌*◌, ◌≤◌, true, false, not, cond, List, [], ◌∷◌}
+use Rattle.rdm_agent.proofs.Common.{◌≡◌, ℕ, ◌+◌, ◌-◌, ◌*◌, ◌≤◌, true, not, cond, List, [], ◌∷◌}
 use Rattle.rdm_agent.proofs.Common.{length, refl, sym, ap, ◌∙◌, subst, inl, inr, true≢false, arith, filter, ◌==◌}
 use Rattle.rdm_agent.proofs.Common.{◌≢◌, nat_le, cond_both, and_parts, eqb-true, eqb-false, leb-true, has}
 use Rattle.rdm_agent.proofs.Common.{is_within, IsDevice, IsDeviceSet, MOST_DEVICES, Span, Heard, LineState}
-use Rattle.rdm_agent.proofs.Common.{HonestStep, MayReply, due_in, is_acked, Branch, Mute, Failed, Silent, One, Acked}
+use Rattle.rdm_agent.proofs.Common.{HonestStep, MayReply, due_in, Branch, Mute, Failed, Silent, One, Acked}
 use Rattle.rdm_agent.proofs.Common.{Noise, AgentState, found_uids, unassigned, counted}
-use Rattle.rdm_agent.proofs.Common.{counted_silent, sweep_suspecting, sweep_on, sweep_split, to_phase}
+use Rattle.rdm_agent.proofs.Common.{counted_silent, sweep_on, sweep_split, to_phase}
 use Rattle.rdm_agent.proofs.Common.{is_checked_again, check_silent, check_heard, stray_found, stray_heard, Checking}
-use Rattle.rdm_agent.proofs.Common.{MutingStray, TRIES, Sweep}
+use Rattle.rdm_agent.proofs.Common.{MutingStray, TRIES, Sweep, garbled_mutes, stray_lost}
 use Rattle.rdm_agent.proofs.Potential.{is_left, left_in, CostsChecking, CostsStray, Finds, Affords}
 use Rattle.rdm_agent.proofs.Members.{member}
 use Rattle.rdm_agent.proofs.LeftLemmas.{first_passes, left-halves}
 use Rattle.rdm_agent.proofs.CoverLemmas.{one_uid}
 use Rattle.rdm_agent.proofs.CorruptLemmas.{is_new-device}
 use Rattle.rdm_agent.proofs.PaidLemmas.{Cheaper, CountsOneMore, SpellsNew, mute-keeps, acked-mute, lost-mute}
+use Rattle.rdm_agent.proofs.PaidLemmas.{mute-quiet, one_loud, noise_loud}
 use Rattle.rdm_agent.proofs.PaidLemmas.{Finds-keeps, answered, to_found-affords}
 use Rattle.rdm_agent.proofs.SweepPaid.{on-costs, split-costs, many, goes_on}
 
@@ -90,7 +91,7 @@ module _ (present : List ℕ) (set : IsDeviceSet present) (few : length present 
   spelt-affords : (u silences v : ℕ) (sweep : Sweep) → Finds present new (found_uids a)
       → CostsChecking present (found_uids a) silences sweep cost
       → SpellsNew present (found_uids a) unassigned (One v)
-      → Affords present total new (to_phase a (cond (v == u) (MutingStray u 0 (counted sweep))
+      → Affords present total new (to_phase a (cond (v == u) (MutingStray u 0 garbled_mutes (counted sweep))
       (sweep_split (counted sweep) unassigned 0 (length a.found))))
   spelt-affords u silences v sweep f costs one =
       cond_both (v == u) _ _ (λ p. Affords present total new (to_phase a p)) muted
@@ -99,11 +100,11 @@ module _ (present : List ℕ) (set : IsDeviceSet present) (few : length present 
       same : One v ≡ One one.uid → v ≡ one.uid
       same p = cc
 
-      muted : (v == u) ≡ true → Affords present total new (to_phase a (MutingStray u 0 (counted sweep)))
+      muted : (v == u) ≡ true → Affords present total new (to_phase a (MutingStray u 0 garbled_mutes (counted sweep)))
       muted is =
           let at : one.uid ≡ u = sym (same one.heard) ∙ eqb-true v u is in
           let under = costs.below in let enough = costs.enough in let once = costs.few in
-          goes_on present set few total cost s new a within (MutingStray u 0 (counted sweep)) f (record {
+          goes_on present set few total cost s new a within (MutingStray u 0 garbled_mutes (counted sweep)) f (record {
             left = cost - 2;
             saves = omega arith;
             costs = record {
@@ -141,18 +142,15 @@ module _ (present : List ℕ) (set : IsDeviceSet present) (few : length present 
       of_heard Noise sound reply = loud-affords silences sweep finds costs
 
   -- the UID that it spelt is muted
-  lost-affords : (u tries : ℕ) (sweep : Sweep) (h : Heard) → is_acked h ≡ false
-      → Finds present s (found_uids a) → HonestStep present s (Mute u) h new
-      → CostsStray present s (found_uids a) u tries sweep cost
-      → Affords present total new (to_phase a (cond ((tries + 1) == TRIES)
-      (sweep_split (sweep_suspecting u (counted sweep)) unassigned 0 (length a.found))
-      (MutingStray u (tries + 1) (counted sweep))))
-  lost-affords u tries sweep h lost f step costs =
-      let mute = lost-mute present s new u h lost step costs.here in
+  lost-affords : (u tries spare : ℕ) (sweep : Sweep) → Finds present s (found_uids a)
+      → HonestStep present s (Mute u) Silent new → CostsStray present s (found_uids a) u tries sweep cost
+      → Affords present total new (to_phase a (stray_lost u tries spare (counted sweep) (length a.found)))
+  lost-affords u tries spare sweep f step costs =
+      let mute = lost-mute present s new u Silent refl step costs.here in
       let one_more = mute.0 in let most = mute.1 in let so_far = costs.lost in
       let under = costs.below in let enough = costs.enough in
       goes_on present set few total cost s new a within _
-      (Finds-keeps present (found_uids a) s new (mute-keeps present s new u h step) f)
+      (Finds-keeps present (found_uids a) s new (mute-keeps present s new u Silent step) f)
       (cond_both ((tries + 1) == TRIES) _ _ (Cheaper a.search present new (found_uids a) cost)
       (λ five. absurd (let all = eqb-true (tries + 1) TRIES five in omega (arith, all, so_far, one_more, most)))
       (λ fewer. let other : tries + 1 ≡ TRIES → ⊥ = eqb-false (tries + 1) TRIES fewer in let some = costs.few in
@@ -170,29 +168,31 @@ module _ (present : List ℕ) (set : IsDeviceSet present) (few : length present 
         };
       }))
 
-  pub stray-affords : (u tries : ℕ) (sweep : Sweep) (h : Heard) → h ≢ Failed
+  pub stray-affords : (u tries spare : ℕ) (sweep : Sweep) (h : Heard) → h ≢ Failed
       → Finds present s (found_uids a) → HonestStep present s (Mute u) h new
       → CostsStray present s (found_uids a) u tries sweep cost
-      → Affords present total new (stray_heard a u tries sweep h)
-  stray-affords u tries sweep (Acked ack) sound f step costs =
+      → Affords present total new (stray_heard a u tries spare sweep h)
+  stray-affords u tries spare sweep (Acked ack) sound f step costs =
       let acked = acked-mute present s new u ack step in
       to_found-affords present set few total cost s new a within u ack
-      (sweep_on (counted sweep) 0 (length a.found + 1) (stray_found sweep.belief)) acked.0 acked.1
+      (sweep_on (counted sweep) 0 0 (length a.found + 1) (stray_found sweep.belief)) acked.0 acked.1
       (mute-keeps present s new u (Acked ack) step) f
       (λ more grows now one_more. onward more one_more)
     where
       onward : (more : List ℕ) → CountsOneMore present (found_uids a) u more
           → Cheaper a.search present new more cost
-          (sweep_on (counted sweep) 0 (length a.found + 1) (stray_found sweep.belief))
+          (sweep_on (counted sweep) 0 0 (length a.found + 1) (stray_found sweep.belief))
       onward more (inl old) = absurd (true≢false (sym old.0 ∙ costs.new))
       onward more (inr one_more) =
           let longer = one_more.0 in let fewer = one_more.1 in let some = costs.few in let under = costs.below in
           let enough = costs.enough in
           let counts = many present set few total cost s new a within in
-          on-costs a.search present new more cost (counted sweep) sweep.question.range 0 (length a.found + 1)
+          on-costs a.search present new more cost (counted sweep) sweep.question.range 0 0 (length a.found + 1)
           (stray_found sweep.belief) (omega arith) (omega (arith, counts, longer))
           (record { below = omega arith; enough = omega arith })
-  stray-affords u tries sweep Failed sound f step costs = absurd (sound refl)
-  stray-affords u tries sweep Silent sound f step costs = lost-affords u tries sweep Silent refl f step costs
-  stray-affords u tries sweep (One v) sound f step costs = lost-affords u tries sweep (One v) refl f step costs
-  stray-affords u tries sweep Noise sound f step costs = lost-affords u tries sweep Noise refl f step costs
+  stray-affords u tries spare sweep Failed sound f step costs = absurd (sound refl)
+  stray-affords u tries spare sweep Silent sound f step costs = lost-affords u tries spare sweep f step costs
+  stray-affords u tries spare sweep (One v) sound f step costs =
+      absurd (one_loud v (mute-quiet present s new u (One v) step refl))
+  stray-affords u tries spare sweep Noise sound f step costs =
+      absurd (noise_loud (mute-quiet present s new u Noise step refl))

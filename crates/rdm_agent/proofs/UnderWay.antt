@@ -3,7 +3,8 @@ use Rattle.rdm_agent.proofs.Common.{◌≡◌, ℕ, true, false, List, [], ◌�
 use Rattle.rdm_agent.proofs.Common.{◌∙◌, subst, inl, inr, true≢false, append_assoc, append-nil, ◌⊎◌, length_push, has}
 use Rattle.rdm_agent.proofs.Common.{IsDevice, Heard, Seen, is_acked, Branch, Mute, Acked, Failed, Silent, One, Noise}
 use Rattle.rdm_agent.proofs.Common.{MuteAck, EachAfter-push, acked_uid, muted_by, read_in, InSuccession, IsLostMute}
-use Rattle.rdm_agent.proofs.Common.{IsTried, MutesNamed, TRIES}
+use Rattle.rdm_agent.proofs.Common.{IsTried, MutesNamed, TRIES, length, AllByRecursion, arith, ◌≤◌, zero, suc}
+use Rattle.rdm_agent.proofs.Common.{cases_lt}
 use Rattle.rdm_agent.proofs.OneDevice.{NotFailed}
 use Rattle.rdm_agent.proofs.Pushes.{All-push, push-has, begun-push, IsTried-push}
 use Rattle.rdm_agent.proofs.Invariant.{EndsWith, IsFound, IsUnderWay}
@@ -22,6 +23,19 @@ EndsWith-push {n} {P} e s p = record {
   each = All-push P s.run e s.each p;
 }
 
+pub EndsWith-fewer : {P : Seen → Type 0} {x : List Seen} (n : ℕ) → EndsWith (n + 1) P x → EndsWith n P x
+EndsWith-fewer {P} {x} n s = by_run s.run s.whole s.many s.each
+  where
+    by_run : (run : List Seen) → x ≡ s.front ++ run → length run ≡ n + 1 → AllByRecursion P run → EndsWith n P x
+    by_run [] whole many each = absurd (omega (arith, many))
+    by_run (e ∷ run) whole many each = record {
+      front = s.front ++ e ∷ [];
+      run = run;
+      whole = whole ∙ sym (append_assoc s.front (e ∷ []) run);
+      many = omega (arith, many);
+      each = each.1;
+    }
+
 pub EndsWith-succession : {n : ℕ} {P : Seen → Type 0} {x : List Seen} → EndsWith n P x → InSuccession n P x
 EndsWith-succession s = record {
   front = s.front;
@@ -31,6 +45,30 @@ EndsWith-succession s = record {
   many = s.many;
   each = s.each;
 }
+
+-- fewer in a row
+InSuccession-one_fewer : {P : Seen → Type 0} {x : List Seen} (n : ℕ) → InSuccession (suc n) P x → InSuccession n P x
+InSuccession-one_fewer {P} {x} n s = by_run s.run s.whole s.many s.each
+  where
+    by_run : (run : List Seen) → x ≡ s.front ++ run ++ s.back → length run ≡ suc n → AllByRecursion P run
+        → InSuccession n P x
+    by_run [] whole many each = absurd (omega (arith, many))
+    by_run (e ∷ run) whole many each = record {
+      front = s.front ++ e ∷ [];
+      run = run;
+      back = s.back;
+      whole = whole ∙ ap (λ l. l ++ s.back) (sym (append_assoc s.front (e ∷ []) run));
+      many = omega (arith, many);
+      each = each.1;
+    }
+
+pub InSuccession-fewer : {P : Seen → Type 0} {x : List Seen} (m n : ℕ) → m ≤ n → InSuccession n P x
+    → InSuccession m P x
+InSuccession-fewer {P} {x} m zero less s = subst (λ k. InSuccession k P x) (let none : 0 ≡ m = omega arith in none) s
+InSuccession-fewer {P} {x} m (suc n) less s = elim (cases_lt m (suc n)) [
+  | inl lower ↦ InSuccession-fewer m n (omega (arith, lower)) (InSuccession-one_fewer n s)
+  | inr same ↦ subst (λ k. InSuccession k P x) (let all : suc n ≡ m = omega (arith, same, less) in all) s
+]
 
 -- a mute that is lost acknowledges nothing
 pub lost-acks_none : (u : ℕ) (h : Heard) → is_acked h ≡ false → acked_uid (Mute u) h ≡ None

@@ -83,8 +83,8 @@ part_of b =
     else (if nat_lt b.lo b.at && nat_lt 2 b.quiet then record { part = Rest; range = spanning b.at b.end }
     else record { part = Lower; range = spanning b.at (b.at + (b.end - b.at) / 2) }))
 
--- One UID is asked together with UIDs below it, which were swept, because a bad answer of one UID alone would end the
--- run. It is asked alone if those below it were given up
+-- One UID is asked together with UIDs below it, which were swept, because some of them may have been missed. It is asked
+-- alone if those below it were given up
 abbrev pub with_lower : Belief → Question → Question
 with_lower b q =
     if is_one q.range
@@ -99,25 +99,27 @@ question b =
 abbrev pub begin_again : Belief → Belief
 begin_again b = record b { at = b.lo; quiet = 0; begun = min (b.begun + 1) 4 }
 
--- Its last UID is given up, since it answers and can't be muted. The sweep doesn't look back to it in this pass
-abbrev pub give_up : Belief → Belief
-give_up b = record b {
-  base = b.end + 1;
-  lo = b.end + 1;
-  at = b.end + 1;
+-- A UID is given up, since it answers and can't be muted. The sweep goes on above it, and doesn't look back to it in this
+-- pass
+abbrev pub give_up : ℕ → Belief → Belief
+give_up u b = record b {
+  base = u + 1;
+  lo = u + 1;
+  at = u + 1;
   need = 0;
   width = 2;
   growth = 2;
   quiet = 0;
   begun = 0;
-  suspect = Some b.end;
+  suspect = Some u;
 }
 
--- If at most one UID is left of a range that has two devices, the range is searched again, and given up the fourth time
+-- If at most one UID is left of a range that has two devices, the range is searched again. The fourth time its last UID
+-- is given up
 abbrev pub restarted : Belief → Belief
 restarted b =
     if not (b.need == 2) || (not (nat_lt b.lo b.at) || nat_lt b.at b.end) then b
-    else (if nat_lt (b.begun + 1) 4 then begin_again b else give_up b)
+    else (if nat_lt (b.begun + 1) 4 then begin_again b else give_up b.end b)
 
 -- UID 0 alone isn't asked, since no UID is below it. The whole range asks it at the end. It may be one of the two
 abbrev pub past_zero : Belief → Belief

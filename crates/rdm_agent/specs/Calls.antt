@@ -32,6 +32,7 @@ next_op a = op_of (next_of a)
 abbrev pub fits : OpReply → Op → Bool
 fits came.Done ops.UnmuteAll = true
 fits (came.Mute ack) (ops.Mute u) = true
+fits came.Garbled (ops.Mute u) = true
 fits (came.Branch reply) (ops.Branch r) = true
 fits came.Failed ops.UnmuteAll = true
 fits came.Failed (ops.Mute u) = true

@@ -1,6 +1,6 @@
 -- The agent as a machine over the replies that it gets.
-use Rattle.std.specs.Prelude.{◌≡◌, ℕ, ◌+◌, ◌-◌, ◌*◌, Bool, true, false, ◌&&◌, not, List, [], ◌∷◌}
-use Rattle.std.specs.Prelude.{length, fold, Option, Some, None, ◌==◌, nat_lt, nat_le, if◌then◌else◌}
+use Rattle.std.specs.Prelude.{◌≡◌, ℕ, ◌+◌, ◌-◌, ◌*◌, Bool, true, false, ◌&&◌, ◌||◌, not, List, [], ◌∷◌}
+use Rattle.std.specs.Prelude.{length, fold, Option, Some, None, ◌==◌, nat_lt, nat_le, if◌then◌else◌, min}
 use Rattle.rdm_wire.specs.Uid.{has, is_within, is_broadcast}
 use Rattle.rdm_wire.specs.Devices.{uids_of, with_device}
 use Rattle.rdm_wire.specs.declared.device.Device.{Device}
@@ -15,7 +15,7 @@ use Rattle.rdm_agent.specs.declared.kind.Kind.{Kind}
 use Rattle.rdm_agent.specs.declared.search.Search.{Search}
 use Rattle.rdm_agent.specs.declared.search.Search.TheVariants.{Steady, Quick}
 use Rattle.rdm_agent.specs.declared.fault.AgentFault.{AgentFault}
-use Rattle.rdm_agent.specs.declared.limits.TheConstants.{TRIES, UNMUTES}
+use Rattle.rdm_agent.specs.declared.limits.TheConstants.{TRIES, UNMUTES, BAD_ANSWERS}
 use Rattle.rdm_agent.specs.declared.belief.Belief.{Belief}
 use Rattle.rdm_agent.specs.declared.belief.Question.{Question}
 use Rattle.rdm_agent.specs.declared.belief.Part.{Part}
@@ -23,22 +23,24 @@ use Rattle.rdm_agent.specs.declared.belief.Part.TheVariants.{Fresh, Whole}
 use Rattle.rdm_agent.specs.declared.sweep.Sweep.{Sweep}
 use Rattle.rdm_agent.specs.declared.fault.AgentFault.TheVariants.{Corrupt, TooMany, Exhausted, LineFailed}
 use Rattle.rdm_agent.specs.Beliefs.{is_suspect, is_one, last_uid, first_belief, is_same, is_whole, question, ready}
-use Rattle.rdm_agent.specs.Beliefs.{above, believed_silent, believed_found, believed_apart, suspecting, hushing}
+use Rattle.rdm_agent.specs.Beliefs.{above, believed_silent, believed_found, believed_apart, suspecting, hushing, give_up}
 use Rattle.rdm_agent.specs.Beliefs.{hearing, is_due, is_checked_again, stray_found}
 
--- The phases: the unmutes still to send; the mute of a known UID, with the tries made; the branch of the top range,
--- with its silences; and the mute of a UID that was read there, with the tries made. Then the same two phases of a
--- sweep, which holds the range that it asks; the branch of a range without devices, which may be answered by a UID that
--- was spelt outside the sweep's range, with its silences; the mute of that UID, with the tries made; and the end.
+-- The phases: the unmutes still to send; the mute of a known UID, with the tries made, and with how many garbled replies
+-- needn't be counted as tries; the branch of the top range, with its silences, with its bad answers in a row, and with the
+-- branches that it had since it was taken up or since a device was found in it; and the mute of a UID that was read there,
+-- with the tries, the garbled replies to spare and the range's bad answers. Then the same two phases of a sweep, which
+-- holds the range that it asks; the branch of a range without devices, which may be answered by a UID that was spelt
+-- outside the sweep's range, with its silences; the mute of that UID; and the end.
 pub data Phase : Type 0 where
   Unmuting : (more : ℕ) (known : List ℕ) → Phase
-  MutingKnown : (u tries : ℕ) (known : List ℕ) → Phase
-  Searching : (silences : ℕ) (top : Span) (below : List Span) → Phase
-  MutingRead : (u tries : ℕ) (top : Span) (below : List Span) → Phase
+  MutingKnown : (u tries spare : ℕ) (known : List ℕ) → Phase
+  Searching : (silences bads spent : ℕ) (top : Span) (below : List Span) → Phase
+  MutingRead : (u tries spare bads : ℕ) (top : Span) (below : List Span) → Phase
   Sweeping : (sweep : Sweep) → Phase
-  MutingSwept : (u tries : ℕ) (sweep : Sweep) → Phase
+  MutingSwept : (u tries spare : ℕ) (sweep : Sweep) → Phase
   Checking : (u silences : ℕ) (sweep : Sweep) → Phase
-  MutingStray : (u tries : ℕ) (sweep : Sweep) → Phase
+  MutingStray : (u tries spare : ℕ) (sweep : Sweep) → Phase
   Ended : (fault : Option AgentFault) → Phase
 
 -- an agent: how many exchanges it may make and how many it has made, how it searches, the devices found, its phase
@@ -67,21 +69,21 @@ start_by search kind known budget = record {
 abbrev pub start : Kind → List ℕ → ℕ → AgentState
 start kind known budget = start_by Steady kind known budget
 
--- The range that no device is in: the manufacturer ffff isn't assigned. Only a device that breaks the rules replies to
--- its branch. It isn't ffff:ffffffff alone, since a bad answer of one UID alone ends a run.
+-- The range that no maker's device is in: the manufacturer ffff isn't assigned. Only a device that breaks the rules
+-- replies to its branch. It isn't ffff:ffffffff alone, because bad answers of one UID alone are counted.
 abbrev pub unassigned : Span
 unassigned = record { lo = 0xfffffffffffe; hi = 0xffffffffffff }
 
 -- what a phase asks; None at the end
 abbrev pub wanted : Phase → Option Asked
 wanted (Unmuting more known) = Some Unmute
-wanted (MutingKnown u tries known) = Some (Mute u)
-wanted (Searching silences top below) = Some (Branch top.lo top.hi)
-wanted (MutingRead u tries top below) = Some (Mute u)
+wanted (MutingKnown u tries spare known) = Some (Mute u)
+wanted (Searching silences bads spent top below) = Some (Branch top.lo top.hi)
+wanted (MutingRead u tries spare bads top below) = Some (Mute u)
 wanted (Sweeping sweep) = Some (Branch sweep.question.range.lo sweep.question.range.hi)
-wanted (MutingSwept u tries sweep) = Some (Mute u)
+wanted (MutingSwept u tries spare sweep) = Some (Mute u)
 wanted (Checking u silences sweep) = Some (Branch unassigned.lo unassigned.hi)
-wanted (MutingStray u tries sweep) = Some (Mute u)
+wanted (MutingStray u tries spare sweep) = Some (Mute u)
 wanted (Ended fault) = None
 
 -- what the agent asks next: None is the end
@@ -93,30 +95,71 @@ abbrev pub first_sweep : Sweep
 first_sweep = record {
   made = 0;
   silences = 0;
+  bads = 0;
   question = record { part = Fresh; range = whole };
   belief = first_belief;
 }
 
+-- the steady search of the whole range, which was silent so often
+abbrev pub search_whole : ℕ → Phase
+search_whole silences = Searching silences 0 silences whole []
+
 -- the phase in which a search begins, on the whole range: a quick one sweeps first
 abbrev pub first_phase : Search → Phase
-first_phase Steady = Searching 0 whole []
+first_phase Steady = search_whole 0
 first_phase Quick = Sweeping first_sweep
+
+-- GARBLED MUTES. A quick run doesn't count bytes after a mute, other than its acknowledgement, as one of the tries. In a
+-- series of mutes it has so many of them to spare
+abbrev pub garbled_mutes : ℕ
+garbled_mutes = 8
+
+-- a run with this search
+abbrev pub spare_of : Search → ℕ
+spare_of Steady = 0
+spare_of Quick = garbled_mutes
 
 -- the phase after the unmutes: the known UIDs are muted first, and then the search begins
 abbrev pub search_from : Search → List ℕ → Phase
 search_from search [] = first_phase search
-search_from search (u ∷ us) = MutingKnown u 0 us
+search_from search (u ∷ us) = MutingKnown u 0 (spare_of search) us
 
 -- the phase after the top range is done: the next range, or the end without fault
 abbrev pub search_below : List Span → Phase
 search_below [] = Ended None
-search_below (r ∷ rs) = Searching 0 r rs
+search_below (r ∷ rs) = Searching 0 0 0 r rs
 
 -- the phase after a split: the two halves, the lower one on top. A range of one UID is corrupt
 abbrev pub split : Span → List Span → Phase
 split r below =
     if r.lo == r.hi then Ended (Some (Corrupt r.lo))
-    else Searching 0 (lower_half r) (upper_half r ∷ below)
+    else Searching 0 0 0 (lower_half r) (upper_half r ∷ below)
+
+-- BAD ANSWERS. The steady search of a quick run asks one UID alone again, until so many bad answers in a row. It asks any
+-- other range again, until three in a row, unless that would be after the fifth branch. A steady run asks none again
+abbrev pub asks_again : Search → Span → ℕ → ℕ → Bool
+asks_again Steady top bads spent = false
+asks_again Quick top bads spent = if is_one top then nat_lt bads BAD_ANSWERS else nat_lt spent 6 && nat_lt bads 3
+
+-- whether what a branch of the range spelt is muted after so many branches: in a quick run not after the fifth one, unless
+-- it is of one UID alone
+abbrev pub is_soon : Search → Span → ℕ → Bool
+is_soon Steady top spent = true
+is_soon Quick top spent = is_one top || nat_lt spent 6
+
+-- what its mutes have to spare: nothing if this was the last answer of one UID alone
+abbrev pub spare_at : Search → Span → ℕ → ℕ
+spare_at Steady top bads = 0
+spare_at Quick top bads = if is_one top && not (nat_lt bads BAD_ANSWERS) then 0 else garbled_mutes
+
+-- a range after one more branch; more than ten don't matter
+abbrev pub spent_more : ℕ → ℕ
+spent_more spent = min (spent + 1) 10
+
+-- the phase after so many bad answers in a row and so many branches
+abbrev pub search_apart : Search → ℕ → ℕ → Span → List Span → Phase
+search_apart search bads spent top below =
+    if asks_again search top bads spent then Searching 0 bads spent top below else split top below
 
 -- whether a UID may be that of a new device in the range
 abbrev pub is_new : List ℕ → Span → ℕ → Bool
@@ -124,16 +167,18 @@ is_new found r u = not (is_broadcast u) && is_within r.lo r.hi u && not (has fou
 
 -- No range but the whole one is asked for a fifth silence in a row: the sweep continues above it. With five silences of
 -- every open range a run would have its certificate, and would have to end
-abbrev pub asking : ℕ → ℕ → Question → Belief → Sweep
-asking made again q b =
+abbrev pub asking : ℕ → ℕ → ℕ → Question → Belief → Sweep
+asking made again bads q b =
     if ((again + 1) == TRIES) && not (is_whole q.range)
-    then record { made = made; silences = 0; question = question (above q.range b); belief = above q.range b }
-    else record { made = made; silences = again; question = q; belief = b }
+    then record { made = made; silences = 0; bads = 0; question = question (above q.range b); belief = above q.range b }
+    else record { made = made; silences = again; bads = bads; question = q; belief = b }
 
--- the sweep with this belief and what it asks next, after so many silences in a row of the range that it asked last
-unfoldable pub choose : ℕ → ℕ → Span → Belief → Sweep
-choose made silences last b =
-    asking made (if is_same (question (ready b)).range last then silences else 0) (question (ready b)) (ready b)
+-- the sweep with this belief and what it asks next, after so many silences or bad answers in a row of the range that it
+-- asked last
+unfoldable pub choose : ℕ → ℕ → ℕ → Span → Belief → Sweep
+choose made silences bads last b =
+    if is_same (question (ready b)).range last then asking made silences bads (question (ready b)) (ready b)
+    else asking made 0 0 (question (ready b)) (ready b)
 
 -- a sweep after one more exchange
 abbrev pub counted : Sweep → Sweep
@@ -152,22 +197,22 @@ abbrev pub sweep_suspecting : ℕ → Sweep → Sweep
 sweep_suspecting u sweep = record sweep { belief = suspecting u sweep.belief }
 
 -- a sweep that has found this many devices goes on while it has made fewer exchanges than 100 for each of them and 200
--- more. Then the steady search begins, in which the last silences of the whole range count. The silences are those of
--- the last range
-abbrev pub sweep_on_after : Sweep → Span → ℕ → ℕ → Belief → Phase
-sweep_on_after sweep last silences found b =
-    if nat_lt sweep.made (100 * (found + 2)) then Sweeping (choose sweep.made silences last b)
-    else Searching (if is_whole last then silences else 0) whole []
+-- more. Then the steady search begins, in which the last silences of the whole range count. The silences and bad answers
+-- are those of the last range
+abbrev pub sweep_on_after : Sweep → Span → ℕ → ℕ → ℕ → Belief → Phase
+sweep_on_after sweep last silences bads found b =
+    if nat_lt sweep.made (100 * (found + 2)) then Sweeping (choose sweep.made silences bads last b)
+    else search_whole (if is_whole last then silences else 0)
 
 -- the same after what it asked
-abbrev pub sweep_on : Sweep → ℕ → ℕ → Belief → Phase
-sweep_on sweep silences found b = sweep_on_after sweep sweep.question.range silences found b
+abbrev pub sweep_on : Sweep → ℕ → ℕ → ℕ → Belief → Phase
+sweep_on sweep silences bads found b = sweep_on_after sweep sweep.question.range silences bads found b
 
 -- what it asked was silent; the fifth silence in a row, which is one of the whole range, ends the run
 abbrev pub sweep_silent : Sweep → ℕ → Phase
 sweep_silent sweep found =
     if (sweep.silences + 1) == TRIES then Ended None
-    else sweep_on sweep (sweep.silences + 1) found
+    else sweep_on sweep (sweep.silences + 1) 0 found
     (believed_silent sweep.question.part sweep.question.range sweep.belief)
 
 -- whether the whole range was asked after a pass
@@ -179,14 +224,24 @@ is_last _ = false
 -- begins
 abbrev pub sweep_split : Sweep → Span → ℕ → ℕ → Phase
 sweep_split sweep last silences found =
-    if is_last sweep.question.part && sweep.belief.found_nothing then Searching 0 whole []
-    else sweep_on_after sweep last silences found
+    if is_last sweep.question.part && sweep.belief.found_nothing then search_whole 0
+    else sweep_on_after sweep last silences 0 found
     (believed_apart sweep.question.part sweep.question.range sweep.belief)
 
--- what it asked collided. One UID that was asked alone is corrupt
+-- a UID alone that answered badly so often in a row is given up
+abbrev pub bads_aside : ℕ
+bads_aside = 4
+
+-- one UID that was asked alone answered badly once more: it is asked again, or given up
+abbrev pub sweep_alone : Sweep → ℕ → Phase
+sweep_alone sweep found =
+    if (sweep.bads + 1) == bads_aside then sweep_on sweep 0 0 found (give_up sweep.question.range.hi sweep.belief)
+    else sweep_on sweep 0 (sweep.bads + 1) found sweep.belief
+
+-- what it asked was answered badly. A range of several UIDs collided
 abbrev pub sweep_apart : Sweep → ℕ → Phase
 sweep_apart sweep found =
-    if is_one sweep.question.range then Ended (Some (Corrupt sweep.question.range.lo))
+    if is_one sweep.question.range then sweep_alone sweep found
     else sweep_split sweep sweep.question.range 0 found
 
 -- the agent after one more exchange, in this phase
@@ -212,31 +267,56 @@ to_found a d phase =
     }
     else to_phase a (Ended (Some TooMany)))
 
--- the agent after a branch. Five silences end the range. A new UID is muted, and anything else splits the range
-abbrev pub branch_heard : AgentState → ℕ → Span → List Span → Heard → AgentState
-branch_heard a silences top below Silent =
-    to_phase a (if (silences + 1) == TRIES then search_below below else Searching (silences + 1) top below)
-branch_heard a silences top below (One u) =
-    to_phase a (if is_new (found_uids a) top u then MutingRead u 0 top below else split top below)
-branch_heard a silences top below _ = to_phase a (split top below)
+-- what follows a silence of the top range: the fifth in a row ends it
+abbrev pub search_silent : ℕ → ℕ → Span → List Span → Phase
+search_silent silences spent top below =
+    if (silences + 1) == TRIES then search_below below else Searching (silences + 1) 0 spent top below
 
--- the agent after the mute of a known UID: found if acknowledged, and given up after five tries
-abbrev pub known_heard : AgentState → ℕ → ℕ → List ℕ → Heard → AgentState
-known_heard a u tries known (Acked ack) = to_found a (device_from u ack) (search_from a.search known)
-known_heard a u tries known _ =
-    to_phase a (if (tries + 1) == TRIES then search_from a.search known else MutingKnown u (tries + 1) known)
+-- what follows if it spelt this UID: a new one is muted, if it comes soon enough
+abbrev pub search_read : Search → List ℕ → ℕ → ℕ → Span → List Span → ℕ → Phase
+search_read search found bads spent top below u =
+    if is_new found top u && is_soon search top spent then MutingRead u 0 (spare_at search top bads) bads top below
+    else search_apart search bads spent top below
 
--- the agent after the mute of a UID that was read. It is found if acknowledged. After five tries the range is split
-abbrev pub mute_heard : AgentState → ℕ → ℕ → Span → List Span → Heard → AgentState
-mute_heard a u tries top below (Acked ack) = to_found a (device_from u ack) (Searching 0 top below)
-mute_heard a u tries top below _ =
-    to_phase a (if (tries + 1) == TRIES then split top below else MutingRead u (tries + 1) top below)
+-- the agent after a branch. Anything but silence and a new UID is a bad answer
+abbrev pub branch_heard : AgentState → ℕ → ℕ → ℕ → Span → List Span → Heard → AgentState
+branch_heard a silences bads spent top below Silent =
+    to_phase a (search_silent silences (spent_more spent) top below)
+branch_heard a silences bads spent top below (One u) =
+    to_phase a (search_read a.search (found_uids a) (bads + 1) (spent_more spent) top below u)
+branch_heard a silences bads spent top below _ =
+    to_phase a (search_apart a.search (bads + 1) (spent_more spent) top below)
 
--- whether the UID that a sweep's branch spelt is muted: not if it was given up, unless it was asked alone
+-- what follows a mute of a known UID that counts as a try: after the fifth it is given up
+abbrev pub known_lost : Search → ℕ → ℕ → ℕ → List ℕ → Phase
+known_lost search u tries spare known =
+    if (tries + 1) == TRIES then search_from search known else MutingKnown u (tries + 1) spare known
+
+-- the agent after the mute of a known UID. It is found if acknowledged
+abbrev pub known_heard : AgentState → ℕ → ℕ → ℕ → List ℕ → Heard → AgentState
+known_heard a u tries spare known (Acked ack) = to_found a (device_from u ack) (search_from a.search known)
+known_heard a u tries spare known Silent = to_phase a (known_lost a.search u tries spare known)
+known_heard a u tries spare known _ =
+    to_phase a (if nat_lt 0 spare then MutingKnown u tries (spare - 1) known
+    else known_lost a.search u tries spare known)
+
+-- what follows a mute of a UID that was read, if it counts as a try: the fifth makes a bad answer of its range, which was
+-- branched often enough
+abbrev pub mute_lost : Search → ℕ → ℕ → ℕ → ℕ → Span → List Span → Phase
+mute_lost search u tries spare bads top below =
+    if (tries + 1) == TRIES then search_apart search bads 10 top below else MutingRead u (tries + 1) spare bads top below
+
+-- the agent after the mute of a UID that was read. It is found if acknowledged
+abbrev pub mute_heard : AgentState → ℕ → ℕ → ℕ → ℕ → Span → List Span → Heard → AgentState
+mute_heard a u tries spare bads top below (Acked ack) = to_found a (device_from u ack) (Searching 0 0 0 top below)
+mute_heard a u tries spare bads top below Silent = to_phase a (mute_lost a.search u tries spare bads top below)
+mute_heard a u tries spare bads top below _ =
+    to_phase a (if nat_lt 0 spare then MutingRead u tries (spare - 1) bads top below
+    else mute_lost a.search u tries spare bads top below)
+
+-- whether the UID that a sweep's branch spelt is muted: not if it was given up
 abbrev pub is_wanted : List ℕ → Sweep → ℕ → Bool
-is_wanted found sweep u =
-    is_new found sweep.question.range u
-    && not (is_suspect sweep.belief.suspect u && not (is_one sweep.question.range))
+is_wanted found sweep u = is_new found sweep.question.range u && not (is_suspect sweep.belief.suspect u)
 
 -- whether the UID that a sweep's branch spelt may be a device's outside the range, that wasn't found or given up
 abbrev pub is_outside : List ℕ → Sweep → ℕ → Bool
@@ -245,14 +325,14 @@ is_outside found sweep u =
     && (not (is_within sweep.question.range.lo sweep.question.range.hi u)
     && (not (has found u) && not (is_suspect sweep.belief.suspect u)))
 
--- whether it is checked: it is due. A range of one UID is corrupt, whatever else it spells
+-- whether it is checked: it is due. If one UID was asked alone, another one is a bad answer
 abbrev pub is_stray : List ℕ → Sweep → ℕ → Bool
 is_stray found sweep u = is_outside found sweep u && (not (is_one sweep.question.range) && is_due sweep.belief)
 
 -- what follows a branch of a sweep that spelt this UID
 abbrev pub sweep_spelt : List ℕ → Sweep → ℕ → ℕ → Phase
 sweep_spelt uids sweep found u =
-    if is_wanted uids sweep u then MutingSwept u 0 sweep
+    if is_wanted uids sweep u then MutingSwept u 0 garbled_mutes sweep
     else (if is_stray uids sweep u then Checking u 0 sweep else sweep_apart sweep found)
 
 -- the agent after a branch of a sweep
@@ -262,16 +342,22 @@ sweep_heard a sweep (One u) =
     to_phase a (sweep_spelt (found_uids a) (counted_spelt u sweep) (length a.found) u)
 sweep_heard a sweep _ = to_phase a (sweep_apart (counted sweep) (length a.found))
 
--- the agent after the mute of a UID that a sweep read. It is found if acknowledged. After five tries the sweep gives it
--- up. A series of mutes is never cut short
-abbrev pub swept_heard : AgentState → ℕ → ℕ → Sweep → Heard → AgentState
-swept_heard a u tries sweep (Acked ack) =
+-- what follows a mute of a UID that a sweep read, if it counts as a try: after the fifth it is given up. A series of mutes
+-- is never cut short
+abbrev pub swept_lost : ℕ → ℕ → ℕ → Sweep → ℕ → Phase
+swept_lost u tries spare sweep found =
+    if (tries + 1) == TRIES then sweep_apart (sweep_suspecting u sweep) found else MutingSwept u (tries + 1) spare sweep
+
+-- the agent after the mute of a UID that a sweep read. It is found if acknowledged
+abbrev pub swept_heard : AgentState → ℕ → ℕ → ℕ → Sweep → Heard → AgentState
+swept_heard a u tries spare sweep (Acked ack) =
     to_found a (device_from u ack)
-    (sweep_on (counted sweep) 0 (length a.found + 1)
+    (sweep_on (counted sweep) 0 0 (length a.found + 1)
     (believed_found sweep.question.part sweep.question.range sweep.belief))
-swept_heard a u tries sweep _ =
-    to_phase a (if (tries + 1) == TRIES then sweep_apart (sweep_suspecting u (counted sweep)) (length a.found)
-    else MutingSwept u (tries + 1) (counted sweep))
+swept_heard a u tries spare sweep Silent = to_phase a (swept_lost u tries spare (counted sweep) (length a.found))
+swept_heard a u tries spare sweep _ =
+    to_phase a (if nat_lt 0 spare then MutingSwept u tries (spare - 1) (counted sweep)
+    else swept_lost u tries spare (counted sweep) (length a.found))
 
 -- what follows a silence of the check
 abbrev pub check_silent : ℕ → ℕ → Sweep → ℕ → Phase
@@ -281,7 +367,8 @@ check_silent u silences sweep found =
 
 -- and what follows if it spelt another UID, or this one
 abbrev pub check_spelt : ℕ → ℕ → Sweep → ℕ → Phase
-check_spelt u v sweep found = if v == u then MutingStray u 0 sweep else sweep_split sweep unassigned 0 found
+check_spelt u v sweep found =
+    if v == u then MutingStray u 0 garbled_mutes sweep else sweep_split sweep unassigned 0 found
 
 -- the agent after a check whether this UID answers for others, too. If it does it is muted. Anything else means that
 -- what the sweep asked collided
@@ -290,28 +377,34 @@ check_heard a u silences sweep Silent = to_phase a (check_silent u silences (cou
 check_heard a u silences sweep (One v) = to_phase a (check_spelt u v (counted sweep) (length a.found))
 check_heard a u silences sweep _ = to_phase a (sweep_split (counted sweep) unassigned 0 (length a.found))
 
--- the agent after the mute of a UID that answers for others, too. If it is found the same is asked again. After five
--- tries the sweep gives it up, and what it asked collided
-abbrev pub stray_heard : AgentState → ℕ → ℕ → Sweep → Heard → AgentState
-stray_heard a u tries sweep (Acked ack) =
+-- what follows a mute of a UID that answers for others, if it counts as a try: after the fifth the sweep gives the UID up,
+-- and what it asked collided
+abbrev pub stray_lost : ℕ → ℕ → ℕ → Sweep → ℕ → Phase
+stray_lost u tries spare sweep found =
+    if (tries + 1) == TRIES then sweep_split (sweep_suspecting u sweep) unassigned 0 found
+    else MutingStray u (tries + 1) spare sweep
+
+-- the agent after the mute of a UID that answers for others, too. If it is found the same is asked again
+abbrev pub stray_heard : AgentState → ℕ → ℕ → ℕ → Sweep → Heard → AgentState
+stray_heard a u tries spare sweep (Acked ack) =
     to_found a (device_from u ack)
-    (sweep_on (counted sweep) 0 (length a.found + 1) (stray_found sweep.belief))
-stray_heard a u tries sweep _ =
-    to_phase a (if (tries + 1) == TRIES
-    then sweep_split (sweep_suspecting u (counted sweep)) unassigned 0 (length a.found)
-    else MutingStray u (tries + 1) (counted sweep))
+    (sweep_on (counted sweep) 0 0 (length a.found + 1) (stray_found sweep.belief))
+stray_heard a u tries spare sweep Silent = to_phase a (stray_lost u tries spare (counted sweep) (length a.found))
+stray_heard a u tries spare sweep _ =
+    to_phase a (if nat_lt 0 spare then MutingStray u tries (spare - 1) (counted sweep)
+    else stray_lost u tries spare (counted sweep) (length a.found))
 
 -- the agent after this was heard in this phase, if the line didn't fail
 abbrev pub heard_by_phase : AgentState → Phase → Heard → AgentState
 heard_by_phase a (Unmuting more known) heard =
     to_phase a (if nat_lt 1 more then Unmuting (more - 1) known else search_from a.search known)
-heard_by_phase a (MutingKnown u tries known) heard = known_heard a u tries known heard
-heard_by_phase a (Searching silences top below) heard = branch_heard a silences top below heard
-heard_by_phase a (MutingRead u tries top below) heard = mute_heard a u tries top below heard
+heard_by_phase a (MutingKnown u tries spare known) heard = known_heard a u tries spare known heard
+heard_by_phase a (Searching silences bads spent top below) heard = branch_heard a silences bads spent top below heard
+heard_by_phase a (MutingRead u tries spare bads top below) heard = mute_heard a u tries spare bads top below heard
 heard_by_phase a (Sweeping sweep) heard = sweep_heard a sweep heard
-heard_by_phase a (MutingSwept u tries sweep) heard = swept_heard a u tries sweep heard
+heard_by_phase a (MutingSwept u tries spare sweep) heard = swept_heard a u tries spare sweep heard
 heard_by_phase a (Checking u silences sweep) heard = check_heard a u silences sweep heard
-heard_by_phase a (MutingStray u tries sweep) heard = stray_heard a u tries sweep heard
+heard_by_phase a (MutingStray u tries spare sweep) heard = stray_heard a u tries spare sweep heard
 heard_by_phase a (Ended fault) heard = a
 
 -- the agent after a reply
@@ -335,13 +428,13 @@ fault_of _ = Some Exhausted
 -- the number of open ranges: one before the steady search, the whole range
 abbrev pub open_ranges : Phase → ℕ
 open_ranges (Unmuting more known) = 1
-open_ranges (MutingKnown u tries known) = 1
-open_ranges (Searching silences top below) = length below + 1
-open_ranges (MutingRead u tries top below) = length below + 1
+open_ranges (MutingKnown u tries spare known) = 1
+open_ranges (Searching silences bads spent top below) = length below + 1
+open_ranges (MutingRead u tries spare bads top below) = length below + 1
 open_ranges (Sweeping sweep) = 1
-open_ranges (MutingSwept u tries sweep) = 1
+open_ranges (MutingSwept u tries spare sweep) = 1
 open_ranges (Checking u silences sweep) = 1
-open_ranges (MutingStray u tries sweep) = 1
+open_ranges (MutingStray u tries spare sweep) = 1
 open_ranges (Ended fault) = 0
 
 -- the agent after a list of replies

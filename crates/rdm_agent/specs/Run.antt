@@ -31,7 +31,7 @@ heard_of_branch replies.Silent = Silent
 heard_of_branch (replies.One u) = One u
 heard_of_branch replies.Collision = Noise
 
--- how the reply to a mute is heard: its acknowledgement, or else silence, even if other bytes came
+-- how the reply to a mute is heard: its acknowledgement, or silence
 abbrev pub heard_of_mute : Option MuteAck → Heard
 heard_of_mute None = Silent
 heard_of_mute (Some ack) = Acked ack
@@ -40,8 +40,15 @@ heard_of_mute (Some ack) = Acked ack
 abbrev pub heard_by : OpReply → Heard
 heard_by came.Done = Silent
 heard_by (came.Mute ack) = heard_of_mute ack
+heard_by came.Garbled = Noise
 heard_by (came.Branch reply) = heard_of_branch reply
 heard_by came.Failed = Failed
+
+-- the reply to a mute after these bytes, which acknowledge it like this
+abbrev pub mute_reply : Option MuteAck → List ℕ → OpReply
+mute_reply (Some ack) bytes = came.Mute (Some ack)
+mute_reply None [] = came.Mute None
+mute_reply None (b ∷ bs) = came.Garbled
 
 -- an operation with its reply, as an exchange
 abbrev pub seen_op : Op × OpReply → Seen

@@ -10,7 +10,7 @@ use Rattle.rdm_wire.specs.Noisy.{NoisyTo, NoisyTrace}
 use Rattle.rdm_wire.specs.declared.device.Device.{Device}
 use Rattle.rdm_agent.specs.Run.{IsReport, FailureIsLast}
 use Rattle.rdm_agent.specs.Certificate.{Certificate}
-use Rattle.rdm_agent.specs.Cause.{Cause, IsCorrupt, EndsFailed, AllReported}
+use Rattle.rdm_agent.specs.Cause.{Cause, IsCorruptBy, EndsFailed, AllReported}
 use Rattle.rdm_agent.specs.Machine.{AgentState, Runs, start_by, next_of, fault_of, found_uids, open_ranges}
 use Rattle.rdm_agent.specs.declared.kind.Kind.{Kind}
 use Rattle.rdm_agent.specs.declared.search.Search.{Search}
@@ -59,7 +59,7 @@ EndsAtBudget search = OfEachRun search (λ kind known budget x b. length x ≡ b
 -- while it goes on, no exchange has failed, and none shows a corrupt UID
 abbrev pub GoesOnSoundly : Search → Type 0
 GoesOnSoundly search = OfEachRun search (λ kind known budget x b. next_of b ≢ None →
-    AllByRecursion (λ e. e.heard ≢ Failed) x × ((u : ℕ) → IsCorrupt u x → ⊥))
+    AllByRecursion (λ e. e.heard ≢ Failed) x × ((u : ℕ) → IsCorruptBy search u x → ⊥))
 
 -- at any moment it has found what it reports, and while it goes on it has found all acknowledged UIDs
 abbrev pub FindsAcknowledged : Search → Type 0
@@ -73,7 +73,7 @@ HasFewRanges search = OfEachRun search (λ kind known budget x b. open_ranges b.
 -- at the end it has its certificate, or its fault's cause, and it reports the acknowledged UIDs
 abbrev pub EndsCertified : Search → Type 0
 EndsCertified search = OfEachRun search (λ kind known budget x b. next_of b ≡ None →
-    MatchOption (fault_of b.phase) (Certificate kind known x b.found) (λ f. Cause budget ⊥ f x)
+    MatchOption (fault_of b.phase) (Certificate kind known x b.found) (λ f. Cause search budget ⊥ f x)
     × IsReport x b.found)
 
 -- it has a certificate, of any set, only once it has ended without fault

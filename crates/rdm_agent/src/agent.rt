@@ -189,7 +189,7 @@ impl Agent {
         ensures certified { AfterEach self.now (λ run.
             IfNone result (Certificate run.kind run.known run.exchanges self.now.found)) }
         ensures caused { AfterEach self.now (λ run.
-            IfSome result (λ f. Cause run.budget (run.aborted ≡ true) f run.exchanges)) }
+            IfSome result (λ f. Cause run.search run.budget (run.aborted ≡ true) f run.exchanges)) }
     {
         self.phase.fault()
     }
@@ -211,7 +211,7 @@ impl Agent {
         ensures certified { AfterEach self (λ run. IfOk result (λ s.
             Certificate run.kind run.known run.exchanges s × IsReport run.exchanges s)) }
         ensures caused { AfterEach self (λ run. IfErr result (λ e.
-            Cause run.budget (run.aborted ≡ true) e.0 run.exchanges × IsReport run.exchanges e.1)) }
+            Cause run.search run.budget (run.aborted ≡ true) e.0 run.exchanges × IsReport run.exchanges e.1)) }
 
         // On an honest line the devices are found, and nothing else. A device to which the line is honest is found,
         // whatever the others do.

@@ -228,27 +228,29 @@ impl Belief {
         }
     }
 
-    // The last UID of the range that answered is given up, since it answers and can't be muted.
-    fn give_up(self) -> Belief
+    /// This UID is given up, since it answers and can't be muted.
+    pub(crate) fn give_up(self, uid: Uid) -> Belief
         requires small { IsSmall self }
-        ensures value { result ≡ give_up self }
+        ensures value { result ≡ give_up uid self }
         ensures small { IsSmall result }
     {
+        let next = uid.number() + 1;
         Belief {
-            base: self.end + 1,
-            lo: self.end + 1,
-            at: self.end + 1,
+            base: next,
+            lo: next,
+            at: next,
             need: 0,
             width: 2,
             growth: 2,
             quiet: 0,
             begun: 0,
-            suspect: Uid::from_number(self.end),
+            suspect: Some(uid),
             ..self
         }
     }
 
-    // If only one UID is left of a range that has two devices, the range is begun again, and given up the fourth time.
+    // If only one UID is left of a range that has two devices, the range is begun again. The fourth time its last UID is
+    // given up.
     fn restarted(self) -> Belief
         requires small { IsSmall self }
         ensures value { result ≡ restarted self }
@@ -259,7 +261,7 @@ impl Belief {
         } else if self.begun + 1 < BEGUN {
             self.begin_again()
         } else {
-            self.give_up()
+            self.give_up(Uid::from_number(self.end).unwrap())
         }
     }
 
@@ -325,8 +327,8 @@ impl Belief {
         spanning(lo, self.at + self.width.saturating_sub(1))
     }
 
-    // One UID is asked together with UIDs below it, which were swept. So a bad answer isn't a fault of the run. It is
-    // asked alone if those below it were given up.
+    // One UID is asked together with UIDs below it, which were swept, because some may have been missed there. It is asked
+    // alone if those below it were given up.
     fn with_lower(&self, asked: Question) -> Question
         ensures value { result ≡ with_lower self.now asked }
     {

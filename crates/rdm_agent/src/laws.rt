@@ -22,7 +22,7 @@ ghost use Rattle.rdm_agent.specs.Statements.{HasFewRanges, EndsCertified, FindsA
 ghost use Rattle.rdm_agent.specs.Statements.{FindsAcknowledged, CertificateIsTheEnd};
 ghost use Rattle.rdm_agent.specs.Statements.{FindsStaying, FindsNoStranger, IsInEach, IsInOne};
 ghost use Rattle.rdm_agent.specs.Statements.{FindsAllInNoise, FindsEachInNoise, FindsNoPhantomInNoise};
-ghost use Rattle.rdm_agent.specs.declared.limits.TheConstants.{DEFAULT_BUDGET, MOST_RANGES, TRIES, UNMUTES};
+ghost use Rattle.rdm_agent.specs.declared.limits.TheConstants.{BAD_ANSWERS, DEFAULT_BUDGET, MOST_RANGES, TRIES, UNMUTES};
 ghost use Rattle.rdm_agent.specs.declared.kind.Kind.{Kind};
 ghost use Rattle.rdm_agent.specs.declared.kind.Kind.TheVariants.{Full, Incremental};
 ghost use Rattle.rdm_agent.specs.declared.search.Search.{Search};
@@ -265,8 +265,9 @@ pub fn honest_lines()
 {}
 
 /// Quick searches. The first silence of an empty line is one of the five. The line of [`honest_run`] takes ten
-/// exchanges, as with the steady search. Two devices that collide take 13, and 18 with the steady search. A line that
-/// answers each branch with one byte is corrupt, at the first UID that is branched alone.
+/// exchanges, as with the steady search. Two devices that collide take 13, and 18 with the steady search. On a line that
+/// answers each branch with one byte the sweep reaches its limit of 200 exchanges, and the steady search after it finds
+/// UID 0 corrupt.
 pub fn quick_runs()
     ensures empty { fed_all (start_by Quick Full [] DEFAULT_BUDGET) (replicate 8 Silent)
         ≡ record { budget = DEFAULT_BUDGET; frames = 8; search = Quick; found = []; phase = Ended None } }
@@ -285,14 +286,15 @@ pub fn quick_runs()
       found = sample_device ∷ other_device ∷ [];
       phase = Ended None;
     }) }
-    ensures corrupt { (fed_all (start_by Quick Full [] DEFAULT_BUDGET) (replicate 3 Silent ++ replicate 49 Noise)).phase
-        ≡ Ended (Some (AgentFault.Corrupt 1)) }
+    ensures corrupt { (fed_all (start_by Quick Full [] DEFAULT_BUDGET) (replicate 3 Silent ++ replicate 352 Noise)).phase
+        ≡ Ended (Some (AgentFault.Corrupt 0)) }
 {}
 
 /// The constants of the profile.
 pub fn limits_are()
     ensures unmutes { UNMUTES ≡ 3 }
     ensures tries { TRIES ≡ 5 }
+    ensures bad_answers { BAD_ANSWERS ≡ 8 }
     ensures ranges { MOST_RANGES ≡ 49 }
     ensures budget { DEFAULT_BUDGET ≡ 384008 }
 {}

@@ -18,6 +18,6 @@ mod sweep;
 pub use agent::Agent;
 pub use fault::AgentFault;
 pub use kind::Kind;
-pub use limits::{DEFAULT_BUDGET, MOST_RANGES, TRIES, UNMUTES};
+pub use limits::{BAD_ANSWERS, DEFAULT_BUDGET, MOST_RANGES, TRIES, UNMUTES};
 pub use op::{Op, OpReply};
 pub use search::Search;

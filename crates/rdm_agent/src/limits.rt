@@ -8,6 +8,25 @@ pub const UNMUTES: u8 = 3;
 /// absent.
 pub const TRIES: u8 = 5;
 
+/// How often in a row one UID alone is asked by a quick run, if it is answered by bytes each time but isn't found. Then
+/// the run ends as corrupt.
+pub const BAD_ANSWERS: u8 = 8;
+
+/// How many garbled replies to a series of mutes a quick run doesn't count as tries.
+pub(crate) const GARBLED_MUTES: u8 = 8;
+
+/// A sweep gives up a UID that it asked alone after this many bad answers in a row.
+pub(crate) const BADS_ASIDE: u8 = 4;
+
+/// The steady search of a quick run asks a range again after bad answers up to this many branches.
+pub(crate) const HASTE: u8 = 5;
+
+/// But not after this many bad answers in a row, which are believed.
+pub(crate) const BADS_BELIEVED: u8 = 3;
+
+/// More branches of a range than these aren't counted.
+pub(crate) const MOST_SPENT: u8 = 10;
+
 /// How many ranges are open at most: one at each of the 48 depths, and one more at the deepest. They are the
 /// ranges of E1.20's discovery unique branch.
 pub const MOST_RANGES: usize = 49;

@@ -7,7 +7,7 @@ ghost use Rattle.rdm_wire.specs.Honest.Heard.{Acked};
 ghost use Rattle.rdm_wire.specs.declared.mute_ack.MuteAck.{MuteAck};
 ghost use Rattle.rdm_agent.specs.Calls.{fits, next_op};
 ghost use Rattle.rdm_agent.specs.OpFrames.{op_frame, IsSendable};
-ghost use Rattle.rdm_agent.specs.Run.{asked_by, heard_by};
+ghost use Rattle.rdm_agent.specs.Run.{asked_by, heard_by, mute_reply};
 ghost use Rattle.rdm_agent.specs.Machine.{AgentState, fed};
 
 use rdm_wire::{
@@ -33,8 +33,10 @@ pub enum Op {
 pub enum OpReply {
     /// The unmute was sent; it isn't answered.
     Done,
-    /// The acknowledgement of a mute, if one came.
+    /// The acknowledgement of a mute, or silence.
     Mute(Option<MuteAck>),
+    /// Bytes came after a mute that aren't its acknowledgement.
+    Garbled,
     /// What the bytes after a branch mean.
     Branch(BranchReply),
     /// The line failed.
@@ -68,10 +70,12 @@ impl Op {
         ensures failed { (result ≡ OpReply.Failed) ↔ (option_copied answer.entry ≡ None) }
         ensures branch { (r : Span) → self.now ≡ Op.Branch r →
             heard_by result ≡ heard_in (op_frame self.now source tn) (option_copied answer.entry) }
+        ensures mute { (u : ℕ) → self.now ≡ Op.Mute u →
+            heard_by result ≡ heard_in (op_frame self.now source tn) (option_copied answer.entry) }
         ensures acked { (ack : MuteAck) → (result ≡ OpReply.Mute (Some ack))
             ↔ (heard_in (op_frame self.now source tn) (option_copied answer.entry) ≡ Acked ack) }
-        // An agent continues in the same way with the reply as with the bytes. After a mute, bytes that acknowledge
-        // nothing mean the same to it as silence, and so do any bytes after an unmute.
+        // An agent continues in the same way with the reply as with the bytes: any bytes after an unmute mean the same to
+        // it as silence.
         ensures fed { (a : AgentState) → next_op a ≡ self.now → fed a (heard_by result)
             ≡ fed a (heard_in (op_frame self.now source tn) (option_copied answer.entry)) }
     {
@@ -88,6 +92,8 @@ impl Op {
         ensures came { result ≢ OpReply.Failed }
         ensures branch { (r : Span) → self.now ≡ Op.Branch r →
             heard_by result ≡ heard_in (op_frame self.now source tn) (Some bytes.now) }
+        ensures mute { (u : ℕ) → self.now ≡ Op.Mute u →
+            heard_by result ≡ heard_in (op_frame self.now source tn) (Some bytes.now) }
         ensures acked { (ack : MuteAck) → (result ≡ OpReply.Mute (Some ack))
             ↔ (heard_in (op_frame self.now source tn) (Some bytes.now) ≡ Acked ack) }
         ensures fed { (a : AgentState) → next_op a ≡ self.now → fed a (heard_by result)
@@ -96,7 +102,7 @@ impl Op {
         self.show_sendable(source, tn);
         match self {
             Op::UnmuteAll => OpReply::Done,
-            Op::Mute(uid) => OpReply::Mute(reads_mute_ack(*uid, source, tn, bytes)),
+            Op::Mute(uid) => mute_reply(reads_mute_ack(*uid, source, tn, bytes), bytes),
             Op::Branch(_) => OpReply::Branch(read_branch_reply(bytes)),
             Op::End => unreachable!(),
         }
@@ -119,6 +125,17 @@ impl Op {
     }
 }
 
+// The reply to a mute: these bytes came, which acknowledge it like this.
+fn mute_reply(ack: Option<MuteAck>, bytes: &[u8]) -> OpReply
+    ensures { result ≡ mute_reply ack bytes.now }
+{
+    if ack.is_none() && !bytes.is_empty() {
+        OpReply::Garbled
+    } else {
+        OpReply::Mute(ack)
+    }
+}
+
 impl OpReply {
     /// Whether it may answer this operation. [`OpReply::Failed`] may answer each but [`Op::End`], which has no reply.
     pub fn fits(&self, op: &Op) -> bool
@@ -126,7 +143,7 @@ impl OpReply {
     {
         match (self, op) {
             (OpReply::Done, Op::UnmuteAll)
-            | (OpReply::Mute(_), Op::Mute(_))
+            | (OpReply::Mute(_) | OpReply::Garbled, Op::Mute(_))
             | (OpReply::Branch(_), Op::Branch(_))
             | (OpReply::Failed, Op::UnmuteAll | Op::Mute(_) | Op::Branch(_)) => true,
             _ => false,

@@ -23,6 +23,8 @@ pub(crate) enum Phase {
         uid: Uid,
         /// Below [`TRIES`](crate::TRIES).
         tries: u8,
+        /// How many garbled replies needn't be counted as tries.
+        spare: u8,
     },
     /// The top range is being branched, and was silent this many times in a row.
     Searching {
@@ -30,6 +32,10 @@ pub(crate) enum Phase {
         top: UidRange,
         /// Below [`TRIES`](crate::TRIES).
         silences: u8,
+        /// How many bad answers in a row it had: below [`BAD_ANSWERS`](crate::BAD_ANSWERS).
+        bads: u8,
+        /// How many branches it had since it was taken up or since a device was found in it: 10 at most.
+        spent: u8,
     },
     /// A UID that the top range's branch spelt is being muted, and this many tries had no answer.
     MutingRead {
@@ -37,6 +43,10 @@ pub(crate) enum Phase {
         uid: Uid,
         /// Below [`TRIES`](crate::TRIES).
         tries: u8,
+        /// How many garbled replies needn't be counted as tries.
+        spare: u8,
+        /// How many bad answers in a row the range had, if this becomes one.
+        bads: u8,
         /// The range.
         top: UidRange,
     },
@@ -51,6 +61,8 @@ pub(crate) enum Phase {
         uid: Uid,
         /// Below [`TRIES`](crate::TRIES).
         tries: u8,
+        /// How many garbled replies needn't be counted as tries.
+        spare: u8,
         /// The sweep.
         sweep: Sweep,
     },
@@ -70,6 +82,8 @@ pub(crate) enum Phase {
         uid: Uid,
         /// Below [`TRIES`](crate::TRIES).
         tries: u8,
+        /// How many garbled replies needn't be counted as tries.
+        spare: u8,
         /// The sweep.
         sweep: Sweep,
     },

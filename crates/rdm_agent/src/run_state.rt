@@ -1,12 +1,12 @@
 //! How a run goes on after a reply.
-ghost use Rattle.std.specs.Prelude.{◌≡◌, ◌<◌, ◌⊎◌, Some, [], true, false};
+ghost use Rattle.std.specs.Prelude.{◌≡◌, ◌<◌, ◌≤◌, ◌⊎◌, Some, [], true, false};
 ghost use Rattle.std.specs.List.{AllByRecursion};
 ghost use Rattle.rdm_wire.specs.Span.{Span, whole};
 ghost use Rattle.rdm_wire.specs.Uid.{is_broadcast, IsDevice, IsDeviceSet};
 ghost use Rattle.rdm_wire.specs.Devices.{uids_of};
-ghost use Rattle.rdm_wire.specs.Honest.Heard.{Silent};
+ghost use Rattle.rdm_wire.specs.Honest.Heard.{Silent, Noise};
 ghost use Rattle.rdm_agent.specs.Machine.{wanted, to_found, split, search_from, search_below, is_new, first_phase};
-ghost use Rattle.rdm_agent.specs.Machine.Phase.{Searching as searching};
+ghost use Rattle.rdm_agent.specs.Machine.{search_whole, search_silent, search_read, search_apart, spare_of, spare_at, is_soon, asks_again};
 ghost use Rattle.rdm_agent.specs.Certificate.{known_of};
 ghost use Rattle.rdm_agent.specs.Run.{heard_by, heard_of_mute, heard_of_branch, device_from};
 ghost use Rattle.rdm_agent.specs.Calls.{fits, op_of};
@@ -21,7 +21,7 @@ mod sweeping;
 use crate::fault::AgentFault;
 use crate::kind::Kind;
 use crate::known::KnownLeft;
-use crate::limits::TRIES;
+use crate::limits::{BAD_ANSWERS, BADS_BELIEVED, GARBLED_MUTES, HASTE, MOST_SPENT, TRIES};
 use crate::op::OpReply;
 use crate::phase::Phase;
 use crate::ranges::RangesBelow;
@@ -66,19 +66,16 @@ impl RunState {
         match (phase, reply) {
             (_, OpReply::Failed) => Phase::Ended(Some(AgentFault::LineFailed)),
             (Phase::Unmuting { more }, OpReply::Done) => self.unmuted(more),
-            (Phase::MutingKnown { uid, tries }, OpReply::Mute(ack)) => {
-                self.known_muted(uid, tries, ack)
-            }
-            (Phase::Searching { top, silences }, OpReply::Branch(reply)) => {
-                self.branched(top, silences, reply)
-            }
-            (Phase::MutingRead { uid, tries, top }, OpReply::Mute(ack)) => {
-                self.read_muted(uid, tries, top, ack)
-            }
+            (
+                Phase::Searching {
+                    top,
+                    silences,
+                    bads,
+                    spent,
+                },
+                OpReply::Branch(reply),
+            ) => self.branched(top, silences, bads, spent, reply),
             (Phase::Sweeping { sweep }, OpReply::Branch(reply)) => self.swept(sweep, reply),
-            (Phase::MutingSwept { uid, tries, sweep }, OpReply::Mute(ack)) => {
-                self.swept_muted(uid, tries, sweep, ack)
-            }
             (
                 Phase::Checking {
                     uid,
@@ -87,9 +84,71 @@ impl RunState {
                 },
                 OpReply::Branch(reply),
             ) => self.checked(uid, silences, sweep, reply),
-            (Phase::MutingStray { uid, tries, sweep }, OpReply::Mute(ack)) => {
-                self.stray_muted(uid, tries, sweep, ack)
-            }
+            (phase, OpReply::Mute(ack)) => self.muted(phase, ack),
+            (phase, OpReply::Garbled) => self.garbled(phase),
+            _ => unreachable!(),
+        }
+    }
+
+    // After a mute that was acknowledged like this, or silent.
+    fn muted(&mut self, phase: Phase, ack: Option<MuteAck>) -> Phase
+        requires fits { fits (OpReply.Mute ack) (op_of (wanted (seen_phase phase self.old))) ≡ true }
+        requires consistent { IsConsistent phase self.old }
+        ensures { GoesOn (heard_of_mute ack) phase self.old result self.new }
+    {
+        match phase {
+            Phase::MutingKnown { uid, tries, spare } => self.known_muted(uid, tries, spare, ack),
+            Phase::MutingRead {
+                uid,
+                tries,
+                spare,
+                bads,
+                top,
+            } => self.read_muted(uid, tries, spare, bads, top, ack),
+            Phase::MutingSwept {
+                uid,
+                tries,
+                spare,
+                sweep,
+            } => self.swept_muted(uid, tries, spare, sweep, ack),
+            Phase::MutingStray {
+                uid,
+                tries,
+                spare,
+                sweep,
+            } => self.stray_muted(uid, tries, spare, sweep, ack),
+            _ => unreachable!(),
+        }
+    }
+
+    // After bytes that aren't the acknowledgement of a mute. They are counted as silence, unless the series of mutes has
+    // garbled replies to spare.
+    fn garbled(&mut self, phase: Phase) -> Phase
+        requires fits { fits OpReply.Garbled (op_of (wanted (seen_phase phase self.old))) ≡ true }
+        requires consistent { IsConsistent phase self.old }
+        ensures { GoesOn Noise phase self.old result self.new }
+    {
+        match phase {
+            Phase::MutingKnown { uid, tries, spare } => self.known_garbled(uid, tries, spare),
+            Phase::MutingRead {
+                uid,
+                tries,
+                spare,
+                bads,
+                top,
+            } => self.read_garbled(uid, tries, spare, bads, top),
+            Phase::MutingSwept {
+                uid,
+                tries,
+                spare,
+                sweep,
+            } => self.swept_garbled(uid, tries, spare, sweep),
+            Phase::MutingStray {
+                uid,
+                tries,
+                spare,
+                sweep,
+            } => self.stray_garbled(uid, tries, spare, sweep),
             _ => unreachable!(),
         }
     }
@@ -115,7 +174,11 @@ impl RunState {
         ensures fresh { self.new.below ≡ [] }
     {
         match self.known.next() {
-            Some(uid) => Phase::MutingKnown { uid, tries: 0 },
+            Some(uid) => Phase::MutingKnown {
+                uid,
+                tries: 0,
+                spare: spare_of(self.search),
+            },
             None => self.first_phase(),
         }
     }
@@ -133,9 +196,9 @@ impl RunState {
     }
 
     // After the mute of a known UID.
-    fn known_muted(&mut self, uid: Uid, tries: u8, ack: Option<MuteAck>) -> Phase
-        requires { IsConsistent (Phase.MutingKnown uid tries) self.old }
-        ensures goes_on { GoesOn (heard_of_mute ack) (Phase.MutingKnown uid tries) self.old result self.new }
+    fn known_muted(&mut self, uid: Uid, tries: u8, spare: u8, ack: Option<MuteAck>) -> Phase
+        requires { IsConsistent (Phase.MutingKnown uid tries spare) self.old }
+        ensures goes_on { GoesOn (heard_of_mute ack) (Phase.MutingKnown uid tries spare) self.old result self.new }
         ensures fresh { self.new.below ≡ [] }
     {
         if let Some(ack) = ack {
@@ -144,40 +207,148 @@ impl RunState {
         }
         match tries + 1 {
             TRIES => self.next_known(),
-            tries => Phase::MutingKnown { uid, tries },
+            tries => Phase::MutingKnown { uid, tries, spare },
+        }
+    }
+
+    // After bytes that aren't the acknowledgement of that mute.
+    fn known_garbled(&mut self, uid: Uid, tries: u8, spare: u8) -> Phase
+        requires { IsConsistent (Phase.MutingKnown uid tries spare) self.old }
+        ensures goes_on { GoesOn Noise (Phase.MutingKnown uid tries spare) self.old result self.new }
+        ensures fresh { self.new.below ≡ [] }
+    {
+        if spare == 0 {
+            return self.known_muted(uid, tries, spare, None);
+        }
+        Phase::MutingKnown {
+            uid,
+            tries,
+            spare: spare - 1,
         }
     }
 
     // After a branch of the top range.
-    fn branched(&mut self, top: UidRange, silences: u8, reply: BranchReply) -> Phase
-        requires { IsConsistent (Phase.Searching top silences) self.old }
-        ensures { GoesOn (heard_of_branch reply) (Phase.Searching top silences) self.old result self.new }
+    fn branched(
+        &mut self,
+        top: UidRange,
+        silences: u8,
+        bads: u8,
+        spent: u8,
+        reply: BranchReply,
+    ) -> Phase
+        requires { IsConsistent (Phase.Searching top silences bads spent) self.old }
+        ensures { GoesOn (heard_of_branch reply) (Phase.Searching top silences bads spent) self.old result self.new }
     {
+        let spent = (spent + 1).min(MOST_SPENT);
         match reply {
-            BranchReply::Silent => match silences + 1 {
-                TRIES => self.next_range(),
-                silences => Phase::Searching { top, silences },
-            },
-            BranchReply::One(uid) if self.is_new(uid, top) => Phase::MutingRead {
-                uid,
-                tries: 0,
-                top,
-            },
-            BranchReply::One(_) | BranchReply::Collision => self.split(top),
+            BranchReply::Silent => self.silent(top, silences, spent),
+            BranchReply::One(uid) => self.spelt(top, bads + 1, spent, uid),
+            BranchReply::Collision => self.apart(top, bads + 1, spent),
         }
     }
 
+    // The top range was silent once more, and had this many branches.
+    fn silent(&mut self, top: UidRange, silences: u8, spent: u8) -> Phase
+        requires stack { IsStack top self.old.below }
+        requires counts { (silences < TRIES) × (spent ≤ 10) }
+        ensures { MovesTo (search_silent silences spent top self.old.below) self.old result self.new }
+    {
+        match silences + 1 {
+            TRIES => self.next_range(),
+            silences => Phase::Searching {
+                top,
+                silences,
+                bads: 0,
+                spent,
+            },
+        }
+    }
+
+    // The top range spelt this UID after this many branches. A new one is muted, if it comes soon enough. Otherwise it
+    // makes this many bad answers in a row.
+    fn spelt(&mut self, top: UidRange, bads: u8, spent: u8, uid: Uid) -> Phase
+        requires stack { IsStack top self.old.below }
+        requires counts { (bads ≤ 8) × (spent ≤ 10) }
+        ensures { MovesTo (search_read self.old.search (uids_of self.old.found) bads spent top self.old.below uid)
+            self.old result self.new }
+    {
+        if self.is_new(uid, top) && is_soon(self.search, top, spent) {
+            return Phase::MutingRead {
+                uid,
+                tries: 0,
+                spare: spare_at(self.search, top, bads),
+                bads,
+                top,
+            };
+        }
+        self.apart(top, bads, spent)
+    }
+
+    // The top range had this many bad answers in a row, and this many branches. It is asked again, or split.
+    fn apart(&mut self, top: UidRange, bads: u8, spent: u8) -> Phase
+        requires stack { IsStack top self.old.below }
+        requires counts { (bads ≤ 8) × (spent ≤ 10) }
+        ensures { MovesTo (search_apart self.old.search bads spent top self.old.below) self.old result self.new }
+    {
+        if asks_again(self.search, top, bads, spent) {
+            return Phase::Searching {
+                top,
+                silences: 0,
+                bads,
+                spent,
+            };
+        }
+        self.split(top)
+    }
+
     // After the mute of a UID that a branch of the top range spelt.
-    fn read_muted(&mut self, uid: Uid, tries: u8, top: UidRange, ack: Option<MuteAck>) -> Phase
-        requires { IsConsistent (Phase.MutingRead uid tries top) self.old }
-        ensures { GoesOn (heard_of_mute ack) (Phase.MutingRead uid tries top) self.old result self.new }
+    fn read_muted(
+        &mut self,
+        uid: Uid,
+        tries: u8,
+        spare: u8,
+        bads: u8,
+        top: UidRange,
+        ack: Option<MuteAck>,
+    ) -> Phase
+        requires { IsConsistent (Phase.MutingRead uid tries spare bads top) self.old }
+        ensures { GoesOn (heard_of_mute ack) (Phase.MutingRead uid tries spare bads top) self.old result self.new }
     {
         if let Some(ack) = ack {
-            return self.find(device_from(uid, ack), Phase::Searching { top, silences: 0 });
+            let again = Phase::Searching {
+                top,
+                silences: 0,
+                bads: 0,
+                spent: 0,
+            };
+            return self.find(device_from(uid, ack), again);
         }
         match tries + 1 {
-            TRIES => self.split(top),
-            tries => Phase::MutingRead { uid, tries, top },
+            TRIES => self.apart(top, bads, MOST_SPENT),
+            tries => Phase::MutingRead {
+                uid,
+                tries,
+                spare,
+                bads,
+                top,
+            },
+        }
+    }
+
+    // After bytes that aren't the acknowledgement of that mute.
+    fn read_garbled(&mut self, uid: Uid, tries: u8, spare: u8, bads: u8, top: UidRange) -> Phase
+        requires { IsConsistent (Phase.MutingRead uid tries spare bads top) self.old }
+        ensures { GoesOn Noise (Phase.MutingRead uid tries spare bads top) self.old result self.new }
+    {
+        if spare == 0 {
+            return self.read_muted(uid, tries, spare, bads, top, None);
+        }
+        Phase::MutingRead {
+            uid,
+            tries,
+            spare: spare - 1,
+            bads,
+            top,
         }
     }
 
@@ -201,7 +372,7 @@ impl RunState {
         ensures { MovesTo (search_below self.old.below) self.old result self.new }
     {
         match self.below.pop() {
-            Some(top) => Phase::Searching { top, silences: 0 },
+            Some(top) => fresh_search(top),
             None => Phase::Ended(None),
         }
     }
@@ -214,10 +385,7 @@ impl RunState {
         match top.halves() {
             Some((lower, upper)) => {
                 self.below.push(upper);
-                Phase::Searching {
-                    top: lower,
-                    silences: 0,
-                }
+                fresh_search(lower)
             }
             None => Phase::Ended(Some(AgentFault::Corrupt(top.lo))),
         }
@@ -234,11 +402,66 @@ impl RunState {
 // The search of the whole range, which was silent this many times.
 fn searching_all(silences: u8) -> Phase
     requires { silences < TRIES }
-    ensures { Follows (searching silences whole []) result }
+    ensures { Follows (search_whole silences) result }
 {
     Phase::Searching {
         top: UidRange::whole(),
         silences,
+        bads: 0,
+        spent: silences,
+    }
+}
+
+// The search of a range that is taken up.
+fn fresh_search(top: UidRange) -> Phase
+    ensures { result ≡ Phase.Searching top 0 0 0 }
+{
+    Phase::Searching {
+        top,
+        silences: 0,
+        bads: 0,
+        spent: 0,
+    }
+}
+
+// How many garbled replies to a series of mutes a run with this search needn't count as tries.
+fn spare_of(search: Search) -> u8
+    ensures { result ≡ spare_of search }
+{
+    match search {
+        Search::Steady => 0,
+        Search::Quick => GARBLED_MUTES,
+    }
+}
+
+// The same for mutes of a UID that this range spelt, as this many bad answers in a row. The last one of one UID alone
+// has none to spare.
+fn spare_at(search: Search, top: UidRange, bads: u8) -> u8
+    ensures { result ≡ spare_at search top bads }
+{
+    if top.lo == top.hi && bads >= BAD_ANSWERS {
+        0
+    } else {
+        spare_of(search)
+    }
+}
+
+// Whether a new UID that a branch of this range spelt is muted, after this many branches. A quick run does so up to the
+// fifth branch, and always if one UID was asked alone.
+fn is_soon(search: Search, top: UidRange, spent: u8) -> bool
+    ensures { result ≡ is_soon search top spent }
+{
+    search == Search::Steady || top.lo == top.hi || spent <= HASTE
+}
+
+// Whether a range that had so many bad answers in a row and so many branches is asked again.
+fn asks_again(search: Search, top: UidRange, bads: u8, spent: u8) -> bool
+    ensures { result ≡ asks_again search top bads spent }
+{
+    match search {
+        Search::Steady => false,
+        Search::Quick if top.lo == top.hi => bads < BAD_ANSWERS,
+        Search::Quick => spent <= HASTE && bads < BADS_BELIEVED,
     }
 }
 

@@ -17,6 +17,8 @@ pub(crate) struct Sweep {
     pub(crate) made: usize,
     /// How often in a row the range that it asks was silent: below [`TRIES`].
     pub(crate) silences: u8,
+    /// How many bad answers in a row it had, if it asks one UID alone: below [`BADS_ASIDE`].
+    pub(crate) bads: u8,
     /// What it asks.
     pub(crate) question: Question,
     /// What it believes.
@@ -32,6 +34,7 @@ impl Sweep {
         Sweep {
             made: 0,
             silences: 0,
+            bads: 0,
             question: Question {
                 part: Part::Fresh,
                 range: UidRange::whole(),
@@ -91,34 +94,44 @@ impl Sweep {
         }
     }
 
-    /// A sweep with this belief chooses what it asks next, after this many silences in a row of the range `last`.
+    /// A sweep with this belief chooses what it asks next, after this many silences or bad answers in a row of the range
+    /// `last`.
     #[tactic(auto, unfolding(crate::specs::Machine::choose))]
-    pub(crate) fn choose(made: usize, silences: u8, last: UidRange, belief: Belief) -> Sweep
+    pub(crate) fn choose(
+        made: usize,
+        silences: u8,
+        bads: u8,
+        last: UidRange,
+        belief: Belief,
+    ) -> Sweep
         requires small { IsSmall belief }
         requires silences { silences < TRIES }
-        ensures value { result ≡ choose made silences last belief }
+        requires bads { bads < 4 }
+        ensures value { result ≡ choose made silences bads last belief }
         ensures small { IsSmall result.belief }
         ensures silences { result.silences < TRIES }
+        ensures bads { result.bads < 4 }
         ensures made { result.made ≡ made }
     {
         let belief = belief.ready();
         let question = belief.question();
-        let again = if is_same(question.range, last) {
-            silences
+        if is_same(question.range, last) {
+            Sweep::asking(made, silences, bads, question, belief)
         } else {
-            0
-        };
-        Sweep::asking(made, again, question, belief)
+            Sweep::asking(made, 0, 0, question, belief)
+        }
     }
 
-    // A sweep that asks this, after this many silences in a row. No range but that of all UIDs is asked for a fifth
-    // one: the sweep continues above it.
-    fn asking(made: usize, again: u8, question: Question, belief: Belief) -> Sweep
+    // A sweep that asks this, after this many silences or bad answers in a row. No range but that of all UIDs is asked
+    // for a fifth silence: the sweep continues above it.
+    fn asking(made: usize, again: u8, bads: u8, question: Question, belief: Belief) -> Sweep
         requires small { IsSmall belief }
         requires silences { again < TRIES }
-        ensures value { result ≡ asking made again question belief }
+        requires bads { bads < 4 }
+        ensures value { result ≡ asking made again bads question belief }
         ensures small { IsSmall result.belief }
         ensures silences { result.silences < TRIES }
+        ensures bads { result.bads < 4 }
         ensures made { result.made ≡ made }
     {
         let is_whole = is_whole(question.range);
@@ -127,6 +140,7 @@ impl Sweep {
             return Sweep {
                 made,
                 silences: 0,
+                bads: 0,
                 question: above.question(),
                 belief: above,
             };
@@ -134,14 +148,15 @@ impl Sweep {
         Sweep {
             made,
             silences: again,
+            bads,
             question,
             belief,
         }
     }
 }
 
-/// The range that no device is in: the manufacturer `ffff` isn't assigned. It isn't `ffff:ffffffff` alone, since a bad
-/// answer of one UID alone ends a run.
+/// The range that no maker's device is in: the manufacturer `ffff` isn't assigned. It isn't `ffff:ffffffff` alone, because
+/// bad answers of one UID alone are counted.
 pub(crate) fn unassigned() -> UidRange
     ensures { result ≡ unassigned }
 {

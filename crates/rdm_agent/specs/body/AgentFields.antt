@@ -14,13 +14,13 @@ use Rattle.rdm_agent.specs.declared.run_state.RunState.{RunState}
 -- the machine's phase, with the known UIDs that are left and the ranges below the top one
 abbrev pub phase_of : Phase → List ℕ → List Span → machine.Phase
 phase_of (Unmuting more) known below = unmuting more known
-phase_of (MutingKnown uid tries) known below = muting_known uid tries known
-phase_of (Searching top silences) known below = searching silences top below
-phase_of (MutingRead uid tries top) known below = muting_read uid tries top below
+phase_of (MutingKnown uid tries spare) known below = muting_known uid tries spare known
+phase_of (Searching top silences bads spent) known below = searching silences bads spent top below
+phase_of (MutingRead uid tries spare bads top) known below = muting_read uid tries spare bads top below
 phase_of (Sweeping sweep) known below = sweeping sweep
-phase_of (MutingSwept uid tries sweep) known below = muting_swept uid tries sweep
+phase_of (MutingSwept uid tries spare sweep) known below = muting_swept uid tries spare sweep
 phase_of (Checking uid silences sweep) known below = checking uid silences sweep
-phase_of (MutingStray uid tries sweep) known below = muting_stray uid tries sweep
+phase_of (MutingStray uid tries spare sweep) known below = muting_stray uid tries spare sweep
 phase_of (Ended fault) known below = ended fault
 
 -- the same for all that a run keeps

@@ -40,24 +40,27 @@ pub record IsSmall (b : Belief) : Type 0 where
 -- a phase's UIDs are those of devices, its counts are below TRIES or small, and its ranges are got by halving
 abbrev pub IsSound : Phase → Type 0
 IsSound (Unmuting more known) = AllByRecursion IsDevice known
-IsSound (MutingKnown u tries known) = IsDevice u × (tries < TRIES) × AllByRecursion IsDevice known
-IsSound (Searching silences top below) = (silences < TRIES) × IsStack top below
-IsSound (MutingRead u tries top below) = IsDevice u × (tries < TRIES) × IsStack top below
-IsSound (Sweeping sweep) = (sweep.made < 2 ^ 20) × (sweep.silences < TRIES) × IsSmall sweep.belief
-IsSound (MutingSwept u tries sweep) =
-    IsDevice u × (tries < TRIES) × (sweep.made ≤ 2 ^ 20 + tries) × (sweep.silences < TRIES) × IsSmall sweep.belief
-IsSound (Checking u silences sweep) =
-    IsDevice u × (silences < 2) × (sweep.made ≤ 2 ^ 20 + silences) × (sweep.silences < TRIES) × IsSmall sweep.belief
-IsSound (MutingStray u tries sweep) =
-    IsDevice u × (tries < TRIES) × (sweep.made ≤ 2 ^ 20 + 2 + tries) × (sweep.silences < TRIES) × IsSmall sweep.belief
+IsSound (MutingKnown u tries spare known) = IsDevice u × (tries < TRIES) × AllByRecursion IsDevice known
+IsSound (Searching silences bads spent top below) =
+    (silences < TRIES) × (bads < 8) × (spent ≤ 10) × IsStack top below
+IsSound (MutingRead u tries spare bads top below) =
+    IsDevice u × (tries < TRIES) × (bads ≤ 8) × IsStack top below
+IsSound (Sweeping sweep) =
+    (sweep.made < 2 ^ 20) × (sweep.silences < TRIES) × (sweep.bads < 4) × IsSmall sweep.belief
+IsSound (MutingSwept u tries spare sweep) = IsDevice u × (tries < TRIES) × (spare ≤ 8)
+    × (sweep.made + spare ≤ 2 ^ 20 + 8 + tries) × (sweep.silences < TRIES) × (sweep.bads < 4) × IsSmall sweep.belief
+IsSound (Checking u silences sweep) = IsDevice u × (silences < 2) × (sweep.made ≤ 2 ^ 20 + silences)
+    × (sweep.silences < TRIES) × (sweep.bads < 4) × IsSmall sweep.belief
+IsSound (MutingStray u tries spare sweep) = IsDevice u × (tries < TRIES) × (spare ≤ 8)
+    × (sweep.made + spare ≤ 2 ^ 20 + 10 + tries) × (sweep.silences < TRIES) × (sweep.bads < 4) × IsSmall sweep.belief
 IsSound (Ended fault) = Unit {0}
 
 -- before the steady search there is no other range
 abbrev pub IsFresh : Phase → List Span → Type 0
 IsFresh (Unmuting more known) below = below ≡ []
-IsFresh (MutingKnown u tries known) below = below ≡ []
+IsFresh (MutingKnown u tries spare known) below = below ≡ []
 IsFresh (Sweeping sweep) below = below ≡ []
-IsFresh (MutingSwept u tries sweep) below = below ≡ []
+IsFresh (MutingSwept u tries spare sweep) below = below ≡ []
 IsFresh (Checking u silences sweep) below = below ≡ []
-IsFresh (MutingStray u tries sweep) below = below ≡ []
+IsFresh (MutingStray u tries spare sweep) below = below ≡ []
 IsFresh _ below = Unit {0}

@@ -1,13 +1,14 @@
 //! How a sweep goes on after a UID was spelt by a range that it isn't in.
 ghost use Rattle.std.specs.Prelude.{◌≡◌, ◌<◌, ◌≤◌, ◌+◌, ◌^◌, [], false};
 ghost use Rattle.rdm_wire.specs.Uid.{is_broadcast};
+ghost use Rattle.rdm_wire.specs.Honest.Heard.{Noise};
 ghost use Rattle.rdm_agent.specs.Machine.{check_silent, check_spelt};
 ghost use Rattle.rdm_agent.specs.Run.{heard_of_mute, heard_of_branch};
 ghost use Rattle.rdm_agent.specs.body.Sound.{IsSmall};
 ghost use Rattle.rdm_agent.specs.body.GoesOn.{GoesOn, Follows, IsConsistent};
 
 use super::sweeping::{sweep_on, sweep_split};
-use crate::limits::TRIES;
+use crate::limits::{GARBLED_MUTES, TRIES};
 use crate::phase::Phase;
 use crate::run_state::{RunState, device_from};
 use crate::sweep::{Sweep, unassigned};
@@ -39,18 +40,19 @@ impl RunState {
         &mut self,
         uid: Uid,
         tries: u8,
+        spare: u8,
         sweep: Sweep,
         ack: Option<MuteAck>,
     ) -> Phase
-        requires { IsConsistent (Phase.MutingStray uid tries sweep) self.old }
-        ensures goes_on { GoesOn (heard_of_mute ack) (Phase.MutingStray uid tries sweep) self.old result self.new }
+        requires { IsConsistent (Phase.MutingStray uid tries spare sweep) self.old }
+        ensures goes_on { GoesOn (heard_of_mute ack) (Phase.MutingStray uid tries spare sweep) self.old result self.new }
         ensures fresh { self.new.below ≡ [] }
     {
         let found = self.found.len();
         let counted = sweep.counted();
         if let Some(ack) = ack {
             let belief = counted.belief.stray_found();
-            let onward = sweep_on(counted, 0, found + 1, belief);
+            let onward = sweep_on(counted, 0, 0, found + 1, belief);
             return self.find(device_from(uid, ack), onward);
         }
         match tries + 1 {
@@ -58,8 +60,26 @@ impl RunState {
             tries => Phase::MutingStray {
                 uid,
                 tries,
+                spare,
                 sweep: counted,
             },
+        }
+    }
+
+    // After bytes that aren't the acknowledgement of that mute.
+    pub(super) fn stray_garbled(&mut self, uid: Uid, tries: u8, spare: u8, sweep: Sweep) -> Phase
+        requires { IsConsistent (Phase.MutingStray uid tries spare sweep) self.old }
+        ensures goes_on { GoesOn Noise (Phase.MutingStray uid tries spare sweep) self.old result self.new }
+        ensures fresh { self.new.below ≡ [] }
+    {
+        if spare == 0 {
+            return self.stray_muted(uid, tries, spare, sweep, None);
+        }
+        Phase::MutingStray {
+            uid,
+            tries,
+            spare: spare - 1,
+            sweep: sweep.counted(),
         }
     }
 }
@@ -68,7 +88,7 @@ impl RunState {
 fn check_spelt(uid: Uid, other: Uid, sweep: Sweep, found: usize) -> Phase
     requires found { found ≤ 1025 }
     requires device { is_broadcast uid ≡ false }
-    requires counted { (sweep.silences < TRIES) × (sweep.made ≤ 2 ^ 20 + 2) }
+    requires counted { (sweep.silences < TRIES) × (sweep.bads < 4) × (sweep.made ≤ 2 ^ 20 + 2) }
     requires small { IsSmall sweep.belief }
     ensures { Follows (check_spelt uid other sweep found) result }
 {
@@ -76,6 +96,7 @@ fn check_spelt(uid: Uid, other: Uid, sweep: Sweep, found: usize) -> Phase
         return Phase::MutingStray {
             uid,
             tries: 0,
+            spare: GARBLED_MUTES,
             sweep,
         };
     }
@@ -87,7 +108,7 @@ fn check_silent(uid: Uid, silences: u8, sweep: Sweep, found: usize) -> Phase
     requires found { found ≤ 1025 }
     requires silences { silences < 2 }
     requires device { is_broadcast uid ≡ false }
-    requires counted { (sweep.silences < TRIES) × (sweep.made ≤ 2 ^ 20 + (silences + 1)) }
+    requires counted { (sweep.silences < TRIES) × (sweep.bads < 4) × (sweep.made ≤ 2 ^ 20 + (silences + 1)) }
     requires small { IsSmall sweep.belief }
     ensures { Follows (check_silent uid silences sweep found) result }
 {

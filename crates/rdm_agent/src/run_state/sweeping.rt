@@ -2,14 +2,14 @@
 ghost use Rattle.std.specs.Prelude.{◌≡◌, ◌<◌, ◌≤◌, ◌^◌, []};
 ghost use Rattle.rdm_wire.specs.Devices.{uids_of};
 ghost use Rattle.rdm_agent.specs.Machine.{sweep_on_after, sweep_on, sweep_silent, sweep_split, sweep_apart};
-ghost use Rattle.rdm_agent.specs.Machine.{is_wanted, is_stray, sweep_spelt};
+ghost use Rattle.rdm_agent.specs.Machine.{is_wanted, is_stray, sweep_spelt, sweep_alone};
+ghost use Rattle.rdm_wire.specs.Honest.Heard.{Noise};
 ghost use Rattle.rdm_agent.specs.Run.{heard_of_mute, heard_of_branch};
 ghost use Rattle.rdm_agent.specs.body.Sound.{IsSmall};
 ghost use Rattle.rdm_agent.specs.body.GoesOn.{GoesOn, Follows, IsConsistent};
 
 use crate::belief::{Belief, Part};
-use crate::fault::AgentFault;
-use crate::limits::{SWEEP_FRAMES, TRIES};
+use crate::limits::{BADS_ASIDE, GARBLED_MUTES, SWEEP_FRAMES, TRIES};
 use crate::phase::Phase;
 use crate::run_state::{RunState, device_from, searching_all};
 use crate::sweep::{Sweep, is_whole};
@@ -33,7 +33,7 @@ impl RunState {
     // A sweep's branch spelt this UID.
     fn sweep_spelt(&self, sweep: Sweep, found: usize, uid: Uid) -> Phase
         requires found { found ≤ 1025 }
-        requires silences { sweep.silences < TRIES }
+        requires counts { (sweep.silences < TRIES) × (sweep.bads < 4) }
         requires small { IsSmall sweep.belief }
         requires made { sweep.made ≤ 2 ^ 20 }
         ensures { Follows (sweep_spelt (uids_of self.now.found) sweep found uid) result }
@@ -42,6 +42,7 @@ impl RunState {
             return Phase::MutingSwept {
                 uid,
                 tries: 0,
+                spare: GARBLED_MUTES,
                 sweep,
             };
         }
@@ -60,18 +61,19 @@ impl RunState {
         &mut self,
         uid: Uid,
         tries: u8,
+        spare: u8,
         sweep: Sweep,
         ack: Option<MuteAck>,
     ) -> Phase
-        requires { IsConsistent (Phase.MutingSwept uid tries sweep) self.old }
-        ensures goes_on { GoesOn (heard_of_mute ack) (Phase.MutingSwept uid tries sweep) self.old result self.new }
+        requires { IsConsistent (Phase.MutingSwept uid tries spare sweep) self.old }
+        ensures goes_on { GoesOn (heard_of_mute ack) (Phase.MutingSwept uid tries spare sweep) self.old result self.new }
         ensures fresh { self.new.below ≡ [] }
     {
         let found = self.found.len();
         let counted = sweep.counted();
         if let Some(ack) = ack {
             let belief = sweep.belief.found(sweep.question);
-            let onward = sweep_on(counted, 0, found + 1, belief);
+            let onward = sweep_on(counted, 0, 0, found + 1, belief);
             return self.find(device_from(uid, ack), onward);
         }
         match tries + 1 {
@@ -79,8 +81,26 @@ impl RunState {
             tries => Phase::MutingSwept {
                 uid,
                 tries,
+                spare,
                 sweep: counted,
             },
+        }
+    }
+
+    // After bytes that aren't the acknowledgement of that mute.
+    pub(super) fn swept_garbled(&mut self, uid: Uid, tries: u8, spare: u8, sweep: Sweep) -> Phase
+        requires { IsConsistent (Phase.MutingSwept uid tries spare sweep) self.old }
+        ensures goes_on { GoesOn Noise (Phase.MutingSwept uid tries spare sweep) self.old result self.new }
+        ensures fresh { self.new.below ≡ [] }
+    {
+        if spare == 0 {
+            return self.swept_muted(uid, tries, spare, sweep, None);
+        }
+        Phase::MutingSwept {
+            uid,
+            tries,
+            spare: spare - 1,
+            sweep: sweep.counted(),
         }
     }
 
@@ -88,12 +108,11 @@ impl RunState {
     fn is_wanted(&self, uid: Uid, sweep: &Sweep) -> bool
         ensures wanted { result ≡ is_wanted (uids_of self.now.found) sweep.now uid }
     {
-        let asked = sweep.question.range;
-        self.is_new(uid, asked) && !(sweep.belief.suspect == Some(uid) && asked.lo != asked.hi)
+        self.is_new(uid, sweep.question.range) && sweep.belief.suspect != Some(uid)
     }
 
     // Whether a UID that a sweep's branch spelt is checked: it isn't in the range that was asked, wasn't found or given
-    // up, and is due. A range of one UID is corrupt, whatever else it spells.
+    // up, and is due. If one UID was asked alone, another one is a bad answer.
     fn is_stray(&self, uid: Uid, sweep: &Sweep) -> bool
         ensures { result ≡ is_stray (uids_of self.now.found) sweep.now uid }
     {
@@ -104,37 +123,40 @@ impl RunState {
     }
 }
 
-// A sweep that has found this many devices goes on with this belief, after this many silences in a row of the range
-// `last`. At its limit the steady search begins.
+// A sweep that has found this many devices goes on with this belief, after this many silences or bad answers in a row of
+// the range `last`. At its limit the steady search begins.
 pub(super) fn sweep_on_after(
     sweep: Sweep,
     last: UidRange,
     silences: u8,
+    bads: u8,
     found: usize,
     belief: Belief,
 ) -> Phase
     requires found { found ≤ 1025 }
     requires silences { silences < TRIES }
+    requires bads { bads < 4 }
     requires small { IsSmall belief }
-    ensures { Follows (sweep_on_after sweep last silences found belief) result }
+    ensures { Follows (sweep_on_after sweep last silences bads found belief) result }
 {
     if sweep.made < SWEEP_FRAMES * (found + 2) {
         return Phase::Sweeping {
-            sweep: Sweep::choose(sweep.made, silences, last, belief),
+            sweep: Sweep::choose(sweep.made, silences, bads, last, belief),
         };
     }
     searching_all(if is_whole(last) { silences } else { 0 })
 }
 
-// The same after silences of the range that it asked.
-pub(super) fn sweep_on(sweep: Sweep, silences: u8, found: usize, belief: Belief) -> Phase
+// The same after silences or bad answers of the range that it asked.
+pub(super) fn sweep_on(sweep: Sweep, silences: u8, bads: u8, found: usize, belief: Belief) -> Phase
     requires found { found ≤ 1025 }
     requires silences { silences < TRIES }
+    requires bads { bads < 4 }
     requires small { IsSmall belief }
-    ensures { Follows (sweep_on sweep silences found belief) result }
+    ensures { Follows (sweep_on sweep silences bads found belief) result }
 {
     let asked = sweep.question;
-    sweep_on_after(sweep, asked.range, silences, found, belief)
+    sweep_on_after(sweep, asked.range, silences, bads, found, belief)
 }
 
 // What a sweep asked was silent. Five silences in a row of all UIDs end the run.
@@ -146,7 +168,13 @@ fn sweep_silent(sweep: Sweep, found: usize) -> Phase
 {
     match sweep.silences + 1 {
         TRIES => Phase::Ended(None),
-        silences => sweep_on(sweep, silences, found, sweep.belief.silent(sweep.question)),
+        silences => sweep_on(
+            sweep,
+            silences,
+            0,
+            found,
+            sweep.belief.silent(sweep.question),
+        ),
     }
 }
 
@@ -162,18 +190,36 @@ pub(super) fn sweep_split(sweep: Sweep, last: UidRange, silences: u8, found: usi
     if asked.part == Part::Whole && sweep.belief.found_nothing {
         return searching_all(0);
     }
-    sweep_on_after(sweep, last, silences, found, sweep.belief.apart(asked))
+    sweep_on_after(sweep, last, silences, 0, found, sweep.belief.apart(asked))
 }
 
-// What a sweep asked collided. One UID that was asked alone is corrupt.
+// What a sweep asked was answered badly. A range of several UIDs collided.
 fn sweep_apart(sweep: Sweep, found: usize) -> Phase
     requires found { found ≤ 1025 }
+    requires bads { sweep.bads < 4 }
     requires small { IsSmall sweep.belief }
     ensures { Follows (sweep_apart sweep found) result }
 {
     let asked = sweep.question;
     if asked.range.lo == asked.range.hi {
-        return Phase::Ended(Some(AgentFault::Corrupt(asked.range.lo)));
+        return sweep_alone(sweep, found);
     }
     sweep_split(sweep, asked.range, 0, found)
+}
+
+// One UID that a sweep asked alone answered badly once more. It is asked again, and the fourth time it is given up.
+fn sweep_alone(sweep: Sweep, found: usize) -> Phase
+    requires found { found ≤ 1025 }
+    requires bads { sweep.bads < 4 }
+    requires small { IsSmall sweep.belief }
+    ensures { Follows (sweep_alone sweep found) result }
+{
+    let asked = sweep.question;
+    match sweep.bads + 1 {
+        BADS_ASIDE => {
+            let belief = sweep.belief.give_up(asked.range.hi);
+            sweep_on(sweep, 0, 0, found, belief)
+        }
+        bads => sweep_on(sweep, 0, bads, found, sweep.belief),
+    }
 }

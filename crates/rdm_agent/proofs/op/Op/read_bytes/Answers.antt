@@ -1,18 +1,22 @@
 use Rattle.rdm_agent.proofs.Common.{ap, fed}
-use Rattle.rdm_agent.proofs.Carried.{mute_carried, branch_carried, branch_acks}
+use Rattle.rdm_agent.proofs.Carried.{mute_carried, mute_acks, branch_carried, branch_acks}
 use Rattle.rdm_agent.proofs.op.Op.read_bytes.Goals as goal
+
+pub returns-in-Mute-clause-mute : goal.returns-in-Mute-clause-mute
+returns-in-Mute-clause-mute c = λ u is.
+    rw (c.mute_reply.ensures, c.reads_mute_ack.ensures.value)
+    (mute_carried c.args.self.now c.in-Mute.uid c.args.source c.args.tn c.args.bytes.now c.show_sendable.ensures
+    c.in-Mute.is)
 
 pub returns-in-Mute-clause-acked : goal.returns-in-Mute-clause-acked
 returns-in-Mute-clause-acked c =
-    rw c.reads_mute_ack.ensures.value
+    rw (c.mute_reply.ensures, c.reads_mute_ack.ensures.value)
+    (mute_acks c.args.self.now c.args.source c.args.tn c.args.bytes.now _
     (mute_carried c.args.self.now c.in-Mute.uid c.args.source c.args.tn c.args.bytes.now c.show_sendable.ensures
-    c.in-Mute.is).0
+    c.in-Mute.is))
 
 pub returns-in-Mute-clause-fed : goal.returns-in-Mute-clause-fed
-returns-in-Mute-clause-fed c =
-    rw c.reads_mute_ack.ensures.value
-    (mute_carried c.args.self.now c.in-Mute.uid c.args.source c.args.tn c.args.bytes.now c.show_sendable.ensures
-    c.in-Mute.is).1
+returns-in-Mute-clause-fed c = λ a next. ap (fed a) (returns-in-Mute-clause-mute c c.in-Mute.uid c.in-Mute.is)
 
 pub returns-in-Branch-clause-branch : goal.returns-in-Branch-clause-branch
 returns-in-Branch-clause-branch c = λ r is. branch_carried c.args.self.now r c.args.source c.args.tn c.args.bytes.now

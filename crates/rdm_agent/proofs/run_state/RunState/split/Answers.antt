@@ -12,5 +12,6 @@ returns-in-Some c =
       phase = search rules;
       search = refl;
       found = refl;
-      consistent = ((omega arith, rw c.push.ensures halves.0), tt);
+      consistent = rw c.fresh_search.ensures
+          ((omega arith, omega arith, omega arith, rw c.push.ensures halves.0), tt);
     }

@@ -14,7 +14,7 @@ returns-in-Some-clause-goes_on c = record {
 }
   where
     onward : seen_phase c.sweep_on-onward.result c.args.self.now
-        ≡ sweep_on (counted c.args.sweep) 0 (length c.args.self.now.found + 1)
+        ≡ sweep_on (counted c.args.sweep) 0 0 (length c.args.self.now.found + 1)
         (believed_found c.args.sweep.question.part c.args.sweep.question.range c.args.sweep.belief)
     onward = rw (
       c.requires.1,
