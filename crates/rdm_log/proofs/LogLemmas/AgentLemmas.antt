@@ -2,11 +2,11 @@
 use Rattle.rdm_log.proofs.Common.{◌≡◌, ℕ, ◌<◌, ◌≤◌, Bool, true, false, List, [], ◌∷◌, length, Option, None, Some, refl}
 use Rattle.rdm_log.proofs.Common.{sym, ap, ◌∙◌, subst, inl, inr, filter_map, arith, ◌≢◌, ◌⊎◌, AllByRecursion, cases_lt}
 use Rattle.rdm_log.proofs.Common.{false≢true, none-some, uids_of, device_with, Device, Seen, Failed, IsReport}
-use Rattle.rdm_log.proofs.Common.{devices_in, IsCorrupt, Certificate, AgentState, Runs, next_of, Kind, AgentFault}
+use Rattle.rdm_log.proofs.Common.{devices_in, Certificate, AgentState, Runs, next_of, Kind, AgentFault}
 use Rattle.rdm_log.proofs.Common.{Exhausted, LineFailed, Aborted, Opening, Entry, is_closed, run_kind, known_at_run}
 use Rattle.rdm_log.proofs.Common.{run_exchanges, run_devices, reported_devices, GoesOn}
 use Rattle.rdm_agent.specs.Run.{asked_by}
-use Rattle.rdm_agent.specs.Cause.{Cause}
+use Rattle.rdm_agent.specs.Cause.{IsCorruptBy, Cause}
 use Rattle.rdm_agent.specs.Machine.{start_by, fault_of}
 use Rattle.rdm_agent.specs.Calls.{next_op, HasRunBy}
 use Rattle.rdm_agent.specs.declared.search.Search.{Search}
@@ -19,18 +19,17 @@ use Rattle.rdm_log.specs.log.Due.{IsDone}
 use Rattle.rdm_log.specs.log.MayAnswer.{IsAborted, Shows}
 
 -- a run whose agent asks for more goes on
-goes_by_runs : {search : Search}
-    → (o : Opening) (h : List Entry) (r : ℕ) (a : AgentState) (aborted : Bool)
-    (s : HasRunBy search (run_kind r h) (known_at_run o r h) o.budget aborted (run_exchanges r h) a) (b : AgentState)
-    → Runs (start_by search (run_kind r h) (known_at_run o r h) o.budget) (run_exchanges r h) b → next_op b ≢ End
+goes_by_runs : (o : Opening) (h : List Entry) (r : ℕ) (a : AgentState) (aborted : Bool)
+    (s : HasRunBy o.search (run_kind r h) (known_at_run o r h) o.budget aborted (run_exchanges r h) a) (b : AgentState)
+    → Runs (start_by o.search (run_kind r h) (known_at_run o r h) o.budget) (run_exchanges r h) b → next_op b ≢ End
     → GoesOn o h r
-goes_by_runs {search} o h r a aborted s b runs goes = record {
+goes_by_runs o h r a aborted s b runs goes = record {
   no_failure = open_.0;
   not_corrupt = open_.1;
-  all_reported = all_reported_by search kind known o.budget x b _ s.devices runs next;
+  all_reported = all_reported_by o.search kind known o.budget x b _ s.devices runs next;
   in_budget = below (cases_lt (length x) o.budget);
   not_done = λ done.
-      goes (ap_none (certificate_ends_by search kind known o.budget x b s.devices runs (run_devices r h) done).0);
+      goes (ap_none (certificate_ends_by o.search kind known o.budget x b s.devices runs (run_devices r h) done).0);
 }
   where
     kind : Kind
@@ -48,24 +47,24 @@ goes_by_runs {search} o h r a aborted s b runs goes = record {
     ap_none : next_of b ≡ None → next_op b ≡ End
     ap_none none = absurd (none-some _ (sym none ∙ next))
 
-    open_ : AllByRecursion (λ e. e.heard ≢ Failed) x × ((u : ℕ) → IsCorrupt u x → ⊥)
-    open_ = goes_on_soundly_by search kind known o.budget x b s.devices runs (λ none. goes (ap_none none))
+    open_ : AllByRecursion (λ e. e.heard ≢ Failed) x × ((u : ℕ) → IsCorruptBy o.search u x → ⊥)
+    open_ = goes_on_soundly_by o.search kind known o.budget x b s.devices runs (λ none. goes (ap_none none))
 
     below : (length x < o.budget) ⊎ (o.budget ≤ length x) → length x < o.budget
     below (inl less) = less
     below (inr most) =
-        let within = (asks_in_order_by search kind known o.budget x b s.devices runs).2 in
-        absurd (goes (ap_none (ends_at_budget_by search kind known o.budget x b s.devices runs (omega arith))))
+        let within = (asks_in_order_by o.search kind known o.budget x b s.devices runs).2 in
+        absurd (goes (ap_none (ends_at_budget_by o.search kind known o.budget x b s.devices runs (omega arith))))
 
-pub agent_goes_on : {search : Search} → (o : Opening) (h : List Entry) (r : ℕ) (a : AgentState)
-    → HasRunBy search (run_kind r h) (known_at_run o r h) o.budget false (run_exchanges r h) a → next_op a ≢ End
+pub agent_goes_on : (o : Opening) (h : List Entry) (r : ℕ) (a : AgentState)
+    → HasRunBy o.search (run_kind r h) (known_at_run o r h) o.budget false (run_exchanges r h) a → next_op a ≢ End
     → GoesOn o h r
-agent_goes_on {search} o h r a s goes = goes_by_runs o h r a false s a (runs-own _ _ _ _ a s) goes
+agent_goes_on o h r a s goes = goes_by_runs o h r a false s a (runs-own _ _ _ _ a s) goes
 
 -- and so did one that was stopped
-pub stopped_went_on : {search : Search} → (o : Opening) (h : List Entry) (r : ℕ) (a : AgentState)
-    → HasRunBy search (run_kind r h) (known_at_run o r h) o.budget true (run_exchanges r h) a → GoesOn o h r
-stopped_went_on {search} o h r a s = goes_by_runs o h r a true s s.before s.runs s.is.0
+pub stopped_went_on : (o : Opening) (h : List Entry) (r : ℕ) (a : AgentState)
+    → HasRunBy o.search (run_kind r h) (known_at_run o r h) o.budget true (run_exchanges r h) a → GoesOn o h r
+stopped_went_on o h r a s = goes_by_runs o h r a true s s.before s.runs s.is.0
 
 -- a report is determined by the exchanges
 report_is : (ds : List Device) (f : ℕ → Option Device) → AllByRecursion (λ d. f d.uid ≡ Some d) ds
@@ -77,35 +76,35 @@ pub report_devices : (x : List Seen) (s : List Device) → IsReport x s → s �
 report_devices x s is =
     sym (report_is s (device_with (devices_in x)) is.first) ∙ ap (filter_map (device_with (devices_in x))) is.uids
 
-pub agent_found : {search : Search} → (o : Opening) (h : List Entry) (r : ℕ) (a : AgentState) (aborted : Bool)
-    → HasRunBy search (run_kind r h) (known_at_run o r h) o.budget aborted (run_exchanges r h) a
+pub agent_found : (o : Opening) (h : List Entry) (r : ℕ) (a : AgentState) (aborted : Bool)
+    → HasRunBy o.search (run_kind r h) (known_at_run o r h) o.budget aborted (run_exchanges r h) a
     → a.found ≡ run_devices r h
-agent_found {search} o h r a aborted s =
+agent_found o h r a aborted s =
     report_devices (run_exchanges r h) a.found (found-report a _ _ _ aborted (run_exchanges r h) s)
 
 -- what an agent that has ended shows
-another_abort : (budget : ℕ) (P Q : Type 0) (f : AgentFault) (x : List Seen) → (P → Q) → Cause budget P f x
-    → Cause budget Q f x
-another_abort budget P Q (Corrupt u) x more cause = cause
-another_abort budget P Q TooMany x more cause = cause
-another_abort budget P Q Exhausted x more cause = cause
-another_abort budget P Q LineFailed x more cause = cause
-another_abort budget P Q Aborted x more cause = (more cause.0, cause.1)
+another_abort : (search : Search) (budget : ℕ) (P Q : Type 0) (f : AgentFault) (x : List Seen) → (P → Q)
+    → Cause search budget P f x → Cause search budget Q f x
+another_abort search budget P Q (Corrupt u) x more cause = cause
+another_abort search budget P Q TooMany x more cause = cause
+another_abort search budget P Q Exhausted x more cause = cause
+another_abort search budget P Q LineFailed x more cause = cause
+another_abort search budget P Q Aborted x more cause = (more cause.0, cause.1)
 
-not_done : {search : Search} → (o : Opening) (h : List Entry) (r : ℕ) (a : AgentState) (aborted : Bool) (f : AgentFault)
-    → HasRunBy search (run_kind r h) (known_at_run o r h) o.budget aborted (run_exchanges r h) a
+not_done : (o : Opening) (h : List Entry) (r : ℕ) (a : AgentState) (aborted : Bool) (f : AgentFault)
+    → HasRunBy o.search (run_kind r h) (known_at_run o r h) o.budget aborted (run_exchanges r h) a
     → fault_of a.phase ≡ Some f → IsDone o h r → ⊥
-not_done {search} o h r a false f s is done =
-    none-some f (sym (certificate_ends_by search _ _ _ _ a s.devices (runs-own _ _ _ _ a s) (run_devices r h) done).1
+not_done o h r a false f s is done =
+    none-some f (sym (certificate_ends_by o.search _ _ _ _ a s.devices (runs-own _ _ _ _ a s) (run_devices r h) done).1
     ∙ is)
-not_done {search} o h r a true f s is done = (stopped_went_on o h r a s).not_done done
+not_done o h r a true f s is done = (stopped_went_on o h r a s).not_done done
 
-pub agent_shows : {search : Search} → (o : Opening) (h : List Entry) (r : ℕ) (a : AgentState) (aborted : Bool)
-    → HasRunBy search (run_kind r h) (known_at_run o r h) o.budget aborted (run_exchanges r h) a
+pub agent_shows : (o : Opening) (h : List Entry) (r : ℕ) (a : AgentState) (aborted : Bool)
+    → HasRunBy o.search (run_kind r h) (known_at_run o r h) o.budget aborted (run_exchanges r h) a
     → (aborted ≡ true → is_closed o h ≡ true) → next_op a ≡ End → Shows o h r (fault_of a.phase)
-agent_shows {search} o h r a aborted s closed end = by_fault (fault_of a.phase) refl
+agent_shows o h r a aborted s closed end = by_fault (fault_of a.phase) refl
   where
-    aborts : (b : Bool) → HasRunBy search (run_kind r h) (known_at_run o r h) o.budget b (run_exchanges r h) a
+    aborts : (b : Bool) → HasRunBy o.search (run_kind r h) (known_at_run o r h) o.budget b (run_exchanges r h) a
         → (b ≡ true → is_closed o h ≡ true) → b ≡ true → IsAborted o h r
     aborts true own shut is = record { closed = shut is; goes_on = stopped_went_on o h r a own }
     aborts false own shut is = record { closed = shut is; goes_on = absurd (false≢true is) }
@@ -115,7 +114,7 @@ agent_shows {search} o h r a aborted s closed end = by_fault (fault_of a.phase) 
         subst (λ ds. Certificate (run_kind r h) (known_at_run o r h) (run_exchanges r h) ds)
         (agent_found o h r a aborted s) (fault-certified a end None (sym is) _ _ _ aborted (run_exchanges r h) s)
     by_fault (Some f) is = (
-      another_abort o.budget (aborted ≡ true) (IsAborted o h r) f (run_exchanges r h) (aborts aborted s closed)
+      another_abort o.search o.budget (aborted ≡ true) (IsAborted o h r) f (run_exchanges r h) (aborts aborted s closed)
           (fault-caused a end (Some f) (sym is) _ _ _ aborted (run_exchanges r h) s),
       not_done o h r a aborted f s is,
     )

@@ -8,6 +8,9 @@ use Rattle.rdm_log.proofs.Common.{result, has_begun, entries_before_run, open_ru
 use Rattle.rdm_log.proofs.Common.{is_closed, can_pause, can_resume, unfinished, next_client, next_request, next_ask}
 use Rattle.rdm_log.proofs.Common.{uncollected, join_fault, submit_fault, ask_fault, NothingDue, AllAnswered, GoesOn}
 use Rattle.rdm_log.proofs.Common.{MaySendRequest, MayBegin, MaySendRun, MayFollow, Legal}
+use Rattle.rdm_agent.specs.Cause.{IsCorruptBy}
+use Rattle.rdm_agent.specs.declared.search.Search.{Search}
+use Rattle.rdm_agent.specs.declared.search.Search.TheVariants.{Steady, Quick}
 use Rattle.rdm_log.specs.declared.entry.Owner.TheVariants as owners
 use Rattle.rdm_log.specs.log.Refusals.{IsRefused}
 use Rattle.rdm_log.specs.log.MaySend.{NoSend}
@@ -55,10 +58,14 @@ no_part : {X : Type 0} (front back : List X) (x : X) → [] ≡ front ++ x ∷ b
 no_part [] back x w = cc
 no_part (y ∷ front) back x w = cc
 
+not_at_first : (search : Search) (u : ℕ) → IsCorruptBy search u [] → ⊥
+not_at_first Steady u c = no_part c.before c.mutes _ c.whole
+not_at_first Quick u c = no_part c.0.before c.0.mutes _ c.0.whole
+
 goes_on_empty : (o : Opening) (h : List Entry) (r : ℕ) → run_exchanges r h ≡ [] → 0 < o.budget → GoesOn o h r
 goes_on_empty o h r none some = record {
   no_failure = rw none tt;
-  not_corrupt = rw none (λ u corrupt. no_part corrupt.before corrupt.mutes _ corrupt.whole);
+  not_corrupt = rw none (not_at_first o.search);
   all_reported = rw none (omega arith);
   in_budget = rw none some;
   not_done = λ done. absurd (no_unmutes (rw none at done.search.unmutes));

@@ -3,7 +3,7 @@ use Rattle.std.specs.Prelude.{◌≡◌, ◌≢◌, ℕ, ◌<◌, Bool, true, fa
 use Rattle.std.specs.List.{AllByRecursion, list_any}
 use Rattle.rdm_wire.specs.Honest.Heard.{Failed}
 use Rattle.rdm_agent.specs.Certificate.{Certificate}
-use Rattle.rdm_agent.specs.Cause.{IsCorrupt, AllReported}
+use Rattle.rdm_agent.specs.Cause.{IsCorruptBy, AllReported}
 use Rattle.rdm_log.specs.declared.entry.Opening.{Opening}
 use Rattle.rdm_log.specs.declared.entry.Entry.{Entry}
 use Rattle.rdm_log.specs.log.Entries.{answers, result}
@@ -25,7 +25,7 @@ IsDone o h r = Certificate (run_kind r h) (known_at_run o r h) (run_exchanges r 
 -- a run goes on: nothing that came has ended it, and its budget isn't used up
 pub record GoesOn (o : Opening) (h : List Entry) (r : ℕ) : Type 0 where
   pub no_failure : AllByRecursion (λ e. e.heard ≢ Failed) (run_exchanges r h)
-  pub not_corrupt : (u : ℕ) → IsCorrupt u (run_exchanges r h) → ⊥
+  pub not_corrupt : (u : ℕ) → IsCorruptBy o.search u (run_exchanges r h) → ⊥
   pub all_reported : AllReported (run_exchanges r h)
   pub in_budget : length (run_exchanges r h) < o.budget
   pub not_done : IsDone o h r → ⊥

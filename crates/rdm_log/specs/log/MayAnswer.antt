@@ -20,7 +20,7 @@ pub record IsAborted (o : Opening) (h : List Entry) (r : ℕ) : Type 0 where
 -- what an Answer says about a run: without fault, that it is done; with a fault, its cause, and that it isn't done
 abbrev pub Shows : Opening → List Entry → ℕ → Option AgentFault → Type 0
 Shows o h r None = IsDone o h r
-Shows o h r (Some fault) = Cause o.budget (IsAborted o h r) fault (run_exchanges r h) × (IsDone o h r → ⊥)
+Shows o h r (Some fault) = Cause o.search o.budget (IsAborted o h r) fault (run_exchanges r h) × (IsDone o h r → ⊥)
 
 -- an Answer by a run that serves the discovery: no reply is awaited, the run has shown what the Answer says, and the
 -- run's other Answers agree
