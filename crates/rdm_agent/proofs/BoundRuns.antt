@@ -12,8 +12,8 @@ use Rattle.rdm_agent.specs.Bound.{enough_for, EndsInBoundBy, EndsInBound, EndsBy
 use Rattle.rdm_agent.proofs.OneDevice.{NotFailed}
 use Rattle.rdm_agent.proofs.LeftLemmas.{no_more_than}
 use Rattle.rdm_agent.proofs.CoverLemmas.{worth-fewer}
-use Rattle.rdm_agent.proofs.PaidLemmas.{unmuting-affords, known-affords, searching-affords, read-affords, read-some}
-use Rattle.rdm_agent.proofs.PaidLemmas.{searching-pays}
+use Rattle.rdm_agent.proofs.PaidLemmas.{unmuting-affords, known-affords}
+use Rattle.rdm_agent.proofs.SearchPaid.{searching-pays, searching-affords, read-affords, read-some}
 use Rattle.rdm_agent.proofs.SweepPaid.{sweeping-affords, swept-affords}
 use Rattle.rdm_agent.proofs.StrayPaid.{checking-affords, stray-affords}
 use Rattle.rdm_agent.proofs.Runs.{stands_by, wanted_next}
@@ -39,10 +39,12 @@ module _ (present : List ℕ) (set : IsDeviceSet present) (few : length present 
           λ step. known-affords present set few total affords.cost s new a affords.within u tries spare known h sound
           affords.finds step costs
       by_phase (Searching silences bads spent top below) h sound costs =
-          λ step. searching-affords present set few total affords.cost s new a affords.within silences bads spent top below h
+          λ step. searching-affords present set few total affords.cost s new a affords.within silences bads spent top
+              below h
           sound affords.finds step costs
       by_phase (MutingRead u tries spare bads top below) h sound costs =
-          λ step. read-affords present set few total affords.cost s new a affords.within u tries spare bads top below h sound
+          λ step. read-affords present set few total affords.cost s new a affords.within u tries spare bads top below h
+              sound
           affords.finds step costs
       by_phase (Sweeping sweep) h sound costs =
           λ step. sweeping-affords present set few total affords.cost s new a affords.within sweep h sound affords.finds

@@ -152,7 +152,8 @@ module _ (a : AgentState) (end : next_op a ≡ End) (no_fault : fault_of a.phase
   end-certified {search} kind known budget false x s =
       let all = ends_certified_by search kind known budget x a s.devices (runs-own kind known budget x a s)
       (next_none a end) in
-      (subst (λ o. MatchOption o (Certificate kind known x a.found) (λ f. Cause search budget ⊥ f x)) no_fault all.0, all.1)
+      (subst (λ o. MatchOption o (Certificate kind known x a.found)
+      (λ f. Cause search budget ⊥ f x)) no_fault all.0, all.1)
   end-certified {search} kind known budget true x s =
       absurd (some_none (fault_of a.phase) (aborted-fault a s.before s.is.1) no_fault)
 
@@ -208,7 +209,8 @@ cause-more search budget P Q Aborted x more cause = (more cause.0, cause.1)
 -- what is shown of an ended agent with a fault
 module _ (a : AgentState) (end : next_op a ≡ End) (fault : AgentFault) (has_fault : fault_of a.phase ≡ Some fault) where
   pub end-caused : {search : Search}
-      → OfEach search a (λ kind known budget aborted x. Cause search budget (aborted ≡ true) fault x × IsReport x a.found)
+      → OfEach search a
+      (λ kind known budget aborted x. Cause search budget (aborted ≡ true) fault x × IsReport x a.found)
   end-caused {search} kind known budget false x s =
       let all = ends_certified_by search kind known budget x a s.devices (runs-own kind known budget x a s)
       (next_none a end) in

@@ -105,7 +105,8 @@ module _ {P : Seen → Type 0} where
 
 -- while the search goes on, the range that it asks was silent no more often at the end than the phase counts
 abbrev FewSilent : Phase → List Seen → Type 0
-FewSilent (Searching silences bads spent top below) x = (n : ℕ) → EndsWith n (IsSilentBranch top.lo top.hi) x → n ≤ silences
+FewSilent (Searching silences bads spent top below) x = (n : ℕ) → EndsWith n (IsSilentBranch top.lo top.hi) x
+    → n ≤ silences
 FewSilent (Unmuting more known) x = Unit {0}
 FewSilent (MutingKnown u tries spare known) x = Unit {0}
 FewSilent (MutingRead u tries spare bads top below) x = Unit {0}

@@ -4,7 +4,8 @@ use Rattle.rdm_agent.proofs.Common.{sym, ap, ap₂, ◌∙◌, subst, inl, inr, 
 use Rattle.rdm_agent.proofs.Common.{nat_le, AllByRecursion, le-leb, leb-true, and_parts, not-true, has, is_within}
 use Rattle.rdm_agent.proofs.Common.{is_broadcast, IsDevice, Span, Heard, Seen, Branch, Mute, Acked, Failed, Silent, One}
 use Rattle.rdm_agent.proofs.Common.{MuteAck, acked_by, acked_in, asks_range, is_branch, IsLostMute, IsCorrupt, is_new}
-use Rattle.rdm_agent.proofs.Common.{TRIES, Search, Steady, Quick, IsCorruptBy, spare_at, BAD_ANSWERS, cases_lt, cases_Bool, eqb-false, ◌==◌}
+use Rattle.rdm_agent.proofs.Common.{TRIES, Search, Steady, Quick, IsCorruptBy, spare_at, BAD_ANSWERS, cases_lt}
+use Rattle.rdm_agent.proofs.Common.{cases_Bool, eqb-false, ◌==◌}
 use Rattle.std.proofs.lemmas.Bool.{not-false}
 use Rattle.rdm_agent.specs.Cause.{IsCorruptReply}
 use Rattle.rdm_agent.proofs.Members.{last_part, tails, heads}
@@ -271,8 +272,8 @@ pub not_corrupt-by : (search : Search) (r : Span) (bads : ℕ) (x : List Seen) �
 not_corrupt-by Steady r bads x sound u c = sound u c
 not_corrupt-by Quick r bads x row u c = let few = row.few u in let many = c.1 in omega (arith, few, many)
 
--- while what a range spelt is muted, nothing is corrupt: fewer than five mutes were lost, or the UID wasn't answered often
--- enough
+-- while what a range spelt is muted, nothing is corrupt: fewer than five mutes were lost, or the UID wasn't answered
+-- often enough
 pub read-sound : (search : Search) (u tries spare bads : ℕ) (top : Span) (x : List Seen) (found : List ℕ)
     → IsFound x found → top.hi < 2 ^ 48 → IsNewDevice found top u → (n : ℕ) → WasSpelt u n top x → tries < TRIES
     → n + spare ≡ tries + spare_at search top bads → spare ≤ spare_at search top bads → Answered search top bads x

@@ -126,7 +126,8 @@ pub record IsChecking (search : Search) (known : List ℕ) (u silences : ℕ) (x
     pub none : (v : ℕ) → answers_in_a_row v x ≡ 0
 
 -- the UID that this range spelt is muted, n times so far in vain
-pub record IsMutingStray (search : Search) (known : List ℕ) (u tries : ℕ) (x : List Seen) (found : List ℕ) : Type 0 where
+pub record IsMutingStray (search : Search) (known : List ℕ) (u tries : ℕ) (x : List Seen) (found : List ℕ) : Type 0
+    where
   pub n : ℕ
   pub quick : search ≡ Quick
   pub searches : Searches known (Some u) whole [] x found

@@ -30,6 +30,7 @@ pub mod Potential
 pub mod LeftLemmas
 pub mod CoverLemmas
 pub mod PaidLemmas
+pub mod SearchPaid
 pub mod SweepPaid
 pub mod StrayPaid
 pub mod BoundRuns

@@ -53,8 +53,8 @@ pub record CostsKnown (search : Search) (present found : List ℕ) (tries : ℕ)
   pub ahead : Ahead search present found ranges
   pub cost_is : cost + 2 * tries ≡ 10 + 10 * length known + ranges
 
--- What covers the open ranges, without the branches that the top one had. These were silent, unless a quick run asks again
--- a range in which two devices are left
+-- What covers the open ranges, without the branches that the top one had. These were silent, unless a quick run asks
+-- again a range in which two devices are left
 pub record CostsSearching (search : Search) (present found : List ℕ) (silences spent : ℕ) (top : Span)
     (below : List Span) (cost : ℕ) : Type 0 where
   pub ranges : ℕ

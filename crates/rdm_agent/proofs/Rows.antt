@@ -60,13 +60,14 @@ unbranched-none u x none = kept x none 0 refl
     kept [] all n zero = zero
     kept (e ∷ l) all n zero = kept l all.1 (answered_again u n e.asked e.heard) (step n e.asked e.heard zero all.0)
 
--- the last branch is of this range: if it is of one UID alone, that was answered so often in a row, and no other one was
+-- the last branch is of this range: if it is of one UID alone, that was answered so often in a row, and no other one
+-- was
 pub record AnswersOf (r : Span) (n : ℕ) (x : List Seen) : Type 0 where
   pub own : r.lo ≡ r.hi → answers_in_a_row r.lo x ≡ n
   pub others : (u : ℕ) → (r.lo ≡ u → r.hi ≡ u → ⊥) → answers_in_a_row u x ≡ 0
 
--- before this range is branched: no UID was answered often enough to be corrupt, and if it is of one UID alone, that was
--- answered so often in a row
+-- before this range is branched: no UID was answered often enough to be corrupt, and if it is of one UID alone, that
+-- was answered so often in a row
 pub record Row (r : Span) (n : ℕ) (x : List Seen) : Type 0 where
   pub few : (u : ℕ) → answers_in_a_row u x < BAD_ANSWERS
   pub own : r.lo ≡ r.hi → answers_in_a_row r.lo x ≡ n

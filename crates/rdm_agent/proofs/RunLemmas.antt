@@ -168,7 +168,8 @@ module _ (kind : Kind) (known : List ℕ) (budget : ℕ) (x : List Seen) (a : Ag
   unmuting-stands more left h sound p =
       to_phase-stands (exchange Unmute h) (cond (nat_lt 1 more) (Unmuting (more - 1) left) (search_from a.search left))
       (reported-same (exchange Unmute h) refl)
-      (cond_both (nat_lt 1 more) _ _ (λ q. InPhase a.search kind known budget q (x ++ exchange Unmute h ∷ []) (found_uids a))
+      (cond_both (nat_lt 1 more) _ _ (λ q. InPhase a.search kind known budget q (x ++ exchange Unmute h ∷ [])
+      (found_uids a))
       (λ two. let above : 1 < more = ltb-true 1 more two in (omega arith, pushed))
       (λ one. known-next kind known budget a.search left (x ++ exchange Unmute h ∷ []) (found_uids a)
       (unmuted (known_of kind known) left (x ++ exchange Unmute h ∷ []) (found_uids a) (at_end one))))

@@ -85,16 +85,19 @@ module _ (kind : Kind) (known : List ℕ) (budget : ℕ) where
         → After (heard_by_phase a phase h) h (wanted phase)
     unfolding After
     by_phase (Unmuting more left) h sound p = unmuting-stands kind known budget x a s goes more left h sound p
-    by_phase (MutingKnown u tries spare left) h sound p = known-stands kind known budget x a s goes u tries spare left h sound p
+    by_phase (MutingKnown u tries spare left) h sound p =
+        known-stands kind known budget x a s goes u tries spare left h sound p
     by_phase (Searching silences bads spent top below) h sound p =
         searching-stands kind known budget x a s goes silences bads spent top below h sound p
     by_phase (MutingRead u tries spare bads top below) h sound p =
         muting-stands kind known budget x a s goes u tries spare bads top below h sound p
     by_phase (Sweeping sweep) h sound p = sweeping-stands kind known budget x a s goes sweep h sound p
-    by_phase (MutingSwept u tries spare sweep) h sound p = swept-stands kind known budget x a s goes u tries spare sweep h sound p
+    by_phase (MutingSwept u tries spare sweep) h sound p =
+        swept-stands kind known budget x a s goes u tries spare sweep h sound p
     by_phase (Checking u silences sweep) h sound p =
         checking-stands kind known budget x a s goes u silences sweep h sound p
-    by_phase (MutingStray u tries spare sweep) h sound p = stray-stands kind known budget x a s goes u tries spare sweep h sound p
+    by_phase (MutingStray u tries spare sweep) h sound p =
+        stray-stands kind known budget x a s goes u tries spare sweep h sound p
     by_phase (Ended fault) h sound p = tt
 
     failed-stands : (asked : Asked) → wanted a.phase ≡ Some asked
@@ -336,28 +339,36 @@ ended : (search : Search) (kind : Kind) (known : List ℕ) (budget : ℕ) (phase
     → MatchOption (fault_of phase) (SearchShows kind known x found) (λ f. Cause search budget ⊥ f x)
 ended search kind known budget (Ended fault) x found goes p end used = p.certified
 ended search kind known budget (Unmuting more left) x found goes p end used =
-    exhausted search kind known budget x found (is_open search kind known budget (Unmuting more left) x found p)
+    exhausted search kind known budget x found
+    (is_open search kind known budget (Unmuting more left) x found p)
     (used (not_wanted goes Unmute end))
 ended search kind known budget (MutingKnown u tries spare left) x found goes p end used =
-    exhausted search kind known budget x found (is_open search kind known budget (MutingKnown u tries spare left) x found p)
+    exhausted search kind known budget x found
+    (is_open search kind known budget (MutingKnown u tries spare left) x found p)
     (used (not_wanted goes (Mute u) end))
 ended search kind known budget (Searching silences bads spent top below) x found goes p end used =
-    exhausted search kind known budget x found (is_open search kind known budget (Searching silences bads spent top below) x found p)
+    exhausted search kind known budget x found
+    (is_open search kind known budget (Searching silences bads spent top below) x found p)
     (used (not_wanted goes (Branch top.lo top.hi) end))
 ended search kind known budget (Sweeping sweep) x found goes p end used =
-    exhausted search kind known budget x found (is_open search kind known budget (Sweeping sweep) x found p)
+    exhausted search kind known budget x found
+    (is_open search kind known budget (Sweeping sweep) x found p)
     (used (not_wanted goes (Branch sweep.question.range.lo sweep.question.range.hi) end))
 ended search kind known budget (MutingSwept u tries spare sweep) x found goes p end used =
-    exhausted search kind known budget x found (is_open search kind known budget (MutingSwept u tries spare sweep) x found p)
+    exhausted search kind known budget x found
+    (is_open search kind known budget (MutingSwept u tries spare sweep) x found p)
     (used (not_wanted goes (Mute u) end))
 ended search kind known budget (Checking u silences sweep) x found goes p end used =
-    exhausted search kind known budget x found (is_open search kind known budget (Checking u silences sweep) x found p)
+    exhausted search kind known budget x found
+    (is_open search kind known budget (Checking u silences sweep) x found p)
     (used (not_wanted goes (Branch unassigned.lo unassigned.hi) end))
 ended search kind known budget (MutingStray u tries spare sweep) x found goes p end used =
-    exhausted search kind known budget x found (is_open search kind known budget (MutingStray u tries spare sweep) x found p)
+    exhausted search kind known budget x found
+    (is_open search kind known budget (MutingStray u tries spare sweep) x found p)
     (used (not_wanted goes (Mute u) end))
 ended search kind known budget (MutingRead u tries spare bads top below) x found goes p end used =
-    exhausted search kind known budget x found (is_open search kind known budget (MutingRead u tries spare bads top below) x found p)
+    exhausted search kind known budget x found
+    (is_open search kind known budget (MutingRead u tries spare bads top below) x found p)
     (used (not_wanted goes (Mute u) end))
 
 -- its certificate, or its fault's cause; and it reports what was acknowledged
@@ -420,7 +431,8 @@ none_failed x sound = (
 )
 
 failed_phase : (search : Search) (kind : Kind) (known : List ℕ) (budget : ℕ) (phase : Phase) (x : List Seen)
-    (found : List ℕ) → InPhase search kind known budget phase x found → FailureIsLast x × (EndsFailed x → wanted phase ≡ None)
+    (found : List ℕ) → InPhase search kind known budget phase x found
+    → FailureIsLast x × (EndsFailed x → wanted phase ≡ None)
 failed_phase search kind known budget (Ended fault) x found p = (
   (λ front back e whole failed. not_before p.before front back p.last e p.no_failure (sym p.whole ∙ whole) failed),
   λ f. refl,
@@ -448,7 +460,8 @@ ends_at_failure_by search kind known budget x b set run =
     (f.0, λ failed. nothing (nat_lt b.frames b.budget) (f.1 failed))
   where
     f : FailureIsLast x × (EndsFailed x → wanted b.phase ≡ None)
-    f = failed_phase b.search kind known budget b.phase x (found_uids b) (stands_by search kind known budget x b set run).phase
+    f = failed_phase b.search kind known budget b.phase x (found_uids b)
+        (stands_by search kind known budget x b set run).phase
 
     nothing : (goes : Bool) → wanted b.phase ≡ None → cond goes (wanted b.phase) None ≡ None
     nothing true none = none
@@ -463,7 +476,8 @@ all_reported_by search kind known budget x b asked set run next = IsFound-all_re
     going : IsOpen b.search kind known budget x (found_uids b)
     going = subst (λ o. MatchOption o (Unit {0}) (λ q. IsOpen b.search kind known budget x (found_uids b)))
         (wanted_next kind known budget b asked next).1
-        (is_open b.search kind known budget b.phase x (found_uids b) (stands_by search kind known budget x b set run).phase)
+        (is_open b.search kind known budget b.phase x (found_uids b)
+        (stands_by search kind known budget x b set run).phase)
 
 -- nor has it met a failure or a corrupt UID
 pub goes_on_soundly_by : (search : Search) → GoesOnSoundly search
@@ -475,7 +489,8 @@ goes_on_soundly_by search kind known budget x b set run goes = by_next (next_of 
     by_next (Some asked) next = let going : IsOpen b.search kind known budget x (found_uids b) =
         subst (λ o. MatchOption o (Unit {0}) (λ q. IsOpen b.search kind known budget x (found_uids b)))
         (wanted_next kind known budget b asked next).1
-        (is_open b.search kind known budget b.phase x (found_uids b) (stands_by search kind known budget x b set run).phase) in (
+        (is_open b.search kind known budget b.phase x (found_uids b)
+        (stands_by search kind known budget x b set run).phase) in (
           going.no_failure,
           subst (λ q. (u : ℕ) → IsCorruptBy q u x → ⊥)
               (runs-search search kind known budget x b run) going.not_corrupt,

@@ -1,10 +1,13 @@
 -- An agent that checks a UID, or mutes one that answers for others, stands after its exchanges.
-use Rattle.rdm_agent.proofs.Common.{◌≡◌, ℕ, ◌+◌, ◌-◌, ◌<◌, ◌≤◌, true, false, List, [], ◌∷◌, ◌++◌, length, None, Some, refl}
-use Rattle.rdm_agent.proofs.Common.{sym, ◌∙◌, inl, subst, arith, ◌≢◌, ◌==◌, nat_lt, cond, cond_both, eqb-true, eqb-false}
+use Rattle.rdm_agent.proofs.Common.{◌≡◌, ℕ, ◌+◌, ◌-◌, ◌<◌, ◌≤◌, true, false, List, [], ◌∷◌, ◌++◌, length, None, Some}
+use Rattle.rdm_agent.proofs.Common.{refl}
+use Rattle.rdm_agent.proofs.Common.{sym, ◌∙◌, inl, subst, arith, ◌≢◌, ◌==◌, nat_lt, cond, cond_both, eqb-true}
+use Rattle.rdm_agent.proofs.Common.{eqb-false}
 use Rattle.rdm_agent.proofs.Common.{and_parts, whole, Heard, Seen, is_acked, Branch, Mute, Acked, Failed, Silent, One}
 use Rattle.rdm_agent.proofs.Common.{Noise, known_of, Phase, AgentState, to_phase, found_uids, unassigned, counted}
 use Rattle.rdm_agent.proofs.Common.{counted_silent, sweep_suspecting, sweep_on, sweep_split, is_checked_again}
-use Rattle.rdm_agent.proofs.Common.{check_silent, check_heard, stray_found, stray_heard, MutingStray, Kind, TRIES, Sweep}
+use Rattle.rdm_agent.proofs.Common.{check_silent, check_heard, stray_found, stray_heard, MutingStray, Kind, TRIES}
+use Rattle.rdm_agent.proofs.Common.{Sweep}
 use Rattle.rdm_agent.proofs.Common.{answers_in_a_row, garbled_mutes, stray_lost}
 use Rattle.rdm_agent.proofs.Rows.{none-answers, other-none, acked-none, lost-same}
 use Rattle.rdm_agent.proofs.UnderWay.{EndsWith-none, EndsWith-push, lost-acks_none, InSuccession-fewer}
@@ -29,7 +32,8 @@ module _ (kind : Kind) (known : List ℕ) (budget : ℕ) (x : List Seen) (a : Ag
   checked h q holds = to_phase-stands kind known budget x a s goes (check h) q
       (reported-same kind known budget x a s goes (check h) refl) holds
 
-  branches : (u silences : ℕ) (h : Heard) → h ≢ Failed → IsChecking a.search (known_of kind known) u silences x (found_uids a)
+  branches : (u silences : ℕ) (h : Heard) → h ≢ Failed
+      → IsChecking a.search (known_of kind known) u silences x (found_uids a)
       → Searches (known_of kind known) None whole [] (x ++ check h ∷ []) (found_uids a)
   branches u silences h sound p =
       search-branch (known_of kind known) whole [] x (found_uids a) None unassigned.lo unassigned.hi h p.searches sound
@@ -47,7 +51,8 @@ module _ (kind : Kind) (known : List ℕ) (budget : ℕ) (x : List Seen) (a : Ag
       (branches u silences h sound p) p.quick (counted sweep) unassigned 0 (length a.found) (omega arith)
       (EndsWith-none _ (x ++ check h ∷ [])) (none_check h))
 
-  quiet-stands : (u silences : ℕ) (sweep : Sweep) → IsChecking a.search (known_of kind known) u silences x (found_uids a)
+  quiet-stands : (u silences : ℕ) (sweep : Sweep)
+      → IsChecking a.search (known_of kind known) u silences x (found_uids a)
       → RunInvariant kind known budget (x ++ check Silent ∷ [])
       (to_phase a (check_silent u silences (counted_silent sweep) (length a.found)))
   quiet-stands u silences sweep p =
@@ -75,7 +80,8 @@ module _ (kind : Kind) (known : List ℕ) (budget : ℕ) (x : List Seen) (a : Ag
       first again = let none : silences ≡ 0 = eqb-true silences 0 (and_parts (silences == 0) _ again).0 in
           omega (arith, none)
 
-  spelt-stands : (u silences v : ℕ) (sweep : Sweep) → IsChecking a.search (known_of kind known) u silences x (found_uids a)
+  spelt-stands : (u silences v : ℕ) (sweep : Sweep)
+      → IsChecking a.search (known_of kind known) u silences x (found_uids a)
       → RunInvariant kind known budget (x ++ check (One v) ∷ [])
       (to_phase a (cond (v == u) (MutingStray u 0 garbled_mutes (counted sweep))
       (sweep_split (counted sweep) unassigned 0 (length a.found))))
@@ -155,7 +161,8 @@ module _ (kind : Kind) (known : List ℕ) (budget : ℕ) (x : List Seen) (a : Ag
         cond_both ((tries + 1) == TRIES) _ _ (λ q. RunInvariant kind known budget (x ++ muted ∷ []) (to_phase a q))
         (λ last. goes_on _ (given_up (eqb-true (tries + 1) TRIES last)))
         (λ fewer. goes_on (MutingStray u (tries + 1) spare (counted sweep))
-        (again (tries + 1) (few_more tries p.few (eqb-false (tries + 1) TRIES fewer)) (let some = p.some in omega arith)))
+        (again (tries + 1) (few_more tries p.few (eqb-false (tries + 1) TRIES fewer))
+        (let some = p.some in omega arith)))
       where
         given_up : tries + 1 ≡ TRIES → InPhase a.search kind known budget
             (sweep_split (sweep_suspecting u (counted sweep)) unassigned 0 (length a.found)) (x ++ muted ∷ [])

@@ -1,6 +1,7 @@
 -- What a sweep's exchanges keep.
 use Rattle.rdm_agent.proofs.Common.{◌≡◌, ℕ, ◌+◌, ◌*◌, ◌<◌, ◌&&◌, List, [], ◌∷◌, ◌++◌, None, refl, sym, ◌∙◌}
-use Rattle.rdm_agent.proofs.Common.{inl, inr, ◌⊎◌, subst, arith, ◌==◌, nat_lt, cond_both, eqb-true, eqb-false, Span, whole}
+use Rattle.rdm_agent.proofs.Common.{inl, inr, ◌⊎◌, subst, arith, ◌==◌, nat_lt, cond_both, eqb-true, eqb-false, Span}
+use Rattle.rdm_agent.proofs.Common.{whole}
 use Rattle.rdm_agent.proofs.Common.{Seen, Branch, Silent, known_of, IsSilentBranch, TRIES, Belief, Sweep, Phase, is_one}
 use Rattle.rdm_agent.proofs.Common.{is_whole, is_last, choose, sweep_on_after, sweep_split, sweep_silent, sweep_apart}
 use Rattle.rdm_agent.proofs.Common.{believed_silent, believed_apart, Sweeping, Kind, Search, Quick, BAD_ANSWERS}
@@ -111,7 +112,8 @@ module _ (search : Search) (kind : Kind) (known : List ℕ) (budget : ℕ) where
       (λ r. sound-silent search r x sweep.question.range.lo sweep.question.range.hi))
       (λ fewer. on-phase (x ++ e ∷ []) found s quick sweep sweep.question.range (sweep.silences + 1) 0 0 n
       (believed_silent sweep.question.part sweep.question.range sweep.belief)
-      (let few = asks.few in let not_five = eqb-false (sweep.silences + 1) TRIES fewer in grind arith) (omega arith) more
+      (let few = asks.few in let not_five = eqb-false (sweep.silences + 1) TRIES fewer in grind arith) (omega arith)
+      more
       (none-answers sweep.question.range (x ++ e ∷ [])
       (λ u. silent-none u x sweep.question.range.lo sweep.question.range.hi)) (omega arith) (inl refl))
     where
@@ -133,7 +135,8 @@ module _ (search : Search) (kind : Kind) (known : List ℕ) (budget : ℕ) where
       (give_up sweep.question.range.hi sweep.belief) (omega arith) (omega arith) (EndsWith-none _ x) answers
       (omega (arith, few)) (inr (gave_up-elsewhere sweep.made sweep.question.range sweep.belief range one)))
       (λ again. let other = eqb-false (sweep.bads + 1) bads_aside again in
-      on-phase x found s quick sweep sweep.question.range 0 (sweep.bads + 1) (sweep.bads + 1) n sweep.belief (omega arith)
+      on-phase x found s quick sweep sweep.question.range 0 (sweep.bads + 1) (sweep.bads + 1) n sweep.belief
+      (omega arith)
       (grind (arith, other, few)) (EndsWith-none _ x) answers (omega (arith, few)) (inl refl)))
       (λ several. split-phase x found s quick sweep sweep.question.range 0 n (omega arith) (EndsWith-none _ x)
       (several-none sweep.question.range (sweep.bads + 1) x answers

@@ -1,5 +1,6 @@
 -- An agent that sweeps stands after its exchanges.
-use Rattle.rdm_agent.proofs.Common.{◌≡◌, ℕ, ◌+◌, ◌-◌, ◌<◌, ◌≤◌, true, false, cond, List, [], ◌∷◌, ◌++◌, length, None, Some}
+use Rattle.rdm_agent.proofs.Common.{◌≡◌, ℕ, ◌+◌, ◌-◌, ◌<◌, ◌≤◌, true, false, cond, List, [], ◌∷◌, ◌++◌, length, None}
+use Rattle.rdm_agent.proofs.Common.{Some}
 use Rattle.rdm_agent.proofs.Common.{refl, inl, arith, ◌≢◌, ◌==◌, ◌&&◌, not, nat_lt, nat_le, cond_both, and_parts}
 use Rattle.rdm_agent.proofs.Common.{eqb-true, eqb-false, leb-true, not-true, is_broadcast, IsDevice, Span, whole, Heard}
 use Rattle.rdm_agent.proofs.Common.{Seen, is_acked, Branch, Mute, Acked, Failed, Silent, One, Noise, known_of, Phase}
@@ -190,7 +191,8 @@ module _ (kind : Kind) (known : List ℕ) (budget : ℕ) (x : List Seen) (a : Ag
         cond_both ((tries + 1) == TRIES) _ _ (λ q. RunInvariant kind known budget (x ++ muted ∷ []) (to_phase a q))
         (λ last. goes_on _ (given_up (eqb-true (tries + 1) TRIES last)))
         (λ fewer. goes_on (MutingSwept u (tries + 1) spare (counted sweep))
-        (again (tries + 1) (few_more tries p.few (eqb-false (tries + 1) TRIES fewer)) (let some = p.some in omega arith)))
+        (again (tries + 1) (few_more tries p.few (eqb-false (tries + 1) TRIES fewer))
+        (let some = p.some in omega arith)))
       where
         given_up : tries + 1 ≡ TRIES → InPhase a.search kind known budget
             (sweep_apart (sweep_suspecting u (counted sweep)) (length a.found)) (x ++ muted ∷ []) (found_uids a)

@@ -83,8 +83,8 @@ part_of b =
     else (if nat_lt b.lo b.at && nat_lt 2 b.quiet then record { part = Rest; range = spanning b.at b.end }
     else record { part = Lower; range = spanning b.at (b.at + (b.end - b.at) / 2) }))
 
--- One UID is asked together with UIDs below it, which were swept, because some of them may have been missed. It is asked
--- alone if those below it were given up
+-- One UID is asked together with UIDs below it, which were swept, because some of them may have been missed. It is
+-- asked alone if those below it were given up
 abbrev pub with_lower : Belief → Question → Question
 with_lower b q =
     if is_one q.range
@@ -99,8 +99,8 @@ question b =
 abbrev pub begin_again : Belief → Belief
 begin_again b = record b { at = b.lo; quiet = 0; begun = min (b.begun + 1) 4 }
 
--- A UID is given up, since it answers and can't be muted. The sweep goes on above it, and doesn't look back to it in this
--- pass
+-- A UID is given up, since it answers and can't be muted. The sweep goes on above it, and doesn't look back to it in
+-- this pass
 abbrev pub give_up : ℕ → Belief → Belief
 give_up u b = record b {
   base = u + 1;

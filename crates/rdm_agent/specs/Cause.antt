@@ -38,8 +38,8 @@ is_bytes Failed = false
 is_bytes Silent = false
 is_bytes _ = true
 
--- How often in a row the branch of u alone was answered by bytes, after one more exchange. Mutes without acknowledgement
--- may come between the branches, and nothing else.
+-- How often in a row the branch of u alone was answered by bytes, after one more exchange. Mutes without
+-- acknowledgement may come between the branches, and nothing else.
 abbrev pub answered_again : ℕ → ℕ → Asked → Heard → ℕ
 answered_again u n (Branch lo hi) heard = if is_bytes heard && ((lo == u) && (hi == u)) then n + 1 else 0
 answered_again u n (Mute v) heard = if is_acked heard then 0 else n

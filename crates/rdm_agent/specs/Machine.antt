@@ -23,15 +23,16 @@ use Rattle.rdm_agent.specs.declared.belief.Part.TheVariants.{Fresh, Whole}
 use Rattle.rdm_agent.specs.declared.sweep.Sweep.{Sweep}
 use Rattle.rdm_agent.specs.declared.fault.AgentFault.TheVariants.{Corrupt, TooMany, Exhausted, LineFailed}
 use Rattle.rdm_agent.specs.Beliefs.{is_suspect, is_one, last_uid, first_belief, is_same, is_whole, question, ready}
-use Rattle.rdm_agent.specs.Beliefs.{above, believed_silent, believed_found, believed_apart, suspecting, hushing, give_up}
+use Rattle.rdm_agent.specs.Beliefs.{above, believed_silent, believed_found, believed_apart, suspecting, hushing}
+use Rattle.rdm_agent.specs.Beliefs.{give_up}
 use Rattle.rdm_agent.specs.Beliefs.{hearing, is_due, is_checked_again, stray_found}
 
--- The phases: the unmutes still to send; the mute of a known UID, with the tries made, and with how many garbled replies
--- needn't be counted as tries; the branch of the top range, with its silences, with its bad answers in a row, and with the
--- branches that it had since it was taken up or since a device was found in it; and the mute of a UID that was read there,
--- with the tries, the garbled replies to spare and the range's bad answers. Then the same two phases of a sweep, which
--- holds the range that it asks; the branch of a range without devices, which may be answered by a UID that was spelt
--- outside the sweep's range, with its silences; the mute of that UID; and the end.
+-- The phases: the unmutes still to send; the mute of a known UID, with the tries made, and with how many garbled
+-- replies needn't be counted as tries; the branch of the top range, with its silences, with its bad answers in a row,
+-- and with the branches that it had since it was taken up or since a device was found in it; and the mute of a UID that
+-- was read there, with the tries, the garbled replies to spare and the range's bad answers. Then the same two phases of
+-- a sweep, which holds the range that it asks; the branch of a range without devices, which may be answered by a UID
+-- that was spelt outside the sweep's range, with its silences; the mute of that UID; and the end.
 pub data Phase : Type 0 where
   Unmuting : (more : ℕ) (known : List ℕ) → Phase
   MutingKnown : (u tries spare : ℕ) (known : List ℕ) → Phase
@@ -109,12 +110,12 @@ abbrev pub first_phase : Search → Phase
 first_phase Steady = search_whole 0
 first_phase Quick = Sweeping first_sweep
 
--- GARBLED MUTES. A quick run doesn't count bytes after a mute, other than its acknowledgement, as one of the tries. In a
--- series of mutes it has so many of them to spare
+-- GARBLED MUTES. A quick run doesn't count other bytes than the acknowledgement of a mute as one of its tries, but at
+-- most so many in a series of mutes
 abbrev pub garbled_mutes : ℕ
 garbled_mutes = 8
 
--- a run with this search
+-- how many a run with this search needn't count
 abbrev pub spare_of : Search → ℕ
 spare_of Steady = 0
 spare_of Quick = garbled_mutes
@@ -135,28 +136,29 @@ split r below =
     if r.lo == r.hi then Ended (Some (Corrupt r.lo))
     else Searching 0 0 0 (lower_half r) (upper_half r ∷ below)
 
--- BAD ANSWERS. The steady search of a quick run asks one UID alone again, until so many bad answers in a row. It asks any
--- other range again, until three in a row, unless that would be after the fifth branch. A steady run asks none again
+-- BAD ANSWERS. The steady search of a quick run asks one UID alone again, until it had BAD_ANSWERS in a row. It asks
+-- any other range again while that had at most five branches, until three bad answers in a row. A steady run asks none
+-- again
 abbrev pub asks_again : Search → Span → ℕ → ℕ → Bool
 asks_again Steady top bads spent = false
-asks_again Quick top bads spent = if is_one top then nat_lt bads BAD_ANSWERS else nat_lt spent 6 && nat_lt bads 3
+asks_again Quick top bads spent = if is_one top then nat_lt bads BAD_ANSWERS else nat_le spent 5 && nat_lt bads 3
 
--- whether what a branch of the range spelt is muted after so many branches: in a quick run not after the fifth one, unless
--- it is of one UID alone
+-- whether a new UID that the range spelt is muted: in a quick run only up to the fifth branch, unless one UID was asked
+-- alone
 abbrev pub is_soon : Search → Span → ℕ → Bool
 is_soon Steady top spent = true
-is_soon Quick top spent = is_one top || nat_lt spent 6
+is_soon Quick top spent = is_one top || nat_le spent 5
 
--- what its mutes have to spare: nothing if this was the last answer of one UID alone
+-- how many garbled replies to its mutes needn't be counted: none after the last answer of one UID alone
 abbrev pub spare_at : Search → Span → ℕ → ℕ
 spare_at Steady top bads = 0
 spare_at Quick top bads = if is_one top && not (nat_lt bads BAD_ANSWERS) then 0 else garbled_mutes
 
--- a range after one more branch; more than ten don't matter
+-- the branches of a range after one more; more than ten aren't counted
 abbrev pub spent_more : ℕ → ℕ
 spent_more spent = min (spent + 1) 10
 
--- the phase after so many bad answers in a row and so many branches
+-- the phase after a range had so many bad answers in a row and so many branches
 abbrev pub search_apart : Search → ℕ → ℕ → Span → List Span → Phase
 search_apart search bads spent top below =
     if asks_again search top bads spent then Searching 0 bads spent top below else split top below
@@ -197,8 +199,8 @@ abbrev pub sweep_suspecting : ℕ → Sweep → Sweep
 sweep_suspecting u sweep = record sweep { belief = suspecting u sweep.belief }
 
 -- a sweep that has found this many devices goes on while it has made fewer exchanges than 100 for each of them and 200
--- more. Then the steady search begins, in which the last silences of the whole range count. The silences and bad answers
--- are those of the last range
+-- more. Then the steady search begins, in which the last silences of the whole range count. The silences and bad
+-- answers are those of the last range
 abbrev pub sweep_on_after : Sweep → Span → ℕ → ℕ → ℕ → Belief → Phase
 sweep_on_after sweep last silences bads found b =
     if nat_lt sweep.made (100 * (found + 2)) then Sweeping (choose sweep.made silences bads last b)
@@ -300,11 +302,12 @@ known_heard a u tries spare known _ =
     to_phase a (if nat_lt 0 spare then MutingKnown u tries (spare - 1) known
     else known_lost a.search u tries spare known)
 
--- what follows a mute of a UID that was read, if it counts as a try: the fifth makes a bad answer of its range, which was
--- branched often enough
+-- what follows a mute of a UID that was read, if it counts as a try. After the fifth, what spelt it was a bad answer,
+-- and the range was asked often enough
 abbrev pub mute_lost : Search → ℕ → ℕ → ℕ → ℕ → Span → List Span → Phase
 mute_lost search u tries spare bads top below =
-    if (tries + 1) == TRIES then search_apart search bads 10 top below else MutingRead u (tries + 1) spare bads top below
+    if (tries + 1) == TRIES then search_apart search bads 10 top below
+    else MutingRead u (tries + 1) spare bads top below
 
 -- the agent after the mute of a UID that was read. It is found if acknowledged
 abbrev pub mute_heard : AgentState → ℕ → ℕ → ℕ → ℕ → Span → List Span → Heard → AgentState
@@ -342,8 +345,8 @@ sweep_heard a sweep (One u) =
     to_phase a (sweep_spelt (found_uids a) (counted_spelt u sweep) (length a.found) u)
 sweep_heard a sweep _ = to_phase a (sweep_apart (counted sweep) (length a.found))
 
--- what follows a mute of a UID that a sweep read, if it counts as a try: after the fifth it is given up. A series of mutes
--- is never cut short
+-- what follows a mute of a UID that a sweep read, if it counts as a try: after the fifth it is given up. A series of
+-- mutes is never cut short
 abbrev pub swept_lost : ℕ → ℕ → ℕ → Sweep → ℕ → Phase
 swept_lost u tries spare sweep found =
     if (tries + 1) == TRIES then sweep_apart (sweep_suspecting u sweep) found else MutingSwept u (tries + 1) spare sweep
@@ -377,8 +380,8 @@ check_heard a u silences sweep Silent = to_phase a (check_silent u silences (cou
 check_heard a u silences sweep (One v) = to_phase a (check_spelt u v (counted sweep) (length a.found))
 check_heard a u silences sweep _ = to_phase a (sweep_split (counted sweep) unassigned 0 (length a.found))
 
--- what follows a mute of a UID that answers for others, if it counts as a try: after the fifth the sweep gives the UID up,
--- and what it asked collided
+-- what follows a mute of a UID that answers for others, if it counts as a try: after the fifth the sweep gives the UID
+-- up, and what it asked collided
 abbrev pub stray_lost : ℕ → ℕ → ℕ → Sweep → ℕ → Phase
 stray_lost u tries spare sweep found =
     if (tries + 1) == TRIES then sweep_split (sweep_suspecting u sweep) unassigned 0 found

@@ -249,8 +249,8 @@ impl Belief {
         }
     }
 
-    // If only one UID is left of a range that has two devices, the range is begun again. The fourth time its last UID is
-    // given up.
+    // If only one UID is left of a range that has two devices, the range is begun again. The fourth time its last UID
+    // is given up.
     fn restarted(self) -> Belief
         requires small { IsSmall self }
         ensures value { result ≡ restarted self }
@@ -327,8 +327,8 @@ impl Belief {
         spanning(lo, self.at + self.width.saturating_sub(1))
     }
 
-    // One UID is asked together with UIDs below it, which were swept, because some may have been missed there. It is asked
-    // alone if those below it were given up.
+    // One UID is asked together with UIDs below it, which were swept, because some may have been missed there. It is
+    // asked alone if those below it were given up.
     fn with_lower(&self, asked: Question) -> Question
         ensures value { result ≡ with_lower self.now asked }
     {

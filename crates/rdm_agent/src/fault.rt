@@ -7,7 +7,8 @@ use thiserror::Error;
 /// Why a run ended without an answer, with its number.
 #[derive(Clone, Copy, Debug, PartialEq, Eq, Error)]
 pub enum AgentFault {
-    /// 1: the branch of this UID alone was answered, but showed no new device.
+    /// 1: the branch of this UID alone was answered, but showed no new device. In a quick run it was answered
+    /// [`BAD_ANSWERS`](crate::BAD_ANSWERS) times in a row.
     #[error("the branch of one UID alone was answered, but showed no new device")]
     Corrupt(Uid),
     /// 2: more devices were found than fit into a set.

@@ -22,7 +22,8 @@ ghost use Rattle.rdm_agent.specs.Statements.{HasFewRanges, EndsCertified, FindsA
 ghost use Rattle.rdm_agent.specs.Statements.{FindsAcknowledged, CertificateIsTheEnd};
 ghost use Rattle.rdm_agent.specs.Statements.{FindsStaying, FindsNoStranger, IsInEach, IsInOne};
 ghost use Rattle.rdm_agent.specs.Statements.{FindsAllInNoise, FindsEachInNoise, FindsNoPhantomInNoise};
-ghost use Rattle.rdm_agent.specs.declared.limits.TheConstants.{BAD_ANSWERS, DEFAULT_BUDGET, MOST_RANGES, TRIES, UNMUTES};
+ghost use Rattle.rdm_agent.specs.declared.limits.TheConstants.{BAD_ANSWERS, DEFAULT_BUDGET, MOST_RANGES, TRIES};
+ghost use Rattle.rdm_agent.specs.declared.limits.TheConstants.{UNMUTES};
 ghost use Rattle.rdm_agent.specs.declared.kind.Kind.{Kind};
 ghost use Rattle.rdm_agent.specs.declared.kind.Kind.TheVariants.{Full, Incremental};
 ghost use Rattle.rdm_agent.specs.declared.search.Search.{Search};
@@ -265,9 +266,9 @@ pub fn honest_lines()
 {}
 
 /// Quick searches. The first silence of an empty line is one of the five. The line of [`honest_run`] takes ten
-/// exchanges, as with the steady search. Two devices that collide take 13, and 18 with the steady search. On a line that
-/// answers each branch with one byte the sweep reaches its limit of 200 exchanges, and the steady search after it finds
-/// UID 0 corrupt.
+/// exchanges, as with the steady search. Two devices that collide take 13, and 18 with the steady search. On a line
+/// that answers each branch with one byte the sweep reaches its limit of 200 exchanges, and the steady search after it
+/// finds UID 0 corrupt.
 pub fn quick_runs()
     ensures empty { fed_all (start_by Quick Full [] DEFAULT_BUDGET) (replicate 8 Silent)
         ≡ record { budget = DEFAULT_BUDGET; frames = 8; search = Quick; found = []; phase = Ended None } }
@@ -286,8 +287,8 @@ pub fn quick_runs()
       found = sample_device ∷ other_device ∷ [];
       phase = Ended None;
     }) }
-    ensures corrupt { (fed_all (start_by Quick Full [] DEFAULT_BUDGET) (replicate 3 Silent ++ replicate 352 Noise)).phase
-        ≡ Ended (Some (AgentFault.Corrupt 0)) }
+    ensures corrupt { (fed_all (start_by Quick Full [] DEFAULT_BUDGET)
+        (replicate 3 Silent ++ replicate 352 Noise)).phase ≡ Ended (Some (AgentFault.Corrupt 0)) }
 {}
 
 /// The constants of the profile.

@@ -8,20 +8,21 @@ pub const UNMUTES: u8 = 3;
 /// absent.
 pub const TRIES: u8 = 5;
 
-/// How often in a row one UID alone is asked by a quick run, if it is answered by bytes each time but isn't found. Then
-/// the run ends as corrupt.
+/// A quick run ends as corrupt after this many bad answers in a row of one UID that it asked alone: bytes came, but no
+/// device was found. A steady run ends at the first one.
 pub const BAD_ANSWERS: u8 = 8;
 
-/// How many garbled replies to a series of mutes a quick run doesn't count as tries.
+/// How many garbled replies to a series of mutes a quick run needn't count as tries.
 pub(crate) const GARBLED_MUTES: u8 = 8;
 
 /// A sweep gives up a UID that it asked alone after this many bad answers in a row.
 pub(crate) const BADS_ASIDE: u8 = 4;
 
-/// The steady search of a quick run asks a range again after bad answers up to this many branches.
-pub(crate) const HASTE: u8 = 5;
+/// The steady search of a quick run asks a range again after a bad answer, and mutes what it spelt, only while it had
+/// at most this many branches.
+pub(crate) const SOON: u8 = 5;
 
-/// But not after this many bad answers in a row, which are believed.
+/// It splits the range after this many bad answers in a row.
 pub(crate) const BADS_BELIEVED: u8 = 3;
 
 /// More branches of a range than these aren't counted.

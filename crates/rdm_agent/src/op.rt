@@ -74,8 +74,8 @@ impl Op {
             heard_by result ≡ heard_in (op_frame self.now source tn) (option_copied answer.entry) }
         ensures acked { (ack : MuteAck) → (result ≡ OpReply.Mute (Some ack))
             ↔ (heard_in (op_frame self.now source tn) (option_copied answer.entry) ≡ Acked ack) }
-        // An agent continues in the same way with the reply as with the bytes: any bytes after an unmute mean the same to
-        // it as silence.
+        // An agent continues in the same way with the reply as with the bytes: any bytes after an unmute mean the same
+        // to it as silence.
         ensures fed { (a : AgentState) → next_op a ≡ self.now → fed a (heard_by result)
             ≡ fed a (heard_in (op_frame self.now source tn) (option_copied answer.entry)) }
     {

@@ -5,29 +5,29 @@ ghost use Rattle.rdm_wire.specs.Span.{Span, whole};
 ghost use Rattle.rdm_wire.specs.Uid.{is_broadcast, IsDevice, IsDeviceSet};
 ghost use Rattle.rdm_wire.specs.Devices.{uids_of};
 ghost use Rattle.rdm_wire.specs.Honest.Heard.{Silent, Noise};
-ghost use Rattle.rdm_agent.specs.Machine.{wanted, to_found, split, search_from, search_below, is_new, first_phase};
-ghost use Rattle.rdm_agent.specs.Machine.{search_whole, search_silent, search_read, search_apart, spare_of, spare_at, is_soon, asks_again};
+ghost use Rattle.rdm_agent.specs.Machine.{wanted, to_found, search_from, is_new, first_phase};
+ghost use Rattle.rdm_agent.specs.Machine.{search_whole, spare_of};
 ghost use Rattle.rdm_agent.specs.Certificate.{known_of};
-ghost use Rattle.rdm_agent.specs.Run.{heard_by, heard_of_mute, heard_of_branch, device_from};
+ghost use Rattle.rdm_agent.specs.Run.{heard_by, heard_of_mute, device_from};
 ghost use Rattle.rdm_agent.specs.Calls.{fits, op_of};
-ghost use Rattle.rdm_agent.specs.body.Sound.{IsStack};
 ghost use Rattle.rdm_agent.specs.declared.fault.AgentFault.TheVariants.{TooMany};
 ghost use Rattle.rdm_agent.specs.body.AgentFields.{seen_phase, Steps};
 ghost use Rattle.rdm_agent.specs.body.GoesOn.{GoesOn, MovesTo, Follows, IsConsistent};
 
+mod searching;
 mod straying;
 mod sweeping;
 
 use crate::fault::AgentFault;
 use crate::kind::Kind;
 use crate::known::KnownLeft;
-use crate::limits::{BAD_ANSWERS, BADS_BELIEVED, GARBLED_MUTES, HASTE, MOST_SPENT, TRIES};
+use crate::limits::{GARBLED_MUTES, TRIES};
 use crate::op::OpReply;
 use crate::phase::Phase;
 use crate::ranges::RangesBelow;
 use crate::search::Search;
 use crate::sweep::Sweep;
-use rdm_wire::{BranchReply, Device, DeviceSet, MuteAck, SetFull, Uid, UidRange, UidSet};
+use rdm_wire::{Device, DeviceSet, MuteAck, SetFull, Uid, UidRange, UidSet};
 
 /// What a run has found, and what it still has to search.
 #[derive(Debug, Drop)]
@@ -121,8 +121,8 @@ impl RunState {
         }
     }
 
-    // After bytes that aren't the acknowledgement of a mute. They are counted as silence, unless the series of mutes has
-    // garbled replies to spare.
+    // After bytes that aren't the acknowledgement of a mute. They are counted as silence, unless the series of mutes
+    // has garbled replies to spare.
     fn garbled(&mut self, phase: Phase) -> Phase
         requires fits { fits OpReply.Garbled (op_of (wanted (seen_phase phase self.old))) ≡ true }
         requires consistent { IsConsistent phase self.old }
@@ -227,131 +227,6 @@ impl RunState {
         }
     }
 
-    // After a branch of the top range.
-    fn branched(
-        &mut self,
-        top: UidRange,
-        silences: u8,
-        bads: u8,
-        spent: u8,
-        reply: BranchReply,
-    ) -> Phase
-        requires { IsConsistent (Phase.Searching top silences bads spent) self.old }
-        ensures { GoesOn (heard_of_branch reply) (Phase.Searching top silences bads spent) self.old result self.new }
-    {
-        let spent = (spent + 1).min(MOST_SPENT);
-        match reply {
-            BranchReply::Silent => self.silent(top, silences, spent),
-            BranchReply::One(uid) => self.spelt(top, bads + 1, spent, uid),
-            BranchReply::Collision => self.apart(top, bads + 1, spent),
-        }
-    }
-
-    // The top range was silent once more, and had this many branches.
-    fn silent(&mut self, top: UidRange, silences: u8, spent: u8) -> Phase
-        requires stack { IsStack top self.old.below }
-        requires counts { (silences < TRIES) × (spent ≤ 10) }
-        ensures { MovesTo (search_silent silences spent top self.old.below) self.old result self.new }
-    {
-        match silences + 1 {
-            TRIES => self.next_range(),
-            silences => Phase::Searching {
-                top,
-                silences,
-                bads: 0,
-                spent,
-            },
-        }
-    }
-
-    // The top range spelt this UID after this many branches. A new one is muted, if it comes soon enough. Otherwise it
-    // makes this many bad answers in a row.
-    fn spelt(&mut self, top: UidRange, bads: u8, spent: u8, uid: Uid) -> Phase
-        requires stack { IsStack top self.old.below }
-        requires counts { (bads ≤ 8) × (spent ≤ 10) }
-        ensures { MovesTo (search_read self.old.search (uids_of self.old.found) bads spent top self.old.below uid)
-            self.old result self.new }
-    {
-        if self.is_new(uid, top) && is_soon(self.search, top, spent) {
-            return Phase::MutingRead {
-                uid,
-                tries: 0,
-                spare: spare_at(self.search, top, bads),
-                bads,
-                top,
-            };
-        }
-        self.apart(top, bads, spent)
-    }
-
-    // The top range had this many bad answers in a row, and this many branches. It is asked again, or split.
-    fn apart(&mut self, top: UidRange, bads: u8, spent: u8) -> Phase
-        requires stack { IsStack top self.old.below }
-        requires counts { (bads ≤ 8) × (spent ≤ 10) }
-        ensures { MovesTo (search_apart self.old.search bads spent top self.old.below) self.old result self.new }
-    {
-        if asks_again(self.search, top, bads, spent) {
-            return Phase::Searching {
-                top,
-                silences: 0,
-                bads,
-                spent,
-            };
-        }
-        self.split(top)
-    }
-
-    // After the mute of a UID that a branch of the top range spelt.
-    fn read_muted(
-        &mut self,
-        uid: Uid,
-        tries: u8,
-        spare: u8,
-        bads: u8,
-        top: UidRange,
-        ack: Option<MuteAck>,
-    ) -> Phase
-        requires { IsConsistent (Phase.MutingRead uid tries spare bads top) self.old }
-        ensures { GoesOn (heard_of_mute ack) (Phase.MutingRead uid tries spare bads top) self.old result self.new }
-    {
-        if let Some(ack) = ack {
-            let again = Phase::Searching {
-                top,
-                silences: 0,
-                bads: 0,
-                spent: 0,
-            };
-            return self.find(device_from(uid, ack), again);
-        }
-        match tries + 1 {
-            TRIES => self.apart(top, bads, MOST_SPENT),
-            tries => Phase::MutingRead {
-                uid,
-                tries,
-                spare,
-                bads,
-                top,
-            },
-        }
-    }
-
-    // After bytes that aren't the acknowledgement of that mute.
-    fn read_garbled(&mut self, uid: Uid, tries: u8, spare: u8, bads: u8, top: UidRange) -> Phase
-        requires { IsConsistent (Phase.MutingRead uid tries spare bads top) self.old }
-        ensures { GoesOn Noise (Phase.MutingRead uid tries spare bads top) self.old result self.new }
-    {
-        if spare == 0 {
-            return self.read_muted(uid, tries, spare, bads, top, None);
-        }
-        Phase::MutingRead {
-            uid,
-            tries,
-            spare: spare - 1,
-            bads,
-            top,
-        }
-    }
-
     // A device is found, and the run goes on. If the set is full, the run ends.
     fn find(&mut self, device: Device, onward: Phase) -> Phase
         requires { is_broadcast device.uid ≡ false }
@@ -363,31 +238,6 @@ impl RunState {
         match self.found.insert(device) {
             Ok(_) => onward,
             Err(SetFull) => Phase::Ended(Some(AgentFault::TooMany)),
-        }
-    }
-
-    // The range below the top one is searched. If there is none, the run ends.
-    fn next_range(&mut self) -> Phase
-        requires { (top : Span) × IsStack top self.old.below }
-        ensures { MovesTo (search_below self.old.below) self.old result self.new }
-    {
-        match self.below.pop() {
-            Some(top) => fresh_search(top),
-            None => Phase::Ended(None),
-        }
-    }
-
-    // The halves of the top range are searched, the lower one first. A range of one UID has none.
-    fn split(&mut self, top: UidRange) -> Phase
-        requires { IsStack top self.old.below }
-        ensures { MovesTo (split top self.old.below) self.old result self.new }
-    {
-        match top.halves() {
-            Some((lower, upper)) => {
-                self.below.push(upper);
-                fresh_search(lower)
-            }
-            None => Phase::Ended(Some(AgentFault::Corrupt(top.lo))),
         }
     }
 
@@ -412,18 +262,6 @@ fn searching_all(silences: u8) -> Phase
     }
 }
 
-// The search of a range that is taken up.
-fn fresh_search(top: UidRange) -> Phase
-    ensures { result ≡ Phase.Searching top 0 0 0 }
-{
-    Phase::Searching {
-        top,
-        silences: 0,
-        bads: 0,
-        spent: 0,
-    }
-}
-
 // How many garbled replies to a series of mutes a run with this search needn't count as tries.
 fn spare_of(search: Search) -> u8
     ensures { result ≡ spare_of search }
@@ -431,37 +269,6 @@ fn spare_of(search: Search) -> u8
     match search {
         Search::Steady => 0,
         Search::Quick => GARBLED_MUTES,
-    }
-}
-
-// The same for mutes of a UID that this range spelt, as this many bad answers in a row. The last one of one UID alone
-// has none to spare.
-fn spare_at(search: Search, top: UidRange, bads: u8) -> u8
-    ensures { result ≡ spare_at search top bads }
-{
-    if top.lo == top.hi && bads >= BAD_ANSWERS {
-        0
-    } else {
-        spare_of(search)
-    }
-}
-
-// Whether a new UID that a branch of this range spelt is muted, after this many branches. A quick run does so up to the
-// fifth branch, and always if one UID was asked alone.
-fn is_soon(search: Search, top: UidRange, spent: u8) -> bool
-    ensures { result ≡ is_soon search top spent }
-{
-    search == Search::Steady || top.lo == top.hi || spent <= HASTE
-}
-
-// Whether a range that had so many bad answers in a row and so many branches is asked again.
-fn asks_again(search: Search, top: UidRange, bads: u8, spent: u8) -> bool
-    ensures { result ≡ asks_again search top bads spent }
-{
-    match search {
-        Search::Steady => false,
-        Search::Quick if top.lo == top.hi => bads < BAD_ANSWERS,
-        Search::Quick => spent <= HASTE && bads < BADS_BELIEVED,
     }
 }
 

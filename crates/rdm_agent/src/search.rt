@@ -11,5 +11,9 @@ pub enum Search {
     /// row end the run. If the sweep fails, the steady search of the whole range follows. It sends at most
     /// `213 + 370 n + 5 k` frames. On nearly all lines it sends far fewer than a steady search, also if replies are
     /// lost.
+    ///
+    /// Noise and bit errors mostly cost it a few frames. It asks one UID alone again after a bad answer, up to
+    /// [`BAD_ANSWERS`](crate::BAD_ANSWERS) times in a row. Garbled replies to a mute, up to eight of them, don't count
+    /// as lost.
     Quick,
 }

@@ -94,8 +94,8 @@ impl Sweep {
         }
     }
 
-    /// A sweep with this belief chooses what it asks next, after this many silences or bad answers in a row of the range
-    /// `last`.
+    /// A sweep with this belief chooses what it asks next, after this many silences or bad answers in a row of the
+    /// range `last`.
     #[tactic(auto, unfolding(crate::specs::Machine::choose))]
     pub(crate) fn choose(
         made: usize,
@@ -155,8 +155,8 @@ impl Sweep {
     }
 }
 
-/// The range that no maker's device is in: the manufacturer `ffff` isn't assigned. It isn't `ffff:ffffffff` alone, because
-/// bad answers of one UID alone are counted.
+/// The range that no maker's device is in: the manufacturer `ffff` isn't assigned. It isn't `ffff:ffffffff` alone,
+/// because bad answers of one UID alone are counted.
 pub(crate) fn unassigned() -> UidRange
     ensures { result ≡ unassigned }
 {

@@ -45,7 +45,8 @@ impl RunState {
         ack: Option<MuteAck>,
     ) -> Phase
         requires { IsConsistent (Phase.MutingStray uid tries spare sweep) self.old }
-        ensures goes_on { GoesOn (heard_of_mute ack) (Phase.MutingStray uid tries spare sweep) self.old result self.new }
+        ensures goes_on { GoesOn (heard_of_mute ack) (Phase.MutingStray uid tries spare sweep)
+            self.old result self.new }
         ensures fresh { self.new.below ≡ [] }
     {
         let found = self.found.len();

@@ -66,7 +66,8 @@ impl RunState {
         ack: Option<MuteAck>,
     ) -> Phase
         requires { IsConsistent (Phase.MutingSwept uid tries spare sweep) self.old }
-        ensures goes_on { GoesOn (heard_of_mute ack) (Phase.MutingSwept uid tries spare sweep) self.old result self.new }
+        ensures goes_on { GoesOn (heard_of_mute ack) (Phase.MutingSwept uid tries spare sweep)
+            self.old result self.new }
         ensures fresh { self.new.below ≡ [] }
     {
         let found = self.found.len();
@@ -123,8 +124,8 @@ impl RunState {
     }
 }
 
-// A sweep that has found this many devices goes on with this belief, after this many silences or bad answers in a row of
-// the range `last`. At its limit the steady search begins.
+// A sweep that has found this many devices goes on with this belief, after this many silences or bad answers in a row
+// of the range `last`. At its limit the steady search begins.
 pub(super) fn sweep_on_after(
     sweep: Sweep,
     last: UidRange,
