@@ -40,11 +40,11 @@ module _ (present : List ℕ) (set : IsDeviceSet present) (few : length present 
           affords.finds step costs
       by_phase (Searching silences bads spent top below) h sound costs =
           λ step. searching-affords present set few total affords.cost s new a affords.within silences bads spent top
-              below h
+          below h
           sound affords.finds step costs
       by_phase (MutingRead u tries spare bads top below) h sound costs =
           λ step. read-affords present set few total affords.cost s new a affords.within u tries spare bads top below h
-              sound
+          sound
           affords.finds step costs
       by_phase (Sweeping sweep) h sound costs =
           λ step. sweeping-affords present set few total affords.cost s new a affords.within sweep h sound affords.finds
