@@ -17,6 +17,7 @@ fn a_reply_fits_its_own_operation(rt: HostRuntime) {
     let silent = OpReply::Branch(BranchReply::Silent);
     fits_each(&rt, OpReply::Done, [true, false, false, false]);
     fits_each(&rt, OpReply::Mute(None), [false, true, false, false]);
+    fits_each(&rt, OpReply::Garbled, [false, true, false, false]);
     fits_each(&rt, silent, [false, false, true, false]);
     fits_each(&rt, OpReply::Failed, [true, true, true, false]);
 }
