@@ -10,7 +10,7 @@ from typing import TYPE_CHECKING, Iterator, Optional, Set, Tuple, Union
 
 from .. import (
     AckType, Asker, Client, Completion, Controller, Device, Discovery, Kind, Request, RequestClass, ResponseClass,
-    Search, Status, Uid, Unserved,
+    RunFaultKind, Search, Status, Uid, Unserved,
 )
 from ..commands import RUN_FAULTS, source_of
 from ..line import LineFailed
@@ -43,6 +43,8 @@ class Work:
         self.slow: Set[Uid] = set()
         # The UID whose branch was answered again and again, so that the last discovery ended early.
         self.unmuted: Optional[Uid] = None
+        # Whether the last discovery went on as far as it could, beside a device that breaks the rules or over 1,024.
+        self.has_searched = False
         self._source = source
         self._client = client
         self._asked: Optional[Uid] = None
@@ -131,6 +133,7 @@ class Work:
         """The devices on the line, and why the run ended early; None if it didn't. A sink gets the run's log."""
         found = self.search(sink)
         self.unmuted = None if found.fault is None else found.fault.uid
+        self.has_searched = found.fault is None or found.fault.kind in (RunFaultKind.CORRUPT, RunFaultKind.TOO_MANY)
         if found.fault is None:
             return found.devices, None
         reason = str(self.line.failure or RUN_FAULTS[found.fault.kind].format(uid=found.fault.uid))
