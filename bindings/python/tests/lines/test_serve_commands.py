@@ -42,7 +42,7 @@ class Commands(TestCase):
     def test_what_commands_print_is_the_same_with_a_server(self) -> None:
         rows = [["get", LEFT, "device_label"], ["get", LEFT, "device_label", "dmx_start_address"],
                 ["get", "all", "device_label"], ["set", LEFT, "device_label", "Lamp"], ["fixtures"],
-                ["show", "454e:0a000017"], ["save", "-"], ["get", LEFT, "0x9999"], ["identify", LEFT],
+                ["show", "454e:0a000017"], ["get", LEFT, "0x9999"], ["identify", LEFT],
                 ["get", "9abc:00000002", "device_label"], ["get", LEFT, "device_label", "--frames"]]
         for words in rows:
             with here(five, name=LINE):
@@ -130,7 +130,7 @@ class Commands(TestCase):
         with runtime() as made:
             (made / "wurstlinen").mkdir()
             (made / "wurstlinen").chmod(0o755)
-            (made / "wurstlinen" / place.name_of(LINE)).write_text("")
+            place.path_of(made / "wurstlinen", LINE).write_text("")
             text = f"wurstlinen: {made}/wurstlinen isn't used: it isn't this user's own, with mode 0700\n"
             self.assertEqual(called("get", LEFT, "device_label", "--line", LINE), (0, "Front left\n", text))
             done = command(made, "serve", "--line", LINE)
@@ -275,7 +275,7 @@ class Ends(TestCase):
     def test_a_socket_of_systemd(self) -> None:
         with folder() as made, socket.socket(socket.AF_UNIX) as listener:
             (made / "wurstlinen").mkdir(mode=0o700)
-            path = str(made / "wurstlinen" / place.name_of(LINE))
+            path = str(place.path_of(made / "wurstlinen", LINE))
             listener.bind(path)
             listener.listen()
             with Program(path, None) as program:
