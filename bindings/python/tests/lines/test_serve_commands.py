@@ -97,8 +97,8 @@ class Commands(TestCase):
                 with self.assertRaises(Failure) as raised:
                     discovered(*words)
                 self.assertEqual((raised.exception.status, str(raised.exception)), (
-                    2, f"process {os.getpid()} shares this line as 7ff0:00000001, and searches it in its own way: "
-                       f"leave out {words[0]}"))
+                    2, f"process {os.getpid()} (7ff0:00000001) has this line, and searches it in its own way: leave "
+                       f"out {words[0]}"))
 
     def test_the_log_has_its_own_run_alone(self) -> None:
         with folder() as place, here(five, name=LINE) as made, Program(made.place.path) as other:
@@ -113,8 +113,8 @@ class Commands(TestCase):
         with here(five, name=LINE):
             for words in (["fixtures"], ["get", "--raw", LEFT, "0082"]):
                 status, _, errors = called(*words, "--line", LINE, "--source", "7a70:00000001")
-                self.assertEqual((status, errors), (1, f"wurstlinen: process {os.getpid()} shares this line as "
-                                                       "7ff0:00000001: leave out --source\n"))
+                self.assertEqual((status, errors), (1, f"wurstlinen: process {os.getpid()} (7ff0:00000001) has this "
+                                                       "line: leave out --source\n"))
             self.assertEqual(called("fixtures", "--line", LINE, "--source", "7ff0:00000001")[0], 0)
 
     def test_a_paused_queue(self) -> None:

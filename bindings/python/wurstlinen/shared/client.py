@@ -40,6 +40,7 @@ class SharedQueue:
         self.name = str(hello["line"])
         self.source = Uid.parse(hello["source"])
         self.process = int(hello["process"])
+        self.holder = f"process {self.process} ({self.source})"
         self.depth = int(hello["depth"])
         self._is_paused = bool(hello["paused"])
         # Whether the server has its line, and why not.
@@ -224,4 +225,4 @@ def client_of(line: str, source: Optional[int] = None) -> Optional[SharedClient]
     if source in (None, client.queue.source.number):
         return client
     client.close()
-    raise LineFailed(f"process {client.queue.process} shares this line as {client.queue.source}: leave out --source")
+    raise LineFailed(f"{client.queue.holder} has this line: leave out --source")
