@@ -16,7 +16,7 @@ from pathlib import Path
 from typing import Iterator, List, Tuple
 from unittest import mock
 
-from common import ENTTEC, ROOT, TestCase, folder, needs_library
+from common import ENTTEC, ROOT, LongTestCase, folder, needs_library
 from fronts import called
 from servers import HELLO, SECONDS, TOOL, Program, command, environment, here, runtime, serve
 from test_serve import FIVE, FOUND, GET, LABEL, LEFT, five
@@ -29,14 +29,14 @@ from wurstlinen.lines.packets import uid_text
 from wurstlinen.shared import place, worker
 from wurstlinen.shared.listening import checked
 from wurstlinen.shared.log_file import LogFile
-from wurstlinen.tool import places
+from wurstlinen.tool import adapters, places
 
 LINE = f"rig:{FIVE}"
 WIDGET = Widget(manufacturer=ENTTEC)
 
 
 @needs_library
-class Commands(TestCase):
+class Commands(LongTestCase):
     """Each command uses a server that runs for its line."""
 
     def test_what_commands_print_is_the_same_with_a_server(self) -> None:
@@ -156,7 +156,7 @@ class Commands(TestCase):
 
 @needs_library
 @unittest.skipUnless(shutil.which("cc"), "needs cc")
-class Example(TestCase):
+class Example(LongTestCase):
     """The protocol in C."""
 
     def test_share(self) -> None:
@@ -172,7 +172,7 @@ class Example(TestCase):
 
 
 @needs_library
-class Adapters(TestCase):
+class Adapters(LongTestCase):
     """An adapter that several commands want, and one that is unplugged."""
 
     @contextlib.contextmanager
@@ -205,6 +205,18 @@ class Adapters(TestCase):
                 fault = f"wurstlinen: {line.partition(':')[2]} is used by {who}: "
                 self.assertEqual((status, errors.splitlines()[:-1]), (1, said), words)
                 self.assertTrue(errors.splitlines()[-1].startswith(fault), errors)
+
+    def test_what_adapters_says_of_a_shared_one(self) -> None:
+        with folder() as made, mock.patch.object(worker, "LOOK_SECONDS", 0.05), \
+                self.adapter(made) as (line, emulator), here(
+                    lambda: EnttecPro(str(made / "adapter"), made), name=line) as served:
+            shared = f"shared by process {os.getpid()}, "
+            found = adapters.look_at(Path(line.partition(":")[2]))
+            self.assertEqual((found.text, found.fault), (f"{shared}0 programs", None))
+            with Program(served.place.path) as program:
+                emulator.__exit__(None, None, None)
+                self.assertFalse(program.next("event")["there"])
+                self.assertRegex(adapters.sharing(line) or "", f"^{shared}1 program; .*adapter")
 
     def test_an_adapter_that_is_unplugged_is_waited_for(self) -> None:
         with folder() as made:
@@ -241,7 +253,7 @@ class Adapters(TestCase):
 
 
 @needs_library
-class Ends(TestCase):
+class Ends(LongTestCase):
     """Signals, time, and systemd."""
 
     def test_a_signal_answers_everybody(self) -> None:
@@ -318,7 +330,7 @@ class Ends(TestCase):
 
 
 @needs_library
-class Logs(TestCase):
+class Logs(LongTestCase):
     """The log of a server."""
 
     def test_it_is_a_sessions_log(self) -> None:
