@@ -448,10 +448,15 @@ void StandIn::answer(const wurst::DiscoveryView &done) {
     answer_oldest(*devices);
 }
 
-// OLA's callback has no argument for a fault. So after a fault, OLA gets what the last run without fault found. If
-// there was none, it gets what this run has found.
+// OLA's callback has no argument for a fault. Beside a device that can't be muted, and with one device too many, a run
+// has searched on as far as it could, so OLA gets what it has found. If the line failed, the run was cut short or its
+// budget is used up, most may be missing. Then OLA gets what the last run without a fault found, if there was one.
+static bool has_searched(wurst_fault fault) {
+    return fault == WURST_NO_FAULT || fault == WURST_CORRUPT || fault == WURST_TOO_MANY;
+}
+
 StandIn::Devices StandIn::devices_to_give(const wurst::DiscoveryView &done) {
-    const bool is_good = done.fault() == WURST_NO_FAULT || core_.devices_run() == 0;
+    const bool is_good = has_searched(done.fault()) || core_.devices_run() == 0;
     try {
         if (is_aborted_) {
             return std::make_shared<UIDSet>();

@@ -138,7 +138,7 @@ void test_asking_again() {
     CHECK(client.sets.size() == 40 && lower.wire.unmutes == 120);
 }
 
-// After a fault, OLA gets what the last good run found. Before the first good run, it gets what this run has found.
+// Beside a bad device OLA gets what the run has found. If the line fails, it gets what the last good run found.
 void test_faults() {
     TargetLower lower;
     lower.wire.fixtures = fixtures(3);
@@ -147,16 +147,24 @@ void test_faults() {
     Client client;
     Queue queue(&lower, 20);
     queue.RunFullDiscovery(client.discovery());
-    CHECK(client.sets.size() == 1 && (client.sets[0] == good || client.sets[0] == uids_of(lower.wire)));
+    CHECK(client.sets.size() == 1 && client.sets[0] == good);
+    const auto bad = lower.wire.fixtures.back();
     lower.wire.fixtures.pop_back();
     queue.RunFullDiscovery(client.discovery());
     CHECK(client.sets.size() == 2 && client.sets[1] == good);
+    const auto absent = lower.wire.fixtures.front();
+    lower.wire.fixtures.front() = bad;
+    queue.RunFullDiscovery(client.discovery());
+    UIDSet others = good;
+    others.RemoveUID(absent.uid);
+    CHECK(client.sets.size() == 3 && client.sets[2] == others);
+    lower.wire.fixtures.front() = absent;
     lower.wire.fixtures.erase(lower.wire.fixtures.begin());
     lower.answers = [](const RDMRequest &) { return std::make_unique<RDMReply>(RDM_FAILED_TO_SEND); };
     queue.RunFullDiscovery(client.discovery());
-    CHECK(client.sets.size() == 3 && client.sets[2] == good);
-    queue.RunIncrementalDiscovery(client.discovery());
     CHECK(client.sets.size() == 4 && client.sets[3] == good);
+    queue.RunIncrementalDiscovery(client.discovery());
+    CHECK(client.sets.size() == 5 && client.sets[4] == good);
 }
 
 // A status without bytes isn't silence, and a status that can't occur ends the run.

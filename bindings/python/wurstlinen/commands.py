@@ -11,7 +11,7 @@ import json
 import os
 import re
 import sys
-from typing import TYPE_CHECKING, Optional, Sequence, TextIO, Tuple, Type, Union
+from typing import TYPE_CHECKING, List, Optional, Sequence, TextIO, Tuple, Type, Union
 
 from .line import Line, LineFailed
 from .lines import open_line
@@ -20,8 +20,10 @@ from .lines.packets import is_broadcast, parse_uid, uid_text
 from .lines.waiting import DEFAULT_SECONDS, when_free
 
 if TYPE_CHECKING:
-    from . import Client, Completion, Device, RunFault, SharedClient
+    from . import Completion, Device, RunFault, SharedClient
+    from ._ask import AnyClient
     from .lines import OpenLine
+    from .olad.client import OlaClient
 
 DONE = 0
 FAILED = 1
@@ -32,6 +34,7 @@ DEFAULT_BUDGET = 384_008
 MOST_BUDGET = 1_000_000_000
 MOST_SECONDS = 86_400
 MOST_WAIT = 3600.0
+DEFAULT_WAIT = 10.0
 MOST_DATA_BYTES = 231
 # Python refuses to read very long numbers.
 MOST_DIGITS = 40
@@ -218,38 +221,42 @@ def completed(chosen: argparse.Namespace, is_set: bool) -> Tuple[Completion, str
     client = served(chosen)
     if client is not None:
         with client:
-            return request_of(client, chosen, is_set, client.queue.line), client.queue.reason
+            reasons: List[str] = []
+            client.queue.on_failure = reasons.append
+            request_of(client, chosen, is_set)
+            client.queue.run()
+            return ended(client), "".join(reasons)
     with opened(chosen) as line:
         watched = WatchedLine(line)
         with Controller(Uid.from_number(source_of(chosen, line)), 1) as controller:
-            completion = request_of(controller.join(1), chosen, is_set, watched)
-    return completion, str(watched.failure or "")
+            own = controller.join(1)
+            request_of(own, chosen, is_set)
+            controller.run(watched)
+            return ended(own), str(watched.failure or "")
 
 
-def request_of(client: Union[Client, SharedClient], chosen: argparse.Namespace, is_set: bool,
-               line: Line) -> Completion:
-    """How a client's request ends."""
-    from . import Uid
-    submit = client.set if is_set else client.get
-    submit(Uid.from_number(chosen.uid), chosen.pid, chosen.data, chosen.sub)
-    client.queue.run(line)
-    completion = client.next_completion()
-    if completion is None:
+def request_of(client: AnyClient, chosen: argparse.Namespace, is_set: bool) -> None:
+    """Submits the request that the arguments name."""
+    from . import Request, RequestClass, Uid
+    request_class = RequestClass.SET if is_set else RequestClass.GET
+    client.submit(Request(Uid.from_number(chosen.uid), chosen.pid, chosen.data, chosen.sub, request_class))
+
+
+def ended(client: AnyClient) -> Completion:
+    """How that has ended. Raises LineFailed if it hasn't."""
+    from . import Completion
+    outcome = client.next_outcome()
+    if not isinstance(outcome, Completion):
         raise LineFailed("the request wasn't sent: the queue is paused, or the server has no line now")
-    return completion
+    return outcome
 
 
-def served(chosen: argparse.Namespace) -> Optional[SharedClient]:
-    """A client of the server that runs for the line, if one does. Raises LineFailed."""
-    from .shared import place
-    try:
-        if not place.may_be_served(chosen.line):
-            return None
-        from .shared.client import client_of
-        return client_of(chosen.line, chosen.source)
-    except place.BadPlace as fault:
-        fail(str(fault))
-        return None
+def served(chosen: argparse.Namespace) -> Union[SharedClient, OlaClient, None]:
+    """A client of who has the line, if there is one. Raises LineFailed."""
+    # It imports this module.
+    from .front import opening
+    from .front.output import Output
+    return opening.served(chosen.line, chosen.source, Output(False))
 
 
 def opened(chosen: argparse.Namespace) -> OpenLine:

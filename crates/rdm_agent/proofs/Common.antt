@@ -22,7 +22,7 @@ pub use Rattle.rdm_wire.specs.Honest.{lost_after}
 pub use Rattle.rdm_wire.specs.Honest.Asked.{Mute, Branch, Unmute, Other}
 pub use Rattle.rdm_wire.specs.Honest.Heard.{Silent, Acked, Failed, One, Noise}
 pub use Rattle.rdm_wire.specs.HonestOver.{HonestOver}
-pub use Rattle.rdm_wire.specs.Noisy.{NoisyTrace, NoisyTo, NoisyStep, NoisyToStep, MuteMovesInNoise}
+pub use Rattle.rdm_wire.specs.Noisy.{has_bytes, NoisyTrace, NoisyTo, NoisyStep, NoisyToStep, MuteMovesInNoise}
 pub use Rattle.rdm_wire.specs.Lists.{once, EachAfter}
 pub use Rattle.rdm_wire.specs.Span.{Span, whole, lower_half, middle, upper_half}
 pub use Rattle.rdm_wire.specs.Uid.{has, IsDevice, IsDeviceSet, is_within, set_of, IsAscending, with_uid, is_broadcast}
@@ -32,7 +32,7 @@ pub use Rattle.rdm_wire.specs.declared.mute_ack.MuteAck.{MuteAck}
 pub use Rattle.rdm_wire.specs.declared.uid_set.TheConstants.{MOST_DEVICES}
 pub use Rattle.rdm_agent.specs.Bound.{EndsWithin, enough_by}
 pub use Rattle.rdm_agent.specs.Calls.{next_op, HasRunBy, RunSoFar, op_of}
-pub use Rattle.rdm_agent.specs.Cause.{IsCorrupt, Cause, AllReported, EndsFailed, IsCorruptBy, is_bytes}
+pub use Rattle.rdm_agent.specs.Cause.{IsCorrupt, Cause, AllReported, EndsFailed, IsCorruptBy}
 pub use Rattle.rdm_agent.specs.Cause.{answered_again, answers_in_a_row}
 pub use Rattle.rdm_agent.specs.Certificate.{SearchShows, known_of, Certificate, IsTried, IsCleared, MutesNamed}
 pub use Rattle.rdm_agent.specs.Machine.{AgentState, Phase, found_uids, fed, is_new, fault_of, heard_by_phase, Runs}

@@ -3,7 +3,7 @@ use Rattle.rdm_agent.proofs.Common.{◌≡◌, ℕ, ◌+◌, ◌<◌, true, fals
 use Rattle.rdm_agent.proofs.Common.{◌∙◌, subst, inl, inr, true≢false, arith, ◌==◌, and_parts, and_from, cases_Bool}
 use Rattle.rdm_agent.proofs.Common.{cond_both, eqb-true, eq-eqb, AllByRecursion, Span, Asked, Heard, Seen, is_acked}
 use Rattle.rdm_agent.proofs.Common.{Unmute, Branch, Mute, Other, Acked, Silent, MuteAck, IsCorrupt, asks_range}
-use Rattle.rdm_agent.proofs.Common.{is_branch, Search, Steady, Quick, BAD_ANSWERS, is_bytes, answered_again}
+use Rattle.rdm_agent.proofs.Common.{is_branch, Search, Steady, Quick, BAD_ANSWERS, has_bytes, answered_again}
 use Rattle.rdm_agent.proofs.Common.{answers_in_a_row}
 
 -- one more exchange
@@ -30,13 +30,13 @@ module _ (u : ℕ) (x : List Seen) where
   pub other-none : (lo hi : ℕ) (h : Heard) → (lo ≡ u → hi ≡ u → ⊥)
       → answers_in_a_row u (x ++ exchanged (Branch lo hi) h ∷ []) ≡ 0
   other-none lo hi h other = answers-push (Branch lo hi) h
-      ∙ cond_both (is_bytes h && ((lo == u) && (hi == u))) (answers_in_a_row u x + 1) 0 (λ (n : ℕ). n ≡ 0)
-      (λ own. let both = and_parts (lo == u) (hi == u) (and_parts (is_bytes h) ((lo == u) && (hi == u)) own).1 in
+      ∙ cond_both (has_bytes h && ((lo == u) && (hi == u))) (answers_in_a_row u x + 1) 0 (λ (n : ℕ). n ≡ 0)
+      (λ own. let both = and_parts (lo == u) (hi == u) (and_parts (has_bytes h) ((lo == u) && (hi == u)) own).1 in
       absurd (other (eqb-true lo u both.0) (eqb-true hi u both.1)))
       (λ out. refl)
 
   -- one more bad answer
-  pub own-more : (h : Heard) → is_bytes h ≡ true
+  pub own-more : (h : Heard) → has_bytes h ≡ true
       → answers_in_a_row u (x ++ exchanged (Branch u u) h ∷ []) ≡ answers_in_a_row u x + 1
   own-more h bytes = answers-push (Branch u u) h ∙ rw (bytes, eq-eqb u u refl) refl
 
@@ -84,7 +84,7 @@ pub several-none : (r : Span) (n : ℕ) (x : List Seen) → AnswersOf r n x → 
 several-none r n x a several u = a.others u (λ lo hi. several (lo ∙ sym hi))
 
 -- bytes came
-pub answered : (r : Span) (n : ℕ) (x : List Seen) (h : Heard) → is_bytes h ≡ true → Row r n x
+pub answered : (r : Span) (n : ℕ) (x : List Seen) (h : Heard) → has_bytes h ≡ true → Row r n x
     → AnswersOf r (n + 1) (x ++ exchanged (Branch r.lo r.hi) h ∷ [])
 answered r n x h bytes row = record {
   own = λ one. subst (λ (m : ℕ). answers_in_a_row r.lo (x ++ exchanged (Branch r.lo m) h ∷ []) ≡ n + 1) one
@@ -143,7 +143,7 @@ abbrev pub Answered : Search → Span → ℕ → List Seen → Type 0
 Answered Steady r bads x = Unit {0}
 Answered Quick r bads x = AnswersOf r bads x
 
-pub answered-by : (search : Search) (r : Span) (n : ℕ) (x : List Seen) (h : Heard) → is_bytes h ≡ true
+pub answered-by : (search : Search) (r : Span) (n : ℕ) (x : List Seen) (h : Heard) → has_bytes h ≡ true
     → NotCorrupt search r n x → Answered search r (n + 1) (x ++ exchanged (Branch r.lo r.hi) h ∷ [])
 answered-by Steady r n x h bytes sound = tt
 answered-by Quick r n x h bytes row = answered r n x h bytes row

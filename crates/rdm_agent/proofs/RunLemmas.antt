@@ -9,7 +9,7 @@ use Rattle.rdm_agent.proofs.Common.{acked_by, device_from, read_in, reported, In
 use Rattle.rdm_agent.proofs.Common.{known_of, Phase, AgentState, heard_by_phase, branch_heard, known_heard, mute_heard}
 use Rattle.rdm_agent.proofs.Common.{to_phase, to_found, search_from, is_new, found_uids, Unmuting}
 use Rattle.rdm_agent.proofs.Common.{MutingKnown, Searching, MutingRead, Ended, Kind, TooMany, TRIES}
-use Rattle.rdm_agent.proofs.Common.{Search, Steady, Quick, is_bytes, is_soon, spare_at, spent_more, search_apart}
+use Rattle.rdm_agent.proofs.Common.{Search, Steady, Quick, has_bytes, is_soon, spare_at, spent_more, search_apart}
 use Rattle.rdm_agent.proofs.Common.{search_silent, search_read, known_lost, mute_lost, Bool, ◌&&◌, and_parts}
 use Rattle.rdm_agent.proofs.Common.{true≢false}
 use Rattle.rdm_agent.proofs.Rows.{Answered, answered-by, answered-lost}
@@ -240,7 +240,7 @@ module _ (kind : Kind) (known : List ℕ) (budget : ℕ) (x : List Seen) (a : Ag
 
   -- the top range is branched, and something came
   apart-stands : (silences bads spent : ℕ) (top : Span) (below : List Span) (h : Heard) → h ≢ Failed → h ≢ Silent
-      → is_bytes h ≡ true → (top.lo ≡ top.hi → (u : ℕ) → h ≡ One u → is_new (found_uids a) top u ≡ false)
+      → has_bytes h ≡ true → (top.lo ≡ top.hi → (u : ℕ) → h ≡ One u → is_new (found_uids a) top u ≡ false)
       → IsSearching a.search (known_of kind known) silences bads top below x (found_uids a)
       → RunInvariant kind known budget (x ++ exchange (Branch top.lo top.hi) h ∷ [])
       (to_phase a (search_apart a.search (bads + 1) spent top below))

@@ -7,7 +7,8 @@ use Rattle.rdm_agent.proofs.Common.{Seen, is_acked, Branch, Mute, Acked, Failed,
 use Rattle.rdm_agent.proofs.Common.{AgentState, to_phase, found_uids, is_new, is_wanted, counted, sweep_suspecting}
 use Rattle.rdm_agent.proofs.Common.{sweep_on, sweep_silent, sweep_apart, believed_found, sweep_heard, swept_heard}
 use Rattle.rdm_agent.proofs.Common.{MutingSwept, Kind, TRIES, Sweep, Belief, Checking, counted_silent, counted_spelt}
-use Rattle.rdm_agent.proofs.Common.{sweep_spelt, hearing, is_stray, is_one, Search, is_bytes, garbled_mutes, swept_lost}
+use Rattle.rdm_agent.proofs.Common.{sweep_spelt, hearing, is_stray, is_one, Search, has_bytes}
+use Rattle.rdm_agent.proofs.Common.{garbled_mutes, swept_lost}
 use Rattle.rdm_agent.specs.Machine.{is_outside}
 use Rattle.rdm_agent.specs.Beliefs.{last_uid}
 use Rattle.rdm_agent.proofs.Rows.{AnswersOf, answered, answers-lost, several-none, none-answers, acked-none}
@@ -51,7 +52,7 @@ stray-is found sweep u stray =
 module _ (kind : Kind) (known : List ℕ) (budget : ℕ) (x : List Seen) (a : AgentState)
     (s : RunInvariant kind known budget x a) (goes : nat_lt a.frames a.budget ≡ true) where
   -- the range is branched, and something came
-  apart-stands : (sweep : Sweep) (b : Belief) (h : Heard) → h ≢ Failed → is_bytes h ≡ true
+  apart-stands : (sweep : Sweep) (b : Belief) (h : Heard) → h ≢ Failed → has_bytes h ≡ true
       → IsSweeping a.search (known_of kind known) sweep x (found_uids a)
       → RunInvariant kind known budget (x ++ exchange (Branch sweep.question.range.lo sweep.question.range.hi) h ∷ [])
       (to_phase a (sweep_apart (counted (believing b sweep)) (length a.found)))

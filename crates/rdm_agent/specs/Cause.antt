@@ -1,5 +1,5 @@
 -- What a fault shows about its run.
-use Rattle.std.specs.Prelude.{◌≡◌, ◌≢◌, ◌⊎◌, ℕ, ◌+◌, ◌≤◌, Bool, true, false, ◌&&◌, List, [], ◌∷◌, ◌++◌, length, fold}
+use Rattle.std.specs.Prelude.{◌≡◌, ◌≢◌, ◌⊎◌, ℕ, ◌+◌, ◌≤◌, true, false, ◌&&◌, List, [], ◌∷◌, ◌++◌, length, fold}
 use Rattle.std.specs.Prelude.{◌==◌, if◌then◌else◌}
 use Rattle.std.specs.List.{AllByRecursion}
 use Rattle.rdm_wire.specs.Uid.{IsDevice, has, set_of}
@@ -8,6 +8,7 @@ use Rattle.rdm_wire.specs.Lists.{once}
 use Rattle.rdm_wire.specs.Honest.{Asked, Heard, Seen, is_acked}
 use Rattle.rdm_wire.specs.Honest.Asked.{Unmute, Branch, Mute, Other}
 use Rattle.rdm_wire.specs.Honest.Heard.{Failed, Silent, One}
+use Rattle.rdm_wire.specs.Noisy.{has_bytes}
 use Rattle.rdm_agent.specs.Run.{acked_in, IsLostMute}
 use Rattle.rdm_agent.specs.declared.fault.AgentFault.{AgentFault}
 use Rattle.rdm_agent.specs.declared.fault.AgentFault.TheVariants.{Corrupt, TooMany, Exhausted, LineFailed, Aborted}
@@ -32,25 +33,19 @@ pub record IsCorrupt (u : ℕ) (x : List Seen) : Type 0 where
       ⊎ ((heard ≡ One u) × (length mutes ≡ TRIES)
       × AllByRecursion (IsLostMute u) mutes × AllByRecursion (λ e. e.heard ≢ Failed) mutes)
 
--- whether a reply is bytes
-abbrev pub is_bytes : Heard → Bool
-is_bytes Failed = false
-is_bytes Silent = false
-is_bytes _ = true
-
--- How often in a row the branch of u alone was answered by bytes, after one more exchange. Mutes without
+-- How often in a row the branch of u alone was answered by bytes, if it was n times before this exchange. Mutes without
 -- acknowledgement may come between the branches, and nothing else.
 abbrev pub answered_again : ℕ → ℕ → Asked → Heard → ℕ
-answered_again u n (Branch lo hi) heard = if is_bytes heard && ((lo == u) && (hi == u)) then n + 1 else 0
+answered_again u n (Branch lo hi) heard = if has_bytes heard && ((lo == u) && (hi == u)) then n + 1 else 0
 answered_again u n (Mute v) heard = if is_acked heard then 0 else n
 answered_again u n Unmute heard = 0
 answered_again u n Other heard = 0
 
--- how often it was at the end of a list
+-- how often in a row it was at the end of a list
 abbrev pub answers_in_a_row : ℕ → List Seen → ℕ
 answers_in_a_row u x = fold (λ n e. answered_again u n e.asked e.heard) 0 x
 
--- the same for a run with this search. A quick one has asked u alone BAD_ANSWERS times in a row
+-- the same by the run's search: a quick run has asked u alone at least BAD_ANSWERS times in a row
 abbrev pub IsCorruptBy : Search → ℕ → List Seen → Type 0
 IsCorruptBy Steady u x = IsCorrupt u x
 IsCorruptBy Quick u x = IsCorrupt u x × (BAD_ANSWERS ≤ answers_in_a_row u x)

@@ -25,7 +25,8 @@ from wurstlinen.shared.worker import Worker
 
 SOURCE = "7ff0:00000001"
 HELLO = {"do": "hello", "version": 1}
-SECONDS = 20.0
+# Only a test that fails waits so long.
+SECONDS = 60.0
 TOOL = [sys.executable, "-m", "wurstlinen.tool"]
 
 

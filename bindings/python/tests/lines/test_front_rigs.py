@@ -280,6 +280,18 @@ uid,label,address,personality,model,slots
                 self.assertEqual(self.run_command("save", str(place / "later.csv"))[:2], (1, ""))
             self.assertFalse((place / "later.csv").exists())
 
+    def test_a_file_beside_a_device_that_breaks_the_rules(self) -> None:
+        self.scene({"uid": "1234:00000001", "rig": {"lies": ["ignores mutes"]}},
+                   {"uid": "1234:00000002", "rig": {"address": 9}})
+        with folder() as place:
+            file = place / "rig.csv"
+            file.write_text("uid,address,truss\n1234:00000002,1,north\n1234:00000003,20,south\n")
+            status, out, errors = self.run_command("save", str(file))
+            self.assertEqual((status, out), (1, f"1 device: {file}\n"))
+            self.assertIn("devices may be missing: the branch of 1234:00000001 alone was answered", errors)
+            rows = [row.split(",")[:3] for row in file.read_text().splitlines()[1:]]
+            self.assertEqual(rows, [["1234:00000002", "9", "north"], ["1234:00000003", "20", "south"]])
+
     def failing_later(self) -> Callable[[bytes], bytes]:
         """The rig's exchange, until the second device is asked."""
         exchange = self.rig.exchange

@@ -1,6 +1,8 @@
 """The server of a line: its protocol, its clients, and what ends them."""
 from __future__ import annotations
 
+import contextlib
+import itertools
 import json
 import os
 import threading
@@ -9,10 +11,11 @@ from typing import Any, List
 from unittest import mock
 
 from common import ROOT, TestCase, needs_library, scene
+from moments import FAULTS, Trace, elsewhere
 from servers import HELLO, SECONDS, SOURCE, Program, here
 from wurstlinen import (
     AckType, Completion, Device, Discovery, Full, Kind, LineFailed, NotServed, OtherOutcome, OutcomeKind, ReplyHead,
-    ResponseClass, Status, Uid, connect,
+    ResponseClass, SharedClient, Status, Uid, connect,
 )
 from wurstlinen.lines import OpenLine, Rig
 from wurstlinen.lines.packets import decode_packet, uid_text
@@ -313,6 +316,60 @@ class Clients(TestCase):
             with mock.patch("wurstlinen.shared.connection.ANSWER_SECONDS", 0.1), \
                     mock.patch.object(server, "ANSWERS", {**server.ANSWERS, "get": lambda *_: None}):
                 self.assertRaisesRegex(LineFailed, "doesn't answer", client.get, LEFT, 0x82)
+
+
+@needs_library
+class Worst(TestCase):
+    """Other threads, and exceptions at any place."""
+
+    def test_threads_share_a_client(self) -> None:
+        with here(five) as made, connect(made.name) as client:
+            numbers: List[int] = []
+
+            def ask() -> None:
+                for _ in range(20):
+                    try:
+                        numbers.append(client.get(LEFT, 0x82))
+                    except Full:
+                        time.sleep(0.001)
+            threads = [threading.Thread(target=ask) for _ in range(4)]
+            for thread in threads:
+                thread.start()
+            found = []
+            while any(thread.is_alive() for thread in threads) or client.queue.outstanding or client.queue.outcomes:
+                client.queue.run()
+                found += iter(client.next_outcome, None)
+            self.assertEqual(sorted(each.number for each in found), sorted(numbers))
+            self.assertEqual({each.data for each in found}, {b"Front left"})
+
+    def test_an_exception_at_each_line_of_a_call(self) -> None:
+        with here(five) as made:
+            with connect(made.name) as client:
+                trace = Trace()
+                trace.run(lambda: client.ask(LEFT, 0x82))
+            # The first time of each line.
+            moments = trace.moments()[::2]
+            self.assertGreater(len(moments), 80)
+            for moment, fault in zip(moments, itertools.cycle(FAULTS)):
+                with connect(made.name) as client:
+                    with contextlib.suppress(KeyboardInterrupt, MemoryError):
+                        Trace(moment, fault).run(lambda: client.ask(LEFT, 0x82))
+                    self.check(client, str(moment))
+            self.assertEqual(made.server._status()["outstanding"], 0)
+
+    def check(self, client: SharedClient, moment: str) -> None:
+        """The client goes on with the right answers, or its connection has ended."""
+        def asked() -> Any:
+            try:
+                return client.ask("1234:00000002", 0x82)
+            except LineFailed as fault:
+                return fault
+        answer = elsewhere(asked)
+        if isinstance(answer, LineFailed):
+            self.assertTrue(client.queue.connection.is_closed, f"{moment}: {answer}")
+            return
+        self.assertEqual(answer.completion.data, b"Front right", moment)
+        self.assertLessEqual({each.data for each in answer.earlier}, {b"Front left"}, moment)
 
 
 @needs_library

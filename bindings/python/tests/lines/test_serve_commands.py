@@ -16,7 +16,7 @@ from pathlib import Path
 from typing import Iterator, List, Tuple
 from unittest import mock
 
-from common import ENTTEC, ROOT, TestCase, folder, needs_library
+from common import ENTTEC, ROOT, LongTestCase, folder, needs_library
 from fronts import called
 from servers import HELLO, SECONDS, TOOL, Program, command, environment, here, runtime, serve
 from test_serve import FIVE, FOUND, GET, LABEL, LEFT, five
@@ -29,20 +29,20 @@ from wurstlinen.lines.packets import uid_text
 from wurstlinen.shared import place, worker
 from wurstlinen.shared.listening import checked
 from wurstlinen.shared.log_file import LogFile
-from wurstlinen.tool import places
+from wurstlinen.tool import adapters, places
 
 LINE = f"rig:{FIVE}"
 WIDGET = Widget(manufacturer=ENTTEC)
 
 
 @needs_library
-class Commands(TestCase):
+class Commands(LongTestCase):
     """Each command uses a server that runs for its line."""
 
     def test_what_commands_print_is_the_same_with_a_server(self) -> None:
         rows = [["get", LEFT, "device_label"], ["get", LEFT, "device_label", "dmx_start_address"],
                 ["get", "all", "device_label"], ["set", LEFT, "device_label", "Lamp"], ["fixtures"],
-                ["show", "454e:0a000017"], ["save", "-"], ["get", LEFT, "0x9999"], ["identify", LEFT],
+                ["show", "454e:0a000017"], ["get", LEFT, "0x9999"], ["identify", LEFT],
                 ["get", "9abc:00000002", "device_label"], ["get", LEFT, "device_label", "--frames"]]
         for words in rows:
             with here(five, name=LINE):
@@ -97,8 +97,8 @@ class Commands(TestCase):
                 with self.assertRaises(Failure) as raised:
                     discovered(*words)
                 self.assertEqual((raised.exception.status, str(raised.exception)), (
-                    2, f"process {os.getpid()} shares this line as 7ff0:00000001, and searches it in its own way: "
-                       f"leave out {words[0]}"))
+                    2, f"process {os.getpid()} (7ff0:00000001) has this line, and searches it in its own way: leave "
+                       f"out {words[0]}"))
 
     def test_the_log_has_its_own_run_alone(self) -> None:
         with folder() as place, here(five, name=LINE) as made, Program(made.place.path) as other:
@@ -113,8 +113,8 @@ class Commands(TestCase):
         with here(five, name=LINE):
             for words in (["fixtures"], ["get", "--raw", LEFT, "0082"]):
                 status, _, errors = called(*words, "--line", LINE, "--source", "7a70:00000001")
-                self.assertEqual((status, errors), (1, f"wurstlinen: process {os.getpid()} shares this line as "
-                                                       "7ff0:00000001: leave out --source\n"))
+                self.assertEqual((status, errors), (1, f"wurstlinen: process {os.getpid()} (7ff0:00000001) has this "
+                                                       "line: leave out --source\n"))
             self.assertEqual(called("fixtures", "--line", LINE, "--source", "7ff0:00000001")[0], 0)
 
     def test_a_paused_queue(self) -> None:
@@ -130,7 +130,7 @@ class Commands(TestCase):
         with runtime() as made:
             (made / "wurstlinen").mkdir()
             (made / "wurstlinen").chmod(0o755)
-            (made / "wurstlinen" / place.name_of(LINE)).write_text("")
+            place.path_of(made / "wurstlinen", LINE).write_text("")
             text = f"wurstlinen: {made}/wurstlinen isn't used: it isn't this user's own, with mode 0700\n"
             self.assertEqual(called("get", LEFT, "device_label", "--line", LINE), (0, "Front left\n", text))
             done = command(made, "serve", "--line", LINE)
@@ -156,7 +156,7 @@ class Commands(TestCase):
 
 @needs_library
 @unittest.skipUnless(shutil.which("cc"), "needs cc")
-class Example(TestCase):
+class Example(LongTestCase):
     """The protocol in C."""
 
     def test_share(self) -> None:
@@ -172,7 +172,7 @@ class Example(TestCase):
 
 
 @needs_library
-class Adapters(TestCase):
+class Adapters(LongTestCase):
     """An adapter that several commands want, and one that is unplugged."""
 
     @contextlib.contextmanager
@@ -205,6 +205,18 @@ class Adapters(TestCase):
                 fault = f"wurstlinen: {line.partition(':')[2]} is used by {who}: "
                 self.assertEqual((status, errors.splitlines()[:-1]), (1, said), words)
                 self.assertTrue(errors.splitlines()[-1].startswith(fault), errors)
+
+    def test_what_adapters_says_of_a_shared_one(self) -> None:
+        with folder() as made, mock.patch.object(worker, "LOOK_SECONDS", 0.05), \
+                self.adapter(made) as (line, emulator), here(
+                    lambda: EnttecPro(str(made / "adapter"), made), name=line) as served:
+            shared = f"shared by process {os.getpid()}, "
+            found = adapters.look_at(Path(line.partition(":")[2]))
+            self.assertEqual((found.text, found.fault), (f"{shared}0 programs", None))
+            with Program(served.place.path) as program:
+                emulator.__exit__(None, None, None)
+                self.assertFalse(program.next("event")["there"])
+                self.assertRegex(adapters.sharing(line) or "", f"^{shared}1 program; .*adapter")
 
     def test_an_adapter_that_is_unplugged_is_waited_for(self) -> None:
         with folder() as made:
@@ -241,7 +253,7 @@ class Adapters(TestCase):
 
 
 @needs_library
-class Ends(TestCase):
+class Ends(LongTestCase):
     """Signals, time, and systemd."""
 
     def test_a_signal_answers_everybody(self) -> None:
@@ -275,7 +287,7 @@ class Ends(TestCase):
     def test_a_socket_of_systemd(self) -> None:
         with folder() as made, socket.socket(socket.AF_UNIX) as listener:
             (made / "wurstlinen").mkdir(mode=0o700)
-            path = str(made / "wurstlinen" / place.name_of(LINE))
+            path = str(place.path_of(made / "wurstlinen", LINE))
             listener.bind(path)
             listener.listen()
             with Program(path, None) as program:
@@ -318,7 +330,7 @@ class Ends(TestCase):
 
 
 @needs_library
-class Logs(TestCase):
+class Logs(LongTestCase):
     """The log of a server."""
 
     def test_it_is_a_sessions_log(self) -> None:

@@ -10,6 +10,7 @@ import stat
 import threading
 import time
 import unittest
+from pathlib import Path
 from typing import Any, Iterator, Tuple
 from unittest import mock
 
@@ -181,13 +182,29 @@ class Places(TestCase):
             self.assertFalse(found.path.exists())
 
     def test_names(self) -> None:
-        self.assertEqual(place.name_of("enttec:/dev/ttyUSB0"), "dev-ttyUSB0.socket")
+        def name_of(line: str) -> str:
+            return place.path_of(Path("/run"), line).name
+        self.assertEqual(name_of("enttec:/dev/ttyUSB0"), "dev-ttyUSB0.socket")
         # As `systemd-escape --path` has it.
-        self.assertEqual(place.name_of("enttec:/dev/a-b/ü"), "dev-a\\x2db-\\xc3\\xbc.socket")
+        self.assertEqual(name_of("enttec:/dev/a-b/ü"), "dev-a\\x2db-\\xc3\\xbc.socket")
         with folder() as made:
             (made / "link").symlink_to(made / "rig.json")
-            self.assertEqual(place.name_of(f"rig:{made}/link"), place.name_of(f"rig:{made}/x/../rig.json"))
-        self.assertNotEqual(place.name_of("exec:one"), place.name_of("exec:two"))
+            self.assertEqual(name_of(f"rig:{made}/link"), name_of(f"rig:{made}/x/../rig.json"))
+        self.assertNotEqual(name_of("exec:one"), name_of("exec:two"))
+        self.assertRegex(name_of(f"enttec:/{'x' * 100}"), r"^enttec-[0-9a-f]{16}\.socket$")
+
+    def test_an_adapter_keeps_its_name(self) -> None:
+        with folder() as made, mock.patch.object(place, "BY_ID", str(made / "by-id")):
+            device, other, link = (f"enttec:{made / name}" for name in ("ttyUSB0", "ttyUSB1", "by-id/usb-Pro"))
+            self.assertEqual(place.canonical(device), device)
+            (made / "by-id").mkdir()
+            (made / "by-id/usb-Pro").symlink_to(made / "ttyUSB0")
+            self.assertEqual([place.canonical(line) for line in (device, link, other)], [link, link, other])
+            # Now it has another number.
+            (made / "by-id/usb-Pro").unlink()
+            self.assertEqual(place.canonical(link), link)
+            (made / "by-id/usb-Pro").symlink_to(made / "ttyUSB1")
+            self.assertEqual([place.canonical(line) for line in (device, link, other)], [device, link, link])
 
     def test_without_a_runtime_folder(self) -> None:
         with folder() as made, mock.patch.object(place, "TEMPORARY_FOLDER", made):
@@ -227,7 +244,7 @@ class Places(TestCase):
     def test_what_is_in_the_place_of_the_socket(self) -> None:
         with runtime() as made:
             (made / "wurstlinen").mkdir(mode=0o700)
-            path = made / "wurstlinen" / place.name_of("rig:/it")
+            path = place.path_of(made / "wurstlinen", "rig:/it")
             for make, text in ((lambda: path.symlink_to("/elsewhere"), "it is a link"),
                                (lambda: path.write_text("kept"), "it is no socket"), (path.mkdir, "it is no socket")):
                 make()
@@ -260,8 +277,12 @@ class Places(TestCase):
             Place("rig:/it").close()
 
     def test_a_long_name(self) -> None:
-        with runtime(), self.assertRaisesRegex(BadPlace, "is longer than the 107 bytes"):
-            Place(f"enttec:/{'x' * 100}")
+        with folder() as made:
+            long = made / ("x" * 90)
+            long.mkdir(mode=0o700)
+            with mock.patch.dict(os.environ, {place.RUNTIME_VARIABLE: str(long)}), \
+                    self.assertRaisesRegex(BadPlace, "is longer than the 107 bytes"):
+                Place("rig:/it")
 
     def test_another_users_server(self) -> None:
         with runtime():

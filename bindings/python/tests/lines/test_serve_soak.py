@@ -19,7 +19,7 @@ from common import LongTestCase, folder, needs_library
 from servers import Program, environment, serve
 
 CONNECTIONS = int(os.environ.get("SERVE_CONNECTIONS", "1000"))
-SOAK_SECONDS = float(os.environ.get("SERVE_SECONDS", "8"))
+SOAK_SECONDS = float(os.environ.get("SERVE_SECONDS", "5"))
 PROGRAMS = 16
 # So many kilobytes are within what Python takes and gives back.
 KILOBYTES = 3000

@@ -31,7 +31,7 @@ def files() -> List[Path]:
 
 def own_files() -> List[Path]:
     """The files of lines, parameters and commands."""
-    folders = [LINES / name for name in ("front", "lines", "parameters", "shared", "tool")]
+    folders = [LINES / name for name in ("front", "lines", "olad", "parameters", "shared", "tool")]
     below = [path for folder in folders for path in sorted(folder.glob("*.py"))]
     return [*below, LINES / "line.py", LINES / "commands.py", LINES / "__main__.py", LINES / "_ask.py"]
 

@@ -92,7 +92,7 @@ def reasons_of(log: Sequence[str], uids: Sequence[Uid], output: Output) -> Dict[
     # The package of all commands imports this one.
     from ..tool.places import program
     place = program()
-    if not uids or place is None:
+    if not uids or not log or place is None:
         return {}
     try:
         return explained(place, log, uids)

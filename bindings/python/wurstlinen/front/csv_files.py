@@ -7,7 +7,7 @@ import re
 import sys
 from collections import Counter
 from dataclasses import dataclass
-from typing import Dict, List, Mapping, Sequence, Tuple
+from typing import Dict, List, Mapping, Optional, Sequence, Tuple
 
 from .. import Uid
 from ..lines.packets import is_broadcast, parse_uid
@@ -88,21 +88,21 @@ class RigFile:
 def run_save(chosen: argparse.Namespace, output: Output) -> int:
     """Discovers the devices, and writes their values."""
     if chosen.file == STANDARD_STREAM:
-        rows, status = saved(chosen, output)
+        rows, is_whole, fault = saved(chosen, output)
         print_rows(rows, output)
-        return status
+        return DONE if is_whole and fault is None else FAILED
     try:
         before = sheet_before(chosen.file)
         with file_of(chosen.file, before.encoding) as file:
-            rows, status = saved(chosen, output)
-            if status != DONE and file.is_replaced:
-                raise Failure(status, f"{chosen.file} stays as it is, since values are missing", reason="file")
-            file.write(merged(before, rows, output).text())
+            rows, is_whole, fault = saved(chosen, output)
+            if not is_whole and file.is_replaced:
+                raise Failure(FAILED, f"{chosen.file} stays as it is, since values are missing", reason="file")
+            file.write(merged(before, rows, output, keeps=fault is not None).text())
     except OSError as fault:
         raise Failure(FAILED, f"{chosen.file}: {fault.strerror}", reason="file") from None
     count = "1 device" if len(rows) == 1 else f"{len(rows)} devices"
     output.result([f"{count}: {chosen.file}"], devices=len(rows), file=chosen.file)
-    return status
+    return DONE if is_whole and fault is None else FAILED
 
 
 def sheet_before(name: str) -> Sheet:
@@ -118,8 +118,9 @@ def sheet_before(name: str) -> Sheet:
     return sheet if sheet.column(UID) is not None else Sheet([])
 
 
-def merged(before: Sheet, rows: Sequence[Mapping[str, str]], output: Output) -> Sheet:
-    """The rows in the manner of the table before, with what its other columns say of these devices."""
+def merged(before: Sheet, rows: Sequence[Mapping[str, str]], output: Output, keeps: bool) -> Sheet:
+    """The rows in the manner of the table before, with what its other columns say of these devices. `keeps`: the rows of
+    other devices stay, since these may only be missing."""
     titles = [*before.titles, *(column for column in WRITTEN if before.column(column) is None)]
     after = Sheet(titles, delimiter=before.delimiter, encoding=before.encoding)
     others = before.others(WRITTEN)
@@ -130,26 +131,32 @@ def merged(before: Sheet, rows: Sequence[Mapping[str, str]], output: Output) -> 
         for number in others:
             cells[number] = kept[row[UID]][number] if row[UID] in kept else ""
         after.rows.append(cells)
-    for uid in kept.keys() - {row[UID] for row in rows}:
+    absent = sorted(kept.keys() - {row[UID] for row in rows})
+    if keeps:
+        after.rows.extend(kept[uid] + [""] * (len(titles) - len(before.titles)) for uid in absent)
+        return after
+    for uid in absent:
         lost = [f"{before.titles[number]} {kept[uid][number]}" for number in others if kept[uid][number]]
         if lost:
             output.note(f"{uid} wasn't found, so its row is gone: {', '.join(lost)}")
     return after
 
 
-def saved(chosen: argparse.Namespace, output: Output) -> Tuple[List[Dict[str, str]], int]:
-    """The devices' values, and the status: whether each device answered. Raises Failure."""
+def saved(chosen: argparse.Namespace, output: Output) -> Tuple[List[Dict[str, str]], bool, Optional[str]]:
+    """The devices' values, whether each device answered, and why the discovery ended early. Raises Failure."""
     with open_work(chosen, output) as work:
         devices, fault = work.discover()
-        if fault is not None:
+        if fault is not None and not work.has_searched:
             raise Failure(FAILED, f"the discovery ended early, so nothing is written: {fault}", reason="discovery")
-        rows, status = [], DONE
+        if fault is not None:
+            output.note(f"devices may be missing: {fault}")
+        rows, are_whole = [], True
         for number, device in enumerate(devices, 1):
             output.progress(f"asking {number} of {len(devices)}")
             row, is_whole = row_of(work, device.uid, output)
             rows.append({**row, **facts_of(work, device.uid)})
-            status = status if is_whole else FAILED
-    return rows, status
+            are_whole = are_whole and is_whole
+    return rows, are_whole, fault
 
 
 def print_rows(rows: Sequence[Mapping[str, str]], output: Output) -> None:

@@ -70,9 +70,10 @@ def run_fixtures(chosen: argparse.Namespace, output: Output) -> int:
     if failure is not None:
         raise failure
     count = "1 fixture" if len(found) == 1 else f"{len(found)} fixtures"
-    end = "discovery without a fault" if fault is None else f"the discovery ended early: {fault}"
-    sent = "1 frame" if frames == 1 else f"{frames} frames"
-    output.result([f"{count}, {sent}; {end}"], fixtures=len(found), frames=frames, fault=fault)
+    end = work.line.ending if fault is None else f"the discovery ended early: {fault}"
+    # Without frames another program made the exchanges, and keeps them to itself.
+    sent = {0: "", 1: ", 1 frame"}.get(frames, f", {frames} frames")
+    output.result([f"{count}{sent}; {end}"], fixtures=len(found), frames=frames, fault=fault)
     return DONE if fault is None else FAILED
 
 

@@ -17,7 +17,6 @@ from ..parameters.words import hint
 from .output import BAD_ARGUMENTS, FAILED, INTERRUPTED, LINE_VARIABLE, Failure, Output
 
 PROGRAM = "wurstlinen"
-DEFAULT_WAIT = 10.0
 LAST_SLOT = 512
 ALL = "all"
 RAW_COMMANDS = ("get", "set")
@@ -143,7 +142,7 @@ def add_command(made: Any, name: str, text: str, example: str, run_name: str, ne
     if needs_line:
         command.add_argument("--line", metavar="LINE", help=f"{FORMS}; WURSTLINEN_LINE if absent")
         command.add_argument("--source", type=commands.device, metavar="UID", help="the controller's UID")
-        command.add_argument("--wait", type=commands.some_seconds, default=DEFAULT_WAIT, metavar="SECONDS",
+        command.add_argument("--wait", type=commands.some_seconds, default=commands.DEFAULT_WAIT, metavar="SECONDS",
                              help="how long to wait for devices that need time (10)")
         commands.add_wait_line(command)
         add_frames(command)

@@ -2,7 +2,7 @@
 from __future__ import annotations
 
 import contextlib
-from typing import TYPE_CHECKING, Callable, Iterator, Optional
+from typing import TYPE_CHECKING, Callable, Iterator, Optional, Union
 
 from ..line import LineFailed
 from ..lines import OpenLine
@@ -11,7 +11,11 @@ from ..shared import place
 from .output import BAD_ARGUMENTS, FAILED, Failure, Output
 
 if TYPE_CHECKING:
+    from ..olad.client import OlaClient
     from ..shared.client import SharedClient
+
+# A universe of olad.
+OLA = "ola:"
 
 
 @contextlib.contextmanager
@@ -33,11 +37,16 @@ def opened(open_line: Callable[[str], OpenLine], text: str, seconds: float, outp
         return when_free(lambda: open_line(text), seconds, output.note)
 
 
-def served(text: str, source: Optional[int], output: Output) -> Optional[SharedClient]:
-    """A client of the server that runs for a line, if one does. Raises LineFailed.
+def served(text: str, source: Optional[int], output: Output) -> Union[SharedClient, OlaClient, None]:
+    """A client of olad, if it has the line, or of the server that runs for it, if one does. Raises LineFailed.
 
     A place that isn't safe is reported, and means that there is none.
     """
+    if text.startswith(OLA):
+        from ..olad.client import OlaClient
+        if source is not None:
+            raise LineFailed("olad is the controller of its lines: leave out --source")
+        return OlaClient(text)
     try:
         if not place.may_be_served(text):
             return None

@@ -54,7 +54,7 @@ class SharedLine(Watched):
     def _take(self, keys: Dict[str, Any]) -> None:
         """An exchange. Others' requests don't matter here."""
         run = keys.get("run")
-        if run is None and keys["request"] not in self._queue.requests:
+        if run is None and not self._queue.awaits_request(keys["request"]):
             return
         if run is not None and self.found is None:
             return

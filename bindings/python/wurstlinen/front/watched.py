@@ -15,6 +15,9 @@ from .output import Output
 class Watched:
     """Counts a line's exchanges, shows them, and remembers why it failed."""
 
+    # What is said of a discovery that ended well.
+    ending = "discovery without a fault"
+
     def __init__(self, output: Output, shown: Optional[str]) -> None:
         self._output = output
         # How frames are shown, as the option --frames has it; None if they aren't.

@@ -10,8 +10,9 @@ from typing import TYPE_CHECKING, Iterator, Optional, Set, Tuple, Union
 
 from .. import (
     AckType, Asker, Client, Completion, Controller, Device, Discovery, Kind, Request, RequestClass, ResponseClass,
-    Search, Status, Uid, Unserved,
+    RunFaultKind, Search, Status, Uid, Unserved,
 )
+from .. import commands
 from ..commands import RUN_FAULTS, source_of
 from ..line import LineFailed
 from ..lines import OpenLine, open_line
@@ -25,6 +26,7 @@ from .output import BAD_ARGUMENTS, FAILED, LINE_FAILED, LINE_VARIABLE, REFUSED, 
 from .watched import Watched, WatchedLine
 
 if TYPE_CHECKING:
+    from ..olad.client import OlaClient
     from ..shared.client import SharedClient
 
 # More than one command has outstanding.
@@ -33,9 +35,9 @@ GLANCE_SECONDS = 0.01
 
 
 class Work:
-    """What a command does on its line, by a queue of its own or by a server's."""
+    """What a command does on its line, by a queue of its own, by a server's or by olad's."""
 
-    def __init__(self, line: Watched, source: Uid, client: Union[Client, SharedClient], wait: float,
+    def __init__(self, line: Watched, source: Uid, client: Union[Client, SharedClient, OlaClient], wait: float,
                  output: Output) -> None:
         self.line = line
         self.output = output
@@ -43,6 +45,8 @@ class Work:
         self.slow: Set[Uid] = set()
         # The UID whose branch was answered again and again, so that the last discovery ended early.
         self.unmuted: Optional[Uid] = None
+        # Whether the last discovery went on as far as it could, beside a device that breaks the rules or over 1,024.
+        self.has_searched = False
         self._source = source
         self._client = client
         self._asked: Optional[Uid] = None
@@ -131,6 +135,7 @@ class Work:
         """The devices on the line, and why the run ended early; None if it didn't. A sink gets the run's log."""
         found = self.search(sink)
         self.unmuted = None if found.fault is None else found.fault.uid
+        self.has_searched = found.fault is None or found.fault.kind in (RunFaultKind.CORRUPT, RunFaultKind.TOO_MANY)
         if found.fault is None:
             return found.devices, None
         reason = str(self.line.failure or RUN_FAULTS[found.fault.kind].format(uid=found.fault.uid))
@@ -163,8 +168,8 @@ def open_work(chosen: argparse.Namespace, output: Output) -> Iterator[Work]:
     text = chosen.line or os.environ.get(LINE_VARIABLE, "")
     if not text:
         raise Failure(BAD_ARGUMENTS, f"which line? --line LINE or {LINE_VARIABLE} says it", reason="line")
-    def open_any() -> Tuple[Optional[SharedClient], Optional[OpenLine]]:
-        """A client of the line's server, or else the line."""
+    def open_any() -> Tuple[Union[SharedClient, OlaClient, None], Optional[OpenLine]]:
+        """A client of who has the line, or else the line."""
         client = served(text, chosen.source, output)
         return client, None if client is not None else open_line(text)
 
@@ -172,7 +177,7 @@ def open_work(chosen: argparse.Namespace, output: Output) -> Iterator[Work]:
         shared, line = when_free(open_any, chosen.wait_line, output.note)
     if shared is not None:
         with shared, failures_of_server():
-            yield shared_work(shared, chosen, output)
+            yield shared_work(shared, output, chosen.frames, vars(chosen).get("log"), chosen.wait)
     elif line is not None:
         with line:
             watched = WatchedLine(line, output, chosen.frames)
@@ -181,12 +186,18 @@ def open_work(chosen: argparse.Namespace, output: Output) -> Iterator[Work]:
                 yield Work(watched, source, controller.join(PLACES), chosen.wait, output)
 
 
-def shared_work(client: SharedClient, chosen: argparse.Namespace, output: Output) -> Work:
-    """What a command does by a server."""
+def shared_work(client: Union[SharedClient, OlaClient], output: Output, frames: Optional[str], log: Optional[str],
+                wait: float = commands.DEFAULT_WAIT) -> Work:
+    """What a command does by a server, or by olad. Raises Failure."""
     # A command without a server doesn't load it.
+    from ..olad.client import OlaClient
+    from .ola_line import OlaLine
     from .shared_line import SharedLine
+    if isinstance(client, OlaClient):
+        line = OlaLine(client.queue, output, frames, log)
+        return Work(line, Uid.from_number(commands.SOURCE), client, wait, output)
     queue = client.queue
-    return Work(SharedLine(queue, output, chosen.frames), queue.source, client, chosen.wait, output)
+    return Work(SharedLine(queue, output, frames), queue.source, client, wait, output)
 
 
 @contextlib.contextmanager

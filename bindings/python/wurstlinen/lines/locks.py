@@ -181,8 +181,24 @@ def _is_alive(process: int) -> bool:
 
 def _named(process: int) -> str:
     """What a process calls itself, in brackets, if the system says it."""
+    name = name_of(process)
+    return f" ({name})" if name else ""
+
+
+def name_of(process: int) -> str:
+    """What a process calls itself; nothing if the system doesn't say it."""
     try:
         name = Path(f"/proc/{process}/comm").read_text(encoding="utf-8", errors="replace").strip()
     except OSError:
         return ""
-    return f" ({name})" if name.isprintable() and name else ""
+    return name if name.isprintable() else ""
+
+
+def holder_of(path: Path) -> str:
+    """What the process calls itself that a lock file names; nothing if that isn't known."""
+    try:
+        with open(path, "rb") as file:
+            found = PROCESS.fullmatch(file.read(MOST_LOCK_BYTES))
+    except OSError:
+        return ""
+    return "" if found is None else name_of(int(found[1]))

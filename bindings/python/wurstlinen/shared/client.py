@@ -40,6 +40,7 @@ class SharedQueue:
         self.name = str(hello["line"])
         self.source = Uid.parse(hello["source"])
         self.process = int(hello["process"])
+        self.holder = f"process {self.process} ({self.source})"
         self.depth = int(hello["depth"])
         self._is_paused = bool(hello["paused"])
         # Whether the server has its line, and why not.
@@ -51,8 +52,6 @@ class SharedQueue:
         self.on_frame: Callable[[Keys], None] = lambda keys: None
         # What is told why something of this client's failed to be sent.
         self.on_failure: Callable[[str], None] = lambda reason: None
-        # The numbers of all requests of this client.
-        self.requests: Set[int] = set()
 
     def _take(self, keys: Keys) -> None:
         """A result, or an event."""
@@ -72,6 +71,10 @@ class SharedQueue:
             self.on_failure(str(keys["reason"]))
         self.outcomes.append(outcome)
         self.outstanding.discard((kind_of(outcome), outcome.number))
+
+    def awaits_request(self, number: int) -> bool:
+        """Whether a request is this client's, and hasn't ended. Its frames come before its result."""
+        return (OutcomeKind.REQUEST, number) in self.outstanding
 
     def run(self, line: object = None) -> int:
         """Waits until all that is outstanding has ended, and returns how many outcomes have come.
@@ -128,7 +131,8 @@ class SharedQueue:
 class SharedClient:
     """A client of a server's queue. It is a context manager, which ends the connection.
 
-    One thread at a time may use it. Raises LineFailed when the server has ended.
+    Calls may be made from any thread; only one at a time may collect. Raises LineFailed when the server has ended. An
+    interrupt amid a call ends the connection.
     """
 
     def __init__(self, line: str) -> None:
@@ -151,11 +155,18 @@ class SharedClient:
     def submit(self, request: Request) -> int:
         """Has a request accepted, and returns its number."""
         self.last_request = None
-        number = int(self.queue.connection.ask(keys_of_request(request))["request"])
-        self.queue.outstanding.add((OutcomeKind.REQUEST, number))
-        self.queue.requests.add(number)
-        self.last_request = number
-        return number
+        self.last_request = self._submit(OutcomeKind.REQUEST, "request", keys_of_request(request))
+        return self.last_request
+
+    def _submit(self, kind: OutcomeKind, name: str, keys: Keys) -> int:
+        """Has a call accepted, and returns its number."""
+        def submitted() -> int:
+            """In one step, since another thread may receive the result."""
+            number = int(self.queue.connection.ask(keys)[name])
+            self.queue.outstanding.add((kind, number))
+            return number
+
+        return self.queue.connection.alone(submitted)
 
     def get(self, target: Union[Uid, str], pid: Union[int, str], data: Union[bytes, str] = b"",
             sub_device: int = 0) -> int:
@@ -178,11 +189,9 @@ class SharedClient:
     def discover(self, kind: Kind = Kind.FULL) -> int:
         """Asks for a discovery, and returns its number."""
         self.last_discovery = None
-        answer = self.queue.connection.ask({"do": "discover", "kind": KIND_WORDS[Kind(kind)]})
-        number = int(answer["discovery"])
-        self.queue.outstanding.add((OutcomeKind.DISCOVERY, number))
-        self.last_discovery = number
-        return number
+        keys = {"do": "discover", "kind": KIND_WORDS[Kind(kind)]}
+        self.last_discovery = self._submit(OutcomeKind.DISCOVERY, "discovery", keys)
+        return self.last_discovery
 
     def oldest(self) -> Optional[OutcomeKind]:
         """The kind of its oldest outcome that has come; None if there is none."""
@@ -224,4 +233,4 @@ def client_of(line: str, source: Optional[int] = None) -> Optional[SharedClient]
     if source in (None, client.queue.source.number):
         return client
     client.close()
-    raise LineFailed(f"process {client.queue.process} shares this line as {client.queue.source}: leave out --source")
+    raise LineFailed(f"{client.queue.holder} has this line: leave out --source")

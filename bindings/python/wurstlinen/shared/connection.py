@@ -7,14 +7,16 @@ import select
 import sys
 import time
 from collections import deque
-from typing import Callable, Deque, List, Optional
+from typing import Callable, Deque, List, Optional, TypeVar
 
 from .. import _faults
 from .._faults import Fault
+from .._turns import Turns
 from ..line import LineFailed
 from . import place
 from .words import MOST_ANSWER_BYTES, MOST_NAME, VERSION, BadRequest, Keys, Lines, line_of
 
+Made = TypeVar("Made")
 READ_BYTES = 1 << 16
 # A server that says nothing for this time is asked whether it is still there, and has so long to answer.
 QUIET_SECONDS = 2.0
@@ -35,7 +37,10 @@ class Refused(LineFailed):
 
 
 class Connection:
-    """Sends requests, and receives answers, results and events. One thread at a time has it."""
+    """Sends requests, and receives answers, results and events. Threads take turns.
+
+    An exception that comes amid a request or an answer, such as an interrupt, ends the connection.
+    """
 
     def __init__(self, line: str) -> None:
         found = place.connected(line)
@@ -43,6 +48,7 @@ class Connection:
             raise NotServed(f"no server runs for {line}: 'wurstlinen serve --line {line}' starts one")
         self._line = line
         self._socket = found
+        self._turns = Turns()
         self._lines = Lines(MOST_ANSWER_BYTES)
         self._objects: Deque[Keys] = deque()
         self._number = 0
@@ -60,8 +66,30 @@ class Connection:
         """Ends the connection. What is outstanding is finished and dropped."""
         self._socket.close()
 
+    @property
+    def is_closed(self) -> bool:
+        """Whether it was closed here."""
+        return self._socket.fileno() < 0
+
+    def alone(self, work: Callable[[], Made]) -> Made:
+        """Does something while no other thread sends or receives."""
+        def done() -> Made:
+            """What was made, unless an exception has come that isn't the server's."""
+            try:
+                return work()
+            except (Fault, LineFailed):
+                raise
+            except BaseException:
+                self.close()
+                raise
+
+        return self._turns.alone(done)
+
     def ask(self, request: Keys) -> Keys:
         """The answer to a request. Raises the queue's faults, Refused and LineFailed."""
+        return self.alone(lambda: self._ask(request))
+
+    def _ask(self, request: Keys) -> Keys:
         self._number += 1
         number = self._number
         self._send({**request, "id": number})
@@ -76,7 +104,13 @@ class Connection:
 
     def receive(self, seconds: float) -> bool:
         """Takes what has come, and else waits so long for it. Whether something has come."""
-        found = self._next(time.monotonic() + seconds)
+        # Meanwhile other threads have their turns.
+        if not self._objects and self._farewell is None:
+            self._is_ready(time.monotonic() + seconds)
+        return self.alone(self._receive)
+
+    def _receive(self) -> bool:
+        found = self._next(0.0)
         if found is None:
             return False
         self._take(found)
@@ -103,7 +137,7 @@ class Connection:
             self._socket.sendall(data)
         except OSError:
             # What has come until then says why.
-            while self.receive(0.0):
+            while self._receive():
                 pass
             raise self._lost("has ended") from None
 
@@ -127,8 +161,10 @@ class Connection:
         return self._objects.popleft()
 
     def _is_ready(self, until: float) -> bool:
+        if self.is_closed:
+            raise self._lost("isn't connected any more")
         ready = select.poll()
-        ready.register(self._socket, select.POLLIN)
+        ready.register(self._socket.fileno(), select.POLLIN)
         return bool(ready.poll(max(0.0, until - time.monotonic()) * MILLISECONDS))
 
     def _read(self, data: bytes) -> List[Keys]:

@@ -8,13 +8,13 @@ import socket
 from pathlib import Path
 from typing import FrozenSet, Iterator, Optional
 
-from .place import OWN_MODE, ROOT, SYSTEM_FOLDER, BadPlace, check_folder, check_socket, name_of, own_folder
+from .place import (
+    MOST_PATH_BYTES, OWN_MODE, ROOT, SYSTEM_FOLDER, BadPlace, check_folder, check_socket, own_folder, path_of,
+)
 
 GROUP_MODE = 0o750
 SOCKET_MODE = 0o600
 SOCKET_GROUP_MODE = 0o660
-# A socket's address has so many bytes, and a zero.
-MOST_PATH_BYTES = 107
 MOST_NUMBER_BYTES = 32
 FIRST_PASSED = 3
 
@@ -46,8 +46,7 @@ class Place:
 
     def __init__(self, line: str, group: Optional[str] = None) -> None:
         self._group = None if group is None else group_number(group)
-        folder = made_folder(self._group)
-        self.path = folder / name_of(line)
+        self.path = path_of(made_folder(self._group), line)
         if len(os.fsencode(self.path)) > MOST_PATH_BYTES:
             raise BadPlace(f"{self.path} is longer than the {MOST_PATH_BYTES} bytes that a socket's name may have")
         self._lock = _locked(self.path.with_suffix(".lock"), line)

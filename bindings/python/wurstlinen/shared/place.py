@@ -23,6 +23,10 @@ RUNTIME_VARIABLE = "XDG_RUNTIME_DIR"
 # Only root makes folders there.
 SYSTEM_FOLDER = Path("/run") / FOLDER
 TEMPORARY_FOLDER = Path("/tmp")
+# Where udev links names to the devices that have them.
+BY_ID = "/dev/serial/by-id"
+# A socket's address has so many bytes, and a zero.
+MOST_PATH_BYTES = 107
 OWN_MODE = 0o700
 OTHERS = 0o077
 WRITERS = 0o022
@@ -42,19 +46,33 @@ def canonical(text: str) -> str:
     if kind not in ("enttec", "rig", "text"):
         return text
     names = rest.split(",") if kind == "text" else [rest]
-    return f"{kind}:{','.join(os.path.realpath(name) for name in names)}"
+    return f"{kind}:{','.join(stable_name(name) if kind == 'enttec' else os.path.realpath(name) for name in names)}"
 
 
-def name_of(line: str) -> str:
-    """The name of the socket of a line: as systemd escapes a device's path, or the kind and a checksum."""
+def stable_name(device: str) -> str:
+    """The name that an adapter keeps if it is unplugged and gets another number, if it has one."""
+    path, real = os.path.abspath(device), os.path.realpath(device)
+    if os.path.dirname(path) == BY_ID:
+        return path
+    try:
+        links = sorted(os.path.join(BY_ID, name) for name in os.listdir(BY_ID))
+    except OSError:
+        links = []
+    return next((link for link in links if os.path.realpath(link) == real), real)
+
+
+def path_of(folder: Path, line: str) -> Path:
+    """The socket of a line: as systemd escapes a device's path, if there is room for that, or else a checksum."""
     kind, _, rest = canonical(line).partition(":")
     if kind == "enttec":
         words = (re.sub(rb"[^A-Za-z0-9:_.]", lambda byte: b"\\x%02x" % ord(byte[0]), part)
                  for part in os.fsencode(rest).strip(b"/").split(b"/"))
-        return f"{os.fsdecode(b'-'.join(words))}.socket"
+        path = folder / f"{os.fsdecode(b'-'.join(words))}.socket"
+        if len(os.fsencode(path)) <= MOST_PATH_BYTES:
+            return path
     # The usual line needs no checksum.
     import hashlib
-    return f"{kind}-{hashlib.sha256(os.fsencode(rest)).hexdigest()[:DIGITS]}.socket"
+    return folder / f"{kind}-{hashlib.sha256(os.fsencode(rest)).hexdigest()[:DIGITS]}.socket"
 
 
 def own_folder() -> Path:
@@ -92,18 +110,16 @@ def check_socket(path: Path) -> None:
 
 def may_be_served(line: str) -> bool:
     """Whether there is something where the socket of a line's server would be."""
-    name = name_of(line)
-    return any(os.path.lexists(folder / name) for folder in (own_folder(), SYSTEM_FOLDER))
+    return any(os.path.lexists(path_of(folder, line)) for folder in (own_folder(), SYSTEM_FOLDER))
 
 
 def connected(line: str) -> Optional[socket.socket]:
     """A connection to the server of a line; None if there is none. Raises BadPlace."""
-    name = name_of(line)
     for folder in (own_folder(), SYSTEM_FOLDER):
         try:
-            users = check_folder(folder)
-            check_socket(folder / name)
-            return _connected(folder / name, users)
+            users, path = check_folder(folder), path_of(folder, line)
+            check_socket(path)
+            return _connected(path, users)
         except (FileNotFoundError, NotADirectoryError, ConnectionRefusedError):
             continue
         except OSError as fault:

@@ -86,7 +86,7 @@ class Server:
                 self._turn(HOUSEKEEPING_SECONDS)
             self._finish()
         finally:
-            worker.end(ENDING_SECONDS)
+            worker.end()
             for peer in self._peers:
                 peer.close()
             self._selector.close()
@@ -344,7 +344,7 @@ class Server:
         until = time.monotonic() + ENDING_SECONDS
         while any(lane.outstanding for lane in self._lanes) and time.monotonic() < until and not self.worker.fault:
             self._turn(until - time.monotonic())
-        self.worker.end(ENDING_SECONDS)
+        self.worker.end()
         self._hand_out()
         for peer in self._peers:
             peer.leave(BadRequest("the server ends", "Closed"))

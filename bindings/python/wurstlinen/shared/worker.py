@@ -17,6 +17,9 @@ LOOK_SECONDS = 0.5
 # How long requests wait for an adapter that is gone. Then each fails at once.
 GRACE_SECONDS = 5.0
 GLANCE_SECONDS = 0.01
+# How long the thread has to end, and how long once its line is closed.
+SOON_SECONDS = 0.2
+END_SECONDS = 5.0
 # If the server's other thread is behind by so many frames, the line waits for it.
 MOST_EVENTS = 1000
 
@@ -63,13 +66,13 @@ class Worker:
         """There may be a frame to send."""
         self._has_work.set()
 
-    def end(self, seconds: float) -> None:
-        """Ends it when its exchange has ended, after this time by closing the line."""
+    def end(self) -> None:
+        """Ends it, and closes the line. An exchange that hasn't ended soon fails."""
         self._is_ending.set()
         self._has_work.set()
-        self._thread.join(seconds)
+        self._thread.join(SOON_SECONDS)
         self._line.close()
-        self._thread.join(seconds)
+        self._thread.join(END_SECONDS)
         if not self._thread.is_alive():
             self._record()
 

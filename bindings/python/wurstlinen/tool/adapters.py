@@ -1,25 +1,33 @@
-"""The USB adapters that are plugged in, and the line that is used if none is named.
+"""The USB adapters that are plugged in, what olad has, and the line that is used if none is named.
 
 Only serial chips of the kind that these adapters have are opened, and only if no lock holds them.
 """
 from __future__ import annotations
 
 import argparse
+import contextlib
 import grp
 import os
 from dataclasses import dataclass
 from pathlib import Path
-from typing import List, Optional, Tuple
+from typing import TYPE_CHECKING, List, Optional, Sequence, Tuple, Union
 
 from ..front.output import BAD_ARGUMENTS, DONE, FAILED, LINE_VARIABLE, Failure, Output
 from ..line import LineFailed
 from ..lines.enttec import DMXKING, EnttecPro
+from ..lines.locks import holder_of
 from ..lines.terminal import LOCK_FOLDER
+from ..shared import place
+
+if TYPE_CHECKING:
+    from ..olad.rpc import Daemon, Port
 
 SYS = Path("/sys")
 DEV = Path("/dev")
 # FTDI's chip in a USB Pro, and in DMXking's adapters with the same messages.
 CHIP = ("0403", "6001")
+# What OLA's daemon calls itself.
+OLAD = "olad"
 
 
 @dataclass(frozen=True)
@@ -31,6 +39,8 @@ class Adapter:
     maker: str = ""
     firmware: Optional[Tuple[int, int]] = None
     fault: Optional[str] = None
+    # The server that shares it, with how many programs.
+    shared: Optional[str] = None
 
     @property
     def line(self) -> str:
@@ -40,8 +50,8 @@ class Adapter:
     @property
     def text(self) -> str:
         """What is known of it."""
-        if self.fault is not None:
-            return self.fault
+        if self.fault is not None or self.shared is not None:
+            return self.fault or self.shared or ""
         version = "" if self.firmware is None else ", firmware {}.{}".format(*self.firmware)
         return f"{self.maker}, serial {self.serial_text}{version}, RDM"
 
@@ -49,6 +59,39 @@ class Adapter:
     def serial_text(self) -> Optional[str]:
         """The serial number as it is printed on adapters."""
         return None if self.serial is None else f"{self.serial:08x}"
+
+
+@dataclass(frozen=True)
+class Universe:
+    """A port of olad's with RDM, as an adapter."""
+
+    line: str
+    text: str
+    fault: Optional[str] = None
+    serial_text: Optional[str] = None
+    firmware: Optional[Tuple[int, int]] = None
+
+
+def universes(port: Optional[int] = None) -> List[Universe]:
+    """What olad has, if it runs here."""
+    # A command that only wants to know the line doesn't load it.
+    from ..olad.rpc import PORT, Daemon
+    try:
+        with contextlib.closing(Daemon(port or PORT)) as daemon:
+            return [universe_at(daemon, found, "" if port is None else f":{port}") for found in daemon.ports()]
+    except LineFailed:
+        return []
+
+
+def universe_at(daemon: Daemon, found: Port, suffix: str) -> Universe:
+    """A port of olad's. Without a universe it can't be used."""
+    name = f"{found.device}, {found.text}" if found.text else found.device
+    if found.universe is None:
+        fault = f"{name}: olad has it without a universe, which ola_patch gives it"
+        return Universe("ola:", fault, fault)
+    count = len(daemon.uids(found.universe))
+    devices = "1 device" if count == 1 else f"{count} devices"
+    return Universe(f"ola:{found.universe}{suffix}", f"{name}, {devices}")
 
 
 def chips(sys: Path = SYS, dev: Path = DEV) -> List[Path]:
@@ -80,11 +123,31 @@ def look_at(device: Path, lock_folder: Path = LOCK_FOLDER) -> Adapter:
     if not os.access(device, os.R_OK | os.W_OK):
         return Adapter(device, fault=no_permission(device))
     try:
+        shared = sharing(Adapter(device).line)
+        if shared is not None:
+            return Adapter(device, shared=shared)
         with EnttecPro(str(device), lock_folder) as line:
             maker = "DMXking" if (line.source or 0) >> 32 == DMXKING else "Enttec USB Pro"
             return Adapter(device, line.serial, maker, line.firmware)
     except LineFailed as fault:
         return Adapter(device, fault=str(fault))
+
+
+def sharing(line: str) -> Optional[str]:
+    """Which server shares a line, with how many other programs, if one does. Raises LineFailed."""
+    if not place.may_be_served(line):
+        return None
+    # A command that only wants to know the line doesn't load it.
+    from ..shared.connection import Connection, NotServed
+    try:
+        with contextlib.closing(Connection(line)) as connection:
+            hello = connection.hello
+    except NotServed:
+        return None
+    # This program is one of them.
+    count = hello["clients"] - 1
+    absence = "" if hello["there"] else f"; {hello['reason']}"
+    return f"shared by process {hello['process']}, {count} program{'' if count == 1 else 's'}{absence}"
 
 
 def no_permission(device: Path) -> str:
@@ -100,10 +163,10 @@ def no_permission(device: Path) -> str:
 
 def run_adapters(chosen: argparse.Namespace, output: Output) -> int:
     """Prints what is plugged in."""
-    return show([look_at(device) for device in chips()], output)
+    return show([*map(look_at, chips()), *universes()], output)
 
 
-def show(found: List[Adapter], output: Output) -> int:
+def show(found: Sequence[Union[Adapter, Universe]], output: Output) -> int:
     """Prints these adapters. The status is 0 if one can be used."""
     for each in found:
         output.result([f"{each.line}  {each.text}"], line=each.line, serial=each.serial_text, firmware=each.firmware,
@@ -122,4 +185,12 @@ def choose(devices: List[Path]) -> str:
     if len(lines) > 1:
         raise Failure(BAD_ARGUMENTS, f"which adapter? --line LINE or {LINE_VARIABLE} says it: {', '.join(lines)}",
                       reason="line")
-    return lines[0]
+    return line_of_olad(devices[0]) or lines[0]
+
+
+def line_of_olad(device: Path, lock_folder: Path = LOCK_FOLDER) -> Optional[str]:
+    """The only universe of olad, if that has this device."""
+    if holder_of(lock_folder / f"LCK..{device.resolve().name}") != OLAD:
+        return None
+    lines = [each.line for each in universes() if each.fault is None]
+    return lines[0] if len(lines) == 1 else None

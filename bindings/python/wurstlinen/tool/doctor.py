@@ -2,12 +2,12 @@
 from __future__ import annotations
 
 import argparse
-from typing import List, Tuple
+from typing import List, Tuple, Union
 
 from .._library import LIBRARY
 from ..front.output import DONE, Output
 from . import places
-from .adapters import chips, look_at
+from .adapters import Adapter, Universe, chips, look_at, universes
 
 
 def run_doctor(chosen: argparse.Namespace, output: Output) -> int:
@@ -34,5 +34,5 @@ def parts() -> List[Tuple[str, str]]:
 
 def adapters() -> List[Tuple[str, str]]:
     """The adapters that are plugged in."""
-    found = [look_at(device) for device in chips()]
+    found: List[Union[Adapter, Universe]] = [*map(look_at, chips()), *universes()]
     return [("adapter", f"{each.line}: {each.text}") for each in found] or [("adapter", "none is plugged in")]

@@ -7,7 +7,7 @@ import signal
 import sys
 from pathlib import Path
 from types import FrameType
-from typing import TYPE_CHECKING, Iterator, List, Optional, Sequence, Tuple
+from typing import TYPE_CHECKING, Iterator, List, Optional, Sequence, Tuple, Union
 
 from .. import commands
 from .._endings import end_by
@@ -15,7 +15,7 @@ from .._standard_streams import mend
 from ..front import main as front
 from ..front.main import AS_BYTES, AS_TEXT, PROGRAM
 from ..front.main import run as run_chosen
-from ..front.opening import served
+from ..front.opening import OLA, failures_of_lines, served
 from ..front.output import BAD_ARGUMENTS, DONE, FAILED, INTERRUPTED, LINE_VARIABLE, Failure, Output
 from ..lines.opening import FORMS, is_device
 from ..lines.waiting import DEFAULT_SECONDS
@@ -24,6 +24,7 @@ from . import arguments, places
 from .places import NO_PROGRAM
 
 if TYPE_CHECKING:
+    from ..olad.client import OlaClient
     from ..shared.client import SharedClient
 
 VERSION_WORDS = ("version", "--version", "-V")
@@ -127,21 +128,22 @@ def run_proved(words: List[str]) -> int:
     if words[0] == "discover" and place_of(words, "--line") is None and not has_file(words):
         line = line_of_discovery()
     elif words[0] == "discover" and line and not serving.is_served(line) and not is_stream(words):
-        line = line_of_device(line)
+        line = line if line.startswith(OLA) else line_of_device(line)
     elif words[0] not in ("discover", "run") or not serving.is_served(line):
         return become(program, words)
     assert line is not None
     waits, frames = wait_line_of(words), frames_of(words)
     words = without(without(without(words, "--line"), FRAMES), WAIT_LINE)
     if words[0] == "discover":
-        client = served(line, None, Output(False))
+        with failures_of_lines():
+            client = served(line, None, Output(False))
         if client is not None:
             return discover_shared(client, words, frames)
     return serving.serve(program, words, line, frames, waits)
 
 
-def discover_shared(client: SharedClient, words: Sequence[str], frames: Optional[str]) -> int:
-    """A discovery by the server of a line, printed as the proved program prints it. Raises Failure."""
+def discover_shared(client: Union[SharedClient, OlaClient], words: Sequence[str], frames: Optional[str]) -> int:
+    """A discovery by who has a line, printed as the proved program prints it. Raises Failure."""
     from .shared_discovery import discover
     with client:
         source = str(client.queue.source)
@@ -149,8 +151,8 @@ def discover_shared(client: SharedClient, words: Sequence[str], frames: Optional
         for at, name in parts(words):
             if name not in known or known[name] not in (None, (option(words, name) or "").lower()):
                 print(WRONG_WORDS, flush=True)
-                raise Failure(BAD_ARGUMENTS, f"process {client.queue.process} shares this line as {source}, and "
-                                             f"searches it in its own way: leave out {words[at]}", reason="arguments")
+                raise Failure(BAD_ARGUMENTS, f"{client.queue.holder} has this line, and searches it in its own way: "
+                                             f"leave out {words[at]}", reason="arguments")
         return discover(client, option(words, "--log"), frames)
 
 

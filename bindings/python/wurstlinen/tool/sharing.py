@@ -27,6 +27,8 @@ SEARCH = Search.QUICK
 def run_serve(chosen: argparse.Namespace, output: Output) -> int:
     """Serves a line until a signal comes, or nobody has used it for a while."""
     try:
+        # A name that the adapter keeps if it is unplugged.
+        chosen.line = canonical(chosen.line)
         with placed(chosen) as (listener, place), opened(open_line, chosen.line, chosen.wait_line, output) as line:
             serve(chosen, output, line, listener, place)
     except BadPlace as fault:
@@ -44,7 +46,7 @@ def placed(chosen: argparse.Namespace) -> Iterator[Tuple[socket.socket, Optional
         with passed[0] as listener:
             yield checked(listener), None
         return
-    place = Place(canonical(chosen.line), chosen.group)
+    place = Place(chosen.line, chosen.group)
     try:
         yield place.listener, place
     finally:
@@ -54,7 +56,7 @@ def placed(chosen: argparse.Namespace) -> Iterator[Tuple[socket.socket, Optional
 def serve(chosen: argparse.Namespace, output: Output, line: OpenLine, listener: socket.socket,
           place: Optional[Place]) -> None:
     """Serves an open line."""
-    name, source = canonical(chosen.line), Uid.from_number(source_of(chosen, line))
+    name, source = chosen.line, Uid.from_number(source_of(chosen, line))
     log = None if chosen.log is None else logged(chosen.log, source, output)
     with Session(source, CAPACITY, search=SEARCH) as session:
         users = None if place is None else place.users

@@ -1,0 +1,196 @@
+"""A universe of olad as a line: its messages, which Google's protobuf made for these tests, and daemons that misbehave.
+
+`bindings/ola/tests/test_line.py` has the same with olad itself.
+"""
+from __future__ import annotations
+
+import contextlib
+import socket
+import threading
+from pathlib import Path
+from typing import Iterator, List, Optional, Tuple
+from unittest import mock
+
+from common import TestCase, folder, needs_library
+from fronts import called
+from wurstlinen import (
+    AckType, Completion, Kind, LineFailed, ReplyHead, Request, RequestClass, ResponseClass, RunFaultKind, Status, Uid,
+)
+from wurstlinen.olad import client, rpc
+from wurstlinen.olad.client import OlaClient, universe_of
+from wurstlinen.olad.rpc import Daemon, NoDaemon
+from wurstlinen.olad.wire import BadMessage, Fixed, decode, encode, messages_in
+from wurstlinen.tool import adapters
+
+# A SET of IDENTIFY_DEVICE of the device 9abc:fffffffe, all sub-devices, in universe 1.
+REQUEST = bytes.fromhex("2b000010080110011a0a52444d436f6d6d616e64"
+                        "22190801120908bcb50215feffffff18ffff032080202a01013001")
+# Its response with code 0, an ACK with the data 0102.
+RESPONSE = bytes.fromhex("2400001008021001221e08001000180322020102288020300138ffff034a07080115020000005809")
+REFUSED = bytes.fromhex("1c000010080410012216556e69766572736520646f65736e2774206578697374")
+# A list of 9abc:00000002 and 1234:00000001.
+UIDS = bytes.fromhex("0801120908bcb5021502000000120808b4241501000000")
+# A device with a port of RDM in universe 3, one of RDM without a universe, and one without RDM in universe 4.
+DEVICES = bytes.fromhex("0a3f080110051a0350726f2a1408001000180320012a0853657269616c203140012a0c080110002a046e6f6e65"
+                        "40012a0b0802100018042a03646d783203352d31")
+IDENTIFY = Request(Uid.from_number(0x9ABCFFFFFFFE), 0x1000, b"\x01", 0xFFFF, RequestClass.SET)
+
+
+def answer(number: int, fields: bytes, kind: int = 2) -> bytes:
+    """A message of olad's, which answers the call of this number."""
+    message = encode([(1, kind), (2, number), (4, fields)])
+    return len(message).to_bytes(3, "little") + b"\x10" + message
+
+
+class Wire(TestCase):
+    """Protocol Buffers, encoding."""
+
+    def test_numbers(self) -> None:
+        # The examples of the encoding's public description.
+        self.assertEqual(encode([(1, 150)]).hex(), "089601")
+        self.assertEqual(encode([(2, "testing")]).hex(), "120774657374696e67")
+        self.assertEqual(decode(bytes.fromhex("1a03089601")), {3: [bytes.fromhex("089601")]})
+        self.assertEqual(encode([(2, Fixed(0xFFFFFFFE))]).hex(), "15feffffff")
+        self.assertEqual(decode(bytes.fromhex("09010000000000000015020000000803")), {1: [1, 3], 2: [2]})
+
+    def test_what_is_no_message(self) -> None:
+        for text in ("08", "0880", "12", "1205", "120561", "1501", "0b", "08" + "80" * 10 + "01", "0f"):
+            self.assertRaises(BadMessage, decode, bytes.fromhex(text))
+        self.assertRaises(BadMessage, messages_in, decode(b"\x08\x01"), 1)
+
+
+class Script:
+    """A daemon that answers each call with the next of these bytes, and keeps what it was asked. None ends it."""
+
+    def __init__(self, *answers: Optional[bytes]) -> None:
+        self.asked: List[bytes] = []
+        self._answers = list(answers)
+        self._listener = socket.create_server(("127.0.0.1", 0))
+        self.port = self._listener.getsockname()[1]
+        threading.Thread(target=self._serve, daemon=True).start()
+
+    def _serve(self) -> None:
+        with contextlib.suppress(OSError), self._listener.accept()[0] as connection:
+            for answer_ in self._answers:
+                self.asked.append(connection.recv(4096))
+                if answer_ is None:
+                    return
+                connection.sendall(answer_)
+            connection.recv(1)
+
+    def __enter__(self) -> Script:
+        return self
+
+    def __exit__(self, *why: object) -> None:
+        # A thread may wait for somebody.
+        with contextlib.suppress(OSError):
+            self._listener.shutdown(socket.SHUT_RDWR)
+        self._listener.close()
+
+
+@contextlib.contextmanager
+def on(*answers: Optional[bytes]) -> Iterator[Tuple[Script, Daemon]]:
+    """A connection to such a daemon."""
+    with Script(*answers) as script, contextlib.closing(Daemon(script.port)) as daemon:
+        yield script, daemon
+
+
+class Calls(TestCase):
+    """Each call, and what may come instead of its answer."""
+
+    def test_a_request(self) -> None:
+        with on(RESPONSE) as (script, daemon):
+            reply = daemon.request(1, IDENTIFY.target.number, 0xFFFF, 0x1000, b"\x01", True)
+            self.assertEqual(script.asked, [REQUEST])
+            head = ReplyHead(AckType.ACK, ResponseClass.SET, 0x1000, 0xFFFF)
+            self.assertEqual(client.completion_of(7, reply), Completion(7, Status.COMPLETED, head, b"\x01\x02"))
+
+    def test_lists(self) -> None:
+        with on(answer(1, UIDS), answer(2, UIDS), answer(3, b""), answer(4, DEVICES)) as (script, daemon):
+            wanted = [0x123400000001, 0x9ABC00000002]
+            self.assertEqual((daemon.uids(1), daemon.discover(1, True), daemon.uids(1)), (wanted, wanted, []))
+            self.assertEqual(daemon.ports(), [("Pro", "Serial 1", 3), ("Pro", "none", None)])
+
+    def test_refusals_and_other_messages(self) -> None:
+        with on(REFUSED) as (_, daemon):
+            self.assertRaisesRegex(LineFailed, "olad refused it: Universe doesn't exist", daemon.uids, 1)
+        # A late answer to another call is left out, and a message may come in pieces.
+        with on(answer(9, b"\xff") + RESPONSE[:10]) as (_, daemon), mock.patch.object(rpc, "CALL_SECONDS", 0.2):
+            self.assertRaisesRegex(LineFailed, "olad didn't answer within", daemon.uids, 1)
+        with on(answer(1, b"", 6)) as (_, daemon):
+            self.assertRaisesRegex(LineFailed, "olad has ended the connection", daemon.uids, 1)
+
+    def test_who_isnt_olad(self) -> None:
+        for said in (b"HTTP/1.1 400 Bad Request\r\n\r\n", b"\x00\x00\x00\x10", b"\xff\xff\xff\x1f",
+                     answer(1, b"\x08"), answer(1, b"", 5), answer(1, b"\x12\x01\x08"), answer(1, b"\x10\x05"),
+                     RESPONSE[:4] + b"\xff" * 36):
+            with on(said) as (_, daemon), mock.patch.object(rpc, "CALL_SECONDS", 0.2):
+                self.assertRaises(LineFailed, daemon.uids, 1)
+        with on(None) as (_, daemon):
+            self.assertRaisesRegex(LineFailed, "olad has ended the connection", daemon.uids, 1)
+
+    def test_no_daemon(self) -> None:
+        with Script() as script:
+            pass
+        self.assertRaisesRegex(NoDaemon, f"olad doesn't listen on port {script.port}", Daemon, script.port)
+        self.assertEqual(adapters.universes(script.port), [])
+
+
+@needs_library
+class Clients(TestCase):
+    """A client of olad, and commands by it."""
+
+    def test_names(self) -> None:
+        self.assertEqual([universe_of(text) for text in ("ola:0", "ola:4294967295:9011")],
+                         [(0, 9010), (4294967295, 9011)])
+        for text in ("ola:", "ola:x", "ola:1:", "ola:1:65536", "ola:4294967296", "ola:1:2:3", "ola:٣", "ola:-1"):
+            self.assertRaisesRegex(ValueError, "names no universe of olad, such as ola:1", universe_of, text)
+            self.assertEqual(called("get", "all", "device_label", "--line", text)[0], 2)
+
+    def test_codes(self) -> None:
+        # OLA's response codes, and statuses of FORMATS.
+        codes = [0, 1, 2, 3, 4, 3, 10, 13, 14, 15, 16, 7, 5, 8, 9, 11, 17, 12, 2, 4]
+        for code, wanted in enumerate(codes):
+            found = client.completion_of(0, decode(encode([(1, code), (2, 0), (6, 0), (5, 0x60)])))
+            self.assertEqual((int(found.status), found.head is not None), (wanted, code == 0), code)
+        for fields in ([(1, 20)], [(1, 0), (2, 3)], [(1, 0), (6, 3)], [(1, b"")], [(1, 0), (4, 1)]):
+            self.assertRaises(ValueError, client.completion_of, 0, decode(encode(fields)))
+
+    def test_calls(self) -> None:
+        universes = answer(1, encode([(1, encode([(1, 1)]))]))
+        with Script(universes, answer(2, RESPONSE[10:]), answer(3, b"", 4), answer(4, b"", 4)) as script:
+            with OlaClient(f"ola:1:{script.port}") as ola:
+                self.assertEqual((ola.submit(IDENTIFY), ola.submit(IDENTIFY), ola.discover(Kind.FULL)), (0, 1, 0))
+                self.assertIsNone(ola.next_outcome())
+                ola.queue.run()
+                first, second = ola.next_outcome(), ola.next_outcome()
+                self.assertEqual((first.data, second.status), (b"\x01\x02", Status.FAILED_TO_SEND))
+                self.assertIs(ola.next_discovery().fault.kind, RunFaultKind.LINE_FAILED)
+
+    def test_a_daemon_that_goes_away(self) -> None:
+        universes = answer(1, encode([(1, encode([(1, 1)]))]))
+        with Script(universes, None) as script:
+            status, _, errors = called("get", "1234:00000001", "device_label", "--line", f"ola:1:{script.port}")
+            self.assertEqual((status, errors), (1, "wurstlinen: olad has ended the connection\n"))
+
+    def test_what_olad_has_not(self) -> None:
+        universes = answer(1, encode([(1, encode([(1, 1)])), (1, encode([(1, 5)]))]))
+        for words, status, text in (
+                (["get", "all", "device_label", "--frames"], 2, "olad keeps its frames to itself: leave out --frames"),
+                (["fixtures", "--log", "/nowhere/log"], 2, "olad keeps its frames to itself: leave out --log"),
+                (["fixtures", "--source", "1234:00000001"], 1,
+                 "olad is the controller of its lines: leave out --source")):
+            with Script(universes) as script:
+                found = called(*words, "--line", f"ola:1:{script.port}")
+                self.assertEqual((found[0], found[2]), (status, f"wurstlinen: {text}\n"))
+        with Script(universes) as script:
+            found = called("fixtures", "--line", f"ola:7:{script.port}")
+            self.assertEqual((found[0], found[2]), (1, "wurstlinen: olad has no universe 7; it has 1, 5\n"))
+
+    def test_the_only_adapter_is_olads(self) -> None:
+        with folder() as locks, mock.patch.object(adapters, "universes", lambda: [adapters.Universe("ola:3", "Pro")]):
+            (locks / "LCK..ttyUSB0").write_text("         1\n")
+            for name, wanted in (("olad", "ola:3"), ("other", None)):
+                with mock.patch("wurstlinen.lines.locks.name_of", lambda process: name):
+                    self.assertEqual(adapters.line_of_olad(Path("/dev/ttyUSB0"), locks), wanted)
+            self.assertIsNone(adapters.line_of_olad(Path("/dev/ttyUSB1"), locks))
