@@ -141,7 +141,7 @@ enum wurst_request_status {
 /* Why a discovery run ended early. */
 enum wurst_fault {
     WURST_NO_FAULT = 0,
-    WURST_CORRUPT = 1,       /* a branch of a single UID was answered, but showed no new device */
+    WURST_CORRUPT = 1,       /* a branch of one UID was answered, but showed no new device (quick: 8 times) */
     WURST_TOO_MANY = 2,      /* more than 1,024 devices */
     WURST_EXHAUSTED = 3,     /* the budget is used up */
     WURST_LINE_FAILED = 4,   /* the line failed */

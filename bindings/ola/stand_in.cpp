@@ -17,8 +17,7 @@ constexpr const char *DISCOVERY_BY_BRIDGE[] = {
     "the proved discovery, by the adapter's requests", "the adapter's own discovery, which isn't proved",
     "no discovery"};
 
-// Whether the core can send a request: it doesn't take DISCOVERY requests from clients, and sets all these fields
-// itself.
+// Whether the core can send a request: it takes no DISCOVERY requests, and sets all these fields itself.
 static bool is_for_core(const RDMRequest &request) {
     const auto length = static_cast<std::uint8_t>(HEADER_BYTES + request.ParamDataSize());
     return (request.CommandClass() == RDMCommand::GET_COMMAND || request.CommandClass() == RDMCommand::SET_COMMAND)
@@ -448,9 +447,8 @@ void StandIn::answer(const wurst::DiscoveryView &done) {
     answer_oldest(*devices);
 }
 
-// OLA's callback has no argument for a fault. Beside a device that can't be muted, and with one device too many, a run
-// has searched on as far as it could, so OLA gets what it has found. If the line failed, the run was cut short or its
-// budget is used up, most may be missing. Then OLA gets what the last run without a fault found, if there was one.
+// OLA's callback has no argument for a fault. Beside a device that can't be muted, or with one too many, OLA gets what
+// the run has found. After any other fault most may be missing, and OLA gets what the last run without a fault found.
 static bool has_searched(wurst_fault fault) {
     return fault == WURST_NO_FAULT || fault == WURST_CORRUPT || fault == WURST_TOO_MANY;
 }

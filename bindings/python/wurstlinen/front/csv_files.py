@@ -119,8 +119,8 @@ def sheet_before(name: str) -> Sheet:
 
 
 def merged(before: Sheet, rows: Sequence[Mapping[str, str]], output: Output, keeps: bool) -> Sheet:
-    """The rows in the manner of the table before, with what its other columns say of these devices. `keeps`: the rows of
-    other devices stay, since these may only be missing."""
+    """The rows in the manner of the table before, with what its other columns say of these devices. `keeps`: the rows
+    of other devices stay, since these may only be missing."""
     titles = [*before.titles, *(column for column in WRITTEN if before.column(column) is None)]
     after = Sheet(titles, delimiter=before.delimiter, encoding=before.encoding)
     others = before.others(WRITTEN)
