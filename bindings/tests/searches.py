@@ -1,9 +1,10 @@
-"""Counts how discoveries end on simulated lines, and their frames: `python3 searches.py frames|scenes SIZE ROUNDS`.
+"""Counts how discoveries end on simulated lines: `python3 searches.py frames|noise|scenes SIZE ROUNDS`.
 
-`frames` searches honest lines with SIZE devices, 1 to 1024, and each run has to find all of them. `scenes` searches
-lines with SIZE devices, 1 to 1000, that aren't honest. A row counts ROUNDS runs, 1 to 1000. The number of a run is the
-seed of its devices and of what is wrong with its line, so the rows are the same each time. If a run ends as none may,
-it is named, and the status is 1. WURSTLINEN_LIBRARY names the shared library.
+`frames` searches honest lines with SIZE devices, 1 to 1024, and each run has to find all of them. `noise` searches
+lines with bit errors and noise, and SIZE devices, 1 to 1000. `scenes` does so on lines that aren't honest. A row counts
+ROUNDS runs, 1 to 1000, and their frames. The number of a run is the seed of its devices and of what is wrong with its
+line, so the rows are the same each time. If a run ends as none may, it is named, and the status is 1.
+WURSTLINEN_LIBRARY names the shared library.
 """
 from __future__ import annotations
 
@@ -38,9 +39,13 @@ DISHONEST: List[Wrong] = [("Burst", 5), ("Burst", 10), ("Burst", 20), ("Noise", 
 # A device that breaks the rules has the first UID, one in the middle, or the last.
 ODD: List[Wrong] = [("Odd", breach, uid) for uid in (0, 0x7FFF_FFFF_FFFE, 0xFFFF_FFFF_FFFE)
                     for breach in ("NeverMutes", "TenBytes", "GoesOn", "AnswersAll")]
+# One reply in so many is lost, one lone reply has bit errors, and one silence brings noise. 0: none.
+NOISY: List[Wrong] = [("Disturbed", 0, 10, 0), ("Disturbed", 0, 0, 100), ("Disturbed", 0, 0, 10),
+                      ("Disturbed", 20, 20, 20), ("Disturbed", 10, 10, 10)]
 # For each subject: the most devices, and its rows, each with the spread of the devices and what is wrong.
 SUBJECTS: Dict[str, Tuple[int, List[Tuple[str, Wrong]]]] = {
     "frames": (1024, list(itertools.product(SPREADS, HONEST))),
+    "noise": (1000, list(itertools.product(["Block", "Random"], NOISY))),
     "scenes": (1000, [*itertools.product(["Random"], DISHONEST),
                       *((spread, wrong) for wrong in ODD for spread in ("Random", "Close"))]),
 }
@@ -145,6 +150,21 @@ class SimulatedLine:
         return acknowledge(command)
 
 
+class DisturbedLine(SimulatedLine):
+    """A line on which lone replies may have bit errors, and silences may bring noise."""
+
+    def __init__(self, devices: FrozenSet[int], random: Random, lost: int, errors: int, noise: int) -> None:
+        super().__init__(devices, losses=few_losses(random, lost))
+        self.errors = noises(random, errors)
+        self.noise = noises(random, noise)
+
+    def exchange(self, frame: bytes) -> bytes:
+        reply = super().exchange(frame)
+        if not reply:
+            return next(self.noise)
+        return reply if reply == NOISE else next(self.errors) or reply
+
+
 class OddLine(SimulatedLine):
     """A line with one more device, which breaks the rules. It replies to each branch that it is in, or to all branches
     until it is muted."""
@@ -175,11 +195,16 @@ def acknowledge(command: Packet) -> bytes:
     return command.answer(command.destination, ResponseType.ACK, b"\0\0").encode()
 
 
+def one_in(random: Random, many: int) -> bool:
+    """Whether this is the one among this many, of 0 never."""
+    return many > 0 and random.below(many) == 0
+
+
 def few_losses(random: Random, many: int) -> Iterator[bool]:
     """One reply in this many is lost, but no five in a row."""
     in_a_row = 0
     while True:
-        is_lost = random.below(many) == 0 and in_a_row < MOST_LOST
+        is_lost = one_in(random, many) and in_a_row < MOST_LOST
         in_a_row = in_a_row + 1 if is_lost else 0
         yield is_lost
 
@@ -197,9 +222,9 @@ def phantoms(random: Random, many: int) -> Iterator[bytes]:
 
 
 def noises(random: Random, many: int) -> Iterator[bytes]:
-    """One silent branch in this many brings noise."""
+    """Noise once in this many times."""
     while True:
-        yield NOISE if random.below(many) == 0 else b""
+        yield NOISE if one_in(random, many) else b""
 
 
 def line_of(devices: FrozenSet[int], seed: int, kind: str, *details: Any) -> SimulatedLine:
@@ -212,6 +237,8 @@ def line_of(devices: FrozenSet[int], seed: int, kind: str, *details: Any) -> Sim
         return SimulatedLine(devices, collisions=phantoms(Random(seed), *details))
     if kind == "Noise":
         return SimulatedLine(devices, silences=noises(Random(seed), *details))
+    if kind == "Disturbed":
+        return DisturbedLine(devices, Random(seed), *details)
     return OddLine(devices, *details) if kind == "Odd" else SimulatedLine(devices)
 
 
