@@ -151,9 +151,11 @@ module _ (a : AgentState) (end : next_op a ≡ End) (no_fault : fault_of a.phase
       → OfEach search a (λ kind known budget aborted x. Certificate kind known x a.found × IsReport x a.found)
   end-certified {search} kind known budget false x s =
       let all = ends_certified_by search kind known budget x a s.devices (runs-own kind known budget x a s)
-      (next_none a end) in
-      (subst (λ o. MatchOption o (Certificate kind known x a.found)
-      (λ f. Cause search budget ⊥ f x)) no_fault all.0, all.1)
+      (next_none a end) in (
+        subst (λ o. MatchOption o (Certificate kind known x a.found)
+            (λ f. Cause search budget ⊥ f x)) no_fault all.0,
+        all.1,
+      )
   end-certified {search} kind known budget true x s =
       absurd (some_none (fault_of a.phase) (aborted-fault a s.before s.is.1) no_fault)
 

@@ -127,15 +127,15 @@ pub record IsChecking (search : Search) (known : List ℕ) (u silences : ℕ) (x
 
 -- the UID that this range spelt is muted, n times so far in vain
 pub record IsMutingStray (search : Search) (known : List ℕ) (u tries : ℕ) (x : List Seen) (found : List ℕ) : Type 0
-    where
-  pub n : ℕ
-  pub quick : search ≡ Quick
-  pub searches : Searches known (Some u) whole [] x found
-  pub device : IsDevice u
-  pub few : tries < TRIES
-  pub spelt : WasSpelt u n unassigned x
-  pub some : tries ≤ n
-  pub none : (v : ℕ) → answers_in_a_row v x ≡ 0
+  where
+    pub n : ℕ
+    pub quick : search ≡ Quick
+    pub searches : Searches known (Some u) whole [] x found
+    pub device : IsDevice u
+    pub few : tries < TRIES
+    pub spelt : WasSpelt u n unassigned x
+    pub some : tries ≤ n
+    pub none : (v : ℕ) → answers_in_a_row v x ≡ 0
 
 -- a run without fault has its certificate, one with a fault its cause; a failure is last
 pub record HasEnded (search : Search) (kind : Kind) (known : List ℕ) (budget : ℕ) (fault : Option AgentFault)
