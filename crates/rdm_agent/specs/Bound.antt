@@ -98,6 +98,13 @@ pub record IsNoisy (present : List ℕ) (w : ℕ) (x : List Seen) : Type 0 where
 abbrev pub enough_in_noise : List ℕ → Kind → List ℕ → ℕ → ℕ
 enough_in_noise present kind known w = enough_by Quick present kind known + 15 * w
 
+-- a quick run on such a line that wasn't aborted, and has the budget that suffices
+pub record IsInNoise (present : List ℕ) (w : ℕ) (run : RunSoFar) : Type 0 where
+  pub line : IsNoisy present w run.exchanges
+  pub quick : run.search ≡ Quick
+  pub not_aborted : run.aborted ≡ false
+  pub budgeted : enough_in_noise present run.kind run.known w ≤ run.budget
+
 -- each quick run on such a line ends like this, with the budget that suffices
 abbrev pub EndsInNoisyBound : Type 0
 EndsInNoisyBound = OfEachRun Quick (λ kind known budget x b. (present : List ℕ) (w : ℕ) → IsNoisy present w x
