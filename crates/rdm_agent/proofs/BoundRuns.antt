@@ -1,8 +1,8 @@
--- Runs on an honest line end within their bound, and without fault.
+-- Runs on an honest or noisy line end within their bound, and without fault.
 use Rattle.rdm_agent.proofs.Common.{◌≡◌, ℕ, ◌+◌, ◌*◌, ◌≤◌, Bool, true, List, [], ◌∷◌, length, Option, None, Some, refl}
 use Rattle.rdm_agent.proofs.Common.{sym, ap, subst, inl, inr, true≢false, arith, ◌≢◌, ◌⊎◌, ◌↔◌, nat_lt, MatchOption}
 use Rattle.rdm_agent.proofs.Common.{filter, AllByRecursion, lt-ltb, cond_both, IsDeviceSet, MOST_DEVICES, whole, Asked}
-use Rattle.rdm_agent.proofs.Common.{Heard, Seen, LineState, HonestStep, Chain, before_run, Failed, Silent, One, Acked}
+use Rattle.rdm_agent.proofs.Common.{Heard, Seen, LineState, Chain, before_run, Failed, Silent, One, Acked}
 use Rattle.rdm_agent.proofs.Common.{Noise, known_of, Phase, AgentState, Runs, start_by, wanted, fed, found_uids}
 use Rattle.rdm_agent.proofs.Common.{fault_of, heard_by_phase, Unmuting, MutingKnown, Searching, MutingRead, Sweeping}
 use Rattle.rdm_agent.proofs.Common.{MutingSwept, Ended, enough_by, EndsWithin, Kind, Search, Steady, Quick}
@@ -16,84 +16,150 @@ use Rattle.rdm_agent.proofs.PaidLemmas.{unmuting-affords, known-affords}
 use Rattle.rdm_agent.proofs.SearchPaid.{searching-pays, searching-affords, read-affords, read-some}
 use Rattle.rdm_agent.proofs.SweepPaid.{sweeping-affords, swept-affords}
 use Rattle.rdm_agent.proofs.StrayPaid.{checking-affords, stray-affords}
-use Rattle.rdm_agent.proofs.Runs.{stands_by, wanted_next}
+use Rattle.rdm_agent.proofs.Runs.{stands_by, wanted_next, fed-search}
+use Rattle.rdm_agent.proofs.Potential.{Watched}
+use Rattle.rdm_agent.proofs.Common.{NoisyStep, Unmute, Branch, Mute, Other, cond, false, ◌∙◌}
+use Rattle.rdm_agent.specs.Bound.{disturbed_row, FewDisturbed, IsNoisy, EndsInNoisyBound}
+use Rattle.rdm_wire.specs.Noisy.{NoisyTraceWith, is_disturbed, disturbed_in}
+use Rattle.rdm_wire.proofs.NoisyLemmas.{honest_undisturbed}
 
-module _ (present : List ℕ) (set : IsDeviceSet present) (few : length present ≤ MOST_DEVICES) (total : ℕ) where
+-- a disturbed exchange pays for itself, and no other one does; few branches in a row are disturbed
+record IsPaid (present : List ℕ) (s new : Watched) (bonus : ℕ) (asked : Asked) (h : Heard) : Type 0 where
+  pub pays : is_disturbed present s.state asked h ≡ true → 30 ≤ bonus
+  pub only : 30 ≤ bonus → is_disturbed present s.state asked h ≡ true
+  pub row_is : new.row ≡ disturbed_row present s.state s.row asked h
+  pub row : new.row ≤ 7
+
+module _ (present : List ℕ) (set : IsDeviceSet present) (few : length present ≤ MOST_DEVICES) (total bonus : ℕ) where
   -- an exchange leaves a run within its bound
-  fed-affords : (s new : LineState) (a : AgentState) (asked : Asked) (h : Heard) → h ≢ Failed
-      → wanted a.phase ≡ Some asked → HonestStep present s asked h new → Affords present total s a
-      → Affords present total new (fed a h)
-  fed-affords s new a asked h sound asks step affords = of_heard h sound step
+  fed-affords : (s new : Watched) (a : AgentState) (asked : Asked) (h : Heard) → h ≢ Failed
+      → (30 ≤ bonus → a.search ≡ Quick) → wanted a.phase ≡ Some asked → NoisyStep present s.state asked h new.state
+      → IsPaid present s new bonus asked h → Affords present total s a → Affords present (total + bonus) new (fed a h)
+  fed-affords s new a asked h sound quick asks step paid affords = of_heard h sound step paid
     where
       After : Heard → Phase → Option Asked → Type 0
       After h phase o =
-          MatchOption o (Unit {0})
-          (λ q. HonestStep present s q h new → Affords present total new (heard_by_phase a phase h))
+          MatchOption o (Unit {0}) (λ q. NoisyStep present s.state q h new.state → IsPaid present s new bonus q h
+          → Affords present (total + bonus) new (heard_by_phase a phase h))
 
       by_phase : (phase : Phase) (h : Heard) → h ≢ Failed → Costs a.search present s (found_uids a) phase affords.cost
           → After h phase (wanted phase)
       by_phase (Unmuting more known) h sound costs =
-          λ step. unmuting-affords present set few total affords.cost s new a affords.within more known h affords.finds
-          costs
+          λ step paid. unmuting-affords present set few total affords.cost bonus s new a affords.within more known h
+          affords.finds costs
       by_phase (MutingKnown u tries spare known) h sound costs =
-          λ step. known-affords present set few total affords.cost s new a affords.within u tries spare known h sound
-          affords.finds step costs
+          λ step paid. known-affords present set few total affords.cost bonus s new a affords.within u tries spare known
+          h sound paid.pays affords.finds step costs
       by_phase (Searching silences bads spent top below) h sound costs =
-          λ step. searching-affords present set few total affords.cost s new a affords.within silences bads spent top
-          below h
-          sound affords.finds step costs
+          λ step paid. searching-affords present set few total affords.cost bonus s new a affords.within silences bads
+          spent top below h sound quick
+          (λ is. (paid.pays is, sym (paid.row_is ∙ ap (λ (b : Bool). cond b (s.row + 1) 0) is), paid.row)) paid.only
+          affords.finds step costs
       by_phase (MutingRead u tries spare bads top below) h sound costs =
-          λ step. read-affords present set few total affords.cost s new a affords.within u tries spare bads top below h
-          sound
-          affords.finds step costs
+          λ step paid. read-affords present set few total affords.cost bonus s new a affords.within u tries spare bads
+          top below h sound paid.pays affords.finds step costs
       by_phase (Sweeping sweep) h sound costs =
-          λ step. sweeping-affords present set few total affords.cost s new a affords.within sweep h sound affords.finds
-          step costs
+          λ step paid. sweeping-affords present set few total affords.cost bonus s new a affords.within sweep h sound
+          affords.finds step costs
       by_phase (MutingSwept u tries spare sweep) h sound costs =
-          λ step. swept-affords present set few total affords.cost s new a affords.within u tries spare sweep h sound
-          affords.finds step costs
+          λ step paid. swept-affords present set few total affords.cost bonus s new a affords.within u tries spare sweep
+          h sound paid.pays affords.finds step costs
       by_phase (Checking u silences sweep) h sound costs =
-          λ step. checking-affords present set few total affords.cost s new a affords.within u silences sweep h sound
-          affords.finds step costs
+          λ step paid. checking-affords present set few total affords.cost bonus s new a affords.within u silences sweep
+          h sound paid.pays affords.finds step costs
       by_phase (MutingStray u tries spare sweep) h sound costs =
-          λ step. stray-affords present set few total affords.cost s new a affords.within u tries spare sweep h sound
-          affords.finds step costs
+          λ step paid. stray-affords present set few total affords.cost bonus s new a affords.within u tries spare sweep
+          h sound paid.pays affords.finds step costs
       by_phase (Ended fault) h sound costs = tt
 
-      at_phase : (h : Heard) → h ≢ Failed → HonestStep present s asked h new
-          → Affords present total new (heard_by_phase a a.phase h)
-      at_phase h sound step = subst (After h a.phase) asks (by_phase a.phase h sound affords.costs) step
+      at_phase : (h : Heard) → h ≢ Failed → NoisyStep present s.state asked h new.state
+          → IsPaid present s new bonus asked h → Affords present (total + bonus) new (heard_by_phase a a.phase h)
+      at_phase h sound step paid = subst (After h a.phase) asks (by_phase a.phase h sound affords.costs) step paid
 
-      of_heard : (h : Heard) → h ≢ Failed → HonestStep present s asked h new → Affords present total new (fed a h)
-      of_heard Failed sound step = absurd (sound refl)
-      of_heard Silent sound step = at_phase Silent sound step
-      of_heard (One u) sound step = at_phase (One u) sound step
-      of_heard (Acked ack) sound step = at_phase (Acked ack) sound step
-      of_heard Noise sound step = at_phase Noise sound step
+      of_heard : (h : Heard) → h ≢ Failed → NoisyStep present s.state asked h new.state
+          → IsPaid present s new bonus asked h → Affords present (total + bonus) new (fed a h)
+      of_heard Failed sound step paid = absurd (sound refl)
+      of_heard Silent sound step paid = at_phase Silent sound step paid
+      of_heard (One u) sound step paid = at_phase (One u) sound step paid
+      of_heard (Acked ack) sound step paid = at_phase (Acked ack) sound step paid
+      of_heard Noise sound step paid = at_phase Noise sound step paid
+
+-- what a disturbed exchange adds
+bonus_of : Bool → ℕ
+bonus_of b = cond b 30 0
+
+unfolding_bonus : (b : Bool) → (b ≡ true → 30 ≤ bonus_of b) × (30 ≤ bonus_of b → b ≡ true)
+unfolding bonus_of
+unfolding_bonus true = ((λ is. omega arith), (λ some. refl))
+unfolding_bonus false = ((λ is. absurd (true≢false (sym is))), (λ some. absurd (omega (arith, some))))
+
+sums : (total rest : ℕ) (b : Bool) → total + bonus_of b + 30 * rest ≡ total + 30 * (cond b 1 0 + rest)
+unfolding bonus_of
+sums total rest true = omega arith
+sums total rest false = omega arith
+
+none_counted : (b : Bool) (rest : ℕ) → cond b 1 0 + rest ≡ 0 → (b ≡ false) × (rest ≡ 0)
+none_counted true rest none = absurd (omega (arith, none))
+none_counted false rest none = (refl, omega (arith, none))
 
 -- so do all exchanges of a run
 runs-afford : (present : List ℕ) → IsDeviceSet present → length present ≤ MOST_DEVICES
-    → (total : ℕ) (kind : Kind) (known : List ℕ) (budget : ℕ) (x : List Seen) (s : LineState) (a b : AgentState)
-    → AllByRecursion NotFailed x → Chain (HonestStep present) s x → Runs a x b → Affords present total s a
-    → (t : LineState) × Affords present total t b
-runs-afford present set few total kind known budget [] s a b sound chain run affords =
-    (s, subst (Affords present total s) (sym run) affords)
-runs-afford present set few total kind known budget (e ∷ x) s a b sound (inl failed) run affords =
+    → (total : ℕ) (kind : Kind) (known : List ℕ) (budget : ℕ) (x : List Seen) (s : LineState) (row : ℕ)
+    (a b : AgentState) → AllByRecursion NotFailed x → (chain : Chain (NoisyStep present) s x)
+    → FewDisturbed present s row x chain → (a.search ≡ Quick) ⊎ (disturbed_in present s x chain ≡ 0) → Runs a x b
+    → Affords present total (record { state = s; row = row }) a
+    → (t : Watched) × Affords present (total + 30 * disturbed_in present s x chain) t b
+runs-afford present set few total kind known budget [] s row a b sound chain in_row ok run affords = (
+  record { state = s; row = row },
+  subst (λ n. Affords present n (record { state = s; row = row }) b)
+      (let same : total ≡ total + 30 * 0 = omega arith in same)
+      (subst (Affords present total (record { state = s; row = row })) (sym run) affords),
+)
+runs-afford present set few total kind known budget (e ∷ x) s row a b sound (inl failed) in_row ok run affords =
     absurd (sound.0 failed)
-runs-afford present set few total kind known budget (e ∷ x) s a b sound (inr step) run affords =
-    runs-afford present set few total kind known budget x step.0 (fed a e.heard) b sound.1 step.2 run.1
-    (fed-affords present set few total s step.0 a e.asked e.heard sound.0
-    (wanted_next kind known budget a e.asked run.0).1 step.1 affords)
+runs-afford present set few total kind known budget (e ∷ x) s row a b sound (inr step) in_row ok run affords =
+    let after =
+    runs-afford present set few (total + bonus_of (is_disturbed present s e.asked e.heard)) kind known budget
+    x step.0 (disturbed_row present s row e.asked e.heard) (fed a e.heard) b sound.1 step.2 in_row.1 onward run.1
+    (fed-affords present set few total (bonus_of (is_disturbed present s e.asked e.heard))
+    (record { state = s; row = row })
+    (record { state = step.0; row = disturbed_row present s row e.asked e.heard }) a e.asked e.heard sound.0 quick
+    (wanted_next kind known budget a e.asked run.0).1 step.1
+    (record {
+      pays = (unfolding_bonus (is_disturbed present s e.asked e.heard)).0;
+      only = (unfolding_bonus (is_disturbed present s e.asked e.heard)).1;
+      row_is = refl;
+      row = in_row.0;
+    }) affords) in (
+      after.0,
+      subst (λ n. Affords present n after.0 b)
+          (sums total (disturbed_in present step.0 x step.2) (is_disturbed present s e.asked e.heard)) after.1,
+    )
+  where
+    quick : 30 ≤ bonus_of (is_disturbed present s e.asked e.heard) → a.search ≡ Quick
+    quick some = elim ok [
+      | inl is ↦ is
+      | inr none ↦ absurd (true≢false (sym ((unfolding_bonus (is_disturbed present s e.asked e.heard)).1 some)
+          ∙ (none_counted (is_disturbed present s e.asked e.heard) (disturbed_in present step.0 x step.2) none).0))
+    ]
+
+    onward : ((fed a e.heard).search ≡ Quick) ⊎ (disturbed_in present step.0 x step.2 ≡ 0)
+    onward = elim ok [
+      | inl is ↦ inl (fed-search a e.heard ∙ is)
+      | inr none ↦
+          inr (none_counted (is_disturbed present s e.asked e.heard) (disturbed_in present step.0 x step.2) none).1
+    ]
 
 -- a run that goes on still costs an exchange at least
-ended_or_pays : (search : Search) (present : List ℕ) (s : LineState) (found : List ℕ) (phase : Phase) (cost : ℕ)
+ended_or_pays : (search : Search) (present : List ℕ) (s : Watched) (found : List ℕ) (phase : Phase) (cost : ℕ)
     → Costs search present s found phase cost → (phase ≡ Ended None) ⊎ ((2 ≤ cost) × (wanted phase ≢ None))
 ended_or_pays search present s found (Unmuting more known) cost c =
     let some = c.some in let is = c.cost_is in inr (omega arith, λ p. cc)
 ended_or_pays search present s found (MutingKnown u tries spare known) cost c =
     let few = c.few in let is = c.cost_is in inr (omega arith, λ p. cc)
 ended_or_pays search present s found (Searching silences bads spent top below) cost c =
-    let some = searching-pays search present found silences spent top below cost c in inr (omega (arith, some), λ p. cc)
+    let some = searching-pays search present found s.row silences bads spent top below cost c in
+    inr (omega (arith, some), λ p. cc)
 ended_or_pays search present s found (MutingRead u tries spare bads top below) cost c = let few = c.few in
     let is = c.cost_is in let some = read-some present s found u tries top below cost c in inr (omega arith, λ p. cc)
 ended_or_pays search present s found (Sweeping sweep) cost c =
@@ -107,7 +173,7 @@ ended_or_pays search present s found (MutingStray u tries spare sweep) cost c =
 ended_or_pays search present s found (Ended fault) cost c = inl (ap Ended c)
 
 -- so it has ended without fault once all is paid
-ends_within : (present : List ℕ) (s : LineState) (b : AgentState) (most : ℕ) → most ≤ b.budget
+ends_within : (present : List ℕ) (s : Watched) (b : AgentState) (most : ℕ) → most ≤ b.budget
     → Affords present (2 * most) s b → EndsWithin most b
 ends_within present s b most enough affords =
     by_phase (ended_or_pays b.search present s (found_uids b) b.phase affords.cost affords.costs)
@@ -134,7 +200,8 @@ search_cost Steady present = 10 + length present * 740
 search_cost Quick present = 420 + length present * 740
 
 start-affords : (search : Search) (present : List ℕ) (muted : ℕ → Bool) (kind : Kind) (known : List ℕ) (budget : ℕ)
-    → Affords present (2 * enough_by search present kind known) (before_run muted) (start_by search kind known budget)
+    → Affords present (2 * enough_by search present kind known) (record { state = before_run muted; row = 0 })
+    (start_by search kind known budget)
 start-affords search present muted kind known budget = record {
   cost = 6 + 10 * length (known_of kind known) + search_cost search present;
   costs = record {
@@ -169,14 +236,67 @@ start-affords search present muted kind known budget = record {
     within Steady = omega arith
     within Quick = omega arith
 
+-- where no exchange is disturbed no row of them is long
+none_few : (present : List ℕ) (s : LineState) (row : ℕ) (x : List Seen) (chain : Chain (NoisyStep present) s x)
+    → disturbed_in present s x chain ≡ 0 → FewDisturbed present s row x chain
+none_few present s row [] chain none = tt
+none_few present s row (e ∷ x) (inl failed) none = tt
+none_few present s row (e ∷ x) (inr step) none = (
+  let zero = ends e.asked here.0 in omega (arith, zero),
+  none_few present step.0 (disturbed_row present s row e.asked e.heard) x step.2 here.1,
+)
+  where
+    here : (is_disturbed present s e.asked e.heard ≡ false) × (disturbed_in present step.0 x step.2 ≡ 0)
+    here = none_counted (is_disturbed present s e.asked e.heard) (disturbed_in present step.0 x step.2) none
+
+    ends : (asked : Asked) → is_disturbed present s asked e.heard ≡ false
+        → disturbed_row present s row asked e.heard ≡ 0
+    ends (Branch lo hi) quiet = ap (λ (b : Bool). cond b (row + 1) 0) quiet
+    ends (Mute u) quiet = refl
+    ends Unmute quiet = refl
+    ends Other quiet = refl
+
+-- whatever the line is, if it isn't disturbed or the search is quick
+ends_by : (search : Search) (kind : Kind) (known : List ℕ) (budget : ℕ) (x : List Seen) (b : AgentState)
+    → IsDeviceSet known → Runs (start_by search kind known budget) x b → (present : List ℕ) (w : ℕ)
+    → IsNoisy present w x → (search ≡ Quick) ⊎ (w ≡ 0) → enough_by search present kind known + 15 * w ≤ budget
+    → EndsWithin (enough_by search present kind known + 15 * w) b
+ends_by search kind known budget x b set run present w n ok enough =
+    ends_within present paid.0 b (enough_by search present kind known + 15 * w)
+    (rw (stands_by search kind known budget x b set run).budget_is enough)
+    (subst (λ m. Affords present m paid.0 b) all paid.1)
+  where
+    paid : (t : Watched) × Affords present (2 * enough_by search present kind known
+        + 30 * disturbed_in present (before_run n.noisy.0.1) x n.noisy.0.2) t b
+    paid = runs-afford present n.noisy.0.0 n.few (2 * enough_by search present kind known) kind known budget x
+        (before_run n.noisy.0.1) 0 (start_by search kind known budget) b n.no_failure n.noisy.0.2 n.few_in_a_row
+        (elim ok [ inl is ↦ inl is | inr none ↦ inr (n.noisy.1 ∙ none) ]) run
+        (start-affords search present n.noisy.0.1 kind known budget)
+
+    all : 2 * enough_by search present kind known
+        + 30 * disturbed_in present (before_run n.noisy.0.1) x n.noisy.0.2
+        ≡ 2 * (enough_by search present kind known + 15 * w)
+    all = let is = n.noisy.1 in omega (arith, is)
+
+pub ends_in_noisy_bound : EndsInNoisyBound
+ends_in_noisy_bound kind known budget x b set run present w n enough =
+    ends_by Quick kind known budget x b set run present w n (inl refl) enough
+
 pub ends_in_bound_by : (search : Search) → EndsInBoundBy search
 ends_in_bound_by search kind known budget x b set run present calm enough =
-    let honest = calm.honest in
-    let paid = runs-afford present honest.0 calm.few (2 * enough_by search present kind known) kind known budget x
-    (before_run honest.1) (start_by search kind known budget) b calm.no_failure honest.2 run
-    (start-affords search present honest.1 kind known budget) in
-    ends_within present paid.0 b (enough_by search present kind known)
-    (rw (stands_by search kind known budget x b set run).budget_is enough) paid.1
+    subst (λ m. EndsWithin m b) (sym none)
+    (ends_by search kind known budget x b set run present 0 (record {
+      noisy = noisy;
+      few_in_a_row = none_few present (before_run noisy.0.1) 0 x noisy.0.2 noisy.1;
+      few = calm.few;
+      no_failure = calm.no_failure;
+    }) (inr refl) (subst (λ m. m ≤ budget) none enough))
+  where
+    noisy : NoisyTraceWith present 0 x
+    noisy = (honest_undisturbed present x).0 calm.honest
+
+    none : enough_by search present kind known ≡ enough_by search present kind known + 15 * 0
+    none = omega arith
 
 -- the same of the steady search
 pub ends_in_bound : EndsInBound

@@ -14,6 +14,10 @@ worth-fewer level m n fewer = grind arith
 pub worth-found : (level m n : ℕ) → m + 1 ≤ n → worth level m + 20 ≤ worth level n
 worth-found level m n fewer = grind arith
 
+-- the halves of a range are worth five silences more at most
+worth-halves : (level a b : ℕ) → worth level a + worth level b ≤ worth (suc level) (a + b) + 10
+worth-halves level a b = grind arith
+
 -- a range with two devices is worth its halves, and five branches and five mutes
 worth-split : (level a b : ℕ) → 2 ≤ a + b → worth level a + worth level b + 20 ≤ worth (suc level) (a + b)
 worth-split level a b two = grind arith
@@ -85,6 +89,40 @@ module _ (present found : List ℕ) where
           let within = and_parts (nat_le r.lo u) (nat_le u r.hi)
           (and_parts (is_within r.lo r.hi u) (not (has found u)) left).0 in
           let least = leb-true r.lo u within.0 in let greatest = leb-true u r.hi within.1 in omega arith
+
+  -- a range of several UIDs has halves, and ten more cover them
+  pub Covers-halves : (top : Span) (below : List Span) (n : ℕ) → (top.lo ≡ top.hi → ⊥)
+      → Covers present found (top ∷ below) n
+      → (m : ℕ) × (m ≤ n + 10) × Covers present found (lower_half top ∷ upper_half top ∷ below) m
+  Covers-halves top below n several covered = by_level covered.0 covered.2 covered.3
+    where
+      by_level : (level : ℕ) → top.hi + 1 ≡ top.lo + 2 ^ level → worth level (left_in present found top) + covered.1 ≤ n
+          → (m : ℕ) × (m ≤ n + 10) × Covers present found (lower_half top ∷ upper_half top ∷ below) m
+      by_level zero size fits = absurd (several (omega arith))
+      by_level (suc l) size fits =
+          let half : (top.hi - top.lo) / 2 + 1
+          ≡ 2 ^ l = half_is top.lo top.hi (2 ^ l) (pow_pos l) (rw pow-suc at size) in
+          let doubled : top.hi + 1 ≡ top.lo + 2 ^ l * 2 = rw pow-suc at size in
+          let some : 0 < 2 ^ l = pow_pos l in
+          let sum : left_in present found top ≡ left_in present found (lower_half top) + left_in present found
+          (upper_half top) = left-halves present found top.lo (middle top) top.hi (omega arith) (omega arith) in
+          let pays : worth l (left_in present found (lower_half top)) + worth l
+          (left_in present found (upper_half top)) ≤ worth (suc l) (left_in present found top) + 10
+          = rw sum (worth-halves l _ _) in (
+            worth l (left_in present found (lower_half top)) + (worth l
+                (left_in present found (upper_half top)) + covered.1),
+            omega arith,
+            (
+              l,
+              worth l (left_in present found (upper_half top)) + covered.1,
+              omega arith,
+              omega arith,
+              (l, covered.1, omega arith, omega arith, covered.4),
+            ),
+          )
+        where
+          half_is : (lo hi p : ℕ) → 0 < p → hi + 1 ≡ lo + p * 2 → (hi - lo) / 2 + 1 ≡ p
+          half_is lo hi p some size = omega arith
 
   -- a range in which two are left has halves, and pays for them and for five branches and five mutes
   pub Covers-split : (top : Span) (below : List Span) (n : ℕ) → IsAscending present → 2 ≤ left_in present found top

@@ -5,7 +5,7 @@ use Rattle.rdm_agent.proofs.Common.{nat_lt, ◌==◌, ◌⊎◌, ◌≢◌, Matc
 use Rattle.rdm_agent.proofs.Common.{or_cases, or_right, or_left, eqb-true, eqb-false, eq-eqb, ltb-true, ltb-false, has}
 use Rattle.rdm_agent.proofs.Common.{is_within, is_broadcast, with_uid, IsAscending, IsDevice, IsDeviceSet, uids_of}
 use Rattle.rdm_agent.proofs.Common.{with_device, MOST_DEVICES, uids_of-with_device, device_from, Span, whole, Heard}
-use Rattle.rdm_agent.proofs.Common.{LineState, HonestStep, MayReply, MuteMoves, KeepsMuted, Counts, due_in, is_acked}
+use Rattle.rdm_agent.proofs.Common.{LineState, KeepsMuted, Counts, due_in, is_acked}
 use Rattle.rdm_agent.proofs.Common.{Mute, Failed, Silent, One, Acked, Noise, MuteAck, Phase, AgentState}
 use Rattle.rdm_agent.proofs.Common.{to_phase, to_found, split, search_from, search_below, is_new, found_uids}
 use Rattle.rdm_agent.proofs.Common.{known_heard, heard_by_phase, Unmuting}
@@ -15,18 +15,21 @@ use Rattle.rdm_agent.proofs.Potential.{Finds, Affords}
 use Rattle.rdm_agent.proofs.Members.{member}
 use Rattle.rdm_agent.proofs.Sets.{has-with_uid, length-with_uid}
 use Rattle.rdm_agent.proofs.LeftLemmas.{no_more, one_fewer, first_passes}
-use Rattle.rdm_agent.proofs.CoverLemmas.{Covers-found, Covers-split}
-use Rattle.rdm_agent.proofs.Common.{known_lost}
+use Rattle.rdm_agent.proofs.CoverLemmas.{Covers-found, Covers-split, Covers-halves}
+use Rattle.rdm_agent.proofs.Common.{known_lost, Searching, MutingKnown}
+use Rattle.rdm_agent.proofs.Potential.{Watched}
+use Rattle.rdm_agent.proofs.Common.{NoisyStep, MuteMovesInNoise, has_bytes, lower_half, upper_half}
+use Rattle.rdm_wire.specs.Noisy.{is_disturbed_branch}
 
 -- a phase that costs an exchange less
-pub record Cheaper (search : Search) (present : List ℕ) (line : LineState) (found : List ℕ) (cost : ℕ)
+pub record Cheaper (search : Search) (present : List ℕ) (line : Watched) (found : List ℕ) (cost : ℕ)
     (phase : Phase) : Type 0 where
   pub left : ℕ
   pub saves : left + 2 ≤ cost
   pub costs : Costs search present line found phase left
 
 -- the known UIDs that are left are muted, and then the search begins
-pub search_from-costs : (search : Search) (present found : List ℕ) (line : LineState) (cost : ℕ) (known : List ℕ)
+pub search_from-costs : (search : Search) (present found : List ℕ) (line : Watched) (cost : ℕ) (known : List ℕ)
     (n : ℕ) → 10 * length known + n + 2 ≤ cost → Ahead search present found n
     → Cheaper search present line found cost (search_from search known)
 search_from-costs Steady present found line cost [] n enough ahead =
@@ -35,9 +38,11 @@ search_from-costs Steady present found line cost [] n enough ahead =
       saves = omega arith;
       costs = record {
         ranges = n;
+        used = 0;
+        reserve = 0;
         few = omega arith;
-        limit = omega arith;
-        either = inl refl;
+        either = inl (record { used_is = refl; spent_is = inl refl });
+        alone = λ one. omega arith;
         covered = ahead;
         cost_is = omega arith;
       };
@@ -56,7 +61,7 @@ search_from-costs search present found line cost (u ∷ known) n enough ahead =
     }
 
 -- the next range is searched, or none is left
-pub search_below-costs : (search : Search) (present found : List ℕ) (line : LineState) (cost : ℕ) (below : List Span)
+pub search_below-costs : (search : Search) (present found : List ℕ) (line : Watched) (cost : ℕ) (below : List Span)
     (n : ℕ) → n + 2 ≤ cost → Covers present found below n → Cheaper search present line found cost (search_below below)
 search_below-costs search present found line cost [] n enough covered = record {
   left = 0;
@@ -69,35 +74,50 @@ search_below-costs search present found line cost (r ∷ rs) n enough covered =
       saves = enough;
       costs = record {
         ranges = n;
+        used = 0;
+        reserve = 0;
         few = omega arith;
-        limit = omega arith;
-        either = inl refl;
+        either = inl (record { used_is = refl; spent_is = inl refl });
+        alone = λ one. omega arith;
         covered = covered;
         cost_is = omega arith;
       };
     }
 
--- a range in which two devices are left is split, and pays for five branches and five mutes
-pub split-costs : (search : Search) (present found : List ℕ) (line : LineState) (cost : ℕ) (top : Span)
-    (below : List Span) (n : ℕ) → IsAscending present → 2 ≤ left_in present found top → n ≤ cost + 18
+-- a range of several UIDs is split. Two devices that are left in it pay for that, or else what is in reserve does
+pub split-costs : (search : Search) (present found : List ℕ) (line : Watched) (cost : ℕ) (top : Span)
+    (below : List Span) (n reserve : ℕ) → IsAscending present → (top.lo == top.hi) ≡ false
+    → (2 ≤ left_in present found top) ⊎ (30 ≤ reserve) → n + reserve ≤ cost + 18
     → Covers present found (top ∷ below) n
     → Cheaper search present line found cost (split top below)
-split-costs search present found line cost top below n ascending two enough covered =
-    let halved = Covers-split present found top below n ascending two covered in let pays = halved.2 in
+split-costs search present found line cost top below n reserve ascending several why enough covered =
     cond_both (top.lo == top.hi) _ _ (Cheaper search present line found cost)
-    (λ one. absurd (halved.0 (eqb-true top.lo top.hi one)))
-    (λ several. record {
-      left = halved.1;
-      saves = omega arith;
+    (λ one. absurd (true≢false (sym one ∙ several))) (λ two. halves why)
+  where
+    goes : (m : ℕ) → m + 2 ≤ cost → Covers present found (lower_half top ∷ upper_half top ∷ below) m
+        → Cheaper search present line found cost (Searching 0 0 0 (lower_half top) (upper_half top ∷ below))
+    goes m saves covers = record {
+      left = m;
+      saves = saves;
       costs = record {
-        ranges = halved.1;
+        ranges = m;
+        used = 0;
+        reserve = 0;
         few = omega arith;
-        limit = omega arith;
-        either = inl refl;
-        covered = halved.3;
+        either = inl (record { used_is = refl; spent_is = inl refl });
+        alone = λ one. omega arith;
+        covered = covers;
         cost_is = omega arith;
       };
-    })
+    }
+
+    halves : (2 ≤ left_in present found top) ⊎ (30 ≤ reserve)
+        → Cheaper search present line found cost (Searching 0 0 0 (lower_half top) (upper_half top ∷ below))
+    halves (inl two) = let halved = Covers-split present found top below n ascending two covered in
+        let pays = halved.2 in goes halved.1 (omega (arith, pays, enough)) halved.3
+    halves (inr some) =
+        let halved = Covers-halves present found top below n (eqb-false top.lo top.hi several) covered in
+        let pays = halved.1 in goes halved.0 (omega (arith, pays, enough, some)) halved.2
 
 -- a device that is acknowledged is found already, or one more is found and one fewer left
 abbrev pub CountsOneMore : List ℕ → List ℕ → ℕ → List ℕ → Type 0
@@ -116,19 +136,23 @@ Ahead-found Quick present found more u grows (inl same) n ahead =
 Ahead-found Quick present found more u grows (inr one_more) n ahead =
     let longer = one_more.0 in let fewer = one_more.1 in omega (arith, ahead, longer, fewer)
 
+-- what a mute of a device, or of an absent UID, leaves on a noisy line
+abbrev AfterMute : Bool → ℕ → LineState → Heard → LineState → Type 0
+AfterMute b u s h new =
+    MatchBool b (MuteMovesInNoise u s h new) ((is_acked h ≡ false) × KeepsMuted u s new × Counts new 0 0 0)
+
 -- a mute unmutes nobody
-pub mute-keeps : (present : List ℕ) (s new : LineState) (u : ℕ) (h : Heard) → HonestStep present s (Mute u) h new
+pub mute-keeps : (present : List ℕ) (s new : LineState) (u : ℕ) (h : Heard) → NoisyStep present s (Mute u) h new
     → (v : ℕ) → s.muted v ≡ true → new.muted v ≡ true
 mute-keeps present s new u h step v muted = elim (cases_Bool (u == v)) [
   | inl is ↦ of_same (eqb-true u v is)
   | inr other ↦ step.0 v other ∙ muted
 ]
   where
-    at_own : s.muted u ≡ true → (b : Bool)
-        → MatchBool b (MuteMoves u s h new) ((h ≡ Silent) × KeepsMuted u s new × Counts new 0 0 0) → new.muted u ≡ true
+    at_own : s.muted u ≡ true → (b : Bool) → AfterMute b u s h new → new.muted u ≡ true
     at_own before true (inl acked) = acked.1
-    at_own before true (inr (silent, inl now, counts)) = now
-    at_own before true (inr (silent, inr kept, counts)) = kept ∙ before
+    at_own before true (inr (lost, inl now, counts)) = now
+    at_own before true (inr (lost, inr kept, counts)) = kept ∙ before
     at_own before false absent = absent.1 ∙ before
 
     of_same : u ≡ v → new.muted v ≡ true
@@ -138,48 +162,24 @@ mute-keeps present s new u h step v muted = elim (cases_Bool (u == v)) [
 
 -- who acknowledges is present, and muted
 pub acked-mute : (present : List ℕ) (s new : LineState) (u : ℕ) (ack : MuteAck)
-    → HonestStep present s (Mute u) (Acked ack) new → (has present u ≡ true) × (new.muted u ≡ true)
+    → NoisyStep present s (Mute u) (Acked ack) new → (has present u ≡ true) × (new.muted u ≡ true)
 acked-mute present s new u ack step = by_presence (has present u) step.1
   where
-    loud : Acked ack ≡ Silent → ⊥
-    loud p = cc
-
-    by_presence : (b : Bool)
-        → MatchBool b (MuteMoves u s (Acked ack) new) ((Acked ack ≡ Silent) × KeepsMuted u s new × Counts new 0 0 0)
-        → (b ≡ true) × (new.muted u ≡ true)
+    by_presence : (b : Bool) → AfterMute b u s (Acked ack) new → (b ≡ true) × (new.muted u ≡ true)
     by_presence true (inl acked) = (refl, acked.1)
-    by_presence true (inr silent) = absurd (loud silent.0)
-    by_presence false absent = absurd (loud absent.0)
-
--- a mute that isn't acknowledged is silent
-pub mute-quiet : (present : List ℕ) (s new : LineState) (u : ℕ) (h : Heard) → HonestStep present s (Mute u) h new
-    → is_acked h ≡ false → h ≡ Silent
-mute-quiet present s new u h step lost = by_presence (has present u) step.1
-  where
-    by_presence : (b : Bool)
-        → MatchBool b (MuteMoves u s h new) ((h ≡ Silent) × KeepsMuted u s new × Counts new 0 0 0) → h ≡ Silent
-    by_presence true (inl acked) = absurd (true≢false (sym acked.0 ∙ lost))
-    by_presence true (inr silent) = silent.0
-    by_presence false absent = absent.0
+    by_presence true (inr lost) = absurd (true≢false lost.0)
+    by_presence false absent = absurd (true≢false absent.0)
 
 -- a device's mute that is lost is one more in a row, and no more than four
 pub lost-mute : (present : List ℕ) (s new : LineState) (u : ℕ) (h : Heard) → is_acked h ≡ false
-    → HonestStep present s (Mute u) h new → has present u ≡ true
+    → NoisyStep present s (Mute u) h new → has present u ≡ true
     → (new.lost_mutes ≡ s.lost_mutes + 1) × (s.lost_mutes + 1 ≤ 4)
 lost-mute present s new u h lost step here =
-    of_moves (subst (λ b. MatchBool b (MuteMoves u s h new) ((h ≡ Silent) × KeepsMuted u s new × Counts new 0 0 0)) here
-    step.1)
+    of_moves (subst (λ b. AfterMute b u s h new) here step.1)
   where
-    of_moves : MuteMoves u s h new → (new.lost_mutes ≡ s.lost_mutes + 1) × (s.lost_mutes + 1 ≤ 4)
+    of_moves : MuteMovesInNoise u s h new → (new.lost_mutes ≡ s.lost_mutes + 1) × (s.lost_mutes + 1 ≤ 4)
     of_moves (inl acked) = absurd (true≢false (sym acked.0 ∙ lost))
-    of_moves (inr silent) = (silent.2.mutes, silent.2.few_mutes)
-
--- other bytes aren't silence
-pub one_loud : (u : ℕ) → One u ≡ Silent → ⊥
-one_loud u p = cc
-
-pub noise_loud : Noise ≡ Silent → ⊥
-noise_loud p = cc
+    of_moves (inr lost) = (lost.2.mutes, lost.2.few_mutes)
 
 -- what is found stays so while no device is unmuted
 pub Finds-keeps : (present found : List ℕ) (s new : LineState) → ((u : ℕ) → s.muted u ≡ true → new.muted u ≡ true)
@@ -213,11 +213,12 @@ pub record SpellsNew (present found : List ℕ) (top : Span) (h : Heard) : Type 
 abbrev is_due : LineState → Span → ℕ → Bool
 is_due s top u = is_within top.lo top.hi u && not (s.muted u)
 
--- what comes after a branch spells a new device, or two devices are left
+-- what comes after a branch spells a new device, or two devices are left, or the branch was disturbed
 pub answered : (present found : List ℕ) (s : LineState) (top : Span) (h : Heard) → IsDeviceSet present → h ≢ Silent
-    → Finds present s found → MayReply (due_in present s.muted top.lo top.hi) h
-    → SpellsNew present found top h ⊎ (2 ≤ left_in present found top)
-answered present found s top h set loud f reply = by_due (due_in present s.muted top.lo top.hi) refl reply
+    → h ≢ Failed → Finds present s found
+    → SpellsNew present found top h ⊎ ((2 ≤ left_in present found top)
+    ⊎ (is_disturbed_branch (due_in present s.muted top.lo top.hi) h ≡ true))
+answered present found s top h set loud sound f = by_due (due_in present s.muted top.lo top.hi) refl
   where
     -- a device that is found is muted, and so not due
     absent : (u : ℕ) (b : Bool) → has found u ≡ b → not (s.muted u) ≡ true → not b ≡ true
@@ -229,19 +230,39 @@ answered present found s top h set loud f reply = by_due (due_in present s.muted
         let parts = and_parts (is_within top.lo top.hi u) (not (s.muted u)) due in
         and_from (is_within top.lo top.hi u) (not (has found u)) parts.0 (absent u (has found u) refl parts.1)
 
-    by_due : (due : List ℕ) → filter (is_due s top) present ≡ due → MayReply due h → SpellsNew present found top h
-        ⊎ (2 ≤ left_in present found top)
-    by_due [] is silent = absurd (loud silent)
-    by_due (u ∷ []) is (inl heard) = let first = first_passes (is_due s top) present [] u is in inl (record {
-      uid = u;
-      heard = heard;
-      here = first.1;
-      new = left-new found top u (member IsDevice present u set.devices first.1) (due_left u first.0);
-    })
-    by_due (u ∷ []) is (inr silent) = absurd (loud silent)
-    by_due (u ∷ v ∷ us) is any = let two : 2 ≤ length (filter (is_due s top) present) =
+    bytes : (k : Heard) → k ≢ Silent → k ≢ Failed → has_bytes k ≡ true
+    bytes Silent loud sound = absurd (loud refl)
+    bytes Failed loud sound = absurd (sound refl)
+    bytes (One v) loud sound = refl
+    bytes (Acked ack) loud sound = refl
+    bytes Noise loud sound = refl
+
+    -- the text of the one that is due, or else disturbed
+    own_text : (u : ℕ) (k : Heard) → k ≢ Silent → k ≢ Failed → (k ≡ One u) ⊎ (is_disturbed_branch (u ∷ []) k ≡ true)
+    own_text u Silent loud sound = absurd (loud refl)
+    own_text u Failed loud sound = absurd (sound refl)
+    own_text u (Acked ack) loud sound = inr refl
+    own_text u Noise loud sound = inr refl
+    own_text u (One v) loud sound = elim (cases_Bool (u == v)) [
+      | inl same ↦ inl (ap One (sym (eqb-true u v same)))
+      | inr other ↦ inr (ap not other)
+    ]
+
+    by_due : (due : List ℕ) → filter (is_due s top) present ≡ due → SpellsNew present found top h
+        ⊎ ((2 ≤ left_in present found top) ⊎ (is_disturbed_branch due h ≡ true))
+    by_due [] is = inr (inr (bytes h loud sound))
+    by_due (u ∷ []) is = elim (own_text u h loud sound) [
+      | inl heard ↦ let first = first_passes (is_due s top) present [] u is in inl (record {
+        uid = u;
+        heard = heard;
+        here = first.1;
+        new = left-new found top u (member IsDevice present u set.devices first.1) (due_left u first.0);
+      })
+      | inr disturbed ↦ inr (inr disturbed)
+    ]
+    by_due (u ∷ v ∷ us) is = let two : 2 ≤ length (filter (is_due s top) present) =
         rw is (omega arith) in let fewer = no_more (is_left found top) (is_due s top) present due_left in
-        inr (omega arith)
+        inr (inl (omega arith))
 
 module _ (present found : List ℕ) (u : ℕ) (here : has present u ≡ true) (absent : has found u ≡ false) where
   -- where one more is found, one fewer isn't
@@ -276,31 +297,32 @@ module _ (present found : List ℕ) (u : ℕ) (here : has present u ≡ true) (a
         | inr before ↦ old before
       ]
 
-module _ (present : List ℕ) (set : IsDeviceSet present) (few : length present ≤ MOST_DEVICES) (total cost : ℕ)
-    (s new : LineState) (a : AgentState) (within : 2 * a.frames + cost ≤ total) where
+module _ (present : List ℕ) (set : IsDeviceSet present) (few : length present ≤ MOST_DEVICES) (total base bonus : ℕ)
+    (s new : Watched) (a : AgentState) (within : 2 * a.frames + base ≤ total) where
   -- the phase goes on
-  pub to_phase-affords : (phase : Phase) → Finds present new (found_uids a)
-      → Cheaper a.search present new (found_uids a) cost phase → Affords present total new (to_phase a phase)
+  pub to_phase-affords : (phase : Phase) → Finds present new.state (found_uids a)
+      → Cheaper a.search present new (found_uids a) (base + bonus) phase
+      → Affords present (total + bonus) new (to_phase a phase)
   to_phase-affords phase f cheaper =
       let saves = cheaper.saves in
       record { cost = cheaper.left; costs = cheaper.costs; within = omega arith; finds = f }
 
   -- a device is found
-  pub to_found-affords : (u : ℕ) (ack : MuteAck) (phase : Phase) → has present u ≡ true → new.muted u ≡ true
-      → ((v : ℕ) → s.muted v ≡ true → new.muted v ≡ true) → Finds present s (found_uids a)
+  pub to_found-affords : (u : ℕ) (ack : MuteAck) (phase : Phase) → has present u ≡ true → new.state.muted u ≡ true
+      → ((v : ℕ) → s.state.muted v ≡ true → new.state.muted v ≡ true) → Finds present s.state (found_uids a)
       → ((more : List ℕ) → ((v : ℕ) → has (found_uids a) v ≡ true → has more v ≡ true) → has more u ≡ true
-      → CountsOneMore present (found_uids a) u more → Cheaper a.search present new more cost phase)
-      → Affords present total new (to_found a (device_from u ack) phase)
+      → CountsOneMore present (found_uids a) u more → Cheaper a.search present new more (base + bonus) phase)
+      → Affords present (total + bonus) new (to_found a (device_from u ack) phase)
   to_found-affords u ack phase here muted keeps f onward =
       cond_both (has (found_uids a) u) _ _ P at_old
       (λ absent. cond_both (nat_lt (length (found_uids a)) MOST_DEVICES) _ _ P (at_new absent) (at_full absent))
     where
       P : AgentState → Type 0
-      P b = Affords present total new b
+      P b = Affords present (total + bonus) new b
 
       at_old : has (found_uids a) u ≡ true → P (to_phase a phase)
       at_old old =
-          to_phase-affords phase (Finds-keeps present (found_uids a) s new keeps f)
+          to_phase-affords phase (Finds-keeps present (found_uids a) s.state new.state keeps f)
           (onward (found_uids a) (λ v there. there) old (inl (old, refl)))
 
       grown : uids_of (with_device (device_from u ack) a.found) ≡ with_uid u (found_uids a)
@@ -323,35 +345,36 @@ module _ (present : List ℕ) (set : IsDeviceSet present) (few : length present 
             cost = cheaper.left;
             costs = subst (λ us. Costs a.search present new us phase cheaper.left) (sym grown) cheaper.costs;
             within = omega arith;
-            finds = subst (Finds present new) (sym grown)
-                (Finds-more present (found_uids a) u here absent s new muted keeps f);
+            finds = subst (Finds present new.state) (sym grown)
+                (Finds-more present (found_uids a) u here absent s.state new.state muted keeps f);
           }
 
       at_full : has (found_uids a) u ≡ false → nat_lt (length (found_uids a)) MOST_DEVICES ≡ false
           → P (to_phase a (Ended (Some TooMany)))
       at_full absent full =
-          let room = has_room present (found_uids a) u here absent s few f in
+          let room = has_room present (found_uids a) u here absent s.state few f in
           let none = ltb-false (length (found_uids a)) MOST_DEVICES full in absurd (omega arith)
 
   -- an unmute
-  pub unmuting-affords : (more : ℕ) (known : List ℕ) (h : Heard) → Finds present s (found_uids a)
-      → Costs a.search present s (found_uids a) (Unmuting more known) cost
-      → Affords present total new (heard_by_phase a (Unmuting more known) h)
+  pub unmuting-affords : (more : ℕ) (known : List ℕ) (h : Heard) → Finds present s.state (found_uids a)
+      → Costs a.search present s (found_uids a) (Unmuting more known) base
+      → Affords present (total + bonus) new (heard_by_phase a (Unmuting more known) h)
   unmuting-affords more known h f costs = to_phase-affords
       (cond (nat_lt 1 more) (Unmuting (more - 1) known) (search_from a.search known)) finds
-      (cond_both (nat_lt 1 more) _ _ (Cheaper a.search present new (found_uids a) cost) goes_on ends)
+      (cond_both (nat_lt 1 more) _ _ (Cheaper a.search present new (found_uids a) (base + bonus)) goes_on ends)
     where
-      finds : Finds present new (found_uids a)
+      finds : Finds present new.state (found_uids a)
       finds = record {
         devices = f.devices;
         muted = λ u there. absurd (true≢false (sym there ∙ ap (λ us. has us u) costs.none_found));
         counted = f.counted;
       }
 
-      goes_on : nat_lt 1 more ≡ true → Cheaper a.search present new (found_uids a) cost (Unmuting (more - 1) known)
+      goes_on : nat_lt 1 more ≡ true
+          → Cheaper a.search present new (found_uids a) (base + bonus) (Unmuting (more - 1) known)
       goes_on two = let above : 1 < more = ltb-true 1 more two in let is = costs.cost_is in
           record {
-            left = cost - 2;
+            left = base - 2;
             saves = omega arith;
             costs = record {
               ranges = costs.ranges;
@@ -362,42 +385,59 @@ module _ (present : List ℕ) (set : IsDeviceSet present) (few : length present 
             };
           }
 
-      ends : nat_lt 1 more ≡ false → Cheaper a.search present new (found_uids a) cost (search_from a.search known)
+      ends : nat_lt 1 more ≡ false
+          → Cheaper a.search present new (found_uids a) (base + bonus) (search_from a.search known)
       ends one = let some = costs.some in let is = costs.cost_is in
-          search_from-costs a.search present (found_uids a) new cost known costs.ranges (omega arith) costs.ahead
+          search_from-costs a.search present (found_uids a) new (base + bonus) known costs.ranges (omega arith)
+          costs.ahead
 
   -- a mute of a known UID that is lost
-  known_lost-affords : (u tries spare : ℕ) (known : List ℕ) → Finds present s (found_uids a)
-      → HonestStep present s (Mute u) Silent new → CostsKnown a.search present (found_uids a) tries known cost
-      → Affords present total new (to_phase a (known_lost a.search u tries spare known))
-  known_lost-affords u tries spare known f step costs =
+  known_lost-affords : (u tries spare : ℕ) (known : List ℕ) (h : Heard) → Finds present s.state (found_uids a)
+      → NoisyStep present s.state (Mute u) h new.state → CostsKnown a.search present (found_uids a) tries known base
+      → Affords present (total + bonus) new (to_phase a (known_lost a.search u tries spare known))
+  known_lost-affords u tries spare known h f step costs =
       let few = costs.few in let is = costs.cost_is in
       to_phase-affords (known_lost a.search u tries spare known)
-      (Finds-keeps present (found_uids a) s new (mute-keeps present s new u Silent step) f)
-      (cond_both ((tries + 1) == TRIES) _ _ (Cheaper a.search present new (found_uids a) cost)
-      (λ five. search_from-costs a.search present (found_uids a) new cost known costs.ranges (omega arith)
+      (Finds-keeps present (found_uids a) s.state new.state (mute-keeps present s.state new.state u h step) f)
+      (cond_both ((tries + 1) == TRIES) _ _ (Cheaper a.search present new (found_uids a) (base + bonus))
+      (λ five. search_from-costs a.search present (found_uids a) new (base + bonus) known costs.ranges (omega arith)
       costs.ahead)
       (λ fewer. let other : tries + 1 ≡ TRIES → ⊥ = eqb-false (tries + 1) TRIES fewer in
-      let less : tries + 1 ≤ 4 = grind arith in
+      let less : tries + 1 ≤ 4 = grind (arith, other, few) in
       record {
-        left = cost - 2;
+        left = base - 2;
         saves = omega arith;
         costs = record { ranges = costs.ranges; few = less; ahead = costs.ahead; cost_is = omega arith };
       }))
 
+  -- its reply is garbled
+  known_garbled-affords : (u tries spare : ℕ) (known : List ℕ) (h : Heard) → 30 ≤ bonus
+      → Finds present s.state (found_uids a) → NoisyStep present s.state (Mute u) h new.state
+      → CostsKnown a.search present (found_uids a) tries known base
+      → Affords present (total + bonus) new (to_phase a (cond (nat_lt 0 spare) (MutingKnown u tries (spare - 1) known)
+      (known_lost a.search u tries spare known)))
+  known_garbled-affords u tries spare known h paid f step costs =
+      cond_both (nat_lt 0 spare) _ _ (λ p. Affords present (total + bonus) new (to_phase a p))
+      (λ spares. to_phase-affords (MutingKnown u tries (spare - 1) known)
+      (Finds-keeps present (found_uids a) s.state new.state (mute-keeps present s.state new.state u h step) f)
+      (record { left = base; saves = omega (arith, paid); costs = costs }))
+      (λ counts. known_lost-affords u tries spare known h f step costs)
+
   -- a mute of a known UID
-  pub known-affords : (u tries spare : ℕ) (known : List ℕ) (h : Heard) → h ≢ Failed → Finds present s (found_uids a)
-      → HonestStep present s (Mute u) h new → CostsKnown a.search present (found_uids a) tries known cost
-      → Affords present total new (known_heard a u tries spare known h)
-  known-affords u tries spare known (Acked ack) sound f step costs =
-      let acked = acked-mute present s new u ack step in let few = costs.few in let is = costs.cost_is in
-      to_found-affords u ack (search_from a.search known) acked.0 acked.1 (mute-keeps present s new u (Acked ack) step)
-      f
-      (λ more grows now one_more. search_from-costs a.search present more new cost known costs.ranges (omega arith)
-      (Ahead-found a.search present (found_uids a) more u grows one_more costs.ranges costs.ahead))
-  known-affords u tries spare known Failed sound f step costs = absurd (sound refl)
-  known-affords u tries spare known Silent sound f step costs = known_lost-affords u tries spare known f step costs
-  known-affords u tries spare known (One v) sound f step costs =
-      absurd (one_loud v (mute-quiet present s new u (One v) step refl))
-  known-affords u tries spare known Noise sound f step costs =
-      absurd (noise_loud (mute-quiet present s new u Noise step refl))
+  pub known-affords : (u tries spare : ℕ) (known : List ℕ) (h : Heard) → h ≢ Failed
+      → ((has_bytes h && not (is_acked h)) ≡ true → 30 ≤ bonus) → Finds present s.state (found_uids a)
+      → NoisyStep present s.state (Mute u) h new.state → CostsKnown a.search present (found_uids a) tries known base
+      → Affords present (total + bonus) new (known_heard a u tries spare known h)
+  known-affords u tries spare known (Acked ack) sound paid f step costs =
+      let acked = acked-mute present s.state new.state u ack step in let few = costs.few in let is = costs.cost_is in
+      to_found-affords u ack (search_from a.search known) acked.0 acked.1
+      (mute-keeps present s.state new.state u (Acked ack) step) f
+      (λ more grows now one_more. search_from-costs a.search present more new (base + bonus) known costs.ranges
+      (omega arith) (Ahead-found a.search present (found_uids a) more u grows one_more costs.ranges costs.ahead))
+  known-affords u tries spare known Failed sound paid f step costs = absurd (sound refl)
+  known-affords u tries spare known Silent sound paid f step costs =
+      known_lost-affords u tries spare known Silent f step costs
+  known-affords u tries spare known (One v) sound paid f step costs =
+      known_garbled-affords u tries spare known (One v) (paid refl) f step costs
+  known-affords u tries spare known Noise sound paid f step costs =
+      known_garbled-affords u tries spare known Noise (paid refl) f step costs

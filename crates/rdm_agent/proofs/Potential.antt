@@ -3,7 +3,7 @@ use Rattle.rdm_agent.proofs.Common.{◌⊎◌, filter, has, is_within, Span, who
 use Rattle.rdm_agent.proofs.Common.{is_new, Sweep, Unmuting, MutingKnown, Searching, MutingRead, Sweeping, MutingSwept}
 use Rattle.rdm_agent.proofs.Common.{Ended, Search, Steady, Quick, Checking, MutingStray}
 use Rattle.std.specs.Prelude.{◌≡◌, ℕ, ◌+◌, ◌*◌, ◌^◌, ◌<◌, ◌≤◌, Bool, true, false, ◌&&◌, not, List, [], ◌∷◌, length}
-use Rattle.std.specs.Prelude.{None}
+use Rattle.std.specs.Prelude.{None, ◌==◌}
 
 -- the present devices that aren't found, and those of them in a range
 abbrev pub unfound : List ℕ → List ℕ → List ℕ
@@ -53,28 +53,53 @@ pub record CostsKnown (search : Search) (present found : List ℕ) (tries : ℕ)
   pub ahead : Ahead search present found ranges
   pub cost_is : cost + 2 * tries ≡ 10 + 10 * length known + ranges
 
--- What covers the open ranges, without the branches that the top one had. These were silent, unless a quick run asks
--- again a range in which two devices are left
-pub record CostsSearching (search : Search) (present found : List ℕ) (silences spent : ℕ) (top : Span)
+-- A line, and how many branches in a row were disturbed.
+pub record Watched : Type 0 where
+  pub state : LineState
+  pub row : ℕ
+
+-- a range was only silent so far, or one UID alone was asked again after a bad answer; so many of its branches aren't
+-- paid for yet
+pub record IsFirstTime (search : Search) (silences spent used : ℕ) (top : Span) : Type 0 where
+  pub used_is : used ≡ silences
+  pub spent_is : (spent ≡ silences) ⊎ ((search ≡ Quick) × (top.lo ≡ top.hi))
+
+-- a range of several UIDs was asked again: two devices are left in it, or a disturbed branch pays for its split
+pub record IsAskedAgain (search : Search) (present found : List ℕ) (silences spent used reserve : ℕ)
+    (top : Span) : Type 0 where
+  pub quick : search ≡ Quick
+  pub used_is : used ≡ spent
+  pub limit : spent ≤ silences + 5
+  pub several : (top.lo == top.hi) ≡ false
+  pub why : (2 ≤ left_in present found top) ⊎ (30 ≤ reserve)
+
+-- What covers the open ranges, and what is in reserve, without the branches of the top one that aren't paid for yet. If
+-- one UID is asked alone, each of its bad answers was a disturbed branch
+pub record CostsSearching (search : Search) (present found : List ℕ) (row silences bads spent : ℕ) (top : Span)
     (below : List Span) (cost : ℕ) : Type 0 where
   pub ranges : ℕ
+  pub used : ℕ
+  pub reserve : ℕ
   pub few : silences ≤ 4
-  pub limit : spent ≤ silences + 5
-  pub either : (spent ≡ silences) ⊎ ((search ≡ Quick) × (2 ≤ left_in present found top))
+  pub either : IsFirstTime search silences spent used top
+      ⊎ IsAskedAgain search present found silences spent used reserve top
+  pub alone : top.lo ≡ top.hi → bads ≤ row
   pub covered : Covers present found (top ∷ below) ranges
-  pub cost_is : cost + 2 * spent ≡ ranges
+  pub cost_is : cost + 2 * used ≡ ranges + reserve
 
--- what covers the open ranges, without five branches and the tries made. What the top range spelt is a device, of which
--- few mutes were lost, or two devices spelt it together
-pub record CostsRead (present : List ℕ) (line : LineState) (found : List ℕ)
+-- what covers the open ranges, and what is in reserve, without five branches and the tries made. What the top range
+-- spelt is a device, of which few mutes were lost, or two devices spelt it together, or noise did
+pub record CostsRead (present : List ℕ) (line : Watched) (found : List ℕ)
     (u tries : ℕ) (top : Span) (below : List Span) (cost : ℕ) : Type 0 where
   pub ranges : ℕ
+  pub reserve : ℕ
   pub few : tries ≤ 4
   pub new : is_new found top u ≡ true
-  pub lost : has present u ≡ true → tries ≤ line.lost_mutes
-  pub spelt : (has present u ≡ true) ⊎ (2 ≤ left_in present found top)
+  pub lost : has present u ≡ true → tries ≤ line.state.lost_mutes
+  pub spelt : (has present u ≡ true) ⊎ (((top.lo == top.hi) ≡ false)
+      × ((2 ≤ left_in present found top) ⊎ (30 ≤ reserve)))
   pub covered : Covers present found (top ∷ below) ranges
-  pub cost_is : cost + 10 + 2 * tries ≡ ranges
+  pub cost_is : cost + 10 + 2 * tries ≡ ranges + reserve
 
 -- what a sweep costs, without the exchanges that it made; it is below its limit
 pub record CostsSweeping (present found : List ℕ) (sweep : Sweep) (cost : ℕ) : Type 0 where
@@ -82,41 +107,44 @@ pub record CostsSweeping (present found : List ℕ) (sweep : Sweep) (cost : ℕ)
   pub below : sweep.made < 100 * (length found + 2)
   pub enough : sweep_cost present found ≤ cost + 2 * sweep.made
 
--- the same in the midst of a series of mutes, which may go on past the limit
+-- the same in the midst of a series of mutes, which may go on past the limit, and by what noise adds to it
 pub record CostsSwept (present found : List ℕ) (u tries : ℕ) (sweep : Sweep) (cost : ℕ) : Type 0 where
+  pub more : ℕ
   pub few : tries ≤ 4
-  pub below : sweep.made ≤ 100 * (length found + 2) + tries
-  pub enough : sweep_cost present found ≤ cost + 2 * sweep.made
+  pub below : sweep.made ≤ 100 * (length found + 2) + tries + more
+  pub enough : sweep_cost present found + 2 * more ≤ cost + 2 * sweep.made
   pub new : has found u ≡ false
 
 -- the same while a check is silent: at most twice
-pub record CostsChecking (present found : List ℕ) (silences : ℕ) (sweep : Sweep) (cost : ℕ) : Type 0 where
+pub record CostsChecking (present found : List ℕ) (u silences : ℕ) (sweep : Sweep) (cost : ℕ) : Type 0 where
+  pub new : has found u ≡ false
   pub few : silences ≤ 1
   pub below : sweep.made ≤ 100 * (length found + 2) + silences
   pub enough : sweep_cost present found ≤ cost + 2 * sweep.made
 
--- the same in the midst of a series of mutes after a check, which only a device answers
-pub record CostsStray (present : List ℕ) (line : LineState) (found : List ℕ) (u tries : ℕ) (sweep : Sweep)
+-- the same in the midst of a series of mutes after a check, which a device answers, or noise did
+pub record CostsStray (present : List ℕ) (line : Watched) (found : List ℕ) (u tries : ℕ) (sweep : Sweep)
     (cost : ℕ) : Type 0 where
+  pub more : ℕ
+  pub extra : ℕ
   pub few : tries ≤ 4
-  pub below : sweep.made ≤ 100 * (length found + 2) + 2 + tries
-  pub enough : sweep_cost present found ≤ cost + 2 * sweep.made
+  pub below : sweep.made ≤ 100 * (length found + 2) + 2 + tries + more
+  pub enough : sweep_cost present found + 2 * (more + extra) ≤ cost + 2 * sweep.made
   pub new : has found u ≡ false
-  pub here : has present u ≡ true
-  pub lost : tries ≤ line.lost_mutes
+  pub why : ((has present u ≡ true) × (tries ≤ line.state.lost_mutes)) ⊎ (2 ≤ extra)
 
 -- a phase still costs this many half exchanges at most; a run that has ended costs nothing, and has no fault
-abbrev pub Costs : Search → List ℕ → LineState → List ℕ → Phase → ℕ → Type 0
+abbrev pub Costs : Search → List ℕ → Watched → List ℕ → Phase → ℕ → Type 0
 Costs search present line found (Unmuting more known) cost = CostsUnmuting search present found more known cost
 Costs search present line found (MutingKnown u tries spare known) cost =
     CostsKnown search present found tries known cost
 Costs search present line found (Searching silences bads spent top below) cost =
-    CostsSearching search present found silences spent top below cost
+    CostsSearching search present found line.row silences bads spent top below cost
 Costs search present line found (MutingRead u tries spare bads top below) cost =
     CostsRead present line found u tries top below cost
 Costs search present line found (Sweeping sweep) cost = CostsSweeping present found sweep cost
 Costs search present line found (MutingSwept u tries spare sweep) cost = CostsSwept present found u tries sweep cost
-Costs search present line found (Checking u silences sweep) cost = CostsChecking present found silences sweep cost
+Costs search present line found (Checking u silences sweep) cost = CostsChecking present found u silences sweep cost
 Costs search present line found (MutingStray u tries spare sweep) cost =
     CostsStray present line found u tries sweep cost
 Costs search present line found (Ended fault) cost = fault ≡ None
@@ -128,8 +156,8 @@ pub record Finds (present : List ℕ) (line : LineState) (found : List ℕ) : Ty
   pub counted : length found + length (unfound present found) ≤ length present
 
 -- the exchanges so far and what is still to come make no more than total half exchanges
-pub record Affords (present : List ℕ) (total : ℕ) (line : LineState) (a : AgentState) : Type 0 where
+pub record Affords (present : List ℕ) (total : ℕ) (line : Watched) (a : AgentState) : Type 0 where
   pub cost : ℕ
   pub costs : Costs a.search present line (found_uids a) a.phase cost
   pub within : 2 * a.frames + cost ≤ total
-  pub finds : Finds present line (found_uids a)
+  pub finds : Finds present line.state (found_uids a)

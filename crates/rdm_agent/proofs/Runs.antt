@@ -255,7 +255,7 @@ heard-search a (MutingStray u tries spare sweep) (One v) = refl
 heard-search a (MutingStray u tries spare sweep) Noise = refl
 heard-search a (Ended fault) h = refl
 
-fed-search : (a : AgentState) (h : Heard) → (fed a h).search ≡ a.search
+pub fed-search : (a : AgentState) (h : Heard) → (fed a h).search ≡ a.search
 fed-search a Failed = refl
 fed-search a Silent = heard-search a a.phase Silent
 fed-search a (One u) = heard-search a a.phase (One u)

@@ -3,6 +3,7 @@ use Rattle.rdm_agent.proofs.Common.{ℕ, zero, suc, List, [], ◌∷◌, ◌++�
 use Rattle.rdm_agent.proofs.Common.{LineState, Chain, NoisyStep, Silent, Branch, sample_uid, exchange}
 use Rattle.rdm_wire.specs.Noisy.{NoisyTraceWith}
 use Rattle.rdm_agent.specs.SampleRun.{lower_branch, noisy_run}
+use Rattle.rdm_agent.specs.Bound.{IsNoisy}
 use Rattle.rdm_agent.proofs.SampleHonest.{none_muted, one_muted, line, counts}
 
 -- the same exchange again and again, which leaves the line as it is
@@ -64,3 +65,137 @@ run_is_noisy = (
   ),
   refl,
 )
+
+-- of which few branches in a row are disturbed
+pub run_is_calm : IsNoisy (sample_uid ∷ []) 3 noisy_run
+unfolding again run_is_noisy
+run_is_calm = record {
+  noisy = run_is_noisy;
+  few_in_a_row = (
+    omega arith,
+    (
+      omega arith,
+      (
+        omega arith,
+        (
+          omega arith,
+          (
+            omega arith,
+            (
+              omega arith,
+              (
+                omega arith,
+                (
+                  omega arith,
+                  (
+                    omega arith,
+                    (
+                      omega arith,
+                      (
+                        omega arith,
+                        (
+                          omega arith,
+                          (
+                            omega arith,
+                            (
+                              omega arith,
+                              (
+                                omega arith,
+                                (
+                                  omega arith,
+                                  (
+                                    omega arith,
+                                    (
+                                      omega arith,
+                                      (
+                                        omega arith,
+                                        (
+                                          omega arith,
+                                          (
+                                            omega arith,
+                                            (
+                                              omega arith,
+                                              (
+                                                omega arith,
+                                                tt,
+                                              ),
+                                            ),
+                                          ),
+                                        ),
+                                      ),
+                                    ),
+                                  ),
+                                ),
+                              ),
+                            ),
+                          ),
+                        ),
+                      ),
+                    ),
+                  ),
+                ),
+              ),
+            ),
+          ),
+        ),
+      ),
+    ),
+  );
+  few = omega arith;
+  no_failure = (
+    (λ e. cc),
+    (
+      (λ e. cc),
+      (
+        (λ e. cc),
+        (
+          (λ e. cc),
+          (
+            (λ e. cc),
+            (
+              (λ e. cc),
+              (
+                (λ e. cc),
+                (
+                  (λ e. cc),
+                  (
+                    (λ e.
+                        cc),
+                    (
+                      (λ e. cc),
+                      (
+                        (λ e. cc),
+                        (
+                          (λ e. cc),
+                          (
+                            (λ e. cc),
+                            (
+                              (λ e. cc),
+                              (
+                                (λ e. cc),
+                                (
+                                  (λ e. cc),
+                                  (
+                                    (λ e. cc),
+                                    (
+                                      (λ e. cc),
+                                      ((λ e. cc), ((λ e. cc), ((λ e. cc), ((λ e. cc), ((λ e. cc), tt))))),
+                                    ),
+                                  ),
+                                ),
+                              ),
+                            ),
+                          ),
+                        ),
+                      ),
+                    ),
+                  ),
+                ),
+              ),
+            ),
+          ),
+        ),
+      ),
+    ),
+  );
+}

@@ -9,6 +9,7 @@ use Rattle.rdm_agent.proofs.Common.{sweep_on, sweep_silent, sweep_apart, believe
 use Rattle.rdm_agent.proofs.Common.{MutingSwept, Kind, TRIES, Sweep, Belief, Checking, counted_silent, counted_spelt}
 use Rattle.rdm_agent.proofs.Common.{sweep_spelt, hearing, is_stray, is_one, Search, has_bytes}
 use Rattle.rdm_agent.proofs.Common.{garbled_mutes, swept_lost}
+use Rattle.rdm_agent.proofs.Common.{has, is_within}
 use Rattle.rdm_agent.specs.Machine.{is_outside}
 use Rattle.rdm_agent.specs.Beliefs.{last_uid}
 use Rattle.rdm_agent.proofs.Rows.{AnswersOf, answered, answers-lost, several-none, none-answers, acked-none}
@@ -32,18 +33,22 @@ abbrev pub believing : Belief → Sweep → Sweep
 believing b sweep = record sweep { belief = b }
 
 -- a UID that is checked may be a device's, and the range that spelt it is of several UIDs
-pub record IsStray (r : Span) (u : ℕ) : Type 0 where
+pub record IsStray (found : List ℕ) (r : Span) (u : ℕ) : Type 0 where
   pub device : IsDevice u
+  pub new : has found u ≡ false
   pub several : r.lo ≡ r.hi → ⊥
 
 pub stray-is : (found : List ℕ) (sweep : Sweep) (u : ℕ) → is_stray found sweep u ≡ true
-    → IsStray sweep.question.range u
+    → IsStray found sweep.question.range u
 stray-is found sweep u stray =
     let both = and_parts (is_outside found sweep u) _ stray in
     let device = and_parts (nat_le u last_uid) (not (is_broadcast u))
     (and_parts (nat_le u last_uid && not (is_broadcast u)) _ both.0).0 in
     let small : u ≤ last_uid = leb-true u last_uid device.0 in
+    let outside = and_parts (not (is_within sweep.question.range.lo sweep.question.range.hi u)) _
+    (and_parts (nat_le u last_uid && not (is_broadcast u)) _ both.0).1 in
     record {
+      new = not-true (has found u) (and_parts (not (has found u)) _ outside.1).0;
       device = record { in_range = omega (arith, small); own = not-true (is_broadcast u) device.1 };
       several = eqb-false sweep.question.range.lo sweep.question.range.hi
           (not-true (is_one sweep.question.range) (and_parts (not (is_one sweep.question.range)) _ both.1).0);

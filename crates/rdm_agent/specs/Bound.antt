@@ -1,7 +1,11 @@
--- How many exchanges a run on an honest line makes at most, and that it ends without fault.
+-- How many exchanges a run on an honest or noisy line makes at most, and that it ends without fault.
 use Rattle.std.specs.Prelude.{◌≡◌, ◌≢◌, ℕ, ◌+◌, ◌*◌, ◌≤◌, false, List, [], ◌∷◌, ◌++◌, length, None}
 use Rattle.std.specs.List.{AllByRecursion}
-use Rattle.rdm_wire.specs.Honest.{Seen, HonestTrace}
+use mathlib.Core.Logic.{inl, inr}
+use Rattle.std.specs.Prelude.{if◌then◌else◌}
+use Rattle.rdm_wire.specs.Honest.{Asked, Heard, Seen, LineState, HonestTrace, Chain, before_run}
+use Rattle.rdm_wire.specs.Honest.Asked.{Unmute, Branch, Mute, Other}
+use Rattle.rdm_wire.specs.Noisy.{NoisyStep, NoisyTraceWith, is_disturbed}
 use Rattle.rdm_wire.specs.Honest.Heard.{Failed}
 use Rattle.rdm_agent.specs.Certificate.{known_of}
 use Rattle.rdm_agent.specs.Machine.{AgentState, next_of, fault_of}
@@ -66,6 +70,45 @@ pub record EndsWithin (most : ℕ) (b : AgentState) : Type 0 where
 abbrev pub EndsInBoundBy : Search → Type 0
 EndsInBoundBy search = OfEachRun search (λ kind known budget x b. (present : List ℕ) → IsCalm present x
     → enough_by search present kind known ≤ budget → EndsWithin (enough_by search present kind known) b)
+
+-- how many branches in a row are disturbed, if n were before this exchange; anything else than a branch ends the row
+abbrev pub disturbed_row : List ℕ → LineState → ℕ → Asked → Heard → ℕ
+disturbed_row present old n (Branch lo hi) heard =
+    if is_disturbed present old (Branch lo hi) heard then n + 1 else 0
+disturbed_row present old n (Mute u) heard = 0
+disturbed_row present old n Unmute heard = 0
+disturbed_row present old n Other heard = 0
+
+-- never more than seven branches in a row are disturbed
+abbrev pub FewDisturbed : (present : List ℕ) (old : LineState) (n : ℕ) (x : List Seen)
+    → Chain (NoisyStep present) old x → Type 0
+FewDisturbed present old n [] chain = Unit {0}
+FewDisturbed present old n (e ∷ x) (inl failed) = Unit {0}
+FewDisturbed present old n (e ∷ x) (inr step) = (disturbed_row present old n e.asked e.heard ≤ 7)
+    × FewDisturbed present step.0 (disturbed_row present old n e.asked e.heard) x step.2
+
+-- a noisy line with these devices, w of whose exchanges are disturbed, without a failure; a run can report all of them
+pub record IsNoisy (present : List ℕ) (w : ℕ) (x : List Seen) : Type 0 where
+  pub noisy : NoisyTraceWith present w x
+  pub few_in_a_row : FewDisturbed present (before_run noisy.0.1) 0 x noisy.0.2
+  pub few : length present ≤ 1024
+  pub no_failure : AllByRecursion (λ e. e.heard ≢ Failed) x
+
+-- what suffices for a quick run on such a line
+abbrev pub enough_in_noise : List ℕ → Kind → List ℕ → ℕ → ℕ
+enough_in_noise present kind known w = enough_by Quick present kind known + 15 * w
+
+-- a quick run on such a line that wasn't aborted, and has the budget that suffices
+pub record IsInNoise (present : List ℕ) (w : ℕ) (run : RunSoFar) : Type 0 where
+  pub line : IsNoisy present w run.exchanges
+  pub quick : run.search ≡ Quick
+  pub not_aborted : run.aborted ≡ false
+  pub budgeted : enough_in_noise present run.kind run.known w ≤ run.budget
+
+-- each quick run on such a line ends like this, with the budget that suffices
+abbrev pub EndsInNoisyBound : Type 0
+EndsInNoisyBound = OfEachRun Quick (λ kind known budget x b. (present : List ℕ) (w : ℕ) → IsNoisy present w x
+    → enough_in_noise present kind known w ≤ budget → EndsWithin (enough_in_noise present kind known w) b)
 
 -- each run with the steady search ends like this
 abbrev pub EndsInBound : Type 0

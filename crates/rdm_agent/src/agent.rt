@@ -12,7 +12,7 @@ ghost use Rattle.rdm_agent.specs.Calls.{fits, next_op, run_result, ended_by_abor
 ghost use Rattle.rdm_agent.specs.Certificate.{Certificate};
 ghost use Rattle.rdm_agent.specs.Cause.{Cause, EndsFailed};
 ghost use Rattle.rdm_agent.specs.Statements.{IsInOrder, IsInEach, IsInOne};
-ghost use Rattle.rdm_agent.specs.Bound.{IsUndisturbed, StaysInBound, enough_by, with_exchange};
+ghost use Rattle.rdm_agent.specs.Bound.{IsUndisturbed, StaysInBound, IsInNoise, enough_by, with_exchange};
 ghost use Rattle.rdm_agent.specs.declared.op.Op.TheVariants.{End};
 
 use crate::fault::AgentFault;
@@ -202,7 +202,7 @@ impl Agent {
     /// On an honest line the result has no device that was never there, and `Ok` has each one that was always there. On
     /// a noisy line whose devices stay, `Ok` has exactly these, and `Err` no others. On an honest line the result is
     /// `Ok` if at most 1,024 devices stayed, the budget suffices for them, no exchange failed and the run wasn't
-    /// aborted.
+    /// aborted. So it is for a quick search on a noisy line, if no more than seven branches in a row were disturbed.
     ///
     /// The set is copied. [`Agent::found`] and [`Agent::fault`] return the same without a copy.
     pub fn end(self) -> Result<DeviceSet, (AgentFault, DeviceSet)>
@@ -242,6 +242,10 @@ impl Agent {
         // If no exchange failed and the budget suffices for the devices, it has no fault.
         ensures no_fault { AfterEach self (λ run. (present : List ℕ) →
             IsUndisturbed present run → IsOkAnd result (λ s. uids_of s ≡ present)) }
+
+        // The same for a quick run on a noisy line, whose budget suffices for its disturbed exchanges, too.
+        ensures no_fault_in_noise { AfterEach self (λ run. (present : List ℕ) (w : ℕ) →
+            IsInNoise present w run → IsOkAnd result (λ s. uids_of s ≡ present)) }
     {
         // Each arm makes its own copy. If both moved one set, LLVM would split it into thousands of pieces.
         match self.phase.fault() {

@@ -34,6 +34,7 @@ ghost use Rattle.rdm_agent.specs.Run.{acked_in, asked_by, FailureIsLast};
 ghost use Rattle.rdm_agent.specs.Calls.{next_op, HasRunBy, AfterEach};
 ghost use Rattle.rdm_agent.specs.OpFrames.{op_frame, IsSendable};
 ghost use Rattle.rdm_agent.specs.Bound.{most_frames, enough_for, enough_by, IsUndisturbed};
+ghost use Rattle.rdm_agent.specs.Bound.{EndsInNoisyBound, IsNoisy};
 ghost use Rattle.rdm_agent.specs.Bound.{EndsInBound, EndsInBoundBy, EndsByDefault};
 ghost use Rattle.rdm_agent.specs.declared.op.Op.{Op};
 ghost use Rattle.rdm_agent.specs.declared.op.Op.TheVariants.{End};
@@ -106,6 +107,12 @@ pub fn no_phantom()
 pub fn honest_run_ends()
     ensures steady { EndsInBound }
     ensures quick { EndsInBoundBy Quick }
+{}
+
+/// The same for a quick run on a noisy line. `w` of its exchanges are disturbed, and never more than seven branches in
+/// a row. It makes at most `213 + 370 n + 5 k + 15 w` exchanges, and ends without fault if its budget is no less.
+pub fn noisy_run_ends()
+    ensures { EndsInNoisyBound }
 {}
 
 /// The default budget suffices for each such run of the steady search, with up to 1,024 devices and as many known UIDs.
@@ -230,6 +237,7 @@ pub fn honest_losses()
 /// five replies to branches in a row, or five acknowledgements, whether bytes came in their place or not.
 pub fn noisy_run()
     ensures noisy { NoisyTraceWith (sample_uid ∷ []) 3 noisy_run }
+    ensures calm { IsNoisy (sample_uid ∷ []) 3 noisy_run }
     ensures found { Runs (start Full [] DEFAULT_BUDGET) noisy_run (record {
       budget = DEFAULT_BUDGET;
       frames = 23;

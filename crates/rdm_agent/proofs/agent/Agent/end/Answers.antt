@@ -3,7 +3,7 @@ use Rattle.rdm_agent.specs.contracts.agent.Agent.{the_view}
 use Rattle.rdm_agent.proofs.CallLemmas.{end-certified, end-finds_all, end-finds_each, end-finds_staying, end-caused}
 use Rattle.rdm_agent.proofs.CallLemmas.{end-finds_all_in_noise, end-finds_each_in_noise, found-present}
 use Rattle.rdm_agent.proofs.CallLemmas.{found-present_in_noise, found-no_stranger}
-use Rattle.rdm_agent.proofs.BoundCalls.{end-finds, end-no_fault}
+use Rattle.rdm_agent.proofs.BoundCalls.{end-finds, end-no_fault, end-finds_in_noise, end-no_fault_in_noise}
 use Rattle.rdm_agent.proofs.agent.Agent.end.Goals as goal
 
 -- what is known of the agent holds of its fields
@@ -90,4 +90,15 @@ returns-in-None-clause-no_fault c = λ run s present calm.
 pub returns-in-Some-clause-no_fault : goal.returns-in-Some-clause-no_fault
 returns-in-Some-clause-no_fault c = λ run s present calm.
     end-no_fault (the_view c.self.inside) run (stands _ _ c.self.view_is run s) present calm
+    (ends _ _ c.self.view_is c.requires) c.in-Some.fault (sym (c.in-Some.ensures _ _))
+
+pub returns-in-None-clause-no_fault_in_noise : goal.returns-in-None-clause-no_fault_in_noise
+returns-in-None-clause-no_fault_in_noise c = λ run s present w n.
+    rw c.copied.ensures
+    (end-finds_in_noise (the_view c.self.inside) run (stands _ _ c.self.view_is run s) present w n
+    (ends _ _ c.self.view_is c.requires))
+
+pub returns-in-Some-clause-no_fault_in_noise : goal.returns-in-Some-clause-no_fault_in_noise
+returns-in-Some-clause-no_fault_in_noise c = λ run s present w n.
+    end-no_fault_in_noise (the_view c.self.inside) run (stands _ _ c.self.view_is run s) present w n
     (ends _ _ c.self.view_is c.requires) c.in-Some.fault (sym (c.in-Some.ensures _ _))
