@@ -9,8 +9,8 @@ from functools import partial
 from typing import TYPE_CHECKING, Iterator, Optional, Set, Tuple, Union, cast
 
 from .. import (
-    AckType, Asker, Client, Completion, Controller, Device, Discovery, Kind, Request, RequestClass, ResponseClass,
-    Search, Status, Uid, Unserved,
+    AckType, Asker, Client, Completion, Controller, Device, Discovery, Fault, Kind, Request, RequestClass,
+    ResponseClass, Search, Status, Uid, Unserved,
 )
 from .. import commands
 from ..commands import RUN_FAULTS, source_of
@@ -198,8 +198,8 @@ def shared_work(client: Union[SharedClient, OlaClient], output: Output, frames: 
 
 @contextlib.contextmanager
 def failures_of_server() -> Iterator[None]:
-    """Raises Failure if the server of the line ends."""
+    """Raises Failure if the server of the line ends, or refuses something."""
     try:
         yield
-    except LineFailed as fault:
+    except (Fault, LineFailed) as fault:
         raise Failure(FAILED, str(fault), reason=LINE_FAILED) from None
