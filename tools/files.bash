@@ -7,13 +7,19 @@ make_folder() {
     (umask 022 && mkdir -p -- "$1")
 }
 
+# Removes files and folders when a script ends. A signal that comes meanwhile doesn't stop that.
+remove_at_end() {
+    trap '' HUP INT PIPE TERM
+    rm -rf -- "$@"
+}
+
 # Puts a copy of the file $1 in the place of $2, with the mode $3, or 644. A file there is replaced and never written
 # into, so programs that run it, or have it mapped, aren't disturbed. The copy's name is new, so links and other calls
 # can't interfere.
 put() (
     new="$(mktemp -u -- "$(dirname -- "$2")/.${2##*/}.XXXXXX")" || exit
     # The trap is set before the file is there, which is made only if nothing has its name.
-    trap 'rm -f -- "$new"' EXIT
+    trap 'remove_at_end "$new"' EXIT
     (umask 077 && set -C && : > "$new") || { trap - EXIT && exit 1; }
     cp -- "$1" "$new" && chmod "${3-644}" -- "$new" && mv -fT -- "$new" "$2"
 )
@@ -21,7 +27,7 @@ put() (
 # Puts a link to $1 in the place of $2, in one step.
 put_link() (
     new="$(mktemp -u -- "$(dirname -- "$2")/.${2##*/}.XXXXXX")" || exit
-    trap 'rm -f -- "$new"' EXIT
+    trap 'remove_at_end "$new"' EXIT
     ln -s -- "$1" "$new" && mv -fT -- "$new" "$2"
 )
 

@@ -112,7 +112,7 @@ ensure_library() {
 # Puts the command in Python into the place of $1, as one file.
 install_front() (
     staged="$(mktemp -d)" || exit
-    trap 'rm -rf -- "$staged"' EXIT
+    trap 'remove_at_end "$staged"' EXIT
     mkdir "$staged/all" && copy_package "$root/bindings/python/wurstlinen" "$staged/all/wurstlinen" || exit
     front_proof > "$staged/all/wurstlinen/PROOF" || exit
     # Another version of Python compiles the sources. The bytes don't depend on when or where they were compiled.

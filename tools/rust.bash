@@ -75,7 +75,7 @@ build_rust() {
 # of the library's calls alone, so that it can be linked beside other libraries in Rust.
 archive_of_rust() (
     made="$(mktemp -d)" || exit
-    trap 'rm -rf -- "$made"' EXIT
+    trap 'remove_at_end "$made"' EXIT
     archive="$(realpath -- "$1")/libwurstlinen_c.a" || exit
     member="$(ar t "$archive" 2> /dev/null | awk '/^wurstlinen_c-/ && !seen++')" && [ -n "$member" ] || exit
     (cd "$made" && ar x "$archive" "$member" 2> /dev/null) || exit

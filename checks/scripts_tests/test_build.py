@@ -14,6 +14,24 @@ from typing import List
 from clone import Clone, is_alive, new_clone, wait_for
 
 CRATES = ("rdm_arguments", "rdm_wire")
+# A build to which SIGTERM comes once rt has begun, and before all crates are submitted.
+EARLY = """
+import os, runpy, signal, sys, time
+from concurrent.futures import ThreadPoolExecutor
+
+class Pool(ThreadPoolExecutor):
+    def submit(self, call, crate):
+        submitted = super().submit(call, crate)
+        while not os.path.exists({note!r}):
+            time.sleep(0.01)
+        os.kill(os.getpid(), signal.SIGTERM)
+        return submitted
+
+sys.argv = ["build_program", "4", "40000000"]
+names = runpy.run_path({builds!r})
+names["Build"].run.__globals__["ThreadPoolExecutor"] = Pool
+sys.exit(names["main"]())
+"""
 
 
 class Builds(unittest.TestCase):
@@ -84,6 +102,15 @@ class Builds(unittest.TestCase):
         self.assertEqual(script.wait(), 130)
         self.assertEqual(self.kept(), list(CRATES))
         self.assertEqual(list((self.clone.root / "out/copies").iterdir()), [])
+
+    def test_a_build_that_is_interrupted_as_it_begins_ends(self) -> None:
+        self.slow.touch()
+        self.addCleanup(self.slow.unlink, missing_ok=True)
+        early = self.clone.root / "tools/early.py"
+        early.write_text(EARLY.format(note=str(self.note), builds=str(self.clone.root / "tools/build_program")))
+        done = self.clone.run("timeout", "-k", "5", "60", "python3", str(early), env=self.environment)
+        self.assertEqual(done.returncode, 130, done.stderr)
+        wait_for(lambda: not any(is_alive(process) for process in self.numbers()))
 
     def test_a_build_ends_with_its_script(self) -> None:
         self.slow.touch()

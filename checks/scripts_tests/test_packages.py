@@ -164,6 +164,14 @@ class Packages(unittest.TestCase):
             self.assertIn(f"commit: {self.head}, with changes\n", proof.read().decode())
         self.assertEqual({path.name.count(f"{self.version}.changed") for path in self.folder.iterdir()}, {1})
 
+    def test_without_git_the_commit_is_unknown(self) -> None:
+        done = self.clone.run("./wurstlinen", "--package", str(self.folder), env=self.clone.environment_without("git"))
+        self.assertEqual(done.returncode, 0, done.stderr)
+        with tarfile.open(self.folder / f"wurstlinen-{VERSION}-linux-{os.uname().machine}.tar.gz") as archive:
+            proof = archive.extractfile(f"wurstlinen-{VERSION}-linux-{os.uname().machine}/PROOF")
+            assert proof is not None
+            self.assertIn("commit: unknown\n", proof.read().decode())
+
     def unpacked_archive(self) -> Path:
         """The folder in the .tar.gz."""
         path = self.package(f"wurstlinen-{self.version}-linux")

@@ -1,10 +1,11 @@
 """What ./wurstlinen does with cargo: it compiles without a kit, or if it is told to, and says why it can't."""
 from __future__ import annotations
 
+import shutil
 import unittest
 from pathlib import Path
 
-from clone import Clone, new_clone
+from clone import ROOT, Clone, new_clone
 
 COMPILING = "wurstlinen: compiling the program with rustc 1.99.0, about a minute\n"
 PROVING = "wurstlinen: proving and building the program, about 20 minutes on four processors; a call after an " \
@@ -32,6 +33,7 @@ class WithCargo(unittest.TestCase):
         self.without_kit()
         self.expect("decode 00", 0, ANSWER, COMPILING)
         self.expect("decode 00", 0, ANSWER, "")
+        self.expect("--unproved decode 00", 0, ANSWER, "")
         self.assertEqual(len(self.clone.rt_calls()), 1)
         self.assertIn("compiled with rustc 1.99.0", self.clone.run("./wurstlinen", "--version").stdout)
 
@@ -69,6 +71,16 @@ class WithCargo(unittest.TestCase):
                     f"{kit}there is no cargo 1.85 or later: on Debian 12, apt install cargo-web rustc-web\n")
         self.assertEqual(list(self.clone.root.glob("out/rust/*")), [])
 
+    def test_without_python_only_help_is_given(self) -> None:
+        environment = self.clone.environment_without("python3")
+        for words in ("decode 00", "--unproved decode 00", "doctor", "help", "--install new", "--rust new", ""):
+            done = self.clone.run("./wurstlinen", *words.split(), env=environment)
+            self.assertEqual((done.returncode, done.stdout, done.stderr),
+                             (125, "", "wurstlinen: there is no command python3: install Python 3.9 or later\n"))
+        for word in ("--help", "--version"):
+            self.assertEqual(self.clone.run("./wurstlinen", word, env=environment).returncode, 0)
+        self.assertEqual(list(self.clone.root.glob("out")) + list(self.clone.root.glob("new")), [])
+
     def test_without_crates_nothing_is_kept(self) -> None:
         self.without_kit()
         self.clone.put_cargo(NO_CRATES)
@@ -76,6 +88,9 @@ class WithCargo(unittest.TestCase):
         self.assertEqual((done.returncode, done.stdout), (125, ""))
         self.assertIn("cargo has no network and no crates: on Debian, apt install librust-arrayvec-dev", done.stderr)
         self.assertEqual(list(self.clone.root.glob("out/rust/wurstlinen.b*")), [])
+        for option in ("--install", "--install-library", "--package"):
+            self.assertEqual(self.clone.run("./wurstlinen", option, "new/folder").returncode, 125)
+            self.assertFalse((self.clone.root / "new").exists(), option)
         self.clone.put_cargo()
         self.expect("decode 00", 0, ANSWER, COMPILING)
 
@@ -87,6 +102,37 @@ class WithCargo(unittest.TestCase):
         done = self.clone.run("./wurstlinen", "decode", "00")
         self.assertIn("the kit is 'kit-of-tests logic 1', and this text was proved with 'a later kit'", done.stderr)
         self.expect("decode 00", 0, ANSWER, "")
+
+
+class Gate(unittest.TestCase):
+    """checks/rust, where its means are missing."""
+
+    def setUp(self) -> None:
+        context = new_clone()
+        self.clone: Clone = context.__enter__()
+        self.addCleanup(context.__exit__, None, None, None)
+        (self.clone.root / "checks").mkdir()
+        for name in ("rust", "count.bash"):
+            shutil.copy(ROOT / "checks" / name, self.clone.root / "checks")
+        (self.clone.root / "checks/only_deletes").write_text("#!/bin/sh\necho '3 passed, 0 failed'\n")
+        (self.clone.root / "checks/only_deletes").chmod(0o755)
+
+    def expect_skipped(self, why: str, counts: str) -> None:
+        done = self.clone.run("checks/rust")
+        self.assertEqual((done.returncode, done.stderr), (0, ""))
+        self.assertIn(why, done.stdout)
+        self.assertEqual(done.stdout.splitlines()[-1], counts)
+
+    def test_without_cargo(self) -> None:
+        self.expect_skipped("skipped: the text as plain Rust, since there is no cargo 1.85 or later: on Debian 12, "
+                            "apt install cargo-web rustc-web\n", "0 passed, 0 failed")
+        self.clone.put_cargo(version="1.63.0")
+        self.expect_skipped("skipped: the text as plain Rust, since cargo 1.63.0 is too old", "0 passed, 0 failed")
+
+    def test_without_crates(self) -> None:
+        self.clone.put_cargo(NO_CRATES)
+        self.expect_skipped("skipped: the text as plain Rust but for what the tool writes, since cargo has no network "
+                            "and no crates: on Debian, apt install librust-arrayvec-dev", "4 passed, 0 failed")
 
 
 class Workspaces(unittest.TestCase):

@@ -217,15 +217,18 @@ def run_request(chosen: argparse.Namespace, is_set: bool) -> int:
 
 def completed(chosen: argparse.Namespace, is_set: bool) -> Tuple[Completion, str]:
     """How a request ends, and why the line failed if it did. Raises LineFailed."""
-    from . import Controller, Uid
+    from . import Controller, Fault, Uid
     client = served(chosen)
     if client is not None:
-        with client:
-            reasons: List[str] = []
-            client.queue.on_failure = reasons.append
-            request_of(client, chosen, is_set)
-            client.queue.run()
-            return ended(client), "".join(reasons)
+        try:
+            with client:
+                reasons: List[str] = []
+                client.queue.on_failure = reasons.append
+                request_of(client, chosen, is_set)
+                client.queue.run()
+                return ended(client), "".join(reasons)
+        except Fault as fault:
+            raise LineFailed(str(fault)) from None
     with opened(chosen) as line:
         watched = WatchedLine(line)
         with Controller(Uid.from_number(source_of(chosen, line)), 1) as controller:

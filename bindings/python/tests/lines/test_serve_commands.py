@@ -1,6 +1,7 @@
 """The command serve as a process, and the other commands with it and without it."""
 from __future__ import annotations
 
+import argparse
 import contextlib
 import io
 import json
@@ -10,6 +11,7 @@ import signal
 import socket
 import subprocess
 import sys
+import threading
 import time
 import unittest
 from pathlib import Path
@@ -22,14 +24,14 @@ from servers import HELLO, SECONDS, TOOL, Program, command, environment, here, r
 from test_serve import FIVE, FOUND, GET, LABEL, LEFT, five
 from wurstlinen import LineFailed, OutcomeKind, RunFaultKind, Status, connect, tool
 from wurstlinen._queue import kind_of
-from wurstlinen.front.output import Failure
+from wurstlinen.front.output import Failure, Output
 from wurstlinen.lines import EnttecPro, Rig
 from wurstlinen.lines.emulator import Emulator, Widget
 from wurstlinen.lines.packets import uid_text
 from wurstlinen.shared import place, worker
-from wurstlinen.shared.listening import checked
+from wurstlinen.shared.listening import Place, checked
 from wurstlinen.shared.log_file import LogFile
-from wurstlinen.tool import adapters, places
+from wurstlinen.tool import adapters, places, sharing
 
 LINE = f"rig:{FIVE}"
 WIDGET = Widget(manufacturer=ENTTEC)
@@ -125,6 +127,13 @@ class Commands(LongTestCase):
                 status, _, errors = called(*words, "--line", LINE, "--wait", "0.2")
                 self.assertEqual((status, errors), (
                     1, f"wurstlinen: the {what} wasn't sent: the queue is paused, or has too much to do\n"))
+
+    def test_a_queue_that_is_closed(self) -> None:
+        with here(five, name=LINE) as made:
+            made.session.close()
+            for words in (["get", LEFT, "device_label"], ["get", "--raw", LEFT, "0082"], ["fixtures"]):
+                status, out, errors = called(*words, "--line", LINE)
+                self.assertEqual((status, out, errors), (1, "", "wurstlinen: the queue is closed\n"), words)
 
     def test_a_folder_that_is_not_safe_is_named_and_not_used(self) -> None:
         with runtime() as made:
@@ -304,6 +313,30 @@ class Ends(LongTestCase):
             self.assertEqual(server.communicate(timeout=SECONDS)[0], f"{LINE} is shared at {path}\n")
             # The socket is systemd's, and stays.
             self.assertEqual((server.returncode, os.path.lexists(path)), (0, True))
+
+    def test_a_line_that_breaks(self) -> None:
+        class Broken(Rig):
+            def exchange(self, frame: bytes) -> bytes:
+                raise ZeroDivisionError("no reply")
+        chosen = argparse.Namespace(line=LINE, source=None, log=None, idle=None, group=None)
+        with runtime(), mock.patch.object(sharing, "end_by"):
+            found = Place(LINE)
+            asking = threading.Thread(target=self.ask, args=(found.path,), daemon=True)
+            asking.start()
+            output = Output(False, io.StringIO(), io.StringIO())
+            with self.assertRaises(Failure) as raised:
+                sharing.serve(chosen, output, Broken(FIVE), found.listener, found)
+            text = f"{LINE} has ended the server: ZeroDivisionError('no reply')"
+            self.assertEqual((raised.exception.status, str(raised.exception)), (1, text))
+            asking.join(SECONDS)
+            found.close()
+
+    @staticmethod
+    def ask(path: Path) -> None:
+        """Has a frame sent."""
+        with Program(path) as program:
+            program.ask(GET)
+            program.rest()
 
     def test_a_wrong_socket(self) -> None:
         for kind in (socket.AF_INET, socket.AF_UNIX):

@@ -6,11 +6,11 @@ import contextlib
 import os
 import time
 from functools import partial
-from typing import TYPE_CHECKING, Iterator, Optional, Set, Tuple, Union
+from typing import TYPE_CHECKING, Iterator, Optional, Set, Tuple, Union, cast
 
 from .. import (
-    AckType, Asker, Client, Completion, Controller, Device, Discovery, Kind, Request, RequestClass, ResponseClass,
-    RunFaultKind, Search, Status, Uid, Unserved,
+    AckType, Asker, Client, Completion, Controller, Device, Discovery, Fault, Kind, Request, RequestClass,
+    ResponseClass, RunFaultKind, Search, Status, Uid, Unserved,
 )
 from .. import commands
 from ..commands import RUN_FAULTS, source_of
@@ -189,21 +189,20 @@ def open_work(chosen: argparse.Namespace, output: Output) -> Iterator[Work]:
 def shared_work(client: Union[SharedClient, OlaClient], output: Output, frames: Optional[str], log: Optional[str],
                 wait: float = commands.DEFAULT_WAIT) -> Work:
     """What a command does by a server, or by olad. Raises Failure."""
-    # A command without a server doesn't load it.
-    from ..olad.client import OlaClient
-    from .ola_line import OlaLine
-    from .shared_line import SharedLine
-    if isinstance(client, OlaClient):
+    # A command doesn't load what others need.
+    if client.queue.source is None:
+        from .ola_line import OlaLine
         line = OlaLine(client.queue, output, frames, log)
         return Work(line, Uid.from_number(commands.SOURCE), client, wait, output)
-    queue = client.queue
-    return Work(SharedLine(queue, output, frames), queue.source, client, wait, output)
+    from .shared_line import SharedLine
+    shared = cast("SharedClient", client)
+    return Work(SharedLine(shared.queue, output, frames), client.queue.source, client, wait, output)
 
 
 @contextlib.contextmanager
 def failures_of_server() -> Iterator[None]:
-    """Raises Failure if the server of the line ends."""
+    """Raises Failure if the server of the line ends, or refuses something."""
     try:
         yield
-    except LineFailed as fault:
+    except (Fault, LineFailed) as fault:
         raise Failure(FAILED, str(fault), reason=LINE_FAILED) from None

@@ -1,14 +1,16 @@
 """The command discover on a line that a server or olad has: what is found, as the proved program prints it."""
 from __future__ import annotations
 
-from typing import Optional, Union
+from typing import TYPE_CHECKING, Optional, Union
 
 from ..commands import RUN_FAULTS, device_text, fault_text
 from ..front.discovery_log import sink_of
 from ..front.output import DONE, FAILED, Output
 from ..front.work import failures_of_server, shared_work
-from ..olad.client import OlaClient
-from ..shared.client import SharedClient
+
+if TYPE_CHECKING:
+    from ..olad.client import OlaClient
+    from ..shared.client import SharedClient
 
 
 def discover(client: Union[SharedClient, OlaClient], log: Optional[str], frames: Optional[str]) -> int:

@@ -65,7 +65,10 @@ def serve(chosen: argparse.Namespace, output: Output, line: OpenLine, listener: 
         end_by(lambda number, frame: server.end(), signal.SIGINT, signal.SIGTERM, signal.SIGHUP)
         path = str(listener.getsockname())
         output.result([f"{name} is shared at {path}"], line=name, socket=path)
-        server.run(worker)
+        try:
+            server.run(worker)
+        except Exception as fault:  # A line may raise anything.
+            raise Failure(FAILED, f"{name} has ended the server: {fault!r}", reason="line") from None
 
 
 def logged(name: str, source: Uid, output: Output) -> LogFile:

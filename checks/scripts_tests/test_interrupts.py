@@ -1,0 +1,113 @@
+"""Signals at each step of an installation: no half file, and a second try works."""
+from __future__ import annotations
+
+import shutil
+import signal
+import subprocess
+import unittest
+import zipfile
+from pathlib import Path
+from typing import Dict, List, Optional, Tuple
+
+from clone import Clone, new_clone
+
+# The commands by which the scripts change files: each call is a step. Before it, the step sends a signal to all that
+# runs, as a terminal does.
+COMMANDS = ("mktemp", "mkdir", "cp", "chmod", "mv", "ln", "rm")
+STEP = """#!/bin/sh
+echo {name} >> "$STEPS"
+[ "$(wc -l < "$STEPS")" != "$AT" ] || kill -s "$NUMBER" 0
+exec {real} "$@"
+"""
+SIGNALS = (signal.SIGKILL, signal.SIGINT, signal.SIGTERM, signal.SIGHUP, signal.SIGPIPE)
+Tree = Dict[str, bytes]
+
+
+def data_of(path: Path) -> bytes:
+    """Where a link leads, what a whole archive of Python's files has, whose members have times, or a file's bytes."""
+    if path.is_symlink():
+        return str(path.readlink()).encode()
+    if not zipfile.is_zipfile(path):
+        return path.read_bytes()
+    with zipfile.ZipFile(path) as archive:
+        return repr(sorted((member.filename, member.CRC) for member in archive.infolist())).encode()
+
+
+def files_in(folder: Path) -> Tree:
+    """The files below a folder."""
+    return {str(path.relative_to(folder)): data_of(path) for path in sorted(folder.rglob("*"))
+            if path.is_symlink() or path.is_file()}
+
+
+class Interrupts(unittest.TestCase):
+    def setUp(self) -> None:
+        context = new_clone()
+        self.clone: Clone = context.__enter__()
+        self.addCleanup(context.__exit__, None, None, None)
+        self.target = self.clone.folder / "target"
+        self.temporary = self.clone.folder / "temporary"
+        self.temporary.mkdir()
+        self.steps = self.clone.folder / "steps"
+
+    def put_steps(self) -> None:
+        for name in COMMANDS:
+            real = shutil.which(name, path="/usr/bin:/bin")
+            if real and not (self.clone.bin / name).exists():
+                self.clone.put(name, STEP.format(name=name, real=real))
+
+    def call(self, option: str, step: int = 0, number: int = 0) -> Tuple[Optional[int], List[str]]:
+        """The status of the script, whose step with this number sends a signal, and its steps."""
+        self.steps.write_text("")
+        environment = {**self.clone.environment, "TMPDIR": str(self.temporary), "STEPS": str(self.steps),
+                       "AT": str(step), "NUMBER": str(int(number))}
+        streams = {"stdout": subprocess.PIPE, "stderr": subprocess.STDOUT}
+        with self.clone.start("./wurstlinen", option, str(self.target), env=environment, **streams) as process:
+            # All that has the output open has ended then.
+            process.communicate(timeout=300)
+        return process.returncode, self.steps.read_text().split()
+
+    def check(self, number: int, old: Tree, new: Tree) -> None:
+        """Each file is the old or the new one. Only what is killed may leave others, whose names are hidden."""
+        found = files_in(self.target) if self.target.exists() else {}
+        for name, data in found.items():
+            if number != signal.SIGKILL or not Path(name).name.startswith("."):
+                self.assertIn(data, (old.get(name), new.get(name)), name)
+        if number != signal.SIGKILL:
+            self.assertEqual(list(self.temporary.iterdir()), [])
+
+    def each(self, option: str, old: Tree) -> None:
+        """Tries the first and the last step of each kind, with one signal after the other."""
+        status, names = self.call(option)
+        self.assertEqual(status, 0)
+        new = files_in(self.target)
+        steps = {names.index(name) + 1 for name in names} | {len(names) - names[::-1].index(name) for name in names}
+        self.assertGreater(len(steps), 5)
+        for at, step in enumerate(sorted(steps)):
+            number = SIGNALS[at % len(SIGNALS)]
+            with self.subTest(step=f"{names[step - 1]}, step {step}", number=number):
+                self.begin(old)
+                status, _ = self.call(option, step, number)
+                self.assertIn(status, (0, -number, 128 + number))
+                self.check(number, old if status else new, new)
+                self.assertEqual(self.call(option)[0], 0)
+                found = files_in(self.target)
+                self.assertEqual({name: found.get(name) for name in new}, new)
+
+    def begin(self, old: Tree) -> None:
+        """Puts the files of an older call there."""
+        for folder in (self.target, self.temporary):
+            shutil.rmtree(folder, ignore_errors=True)
+        self.temporary.mkdir()
+        for name, data in old.items():
+            (self.target / name).parent.mkdir(parents=True, exist_ok=True)
+            (self.target / name).write_bytes(data)
+
+    def test_install(self) -> None:
+        self.assertEqual(self.clone.run("./wurstlinen", "decode", "00").returncode, 0)
+        self.put_steps()
+        old = {"wurstlinen": b"the old command", "libexec/wurstlinen/wurstlinen": b"the old program"}
+        self.each("--install", old)
+
+
+if __name__ == "__main__":
+    unittest.main()
