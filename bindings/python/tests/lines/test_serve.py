@@ -382,8 +382,8 @@ class Lending(TestCase):
             for number, program in enumerate(programs):
                 self.assertEqual(program.ask(GET), {"request": number})
                 self.assertEqual(program.read()["data"], LABEL)
-            with Program(made.place.path) as other:
-                self.assertEqual((other.hello["error"], other.read()), ("TooManyClients", None))
+            with Program(made.place.path, {**HELLO, "id": 5}) as other:
+                self.assertEqual((other.hello["error"], other.hello["id"], other.read()), ("TooManyClients", 5, None))
             programs[3].close()
             while True:
                 with Program(made.place.path) as other:

@@ -11,12 +11,12 @@ import threading
 import time
 import unittest
 from pathlib import Path
-from typing import Any, Iterator, Tuple
+from typing import Any, Dict, Iterator, List, Tuple
 from unittest import mock
 
 from common import TestCase, folder, needs_library
 from servers import HELLO, SECONDS, Here, Program, here, runtime
-from test_serve import GET, LABEL, five
+from test_serve import GET, LABEL, Gate, five
 from wurstlinen.shared import listening, peer, place, server
 from wurstlinen.shared.listening import Place
 from wurstlinen.shared.place import BadPlace
@@ -54,6 +54,72 @@ class Hostile(TestCase):
                 said = bad.rest()
                 self.assertIn(said[-1]["error"], ("TooManyFaults", "LineTooLong"))
                 self.assertLessEqual(len(said), peer.MOST_FAULTS + 1)
+
+    def test_a_request_that_is_nested_deeply(self) -> None:
+        with self.served() as (made, good):
+            # What json reads, it may not be able to write.
+            for form in (b'{"do":"status","id":@}', b'{"do":@}', b'{"do":"get","uid":@}', b'{"do":"discover","kind":@}'):
+                for depth in range(900, 1000, 1 if b"id" in form else 9):
+                    with Program(made.place.path) as bad:
+                        bad.write(form.replace(b"@", b"[" * depth + b"]" * depth) + b"\n")
+                        self.assertEqual(bad.read()["error"], "BadRequest")
+
+    def test_a_fault_of_the_server_ends_one_program_alone(self) -> None:
+        def status(*_: object) -> None:
+            raise ZeroDivisionError("by a test")
+        with self.served() as (made, good), mock.patch.dict(server.ANSWERS, status=status), \
+                Program(made.place.path) as bad:
+            bad.say({"do": "status"})
+            self.assertEqual(bad.rest(), [{"error": "ServerFault",
+                                           "text": "the server has a fault: ZeroDivisionError('by a test')"}])
+
+    def test_faults_count_if_they_are_in_a_row(self) -> None:
+        with self.served() as (made, good), Program(made.place.path) as bad:
+            for _ in range(2 * peer.MOST_FAULTS):
+                self.assertIn("error", bad.ask({"do": "typo"}))
+                self.assertIn("line", bad.ask({"do": "status"}))
+
+    def test_many_requests_at_once_keep_nobody_waiting(self) -> None:
+        def devices(*_: object) -> Dict[str, Any]:
+            time.sleep(0.01)
+            return {"devices": "x" * 5000}
+        with mock.patch.dict(server.ANSWERS, devices=devices), self.served() as (made, good):
+            bad = [Program(made.place.path) for _ in range(3)]
+            for each in bad:
+                each.write(b'{"do":"devices"}\n' * 240)
+            for _ in range(3):
+                self.check(good)
+            # Nothing is made that they don't read.
+            time.sleep(0.5)
+            self.assertLess(max(len(each._unread) for each in made.server._peers), peer.MOST_UNREAD_BYTES + 6000)
+            self.assertEqual([len([each.read() for _ in range(240)]) for each in bad], [240] * 3)
+            for each in bad:
+                each.close()
+
+    def test_who_waits_for_a_client_keeps_nobody_busy(self) -> None:
+        turns: List[float] = []
+        turn = server.Server._turn
+
+        def counted(served: server.Server, seconds: float) -> None:
+            turns.append(time.monotonic())
+            turn(served, seconds)
+        gate = Gate()
+        with mock.patch.object(server.Server, "_turn", counted), here(lambda: gate) as made:
+            for _ in range(16):
+                with Program(made.place.path) as dead:
+                    dead.ask(GET)
+            waiting, gone = Program(made.place.path, None), Program(made.place.path, None)
+            for each in (waiting, gone):
+                each.say(HELLO)
+            time.sleep(0.2)
+            waiting.say(GET)
+            gone.close()
+            began = len(turns)
+            time.sleep(0.5)
+            self.assertLess(len(turns) - began, 10)
+            gate.is_open.set()
+            self.assertEqual(waiting.next("data")["data"], LABEL)
+            waiting.close()
 
     def test_a_line_without_an_end(self) -> None:
         with self.served() as (made, good), Program(made.place.path) as bad:

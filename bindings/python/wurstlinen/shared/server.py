@@ -63,6 +63,8 @@ class Server:
         self._listens = False
         self._listens_from = 0.0
         self._devices_run = 0
+        # The answer of the last run, which takes long to make if there are many devices.
+        self._devices: Keys = {"run": 0, "devices": []}
         self._left_at = time.monotonic()
 
     def wake(self) -> None:
@@ -107,15 +109,18 @@ class Server:
         return self._worker
 
     def _turn(self, seconds: float) -> None:
-        """Waits until something happens, and does what it asks for."""
+        """Waits until something happens, and does what it asks for: one request of each program."""
         self._listen()
-        for key, events in self._selector.select(seconds):
+        for key, events in self._selector.select(0.0 if any(peer.asks for peer in self._peers) else seconds):
             if key.fileobj is self._listener:
                 self._accept()
             elif isinstance(key.data, Peer):
                 self._serve(key.data, events)
             else:
                 self._drain_waking()
+        for peer in self._peers:
+            if peer.asks:
+                self._answer(peer, peer.held.popleft())
         self._hand_out()
         self._housekeep()
 
@@ -148,7 +153,6 @@ class Server:
             peer.close()
             return
         self._peers.append(peer)
-        self._selector.register(connection, selectors.EVENT_READ, peer)
         if self._facts.users is not None and user_of(connection) not in self._facts.users:
             peer.leave(BadRequest("this line is another user's", "OtherUser"))
 
@@ -158,25 +162,25 @@ class Server:
             peer.write()
         if events & selectors.EVENT_READ and peer.reads:
             try:
-                peer.held += peer.read()
+                peer.held.extend(peer.read())
             except BadRequest as fault:
                 peer.leave(fault)
-        self._answer_held(peer)
-
-    def _answer_held(self, peer: Peer) -> None:
-        """Does what the lines ask for that have come, unless its hello waits."""
-        while peer.held and peer.hello is None and not peer.is_leaving:
-            self._answer(peer, peer.held.pop(0))
 
     def _answer(self, peer: Peer, line: bytes) -> None:
-        """Does what a line asks for."""
+        """Does what a line asks for. A fault of the server's own ends this program alone."""
+        try:
+            self._do(peer, line)
+        except Exception as fault:
+            peer.leave(BadRequest(f"the server has a fault: {fault!r}", "ServerFault"))
+
+    def _do(self, peer: Peer, line: bytes) -> None:
         keys: Optional[Keys] = None
         try:
             keys = object_of(line)
             number_in(keys, "id", MOST_ID, 0)
             name = keys.get("do")
             if not isinstance(name, str) or name not in ANSWERS:
-                raise BadRequest(f"there is nothing to do that is called {shortened(str(name))}")
+                raise BadRequest(f"there is nothing to do that is called {shortened(name)}")
             if (peer.lane is None) != (name == "hello"):
                 raise BadRequest("the first request is hello, and only that one", "NoHello")
             answer = ANSWERS[name](self, peer, keys)
@@ -185,6 +189,7 @@ class Server:
         except Fault as fault:
             peer.say({**id_of(keys), "error": type(fault).__name__, "text": str(fault)})
         else:
+            peer.faults = 0
             if answer is not None:
                 peer.say({**id_of(keys), **answer})
 
@@ -194,7 +199,7 @@ class Server:
         if keys.get("version") != VERSION:
             raise BadRequest(f"this server has version {VERSION} of the protocol", "BadVersion")
         if all(lane.owner is not None for lane in self._lanes):
-            peer.leave(BadRequest(f"{MOST_CLIENTS} programs use this line", "TooManyClients"))
+            peer.leave(BadRequest(f"{MOST_CLIENTS} programs use this line", "TooManyClients"), keys)
             return
         peer.hello = keys
         self._welcome(peer)
@@ -227,7 +232,10 @@ class Server:
     def devices(self, peer: Peer, keys: Keys) -> Keys:
         """The devices of the last run without a fault."""
         check_keys(keys, ())
-        return {"run": self._session.devices_run(), "devices": list(map(keys_of_device, self._session.devices()))}
+        if self._devices["run"] != self._session.devices_run():
+            self._devices = {"run": self._session.devices_run(),
+                             "devices": list(map(keys_of_device, self._session.devices()))}
+        return self._devices
 
     def pause(self, peer: Peer, keys: Keys) -> Keys:
         """An operator stops what isn't sent so far, for as long as it is connected."""
@@ -294,7 +302,6 @@ class Server:
         for peer in self._peers:
             if peer.hello is not None:
                 self._welcome(peer)
-                self._answer_held(peer)
 
     def _result(self, outcome: Outcome) -> Keys:
         """How a call ended; with the reason if the line failed."""
@@ -313,13 +320,13 @@ class Server:
         now = time.monotonic()
         for peer in self._peers:
             if peer.is_late(now) and peer.lane is None and not peer.is_leaving:
-                peer.leave(no_lane(peer))
+                peer.leave(no_lane(peer), peer.hello)
             elif peer.is_late(now):
                 peer.is_over = True
         over = [peer for peer in self._peers if peer.is_over]
         for peer in over:
             self._peers.remove(peer)
-            self._selector.unregister(peer.connection)
+            self._watch(peer, 0)
             peer.close()
         if over:
             self._left_at = now
@@ -328,13 +335,18 @@ class Server:
         with contextlib.suppress(LogFull):
             self._set_pause()
         for peer in self._peers:
-            self._watch(peer)
+            self._watch(peer, (selectors.EVENT_READ if peer.reads else 0) |
+                        (selectors.EVENT_WRITE if peer.writes else 0))
 
-    def _watch(self, peer: Peer) -> None:
-        """Waits for what a connection can do next."""
-        events = (selectors.EVENT_READ if peer.reads else 0) | (selectors.EVENT_WRITE if peer.writes else 0)
-        if events and self._selector.get_key(peer.connection).events != events:
-            self._selector.modify(peer.connection, events, peer)
+    def _watch(self, peer: Peer, events: int) -> None:
+        """Waits for what a connection can do next. One that can do nothing isn't watched."""
+        if events == peer.watched:
+            return
+        if peer.watched:
+            self._selector.unregister(peer.connection)
+        if events:
+            self._selector.register(peer.connection, events, peer)
+        peer.watched = events
 
     def _finish(self) -> None:
         """Answers everybody, as far as they read it."""
