@@ -39,8 +39,9 @@ class Here:
         self.place = Place(name)
         self.session = Session(SOURCE, CAPACITY, search=Search.QUICK)
         self.line = make()
-        self.server = Server(self.place.listener, self.session, Facts(name, SOURCE, users, idle))
+        self.server = Server(self.place, self.session, Facts(name, SOURCE, users, idle))
         self.worker = Worker(self.session, self.line, make, self.server.wake)
+        self.place.listen()
         self.failure: Optional[BaseException] = None
         self.thread = threading.Thread(target=self._run, daemon=True)
         self.thread.start()

@@ -21,15 +21,15 @@ from unittest import mock
 from common import ENTTEC, ROOT, LongTestCase, folder, needs_library
 from fronts import called
 from servers import HELLO, SECONDS, TOOL, Program, command, environment, here, runtime, serve
-from test_serve import FIVE, FOUND, GET, LABEL, LEFT, five
+from test_serve import FIVE, FOUND, GET, LABEL, LEFT, Gate, five
 from wurstlinen import LineFailed, OutcomeKind, RunFaultKind, Status, connect, tool
 from wurstlinen._queue import kind_of
 from wurstlinen.front.output import Failure, Output
 from wurstlinen.lines import EnttecPro, Rig
 from wurstlinen.lines.emulator import Emulator, Widget
 from wurstlinen.lines.packets import uid_text
-from wurstlinen.shared import place, worker
-from wurstlinen.shared.listening import Place, checked
+from wurstlinen.shared import place, server, worker
+from wurstlinen.shared.listening import Passed, Place
 from wurstlinen.shared.log_file import LogFile
 from wurstlinen.tool import adapters, places, sharing
 
@@ -293,6 +293,89 @@ class Ends(LongTestCase):
         with folder() as made, serve(made, "--line", LINE, "--idle", "0.1") as server:
             self.assertEqual(server.wait(SECONDS), 0)
 
+    @staticmethod
+    def started(made: Path, listener: socket.socket, *words: str) -> "subprocess.Popen[str]":
+        """A server that systemd starts when somebody connects: it passes the socket as the descriptor 3."""
+        code = ("import os, sys; os.dup2(int(sys.argv[1]), 3); os.environ.update(LISTEN_FDS='1', "
+                "LISTEN_PID=str(os.getpid())); os.execv(sys.executable, [sys.executable, *sys.argv[2:]])")
+        return subprocess.Popen([sys.executable, "-c", code, str(listener.fileno()), *TOOL[1:], "serve", *words],
+                                env=environment(made), pass_fds=[listener.fileno()], stdout=subprocess.PIPE,
+                                stderr=subprocess.PIPE, text=True)
+
+    def test_a_socket_of_systemd_without_an_adapter(self) -> None:
+        with folder() as made, socket.socket(socket.AF_UNIX) as listener:
+            listener.bind(str(made / "socket"))
+            listener.listen()
+            listener.settimeout(0)
+            with Program(made / "socket", None) as first, Program(made / "socket", None) as second:
+                first.say(HELLO)
+                out, errors = self.started(made, listener, "--line", "enttec:/dev/nowhere").communicate()
+                text = "/dev/nowhere can't be opened: No such file or directory"
+                self.assertEqual((out, errors), ("", f"wurstlinen: {text}\n"))
+                said = [each.rest() for each in (first, second)]
+                self.assertEqual(said, [[{"error": "NoLine", "text": text}]] * 2)
+            # Nobody is left for whom systemd would start another one.
+            self.assertRaises(BlockingIOError, listener.accept)
+
+    def test_a_command_that_comes_while_the_server_ends(self) -> None:
+        gate = Gate()
+        with here(lambda: gate, name=LINE) as made, mock.patch.object(server, "ENDING_SECONDS", 20.0), \
+                Program(made.place.path) as program:
+            program.ask(GET)
+            gate.began.acquire()
+            with mock.patch.object(server.Server, "_accept", lambda served: None):
+                late = Program(made.place.path, None)
+                made.server.end()
+                while made.place.path.exists():
+                    time.sleep(0.01)
+            # It isn't lost in the queue of the socket, and others don't find that any more.
+            self.assertEqual([each["error"] for each in late.rest()], ["Closed"])
+            late.close()
+            self.assertEqual(called("get", LEFT, "device_label", "--line", LINE), (0, "Front left\n", ""))
+            gate.is_open.set()
+            self.assertEqual(program.next("data")["data"], LABEL)
+
+    def test_a_command_that_comes_while_a_server_begins(self) -> None:
+        with runtime():
+            found = Place(LINE)
+            # The server waits for the line, and nobody waits for the server.
+            self.assertEqual(called("get", LEFT, "device_label", "--line", LINE), (0, "Front left\n", ""))
+            found.close()
+
+    def test_commands_wait_for_a_server_that_has_too_many_programs(self) -> None:
+        with here(five, name=LINE) as made:
+            programs = [Program(made.place.path) for _ in range(16)]
+            who = f"the server of {LINE}"
+            status, _, errors = called("get", LEFT, "device_label", "--line", LINE, "--wait-line", "0.1")
+            self.assertEqual(errors.splitlines()[0], f"wurstlinen: waiting for {who}")
+            self.assertEqual((status, len(errors.splitlines())), (1, 2))
+            threading.Timer(0.3, programs[0].close).start()
+            self.assertEqual(called("get", LEFT, "device_label", "--line", LINE),
+                             (0, "Front left\n", f"wurstlinen: waiting for {who}\n"))
+            for each in programs[1:]:
+                each.close()
+
+    def test_a_server_that_ends_before_it_answers_is_waited_for(self) -> None:
+        with runtime():
+            found = Place(LINE)
+            found.listen()
+            threading.Timer(0.3, found.close).start()
+            status, out, errors = called("get", LEFT, "device_label", "--line", LINE)
+            self.assertEqual((status, out, errors),
+                             (0, "Front left\n", f"wurstlinen: waiting for the server of {LINE}\n"))
+
+    def test_no_server_takes_a_socket_on_which_somebody_listens(self) -> None:
+        with folder() as made, socket.socket(socket.AF_UNIX) as listener:
+            (made / "wurstlinen").mkdir(mode=0o700)
+            path = str(place.path_of(made / "wurstlinen", LINE))
+            listener.bind(path)
+            listener.listen()
+            done = command(made, "serve", "--line", LINE)
+            self.assertEqual((done.returncode, done.stderr),
+                             (1, f"wurstlinen: {LINE} is served already: another program listens on {path}\n"))
+            with Program(path, None):
+                pass
+
     def test_a_socket_of_systemd(self) -> None:
         with folder() as made, socket.socket(socket.AF_UNIX) as listener:
             (made / "wurstlinen").mkdir(mode=0o700)
@@ -300,12 +383,7 @@ class Ends(LongTestCase):
             listener.bind(path)
             listener.listen()
             with Program(path, None) as program:
-                # systemd starts the server when somebody connects, and passes the socket as the descriptor 3.
-                code = ("import os, sys; os.dup2(int(sys.argv[1]), 3); os.environ.update(LISTEN_FDS='1', "
-                        "LISTEN_PID=str(os.getpid())); os.execv(sys.executable, [sys.executable, *sys.argv[2:]])")
-                server = subprocess.Popen([sys.executable, "-c", code, str(listener.fileno()), *TOOL[1:], "serve",
-                                           "--line", LINE, "--idle", "0.1"], env=environment(made),
-                                          pass_fds=[listener.fileno()], stdout=subprocess.PIPE, text=True)
+                server = self.started(made, listener, "--line", LINE, "--idle", "0.1")
                 self.assertEqual(program.ask(HELLO)["line"], LINE)
                 program.ask(GET)
                 self.assertEqual(program.read()["data"], LABEL)
@@ -321,11 +399,12 @@ class Ends(LongTestCase):
         chosen = argparse.Namespace(line=LINE, source=None, log=None, idle=None, group=None)
         with runtime(), mock.patch.object(sharing, "end_by"):
             found = Place(LINE)
+            found.listen()
             asking = threading.Thread(target=self.ask, args=(found.path,), daemon=True)
             asking.start()
             output = Output(False, io.StringIO(), io.StringIO())
             with self.assertRaises(Failure) as raised:
-                sharing.serve(chosen, output, Broken(FIVE), found.listener, found)
+                sharing.serve(chosen, output, Broken(FIVE), found)
             text = f"{LINE} has ended the server: ZeroDivisionError('no reply')"
             self.assertEqual((raised.exception.status, str(raised.exception)), (1, text))
             asking.join(SECONDS)
@@ -342,7 +421,7 @@ class Ends(LongTestCase):
         for kind in (socket.AF_INET, socket.AF_UNIX):
             text = "isn't one that listens on a path"
             with socket.socket(kind) as listener, self.assertRaisesRegex(LineFailed, text):
-                checked(listener)
+                Passed(listener)
 
     def test_two_servers_of_a_line(self) -> None:
         with folder() as made, serve(made, "--line", LINE) as server:

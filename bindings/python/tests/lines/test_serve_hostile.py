@@ -328,6 +328,7 @@ class Places(TestCase):
             os.close(first._lock)
             self.assertIsNone(place.connected("rig:/it"))
             second = Place("rig:/it")
+            second.listen()
             with place.connected("rig:/it") as connection:
                 self.assertEqual(place.user_of(connection), os.geteuid())
             second.close()
@@ -342,6 +343,22 @@ class Places(TestCase):
             first.close()
             Place("rig:/it").close()
 
+    def test_a_socket_is_removed_only_by_its_own_server(self) -> None:
+        with runtime():
+            first = Place("rig:/it")
+            # As a cleaner of /tmp does it.
+            first.path.with_suffix(".lock").unlink()
+            second = Place("rig:/it")
+            first.close()
+            second.listen()
+            second.path.with_suffix(".lock").unlink()
+            with self.assertRaisesRegex(BadPlace, "rig:/it is served already"):
+                Place("rig:/it")
+            with place.connected("rig:/it"):
+                pass
+            second.close()
+            self.assertFalse(second.path.exists())
+
     def test_a_long_name(self) -> None:
         with folder() as made:
             long = made / ("x" * 90)
@@ -353,6 +370,7 @@ class Places(TestCase):
     def test_another_users_server(self) -> None:
         with runtime():
             made = Place("rig:/it")
+            made.listen()
             with mock.patch.object(place, "user_of", lambda connection: NOBODY):
                 self.assertRaisesRegex(BadPlace, "another user's program has it", place.connected, "rig:/it")
             made.close()
@@ -361,6 +379,7 @@ class Places(TestCase):
     def test_the_socket_is_nobody_elses(self) -> None:
         with runtime() as made:
             found = Place("rig:/it")
+            found.listen()
             made.chmod(0o755)
             found.path.parent.chmod(0o755)
             child = os.fork()
@@ -386,6 +405,7 @@ class Places(TestCase):
                          for each in map(os.lstat, (found.path.parent, found.path))]
                 self.assertEqual(modes, [(0o750, NOBODY), (0o660, NOBODY)])
                 self.assertIsNone(found.users)
+                found.listen()
                 with place.connected("rig:/it"):
                     pass
                 found.path.parent.chmod(0o777)

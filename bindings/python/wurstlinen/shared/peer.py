@@ -1,6 +1,7 @@
 """A server's end of one connection."""
 from __future__ import annotations
 
+import contextlib
 import socket
 import time
 from collections import deque
@@ -147,3 +148,14 @@ def id_of(request: Optional[Keys]) -> Keys:
     """The part of an answer that says which request it answers."""
     found = None if request is None else request.get("id")
     return {"id": found} if is_number(found, MOST_ID) else {}
+
+
+def refuse_waiting(listener: socket.socket, fault: BadRequest) -> None:
+    """Tells those that have connected, and weren't accepted, why they aren't served."""
+    listener.setblocking(False)
+    # The last accept fails: nobody is left, or the socket has never listened.
+    with contextlib.suppress(OSError):
+        while True:
+            peer = Peer(listener.accept()[0])
+            peer.leave(fault)
+            peer.close()

@@ -8,10 +8,11 @@ import selectors
 import socket
 import time
 from dataclasses import dataclass
-from typing import Callable, Dict, FrozenSet, List, Optional
+from typing import Callable, Dict, FrozenSet, List, Optional, Union
 
 from .. import MOST_CLIENTS, Fault, LogFull, RunFaultKind, Session, Status
 from .lane import DEPTH, PLACES, Lane, Outcome
+from .listening import Passed, Place
 from .peer import READ_BYTES, Peer, id_of
 from .place import user_of
 from .words import (
@@ -42,14 +43,15 @@ class Facts:
 
 
 class Server:
-    """Serves the connections of a listening socket until `end` is called.
+    """Serves the programs that connect at a place until `end` is called.
 
     `session` is the line's, and nobody else has joined it.
     """
 
-    def __init__(self, listener: socket.socket, session: Session, facts: Facts) -> None:
-        listener.setblocking(False)
-        self._listener = listener
+    def __init__(self, place: Union[Place, Passed], session: Session, facts: Facts) -> None:
+        self._place = place
+        self._listener = place.listener
+        self._listener.setblocking(False)
         self._session = session
         self._facts = facts
         self._lanes = [Lane(session.join(PLACES)) for _ in range(MOST_CLIENTS)]
@@ -352,6 +354,7 @@ class Server:
         """Answers everybody, as far as they read it."""
         self._is_ending = True
         self._stop_listening()
+        self._place.leave()
         self._session.close()
         until = time.monotonic() + ENDING_SECONDS
         while any(lane.outstanding for lane in self._lanes) and time.monotonic() < until and not self.worker.fault:
