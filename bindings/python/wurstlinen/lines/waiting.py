@@ -22,9 +22,9 @@ def when_free(opening: Callable[[], Opened], seconds: float, note: Callable[[str
         try:
             return opening()
         except LineBusy as busy:
-            if time.monotonic() >= end:
-                raise
-            if busy.holder != noted:
+            if seconds and busy.holder != noted:
                 noted = busy.holder
                 note(f"waiting for {noted}")
+            if time.monotonic() >= end:
+                raise
         time.sleep(AGAIN_SECONDS)
