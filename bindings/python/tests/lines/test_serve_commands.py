@@ -22,7 +22,7 @@ from common import ENTTEC, ROOT, LongTestCase, folder, needs_library
 from fronts import called
 from servers import HELLO, SECONDS, TOOL, Program, command, environment, here, runtime, serve
 from test_serve import FIVE, FOUND, GET, LABEL, LEFT, Gate, five
-from wurstlinen import LineFailed, OutcomeKind, RunFaultKind, Status, connect, tool
+from wurstlinen import LineFailed, OutcomeKind, RunFaultKind, Status, Unserved, connect, tool
 from wurstlinen._queue import kind_of
 from wurstlinen.front.output import Failure, Output
 from wurstlinen.lines import EnttecPro, Rig
@@ -126,7 +126,27 @@ class Commands(LongTestCase):
             for words, what in ((["get", LEFT, "device_label"], "request"), (["fixtures"], "discovery")):
                 status, _, errors = called(*words, "--line", LINE, "--wait", "0.2")
                 self.assertEqual((status, errors), (
-                    1, f"wurstlinen: the {what} wasn't sent: the queue is paused, or has too much to do\n"))
+                    1, f"wurstlinen: the {what} has no result so far, and may still be sent: the queue is paused\n"))
+
+    def test_a_line_with_too_much_to_do(self) -> None:
+        gate = Gate()
+        with here(lambda: gate, name=LINE) as made, Program(made.place.path) as other:
+            other.ask({"do": "discover"})
+            text = "has no result so far, and may still be sent: the line has too much to do\n"
+            for words, what in ((["get", LEFT, "device_label"], "request"), (["fixtures"], "discovery")):
+                status, _, errors = called(*words, "--line", LINE, "--wait", "0.2")
+                self.assertEqual((status, errors), (1, f"wurstlinen: the {what} {text}"))
+            with connect(LINE) as client:
+                self.assertRaises(Unserved, client.ask, LEFT, 0x82, wait=0.2)
+
+    def test_a_long_discovery_is_awaited(self) -> None:
+        class Slow(Rig):
+            def exchange(self, frame: bytes) -> bytes:
+                time.sleep(0.02)
+                return super().exchange(frame)
+        with here(lambda: Slow(FIVE), name=LINE):
+            status, out, _ = called("fixtures", "--line", LINE, "--wait", "0.4")
+            self.assertEqual((status, out.count("\n")), (0, 7))
 
     def test_a_queue_that_is_closed(self) -> None:
         with here(five, name=LINE) as made:

@@ -30,8 +30,10 @@ class SharedLine(Watched):
 
     @property
     def absence(self) -> str:
-        """Why the server has no line."""
-        return "" if self._queue.is_there else self._queue.reason
+        """Why the server sends nothing."""
+        if not self._queue.is_there:
+            return self._queue.reason
+        return "the queue is paused" if self._queue.is_paused() else ""
 
     def _failed(self, reason: str) -> None:
         self.failure = LineFailed(reason)

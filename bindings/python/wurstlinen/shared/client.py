@@ -87,6 +87,9 @@ class SharedQueue:
             self.connection.wait()
         return len(self.outcomes) - before
 
+    def _step(self, line: object) -> bool:
+        return self.connection.receive(SLICE_SECONDS)
+
     def _sleep(self, seconds: float) -> None:
         """Waits. Raises LineFailed when the server ends."""
         end = time.monotonic() + seconds
@@ -149,7 +152,7 @@ class SharedClient:
         self.close()
 
     def close(self) -> None:
-        """Ends the connection. What is outstanding is finished, and nobody hears of it."""
+        """Ends the connection. What is outstanding is still done, as soon as it can be, and nobody hears of it."""
         self.queue.connection.close()
 
     def submit(self, request: Request) -> int:
