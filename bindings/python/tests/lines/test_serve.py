@@ -439,5 +439,7 @@ class Lending(TestCase):
                 program.ask(GET)
                 said = program.rest()
             self.assertEqual([said[0]["status"], said[-1]["error"]], [FAILED_TO_SEND, "Closed"])
+            text = "the line has ended the server: ZeroDivisionError()"
+            self.assertEqual([said[0]["reason"], said[-1]["text"]], [text, text])
             made.thread.join(SECONDS)
             self.assertIsInstance(made.failure, ZeroDivisionError)

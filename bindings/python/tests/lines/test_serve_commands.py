@@ -18,14 +18,14 @@ from pathlib import Path
 from typing import Iterator, List, Tuple
 from unittest import mock
 
-from common import ENTTEC, ROOT, LongTestCase, folder, needs_library
+from common import ENTTEC, ROOT, LongTestCase, folder, needs_library, scene
 from fronts import called
 from servers import HELLO, SECONDS, TOOL, Program, command, environment, here, runtime, serve
-from test_serve import FIVE, FOUND, GET, LABEL, LEFT, Gate, five
+from test_serve import FIVE, FOUND, GET, LABEL, LEFT, TIMEOUT, Gate, five
 from wurstlinen import LineFailed, OutcomeKind, RunFaultKind, Status, Unserved, connect, tool
 from wurstlinen._queue import kind_of
 from wurstlinen.front.output import Failure, Output
-from wurstlinen.lines import EnttecPro, Rig
+from wurstlinen.lines import EnttecPro, Rig, TextLine
 from wurstlinen.lines.emulator import Emulator, Widget
 from wurstlinen.lines.packets import uid_text
 from wurstlinen.shared import place, server, worker
@@ -35,6 +35,23 @@ from wurstlinen.tool import adapters, places, sharing
 
 LINE = f"rig:{FIVE}"
 WIDGET = Widget(manufacturer=ENTTEC)
+
+
+class Plug(Rig):
+    """A rig that can be unplugged, or fail."""
+
+    def __init__(self, source: str = "7ff0:00000001") -> None:
+        super().__init__(scene(source=source, devices=[{"uid": LEFT, "rig": {"label": "Front left"}}]))
+        self.is_plugged, self.failure = True, ""
+
+    @property
+    def is_there(self) -> bool:
+        return self.is_plugged
+
+    def exchange(self, frame: bytes) -> bytes:
+        if self.failure:
+            raise LineFailed(self.failure)
+        return super().exchange(frame)
 
 
 @needs_library
@@ -264,6 +281,46 @@ class Adapters(LongTestCase):
                     self.assertEqual(program.read(), {"event": "line", "there": True})
                     self.assertEqual(program.read()["data"], LABEL)
                     stack.close()
+
+    def test_another_adapter_in_its_place_is_not_used(self) -> None:
+        plugged = [Plug(), Plug(source="7ff0:00000002")]
+        first, other = plugged
+        broadcast = {"do": "set", "uid": "ffff:ffffffff", "pid": "1000", "data": "01"}
+        with mock.patch.object(worker, "LOOK_SECONDS", 0.02), here(lambda: plugged[0]) as made, \
+                Program(made.place.path) as program:
+            plugged.pop(0)
+            first.is_plugged = False
+            self.assertFalse(program.next("there")["there"])
+            program.ask(broadcast)
+            while program.ask({"do": "status"})["reason"] != "another adapter is in its place":
+                time.sleep(0.01)
+            plugged[0] = Plug()
+            self.assertTrue(program.next("there")["there"])
+            # FORMATS: 1 is WasBroadcast.
+            self.assertEqual(program.read(), {"request": 0, "status": 1})
+            self.assertEqual((other.exchanges, plugged[0].exchanges), (0, 1))
+
+    def test_the_reason_is_that_of_now(self) -> None:
+        plug = Plug()
+        with mock.patch.object(worker, "LOOK_SECONDS", 0.02), here(lambda: plug) as made, \
+                Program(made.place.path) as program:
+            plug.failure = "the adapter didn't end an exchange"
+            program.ask(GET)
+            self.assertEqual(program.read()["reason"], "the adapter didn't end an exchange")
+            plug.failure = ""
+            plug.is_plugged = False
+            self.assertEqual(program.next("there")["reason"], "the adapter is gone")
+
+    def test_a_far_end_that_has_ended_is_started_again(self) -> None:
+        # It answers once: nobody has said anything.
+        with mock.patch.object(worker, "LOOK_SECONDS", 0.02), \
+                here(lambda: TextLine.run(["sh", "-c", "read frame; echo"])) as made, \
+                Program(made.place.path) as program:
+            for _ in range(2):
+                program.say(GET)
+                said = [program.next("status", "there") for _ in range(3)]
+                self.assertEqual([each["status"] for each in said if "status" in each], [TIMEOUT])
+                self.assertEqual([each["there"] for each in said if "there" in each], [False, True])
 
     def test_requests_do_not_wait_for_it_for_ever(self) -> None:
         with folder() as made, mock.patch.object(worker, "LOOK_SECONDS", 0.05), \

@@ -11,13 +11,15 @@ import threading
 import time
 import unittest
 from pathlib import Path
-from typing import Any, Dict, Iterator, List, Tuple
+from typing import Any, Dict, Iterator, List, Optional, Tuple
 from unittest import mock
 
 from common import TestCase, folder, needs_library
 from servers import HELLO, SECONDS, Here, Program, here, runtime
 from test_serve import GET, LABEL, Gate, five
-from wurstlinen.shared import listening, peer, place, server
+from wurstlinen import Completion, LogFull, Status
+from wurstlinen.shared import journal, listening, peer, place, server, worker
+from wurstlinen.shared.lane import Lane
 from wurstlinen.shared.listening import Place
 from wurstlinen.shared.place import BadPlace
 
@@ -120,6 +122,53 @@ class Hostile(TestCase):
             gate.is_open.set()
             self.assertEqual(waiting.next("data")["data"], LABEL)
             waiting.close()
+
+    def test_who_fills_the_log(self) -> None:
+        gate = Gate()
+        with mock.patch("servers.CAPACITY", 64), mock.patch.object(worker, "ROOM", 32), \
+                mock.patch.object(journal, "FULL_ENOUGH", 16), here(lambda: gate) as made, \
+                Program(made.place.path) as bad, Program(made.place.path) as good:
+            good.ask(GET)
+            gate.began.acquire()
+            # Nothing is collected or sent meanwhile.
+            for _ in range(50):
+                bad.say({"do": "pause", "id": 1})
+                self.assertEqual(bad.next("id"), {"id": 1, "paused": True})
+                bad.say({"do": "resume", "id": 2})
+                self.assertEqual(bad.next("id"), {"id": 2, "paused": False})
+            good.say(GET)
+            self.assertEqual(good.next("request"), {"request": 1})
+            gate.is_open.set()
+            self.assertEqual([good.next("data")["request"] for _ in range(2)], [0, 1])
+
+    def test_what_is_refused_changes_nothing_later(self) -> None:
+        def full() -> None:
+            raise LogFull
+        with self.served() as (made, good), Program(made.place.path) as operator:
+            for name, paused in (("pause", False), ("resume", True)):
+                with mock.patch.object(made.session, name, full):
+                    operator.say({"do": name, "id": 1})
+                    self.assertEqual(operator.next("id")["error"], "LogFull")
+                for _ in range(3):
+                    operator.say({"do": "status", "id": 2})
+                    self.assertIs(operator.next("id")["paused"], paused)
+                operator.say({"do": "pause" if not paused else "resume", "id": 3})
+                operator.next("id")
+
+    def test_a_result_that_nobody_awaits_reaches_nobody(self) -> None:
+        class Foreign:
+            def __init__(self) -> None:
+                self.outcomes = [Completion(7, Status.TIMEOUT, None, b""), Completion(3, Status.TIMEOUT, None, b"")]
+
+            def submit(self, request: object) -> int:
+                return 3
+
+            def next_outcome(self) -> Optional[Completion]:
+                return self.outcomes.pop(0)
+        foreign: Any = Foreign()
+        lane = Lane(foreign)
+        lane.submit(foreign)
+        self.assertEqual([each.number for each in lane.collected()], [3])
 
     def test_a_line_without_an_end(self) -> None:
         with self.served() as (made, good), Program(made.place.path) as bad:
@@ -257,6 +306,13 @@ class Places(TestCase):
             (made / "link").symlink_to(made / "rig.json")
             self.assertEqual(name_of(f"rig:{made}/link"), name_of(f"rig:{made}/x/../rig.json"))
         self.assertNotEqual(name_of("exec:one"), name_of("exec:two"))
+        before = os.getcwd()
+        try:
+            os.chdir("/usr")
+            elsewhere = name_of("exec:sh far_end")
+        finally:
+            os.chdir(before)
+        self.assertNotEqual(elsewhere, name_of("exec:sh far_end"))
         self.assertRegex(name_of(f"enttec:/{'x' * 100}"), r"^enttec-[0-9a-f]{16}\.socket$")
 
     def test_an_adapter_keeps_its_name(self) -> None:

@@ -8,7 +8,7 @@ import selectors
 import socket
 import time
 from dataclasses import dataclass
-from typing import Callable, Dict, FrozenSet, List, Optional, Union
+from typing import Callable, Dict, FrozenSet, Iterable, List, Optional, Union
 
 from .. import MOST_CLIENTS, Fault, LogFull, RunFaultKind, Session, Status
 from .lane import DEPTH, PLACES, Lane, Outcome
@@ -120,6 +120,7 @@ class Server:
                 self._serve(key.data, events)
             else:
                 self._drain_waking()
+        self.worker.make_room()
         for peer in self._peers:
             if peer.asks:
                 self._answer(peer, peer.held.popleft())
@@ -242,20 +243,23 @@ class Server:
     def pause(self, peer: Peer, keys: Keys) -> Keys:
         """An operator stops what isn't sent so far, for as long as it is connected."""
         check_keys(keys, ())
+        self._set_pause(True)
         peer.has_paused = True
-        self._set_pause()
         return {"paused": True}
 
     def resume(self, peer: Peer, keys: Keys) -> Keys:
         """The same operator lets it go on. Another may still have paused it."""
         check_keys(keys, ())
+        self._set_pause(self._is_paused_by(other for other in self._peers if other is not peer))
         peer.has_paused = False
-        self._set_pause()
         return {"paused": self._session.is_paused()}
 
-    def _set_pause(self) -> None:
-        """Pauses the queue as long as an operator wants it."""
-        wanted = any(peer.has_paused for peer in self._peers)
+    @staticmethod
+    def _is_paused_by(peers: Iterable[Peer]) -> bool:
+        return any(peer.has_paused for peer in peers)
+
+    def _set_pause(self, wanted: bool) -> None:
+        """Pauses the queue, or has it go on."""
         if wanted == self._session.is_paused() or self._is_ending:
             return
         (self._session.pause if wanted else self._session.resume)()
@@ -285,7 +289,7 @@ class Server:
         keys: Keys = {"line": self._facts.line, "there": self.worker.is_line_there,
                       "paused": self._session.is_paused(), "clients": clients,
                       "outstanding": sum(lane.outstanding for lane in self._lanes)}
-        return keys if keys["there"] else {**keys, "reason": self.worker.reason}
+        return keys if keys["there"] else {**keys, "reason": self.worker.absence}
 
     def _hand_out(self) -> None:
         """Sends results and events to those who want them, and clients of the queue to those who wait for one."""
@@ -309,8 +313,15 @@ class Server:
         """How a call ended; with the reason if the line failed."""
         keys = outcome_keys(outcome)
         if keys.get("status") == Status.FAILED_TO_SEND or keys.get("fault") == RunFaultKind.LINE_FAILED:
-            keys["reason"] = "the server ends" if self._is_ending else self.worker.reason
+            is_end = self._is_ending or self.worker.fault is not None
+            keys["reason"] = self._end_reason if is_end else self.worker.reason
         return keys
+
+    @property
+    def _end_reason(self) -> str:
+        """Why the server ends."""
+        fault = self.worker.fault
+        return "the server ends" if fault is None else f"the line has ended the server: {fault!r}"
 
     def _tell(self, event: Keys, subject: Optional[str] = None) -> None:
         for peer in self._peers:
@@ -335,7 +346,7 @@ class Server:
             self._set_frames()
         # If the log was full, the next turn does it.
         with contextlib.suppress(LogFull):
-            self._set_pause()
+            self._set_pause(self._is_paused_by(self._peers))
         for peer in self._peers:
             self._watch(peer, (selectors.EVENT_READ if peer.reads else 0) |
                         (selectors.EVENT_WRITE if peer.writes else 0))
@@ -362,7 +373,7 @@ class Server:
         self.worker.end()
         self._hand_out()
         for peer in self._peers:
-            peer.leave(BadRequest("the server ends", "Closed"))
+            peer.leave(BadRequest(self._end_reason, "Closed"))
         until = time.monotonic() + ENDING_SECONDS
         while self._peers and time.monotonic() < until:
             self._turn(until - time.monotonic())
