@@ -15,7 +15,7 @@ import threading
 import time
 import unittest
 from pathlib import Path
-from typing import Iterator, List, Tuple
+from typing import Any, Dict, Iterator, List, Tuple
 from unittest import mock
 
 from common import ENTTEC, ROOT, LongTestCase, folder, needs_library, scene
@@ -28,7 +28,7 @@ from wurstlinen.front.output import Failure, Output
 from wurstlinen.lines import EnttecPro, Rig, TextLine
 from wurstlinen.lines.emulator import Emulator, Widget
 from wurstlinen.lines.packets import uid_text
-from wurstlinen.shared import place, server, worker
+from wurstlinen.shared import peer, place, server, worker
 from wurstlinen.shared.listening import Passed, Place
 from wurstlinen.shared.log_file import LogFile
 from wurstlinen.tool import adapters, places, sharing
@@ -127,6 +127,25 @@ class Commands(LongTestCase):
             self.assertEqual(status, 0, errors)
             numbers = [json.loads(line).get("number") for line in (place / "log").read_text().splitlines()]
             self.assertEqual(numbers, [None, *range(len(numbers) - 1)])
+
+    def test_a_log_has_no_gaps(self) -> None:
+        tell, told = peer.Peer.tell, []
+
+        def miss(program: peer.Peer, event: Dict[str, Any]) -> None:
+            told.append(event)
+            if len(told) == 5:
+                program._missed += 1
+            else:
+                tell(program, event)
+        note = "wurstlinen: 1 frames are neither shown nor counted: they weren't read in time\n"
+        with folder() as place, here(five, name=LINE), mock.patch.object(peer.Peer, "tell", miss):
+            status, out, errors = called("fixtures", "--line", LINE, "--log", str(place / "log"))
+            self.assertEqual((status, out, errors),
+                             (1, "", f"{note}wurstlinen: 1 frames weren't read in time, so there is no log\n"))
+            self.assertEqual((place / "log").read_text().count("\n"), 1)
+            told.clear()
+            status, out, errors = called("get", LEFT, "device_label", "--line", LINE)
+            self.assertEqual((status, out, errors), (0, "Front left\n", ""))
 
     def test_another_source_is_refused(self) -> None:
         with here(five, name=LINE):
