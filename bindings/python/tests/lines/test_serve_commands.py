@@ -15,7 +15,7 @@ import threading
 import time
 import unittest
 from pathlib import Path
-from typing import Any, Dict, Iterator, List, Tuple
+from typing import Any, Dict, Iterator, Tuple
 from unittest import mock
 
 from common import ENTTEC, ROOT, LongTestCase, folder, needs_library, scene
@@ -30,7 +30,6 @@ from wurstlinen.lines.emulator import Emulator, Widget
 from wurstlinen.lines.packets import uid_text
 from wurstlinen.shared import peer, place, server, worker
 from wurstlinen.shared.listening import Passed, Place
-from wurstlinen.shared.log_file import LogFile
 from wurstlinen.tool import adapters, places, sharing
 
 LINE = f"rig:{FIVE}"
@@ -229,6 +228,7 @@ class Example(LongTestCase):
             flags = ["-std=c11", "-Wall", "-Wextra", "-Werror", "-pedantic"]
             subprocess.run(["cc", *flags, ROOT / "bindings/examples/share.c", "-o", place / "share"], check=True)
             for words, wanted in (([LEFT], (0, "Front left\n", "")), (["1234:00000009"], (1, "", '"status":3')),
+                                  (["9abc:00000002"], (1, "", '"ack":1')),
                                   (["x"], (1, "", "uid isn't a UID")), ([], (2, "", "usage"))):
                 done = subprocess.run([place / "share", made.place.path, *words], check=False, capture_output=True,
                                       text=True, timeout=SECONDS)
@@ -535,67 +535,3 @@ class Ends(LongTestCase):
                 done = command(made, "serve", *words)
                 self.assertEqual((done.returncode, done.stderr), (1, text))
                 self.assertEqual(list(made.glob("wurstlinen/*.socket")), [])
-
-
-@needs_library
-class Logs(LongTestCase):
-    """The log of a server."""
-
-    def test_it_is_a_sessions_log(self) -> None:
-        with folder() as made:
-            log = made / "log"
-            with serve(made, "--line", LINE, "--log", str(log)) as server, Program(server.socket) as program:
-                program.ask({"do": "discover"})
-                program.ask(GET)
-                program.next("data")
-            entries = [json.loads(line) for line in log.read_text().splitlines()]
-            self.assertEqual([each["entry"] for each in entries[:17]], ["opening", *["join"] * 16])
-            self.assertEqual(entries[-1], {"entry": "close"})
-            self.assertEqual(sum(each["entry"] == "accept" for each in entries),
-                             sum(each["entry"] == "finish" for each in entries))
-            done = command(made, "trace", str(log))
-            self.assertEqual((done.returncode, done.stdout.count("\n")),
-                             (0, sum(each["entry"] == "send" for each in entries)))
-
-    def test_it_does_not_grow_for_ever(self) -> None:
-        with folder() as made:
-            said: List[str] = []
-            log = LogFile(str(made / "log"), said.append, 100)
-            log.open()
-            for number in range(50):
-                log.add([b"%09d\n" % number] * 2)
-            log.close()
-            self.assertEqual([(made / name).stat().st_size for name in ("log", "log.1")], [100, 100])
-            self.assertEqual((made / "log").read_bytes()[-10:], b"000000049\n")
-            self.assertEqual((said, sorted(each.name for each in made.iterdir())), ([], ["log", "log.1"]))
-
-    def test_it_goes_on_in_a_new_file_if_it_is_moved(self) -> None:
-        with folder() as made:
-            log = LogFile(str(made / "log"), self.fail)
-            log.add([b"1\n"])
-            (made / "log").rename(made / "old")
-            log.add([b"2\n"])
-            (made / "log").unlink()
-            log.add([b"3\n"])
-            log.close()
-            self.assertEqual(((made / "old").read_bytes(), (made / "log").read_bytes()), (b"1\n", b"3\n"))
-
-    def test_a_full_disk_is_reported_once_and_loses_no_half_line(self) -> None:
-        with folder() as made:
-            said: List[str] = []
-            log = LogFile(str(made / "log"), said.append)
-            log.add([b"first\n"])
-            full = LogFile("/dev/full", said.append)
-            full.open()
-            file, log._file = log._file, None
-            with mock.patch.object(log, "_name", "/dev/full"):
-                log.add([b"lost\n"])
-                log.add([b"lost\n", b"too\n"])
-            file.close()
-            log.add([b"last\n"])
-            log.close()
-            full.close()
-            self.assertEqual((made / "log").read_bytes(), b"first\nlast\n")
-            self.assertEqual(len(said), 2, said)
-            self.assertTrue(said[0].endswith("the log goes on when it can be written again"), said)
-            self.assertTrue(said[1].endswith("the log goes on after 3 lost lines"), said)

@@ -60,7 +60,7 @@ class Hostile(TestCase):
     def test_a_request_that_is_nested_deeply(self) -> None:
         with self.served() as (made, good):
             # What json reads, it may not be able to write.
-            for form in (b'{"do":"status","id":@}', b'{"do":@}', b'{"do":"get","uid":@}', b'{"do":"discover","kind":@}'):
+            for form in (b'{"do":"status","id":@}', b'{"do":@}', b'{"do":"get","uid":@}', b'{"do":"subscribe","to":@}'):
                 for depth in range(900, 1000, 1 if b"id" in form else 9):
                     with Program(made.place.path) as bad:
                         bad.write(form.replace(b"@", b"[" * depth + b"]" * depth) + b"\n")
