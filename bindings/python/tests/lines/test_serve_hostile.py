@@ -83,7 +83,7 @@ class Hostile(TestCase):
 
     def test_many_requests_at_once_keep_nobody_waiting(self) -> None:
         def devices(*_: object) -> Dict[str, Any]:
-            time.sleep(0.01)
+            time.sleep(0.004)
             return {"devices": "x" * 5000}
         with mock.patch.dict(server.ANSWERS, devices=devices), self.served() as (made, good):
             bad = [Program(made.place.path) for _ in range(3)]

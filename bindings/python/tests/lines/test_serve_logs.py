@@ -33,6 +33,12 @@ class Logs(LongTestCase):
             self.assertEqual((done.returncode, done.stdout.count("\n")),
                              (0, sum(each["entry"] == "send" for each in entries)))
 
+    def test_a_server_says_that_its_disk_is_full(self) -> None:
+        with folder() as made:
+            with serve(made, "--line", LINE, "--log", "/dev/full") as server:
+                pass
+            self.assertRegex(server.said, "^wurstlinen: /dev/full: .*; the log goes on when it can be written again\n$")
+
     def test_it_does_not_grow_for_ever(self) -> None:
         with folder() as made:
             said: List[str] = []

@@ -4,6 +4,7 @@ from __future__ import annotations
 import argparse
 import contextlib
 import signal
+import sys
 from typing import Iterator, Union
 
 from .. import Search, Session, Uid
@@ -66,7 +67,7 @@ def far_end_opened(text: str) -> OpenLine:
 def serve(chosen: argparse.Namespace, output: Output, line: OpenLine, place: Union[Place, Passed]) -> None:
     """Serves an open line."""
     name, source = chosen.line, Uid.from_number(source_of(chosen, line))
-    log = None if chosen.log is None else logged(chosen.log, source, output)
+    log = None if chosen.log is None else logged(chosen.log, source)
     with Session(source, CAPACITY, search=SEARCH) as session:
         server = Server(place, session, Facts(name, str(source), place.users, chosen.idle))
         worker = Worker(session, line, lambda: far_end_opened(chosen.line), server.wake, log)
@@ -80,12 +81,17 @@ def serve(chosen: argparse.Namespace, output: Output, line: OpenLine, place: Uni
             raise Failure(FAILED, f"{name} has ended the server: {fault!r}", reason="line") from None
 
 
-def logged(name: str, source: Uid, output: Output) -> LogFile:
+def logged(name: str, source: Uid) -> LogFile:
     """The log's file, with the beginning of a session. Raises Failure."""
-    log = LogFile(name, output.note)
+    log = LogFile(name, warn)
     try:
         log.open()
     except OSError as fault:
         raise Failure(FAILED, f"{name}: {fault.strerror}", reason="file") from None
     log.add([entry_line(opening_keys(source, SEARCH))])
     return log
+
+
+def warn(text: str) -> None:
+    """Says what goes wrong while the server goes on, with --json too."""
+    print(f"wurstlinen: {text}", file=sys.stderr, flush=True)
