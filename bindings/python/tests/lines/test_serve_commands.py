@@ -460,6 +460,20 @@ class Ends(LongTestCase):
             self.assertEqual((status, out, errors),
                              (0, "Front left\n", f"wurstlinen: waiting for the server of {LINE}\n"))
 
+    def test_a_place_that_cannot_be_used_is_named(self) -> None:
+        with folder() as made, socket.socket(socket.AF_UNIX) as listener:
+            (made / "wurstlinen").mkdir(mode=0o700)
+            lock = place.path_of(made / "wurstlinen", LINE).with_suffix(".lock")
+            lock.symlink_to(made / "elsewhere")
+            done = command(made, "serve", "--line", LINE)
+            self.assertEqual((done.returncode, done.stderr),
+                             (1, f"wurstlinen: {lock} can't be used: Too many levels of symbolic links\n"))
+            listener.bind(str(made / "socket"))
+            listener.listen()
+            text = "the socket that systemd passes has a group already: leave out --group"
+            _, errors = self.started(made, listener, "--line", LINE, "--group", "nogroup").communicate(timeout=SECONDS)
+            self.assertEqual(errors, f"wurstlinen: {text}\n")
+
     def test_no_server_takes_a_socket_on_which_somebody_listens(self) -> None:
         with folder() as made, socket.socket(socket.AF_UNIX) as listener:
             (made / "wurstlinen").mkdir(mode=0o700)

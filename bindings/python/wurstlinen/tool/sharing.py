@@ -46,7 +46,12 @@ def placed(chosen: argparse.Namespace) -> Union[Place, Passed]:
     passed = list(activated())
     if len(passed) > 1:
         raise BadPlace(f"systemd passes {len(passed)} sockets, and one is wanted")
-    return Passed(passed[0]) if passed else Place(chosen.line, chosen.group)
+    if passed and chosen.group is not None:
+        raise BadPlace("the socket that systemd passes has a group already: leave out --group")
+    try:
+        return Passed(passed[0]) if passed else Place(chosen.line, chosen.group)
+    except OSError as fault:
+        raise BadPlace(f"{fault.filename or 'the socket'} can't be used: {fault.strerror}") from None
 
 
 @contextlib.contextmanager
