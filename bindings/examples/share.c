@@ -43,8 +43,9 @@ int main(int count, char **words) {
     dprintf(server, "{\"do\":\"get\",\"id\":1,\"uid\":\"%s\",\"pid\":\"0082\"}\n", words[2]);
     while (fgets(line, sizeof line, answers) != NULL) {
         const char *data = strstr(line, "\"data\":\"");
-        /* A request is refused, or its result has no data, since the fixture didn't answer. */
-        if (strstr(line, "\"error\"") != NULL || (strstr(line, "\"status\"") != NULL && data == NULL)) {
+        int is_result = strstr(line, "\"status\"") != NULL;
+        /* The server refuses the request, the fixture doesn't answer, or it refuses it or needs time. */
+        if (strstr(line, "\"error\"") != NULL || (is_result && strstr(line, "\"ack\":0,") == NULL)) {
             fputs(line, stderr);
             return 1;
         }

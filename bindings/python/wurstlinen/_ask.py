@@ -43,8 +43,8 @@ Outcome = Union[Completion, Discovery]
 class AnyQueue(Protocol):
     """What an asker needs of a client's queue, in this process or at a server."""
 
-    def run(self, line: Line) -> int:
-        """Has frames sent until there is none to send now."""
+    def _step(self, line: Line) -> object:
+        """Has frames sent until there is none to send now. If another process sends them, it waits a moment."""
         ...
 
     def _sleep(self, seconds: float) -> None:
@@ -70,10 +70,13 @@ class AnyClient(Protocol):
 
 
 class Unserved(Exception):
-    """The request wasn't sent in time: the queue is paused, or another thread has the line. It is still queued."""
+    """The request has no result in time: the queue is paused, or its line has too much to do. It is still queued.
+
+    A server sends it later, even if its client has gone.
+    """
 
     def __init__(self, queued: Tuple[Completion, ...] = (), earlier: Tuple[Outcome, ...] = ()) -> None:
-        super().__init__("the request wasn't sent: the queue is paused, or another thread has the line")
+        super().__init__("the request has no result so far: the queue is paused, or its line has too much to do")
         # What was collected, as an Answer has it.
         self.queued = queued
         self.earlier = earlier
@@ -337,7 +340,7 @@ class Asking:
         self._exchanges += 1
         until = self._asker.clock() + max(self._asker.wait, GLANCE)
         while True:
-            self._asker.client.queue.run(self._asker.line)
+            self._asker.client.queue._step(self._asker.line)
             completion = self._collected(number)
             if completion is not None:
                 return completion

@@ -120,6 +120,9 @@ class Queue(Held):
             exchanges += 1
         return exchanges
 
+    def _step(self, line: Line) -> int:
+        return self.run(line)
+
     def _exchange(self, line: Line) -> bool:
         """Sends one frame, and reports what came. False: there is none."""
         taken: List[bytes] = []

@@ -250,7 +250,8 @@ def ended(client: AnyClient) -> Completion:
     from . import Completion
     outcome = client.next_outcome()
     if not isinstance(outcome, Completion):
-        raise LineFailed("the request wasn't sent: the queue is paused, or the server has no line now")
+        raise LineFailed("the request has no result so far, and may still be sent: the queue is paused, or the server "
+                         "has no line now")
     return outcome
 
 

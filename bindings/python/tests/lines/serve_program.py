@@ -12,8 +12,7 @@ import time
 from typing import Any, Dict
 
 import common  # noqa: F401  (it makes the package known)
-from wurstlinen import Completion, Full, LineFailed, Status, connect
-from wurstlinen.shared.connection import Refused
+from wurstlinen import Completion, Full, LineBusy, LineFailed, Status, connect
 
 UIDS = [f"1234:{number:08x}" for number in range(1, 9)]
 # No answer takes so long: sixteen programs have sixteen requests and four discoveries each.
@@ -31,9 +30,7 @@ def main() -> int:
                 with connect(line) as client:
                     for _ in range(chance.randrange(1, 20)):
                         ask(client, chance, counts)
-            except Refused as fault:
-                if fault.name != "TooManyClients":
-                    raise
+            except LineBusy:
                 time.sleep(0.05)
     except LineFailed as fault:
         counts["wrong"] = str(fault)

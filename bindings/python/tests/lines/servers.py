@@ -39,8 +39,9 @@ class Here:
         self.place = Place(name)
         self.session = Session(SOURCE, CAPACITY, search=Search.QUICK)
         self.line = make()
-        self.server = Server(self.place.listener, self.session, Facts(name, SOURCE, users, idle))
+        self.server = Server(self.place, self.session, Facts(name, SOURCE, users, idle))
         self.worker = Worker(self.session, self.line, make, self.server.wake)
+        self.place.listen()
         self.failure: Optional[BaseException] = None
         self.thread = threading.Thread(target=self._run, daemon=True)
         self.thread.start()
@@ -155,9 +156,10 @@ def command(made: Path, *words: str, **keys: Any) -> "subprocess.CompletedProces
 
 
 class Process(subprocess.Popen):  # type: ignore[type-arg]
-    """A server in a process of its own, and where its socket is."""
+    """A server in a process of its own, where its socket is, and at its end what it said on standard error."""
 
     socket = ""
+    said = ""
 
 
 @contextlib.contextmanager
@@ -175,7 +177,7 @@ def serve(made: Path, *words: str) -> Iterator[Process]:
         if process.poll() is None:
             process.send_signal(signal.SIGTERM)
         try:
-            process.communicate(timeout=SECONDS)
+            process.said = process.communicate(timeout=SECONDS)[1]
         except subprocess.TimeoutExpired:
             process.kill()
             process.communicate()

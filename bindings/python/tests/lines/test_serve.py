@@ -382,8 +382,8 @@ class Lending(TestCase):
             for number, program in enumerate(programs):
                 self.assertEqual(program.ask(GET), {"request": number})
                 self.assertEqual(program.read()["data"], LABEL)
-            with Program(made.place.path) as other:
-                self.assertEqual((other.hello["error"], other.read()), ("TooManyClients", None))
+            with Program(made.place.path, {**HELLO, "id": 5}) as other:
+                self.assertEqual((other.hello["error"], other.hello["id"], other.read()), ("TooManyClients", 5, None))
             programs[3].close()
             while True:
                 with Program(made.place.path) as other:
@@ -439,5 +439,7 @@ class Lending(TestCase):
                 program.ask(GET)
                 said = program.rest()
             self.assertEqual([said[0]["status"], said[-1]["error"]], [FAILED_TO_SEND, "Closed"])
+            text = "the line has ended the server: ZeroDivisionError()"
+            self.assertEqual([said[0]["reason"], said[-1]["text"]], [text, text])
             made.thread.join(SECONDS)
             self.assertIsInstance(made.failure, ZeroDivisionError)

@@ -15,26 +15,42 @@ import threading
 import time
 import unittest
 from pathlib import Path
-from typing import Iterator, List, Tuple
+from typing import Any, Dict, Iterator, Tuple
 from unittest import mock
 
-from common import ENTTEC, ROOT, LongTestCase, folder, needs_library
+from common import ENTTEC, ROOT, LongTestCase, folder, needs_library, scene
 from fronts import called
 from servers import HELLO, SECONDS, TOOL, Program, command, environment, here, runtime, serve
-from test_serve import FIVE, FOUND, GET, LABEL, LEFT, five
-from wurstlinen import LineFailed, OutcomeKind, RunFaultKind, Status, connect, tool
+from test_serve import FIVE, FOUND, GET, LABEL, LEFT, TIMEOUT, Gate, five
+from wurstlinen import LineFailed, OutcomeKind, RunFaultKind, Status, Unserved, connect, tool
 from wurstlinen._queue import kind_of
 from wurstlinen.front.output import Failure, Output
-from wurstlinen.lines import EnttecPro, Rig
+from wurstlinen.lines import EnttecPro, Rig, TextLine
 from wurstlinen.lines.emulator import Emulator, Widget
 from wurstlinen.lines.packets import uid_text
-from wurstlinen.shared import place, worker
-from wurstlinen.shared.listening import Place, checked
-from wurstlinen.shared.log_file import LogFile
+from wurstlinen.shared import peer, place, server, worker
+from wurstlinen.shared.listening import Passed, Place
 from wurstlinen.tool import adapters, places, sharing
 
 LINE = f"rig:{FIVE}"
 WIDGET = Widget(manufacturer=ENTTEC)
+
+
+class Plug(Rig):
+    """A rig that can be unplugged, or fail."""
+
+    def __init__(self, source: str = "7ff0:00000001") -> None:
+        super().__init__(scene(source=source, devices=[{"uid": LEFT, "rig": {"label": "Front left"}}]))
+        self.is_plugged, self.failure = True, ""
+
+    @property
+    def is_there(self) -> bool:
+        return self.is_plugged
+
+    def exchange(self, frame: bytes) -> bytes:
+        if self.failure:
+            raise LineFailed(self.failure)
+        return super().exchange(frame)
 
 
 @needs_library
@@ -111,6 +127,25 @@ class Commands(LongTestCase):
             numbers = [json.loads(line).get("number") for line in (place / "log").read_text().splitlines()]
             self.assertEqual(numbers, [None, *range(len(numbers) - 1)])
 
+    def test_a_log_has_no_gaps(self) -> None:
+        tell, told = peer.Peer.tell, []
+
+        def miss(program: peer.Peer, event: Dict[str, Any]) -> None:
+            told.append(event)
+            if len(told) == 5:
+                program._missed += 1
+            else:
+                tell(program, event)
+        note = "wurstlinen: 1 frames are neither shown nor counted: they weren't read in time\n"
+        with folder() as place, here(five, name=LINE), mock.patch.object(peer.Peer, "tell", miss):
+            status, out, errors = called("fixtures", "--line", LINE, "--log", str(place / "log"))
+            self.assertEqual((status, out, errors),
+                             (1, "", f"{note}wurstlinen: 1 frames weren't read in time, so there is no log\n"))
+            self.assertEqual((place / "log").read_text().count("\n"), 1)
+            told.clear()
+            status, out, errors = called("get", LEFT, "device_label", "--line", LINE)
+            self.assertEqual((status, out, errors), (0, "Front left\n", ""))
+
     def test_another_source_is_refused(self) -> None:
         with here(five, name=LINE):
             for words in (["fixtures"], ["get", "--raw", LEFT, "0082"]):
@@ -126,7 +161,27 @@ class Commands(LongTestCase):
             for words, what in ((["get", LEFT, "device_label"], "request"), (["fixtures"], "discovery")):
                 status, _, errors = called(*words, "--line", LINE, "--wait", "0.2")
                 self.assertEqual((status, errors), (
-                    1, f"wurstlinen: the {what} wasn't sent: the queue is paused, or has too much to do\n"))
+                    1, f"wurstlinen: the {what} has no result so far, and may still be sent: the queue is paused\n"))
+
+    def test_a_line_with_too_much_to_do(self) -> None:
+        gate = Gate()
+        with here(lambda: gate, name=LINE) as made, Program(made.place.path) as other:
+            other.ask({"do": "discover"})
+            text = "has no result so far, and may still be sent: the line has too much to do\n"
+            for words, what in ((["get", LEFT, "device_label"], "request"), (["fixtures"], "discovery")):
+                status, _, errors = called(*words, "--line", LINE, "--wait", "0.2")
+                self.assertEqual((status, errors), (1, f"wurstlinen: the {what} {text}"))
+            with connect(LINE) as client:
+                self.assertRaises(Unserved, client.ask, LEFT, 0x82, wait=0.2)
+
+    def test_a_long_discovery_is_awaited(self) -> None:
+        class Slow(Rig):
+            def exchange(self, frame: bytes) -> bytes:
+                time.sleep(0.02)
+                return super().exchange(frame)
+        with here(lambda: Slow(FIVE), name=LINE):
+            status, out, _ = called("fixtures", "--line", LINE, "--wait", "0.4")
+            self.assertEqual((status, out.count("\n")), (0, 7))
 
     def test_a_queue_that_is_closed(self) -> None:
         with here(five, name=LINE) as made:
@@ -173,6 +228,7 @@ class Example(LongTestCase):
             flags = ["-std=c11", "-Wall", "-Wextra", "-Werror", "-pedantic"]
             subprocess.run(["cc", *flags, ROOT / "bindings/examples/share.c", "-o", place / "share"], check=True)
             for words, wanted in (([LEFT], (0, "Front left\n", "")), (["1234:00000009"], (1, "", '"status":3')),
+                                  (["9abc:00000002"], (1, "", '"ack":1')),
                                   (["x"], (1, "", "uid isn't a UID")), ([], (2, "", "usage"))):
                 done = subprocess.run([place / "share", made.place.path, *words], check=False, capture_output=True,
                                       text=True, timeout=SECONDS)
@@ -245,6 +301,46 @@ class Adapters(LongTestCase):
                     self.assertEqual(program.read()["data"], LABEL)
                     stack.close()
 
+    def test_another_adapter_in_its_place_is_not_used(self) -> None:
+        plugged = [Plug(), Plug(source="7ff0:00000002")]
+        first, other = plugged
+        broadcast = {"do": "set", "uid": "ffff:ffffffff", "pid": "1000", "data": "01"}
+        with mock.patch.object(worker, "LOOK_SECONDS", 0.02), here(lambda: plugged[0]) as made, \
+                Program(made.place.path) as program:
+            plugged.pop(0)
+            first.is_plugged = False
+            self.assertFalse(program.next("there")["there"])
+            program.ask(broadcast)
+            while program.ask({"do": "status"})["reason"] != "another adapter is in its place":
+                time.sleep(0.01)
+            plugged[0] = Plug()
+            self.assertTrue(program.next("there")["there"])
+            # FORMATS: 1 is WasBroadcast.
+            self.assertEqual(program.read(), {"request": 0, "status": 1})
+            self.assertEqual((other.exchanges, plugged[0].exchanges), (0, 1))
+
+    def test_the_reason_is_that_of_now(self) -> None:
+        plug = Plug()
+        with mock.patch.object(worker, "LOOK_SECONDS", 0.02), here(lambda: plug) as made, \
+                Program(made.place.path) as program:
+            plug.failure = "the adapter didn't end an exchange"
+            program.ask(GET)
+            self.assertEqual(program.read()["reason"], "the adapter didn't end an exchange")
+            plug.failure = ""
+            plug.is_plugged = False
+            self.assertEqual(program.next("there")["reason"], "the adapter is gone")
+
+    def test_a_far_end_that_has_ended_is_started_again(self) -> None:
+        # It answers once: nobody has said anything.
+        with mock.patch.object(worker, "LOOK_SECONDS", 0.02), \
+                here(lambda: TextLine.run(["sh", "-c", "read frame; echo"])) as made, \
+                Program(made.place.path) as program:
+            for _ in range(2):
+                program.say(GET)
+                said = [program.next("status", "there") for _ in range(3)]
+                self.assertEqual([each["status"] for each in said if "status" in each], [TIMEOUT])
+                self.assertEqual([each["there"] for each in said if "there" in each], [False, True])
+
     def test_requests_do_not_wait_for_it_for_ever(self) -> None:
         with folder() as made, mock.patch.object(worker, "LOOK_SECONDS", 0.05), \
                 mock.patch.object(worker, "GRACE_SECONDS", 0.2):
@@ -293,6 +389,103 @@ class Ends(LongTestCase):
         with folder() as made, serve(made, "--line", LINE, "--idle", "0.1") as server:
             self.assertEqual(server.wait(SECONDS), 0)
 
+    @staticmethod
+    def started(made: Path, listener: socket.socket, *words: str) -> "subprocess.Popen[str]":
+        """A server that systemd starts when somebody connects: it passes the socket as the descriptor 3."""
+        code = ("import os, sys; os.dup2(int(sys.argv[1]), 3); os.environ.update(LISTEN_FDS='1', "
+                "LISTEN_PID=str(os.getpid())); os.execv(sys.executable, [sys.executable, *sys.argv[2:]])")
+        return subprocess.Popen([sys.executable, "-c", code, str(listener.fileno()), *TOOL[1:], "serve", *words],
+                                env=environment(made), pass_fds=[listener.fileno()], stdout=subprocess.PIPE,
+                                stderr=subprocess.PIPE, text=True)
+
+    def test_a_socket_of_systemd_without_an_adapter(self) -> None:
+        with folder() as made, socket.socket(socket.AF_UNIX) as listener:
+            listener.bind(str(made / "socket"))
+            listener.listen()
+            listener.settimeout(0)
+            with Program(made / "socket", None) as first, Program(made / "socket", None) as second:
+                first.say(HELLO)
+                out, errors = self.started(made, listener, "--line", "enttec:/dev/nowhere").communicate()
+                text = "/dev/nowhere can't be opened: No such file or directory"
+                self.assertEqual((out, errors), ("", f"wurstlinen: {text}\n"))
+                said = [each.rest() for each in (first, second)]
+                self.assertEqual(said, [[{"error": "NoLine", "text": text}]] * 2)
+            # Nobody is left for whom systemd would start another one.
+            self.assertRaises(BlockingIOError, listener.accept)
+
+    def test_a_command_that_comes_while_the_server_ends(self) -> None:
+        gate = Gate()
+        with here(lambda: gate, name=LINE) as made, mock.patch.object(server, "ENDING_SECONDS", 20.0), \
+                Program(made.place.path) as program:
+            program.ask(GET)
+            gate.began.acquire()
+            with mock.patch.object(server.Server, "_accept", lambda served: None):
+                late = Program(made.place.path, None)
+                made.server.end()
+                while made.place.path.exists():
+                    time.sleep(0.01)
+            # It isn't lost in the queue of the socket, and others don't find that any more.
+            self.assertEqual([each["error"] for each in late.rest()], ["Closed"])
+            late.close()
+            self.assertEqual(called("get", LEFT, "device_label", "--line", LINE), (0, "Front left\n", ""))
+            gate.is_open.set()
+            self.assertEqual(program.next("data")["data"], LABEL)
+
+    def test_a_command_that_comes_while_a_server_begins(self) -> None:
+        with runtime():
+            found = Place(LINE)
+            # The server waits for the line, and nobody waits for the server.
+            self.assertEqual(called("get", LEFT, "device_label", "--line", LINE), (0, "Front left\n", ""))
+            found.close()
+
+    def test_commands_wait_for_a_server_that_has_too_many_programs(self) -> None:
+        with here(five, name=LINE) as made:
+            programs = [Program(made.place.path) for _ in range(16)]
+            who = f"the server of {LINE}"
+            status, _, errors = called("get", LEFT, "device_label", "--line", LINE, "--wait-line", "0.1")
+            self.assertEqual(errors.splitlines()[0], f"wurstlinen: waiting for {who}")
+            self.assertEqual((status, len(errors.splitlines())), (1, 2))
+            threading.Timer(0.3, programs[0].close).start()
+            self.assertEqual(called("get", LEFT, "device_label", "--line", LINE),
+                             (0, "Front left\n", f"wurstlinen: waiting for {who}\n"))
+            for each in programs[1:]:
+                each.close()
+
+    def test_a_server_that_ends_before_it_answers_is_waited_for(self) -> None:
+        with runtime():
+            found = Place(LINE)
+            found.listen()
+            threading.Timer(0.3, found.close).start()
+            status, out, errors = called("get", LEFT, "device_label", "--line", LINE)
+            self.assertEqual((status, out, errors),
+                             (0, "Front left\n", f"wurstlinen: waiting for the server of {LINE}\n"))
+
+    def test_a_place_that_cannot_be_used_is_named(self) -> None:
+        with folder() as made, socket.socket(socket.AF_UNIX) as listener:
+            (made / "wurstlinen").mkdir(mode=0o700)
+            lock = place.path_of(made / "wurstlinen", LINE).with_suffix(".lock")
+            lock.symlink_to(made / "elsewhere")
+            done = command(made, "serve", "--line", LINE)
+            self.assertEqual((done.returncode, done.stderr),
+                             (1, f"wurstlinen: {lock} can't be used: Too many levels of symbolic links\n"))
+            listener.bind(str(made / "socket"))
+            listener.listen()
+            text = "the socket that systemd passes has a group already: leave out --group"
+            _, errors = self.started(made, listener, "--line", LINE, "--group", "nogroup").communicate(timeout=SECONDS)
+            self.assertEqual(errors, f"wurstlinen: {text}\n")
+
+    def test_no_server_takes_a_socket_on_which_somebody_listens(self) -> None:
+        with folder() as made, socket.socket(socket.AF_UNIX) as listener:
+            (made / "wurstlinen").mkdir(mode=0o700)
+            path = str(place.path_of(made / "wurstlinen", LINE))
+            listener.bind(path)
+            listener.listen()
+            done = command(made, "serve", "--line", LINE)
+            self.assertEqual((done.returncode, done.stderr),
+                             (1, f"wurstlinen: {LINE} is served already: another program listens on {path}\n"))
+            with Program(path, None):
+                pass
+
     def test_a_socket_of_systemd(self) -> None:
         with folder() as made, socket.socket(socket.AF_UNIX) as listener:
             (made / "wurstlinen").mkdir(mode=0o700)
@@ -300,12 +493,7 @@ class Ends(LongTestCase):
             listener.bind(path)
             listener.listen()
             with Program(path, None) as program:
-                # systemd starts the server when somebody connects, and passes the socket as the descriptor 3.
-                code = ("import os, sys; os.dup2(int(sys.argv[1]), 3); os.environ.update(LISTEN_FDS='1', "
-                        "LISTEN_PID=str(os.getpid())); os.execv(sys.executable, [sys.executable, *sys.argv[2:]])")
-                server = subprocess.Popen([sys.executable, "-c", code, str(listener.fileno()), *TOOL[1:], "serve",
-                                           "--line", LINE, "--idle", "0.1"], env=environment(made),
-                                          pass_fds=[listener.fileno()], stdout=subprocess.PIPE, text=True)
+                server = self.started(made, listener, "--line", LINE, "--idle", "0.1")
                 self.assertEqual(program.ask(HELLO)["line"], LINE)
                 program.ask(GET)
                 self.assertEqual(program.read()["data"], LABEL)
@@ -321,11 +509,12 @@ class Ends(LongTestCase):
         chosen = argparse.Namespace(line=LINE, source=None, log=None, idle=None, group=None)
         with runtime(), mock.patch.object(sharing, "end_by"):
             found = Place(LINE)
+            found.listen()
             asking = threading.Thread(target=self.ask, args=(found.path,), daemon=True)
             asking.start()
             output = Output(False, io.StringIO(), io.StringIO())
             with self.assertRaises(Failure) as raised:
-                sharing.serve(chosen, output, Broken(FIVE), found.listener, found)
+                sharing.serve(chosen, output, Broken(FIVE), found)
             text = f"{LINE} has ended the server: ZeroDivisionError('no reply')"
             self.assertEqual((raised.exception.status, str(raised.exception)), (1, text))
             asking.join(SECONDS)
@@ -342,7 +531,7 @@ class Ends(LongTestCase):
         for kind in (socket.AF_INET, socket.AF_UNIX):
             text = "isn't one that listens on a path"
             with socket.socket(kind) as listener, self.assertRaisesRegex(LineFailed, text):
-                checked(listener)
+                Passed(listener)
 
     def test_two_servers_of_a_line(self) -> None:
         with folder() as made, serve(made, "--line", LINE) as server:
@@ -360,67 +549,3 @@ class Ends(LongTestCase):
                 done = command(made, "serve", *words)
                 self.assertEqual((done.returncode, done.stderr), (1, text))
                 self.assertEqual(list(made.glob("wurstlinen/*.socket")), [])
-
-
-@needs_library
-class Logs(LongTestCase):
-    """The log of a server."""
-
-    def test_it_is_a_sessions_log(self) -> None:
-        with folder() as made:
-            log = made / "log"
-            with serve(made, "--line", LINE, "--log", str(log)) as server, Program(server.socket) as program:
-                program.ask({"do": "discover"})
-                program.ask(GET)
-                program.next("data")
-            entries = [json.loads(line) for line in log.read_text().splitlines()]
-            self.assertEqual([each["entry"] for each in entries[:17]], ["opening", *["join"] * 16])
-            self.assertEqual(entries[-1], {"entry": "close"})
-            self.assertEqual(sum(each["entry"] == "accept" for each in entries),
-                             sum(each["entry"] == "finish" for each in entries))
-            done = command(made, "trace", str(log))
-            self.assertEqual((done.returncode, done.stdout.count("\n")),
-                             (0, sum(each["entry"] == "send" for each in entries)))
-
-    def test_it_does_not_grow_for_ever(self) -> None:
-        with folder() as made:
-            said: List[str] = []
-            log = LogFile(str(made / "log"), said.append, 100)
-            log.open()
-            for number in range(50):
-                log.add([b"%09d\n" % number] * 2)
-            log.close()
-            self.assertEqual([(made / name).stat().st_size for name in ("log", "log.1")], [100, 100])
-            self.assertEqual((made / "log").read_bytes()[-10:], b"000000049\n")
-            self.assertEqual((said, sorted(each.name for each in made.iterdir())), ([], ["log", "log.1"]))
-
-    def test_it_goes_on_in_a_new_file_if_it_is_moved(self) -> None:
-        with folder() as made:
-            log = LogFile(str(made / "log"), self.fail)
-            log.add([b"1\n"])
-            (made / "log").rename(made / "old")
-            log.add([b"2\n"])
-            (made / "log").unlink()
-            log.add([b"3\n"])
-            log.close()
-            self.assertEqual(((made / "old").read_bytes(), (made / "log").read_bytes()), (b"1\n", b"3\n"))
-
-    def test_a_full_disk_is_reported_once_and_loses_no_half_line(self) -> None:
-        with folder() as made:
-            said: List[str] = []
-            log = LogFile(str(made / "log"), said.append)
-            log.add([b"first\n"])
-            full = LogFile("/dev/full", said.append)
-            full.open()
-            file, log._file = log._file, None
-            with mock.patch.object(log, "_name", "/dev/full"):
-                log.add([b"lost\n"])
-                log.add([b"lost\n", b"too\n"])
-            file.close()
-            log.add([b"last\n"])
-            log.close()
-            full.close()
-            self.assertEqual((made / "log").read_bytes(), b"first\nlast\n")
-            self.assertEqual(len(said), 2, said)
-            self.assertTrue(said[0].endswith("the log goes on when it can be written again"), said)
-            self.assertTrue(said[1].endswith("the log goes on after 3 lost lines"), said)

@@ -11,13 +11,15 @@ import threading
 import time
 import unittest
 from pathlib import Path
-from typing import Any, Iterator, Tuple
+from typing import Any, Dict, Iterator, List, Optional, Tuple
 from unittest import mock
 
 from common import TestCase, folder, needs_library
 from servers import HELLO, SECONDS, Here, Program, here, runtime
-from test_serve import GET, LABEL, five
-from wurstlinen.shared import listening, peer, place, server
+from test_serve import GET, LABEL, Gate, five
+from wurstlinen import Completion, LogFull, Status
+from wurstlinen.shared import journal, listening, peer, place, server, worker
+from wurstlinen.shared.lane import Lane
 from wurstlinen.shared.listening import Place
 from wurstlinen.shared.place import BadPlace
 
@@ -54,6 +56,119 @@ class Hostile(TestCase):
                 said = bad.rest()
                 self.assertIn(said[-1]["error"], ("TooManyFaults", "LineTooLong"))
                 self.assertLessEqual(len(said), peer.MOST_FAULTS + 1)
+
+    def test_a_request_that_is_nested_deeply(self) -> None:
+        with self.served() as (made, good):
+            # What json reads, it may not be able to write.
+            for form in (b'{"do":"status","id":@}', b'{"do":@}', b'{"do":"get","uid":@}', b'{"do":"subscribe","to":@}'):
+                for depth in range(900, 1000, 1 if b"id" in form else 9):
+                    with Program(made.place.path) as bad:
+                        bad.write(form.replace(b"@", b"[" * depth + b"]" * depth) + b"\n")
+                        self.assertEqual(bad.read()["error"], "BadRequest")
+
+    def test_a_fault_of_the_server_ends_one_program_alone(self) -> None:
+        def status(*_: object) -> None:
+            raise ZeroDivisionError("by a test")
+        with self.served() as (made, good), mock.patch.dict(server.ANSWERS, status=status), \
+                Program(made.place.path) as bad:
+            bad.say({"do": "status"})
+            self.assertEqual(bad.rest(), [{"error": "ServerFault",
+                                           "text": "the server has a fault: ZeroDivisionError('by a test')"}])
+
+    def test_faults_count_if_they_are_in_a_row(self) -> None:
+        with self.served() as (made, good), Program(made.place.path) as bad:
+            for _ in range(2 * peer.MOST_FAULTS):
+                self.assertIn("error", bad.ask({"do": "typo"}))
+                self.assertIn("line", bad.ask({"do": "status"}))
+
+    def test_many_requests_at_once_keep_nobody_waiting(self) -> None:
+        def devices(*_: object) -> Dict[str, Any]:
+            time.sleep(0.004)
+            return {"devices": "x" * 5000}
+        with mock.patch.dict(server.ANSWERS, devices=devices), self.served() as (made, good):
+            bad = [Program(made.place.path) for _ in range(3)]
+            for each in bad:
+                each.write(b'{"do":"devices"}\n' * 240)
+            for _ in range(3):
+                self.check(good)
+            # Nothing is made that they don't read.
+            time.sleep(0.5)
+            self.assertLess(max(len(each._unread) for each in made.server._peers), peer.MOST_UNREAD_BYTES + 6000)
+            self.assertEqual([len([each.read() for _ in range(240)]) for each in bad], [240] * 3)
+            for each in bad:
+                each.close()
+
+    def test_who_waits_for_a_client_keeps_nobody_busy(self) -> None:
+        turns: List[float] = []
+        turn = server.Server._turn
+
+        def counted(served: server.Server, seconds: float) -> None:
+            turns.append(time.monotonic())
+            turn(served, seconds)
+        gate = Gate()
+        with mock.patch.object(server.Server, "_turn", counted), here(lambda: gate) as made:
+            for _ in range(16):
+                with Program(made.place.path) as dead:
+                    dead.ask(GET)
+            waiting, gone = Program(made.place.path, None), Program(made.place.path, None)
+            for each in (waiting, gone):
+                each.say(HELLO)
+            time.sleep(0.2)
+            waiting.say(GET)
+            gone.close()
+            began = len(turns)
+            time.sleep(0.5)
+            self.assertLess(len(turns) - began, 10)
+            gate.is_open.set()
+            self.assertEqual(waiting.next("data")["data"], LABEL)
+            waiting.close()
+
+    def test_who_fills_the_log(self) -> None:
+        gate = Gate()
+        with mock.patch("servers.CAPACITY", 64), mock.patch.object(worker, "ROOM", 32), \
+                mock.patch.object(journal, "FULL_ENOUGH", 16), here(lambda: gate) as made, \
+                Program(made.place.path) as bad, Program(made.place.path) as good:
+            good.ask(GET)
+            gate.began.acquire()
+            # Nothing is collected or sent meanwhile.
+            for _ in range(50):
+                bad.say({"do": "pause", "id": 1})
+                self.assertEqual(bad.next("id"), {"id": 1, "paused": True})
+                bad.say({"do": "resume", "id": 2})
+                self.assertEqual(bad.next("id"), {"id": 2, "paused": False})
+            good.say(GET)
+            self.assertEqual(good.next("request"), {"request": 1})
+            gate.is_open.set()
+            self.assertEqual([good.next("data")["request"] for _ in range(2)], [0, 1])
+
+    def test_what_is_refused_changes_nothing_later(self) -> None:
+        def full() -> None:
+            raise LogFull
+        with self.served() as (made, good), Program(made.place.path) as operator:
+            for name, paused in (("pause", False), ("resume", True)):
+                with mock.patch.object(made.session, name, full):
+                    operator.say({"do": name, "id": 1})
+                    self.assertEqual(operator.next("id")["error"], "LogFull")
+                for _ in range(3):
+                    operator.say({"do": "status", "id": 2})
+                    self.assertIs(operator.next("id")["paused"], paused)
+                operator.say({"do": "pause" if not paused else "resume", "id": 3})
+                operator.next("id")
+
+    def test_a_result_that_nobody_awaits_reaches_nobody(self) -> None:
+        class Foreign:
+            def __init__(self) -> None:
+                self.outcomes = [Completion(7, Status.TIMEOUT, None, b""), Completion(3, Status.TIMEOUT, None, b"")]
+
+            def submit(self, request: object) -> int:
+                return 3
+
+            def next_outcome(self) -> Optional[Completion]:
+                return self.outcomes.pop(0)
+        foreign: Any = Foreign()
+        lane = Lane(foreign)
+        lane.submit(foreign)
+        self.assertEqual([each.number for each in lane.collected()], [3])
 
     def test_a_line_without_an_end(self) -> None:
         with self.served() as (made, good), Program(made.place.path) as bad:
@@ -191,6 +306,13 @@ class Places(TestCase):
             (made / "link").symlink_to(made / "rig.json")
             self.assertEqual(name_of(f"rig:{made}/link"), name_of(f"rig:{made}/x/../rig.json"))
         self.assertNotEqual(name_of("exec:one"), name_of("exec:two"))
+        before = os.getcwd()
+        try:
+            os.chdir("/usr")
+            elsewhere = name_of("exec:sh far_end")
+        finally:
+            os.chdir(before)
+        self.assertNotEqual(elsewhere, name_of("exec:sh far_end"))
         self.assertRegex(name_of(f"enttec:/{'x' * 100}"), r"^enttec-[0-9a-f]{16}\.socket$")
 
     def test_an_adapter_keeps_its_name(self) -> None:
@@ -262,6 +384,7 @@ class Places(TestCase):
             os.close(first._lock)
             self.assertIsNone(place.connected("rig:/it"))
             second = Place("rig:/it")
+            second.listen()
             with place.connected("rig:/it") as connection:
                 self.assertEqual(place.user_of(connection), os.geteuid())
             second.close()
@@ -276,6 +399,22 @@ class Places(TestCase):
             first.close()
             Place("rig:/it").close()
 
+    def test_a_socket_is_removed_only_by_its_own_server(self) -> None:
+        with runtime():
+            first = Place("rig:/it")
+            # As a cleaner of /tmp does it.
+            first.path.with_suffix(".lock").unlink()
+            second = Place("rig:/it")
+            first.close()
+            second.listen()
+            second.path.with_suffix(".lock").unlink()
+            with self.assertRaisesRegex(BadPlace, "rig:/it is served already"):
+                Place("rig:/it")
+            with place.connected("rig:/it"):
+                pass
+            second.close()
+            self.assertFalse(second.path.exists())
+
     def test_a_long_name(self) -> None:
         with folder() as made:
             long = made / ("x" * 90)
@@ -287,6 +426,7 @@ class Places(TestCase):
     def test_another_users_server(self) -> None:
         with runtime():
             made = Place("rig:/it")
+            made.listen()
             with mock.patch.object(place, "user_of", lambda connection: NOBODY):
                 self.assertRaisesRegex(BadPlace, "another user's program has it", place.connected, "rig:/it")
             made.close()
@@ -295,6 +435,7 @@ class Places(TestCase):
     def test_the_socket_is_nobody_elses(self) -> None:
         with runtime() as made:
             found = Place("rig:/it")
+            found.listen()
             made.chmod(0o755)
             found.path.parent.chmod(0o755)
             child = os.fork()
@@ -320,6 +461,7 @@ class Places(TestCase):
                          for each in map(os.lstat, (found.path.parent, found.path))]
                 self.assertEqual(modes, [(0o750, NOBODY), (0o660, NOBODY)])
                 self.assertIsNone(found.users)
+                found.listen()
                 with place.connected("rig:/it"):
                     pass
                 found.path.parent.chmod(0o777)

@@ -24,29 +24,39 @@ class SharedLine(Watched):
         self._run = 0
         self._exchanges: List[Tuple[bytes, Optional[bytes]]] = []
         self._before: Tuple[int, Set[int]] = (0, set())
-        queue.on_frame, queue.on_failure = self._take, self._failed
+        # How many frames didn't come, since they weren't read in time.
+        self._missed = 0
+        queue.on_frame, queue.on_missed, queue.on_failure = self._take, self._miss, self._failed
         if shown is not None:
             queue.subscribe([FRAMES])
 
     @property
     def absence(self) -> str:
-        """Why the server has no line."""
-        return "" if self._queue.is_there else self._queue.reason
+        """Why the server sends nothing."""
+        if not self._queue.is_there:
+            return self._queue.reason
+        return "the queue is paused" if self._queue.is_paused() else ""
 
     def _failed(self, reason: str) -> None:
         self.failure = LineFailed(reason)
 
+    def _miss(self, count: int) -> None:
+        self._missed += count
+        self._output.note(f"{count} frames are neither shown nor counted: they weren't read in time")
+
     def begin(self, make_log: Optional[Callable[[], DiscoveryLog]]) -> None:
         """A discovery is to begin."""
         super().begin(make_log)
-        self._exchanges = []
+        self._exchanges, self._missed = [], 0
         self._before = self.frames, set(self.talkative)
         self._queue.subscribe([FRAMES])
 
     def end(self) -> None:
-        """Writes the log of the last run."""
+        """Writes the log of the last run. Raises LineFailed if it would have gaps."""
         log = self.log
         super().end()
+        if log is not None and self._missed:
+            raise LineFailed(f"{self._missed} frames weren't read in time, so there is no log")
         if log is not None:
             for frame, reply in self._exchanges:
                 log.add(frame, reply)

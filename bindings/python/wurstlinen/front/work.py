@@ -74,9 +74,9 @@ class Work:
         return self._acknowledged(uid, answer.completion)
 
     def _unserved(self, what: str) -> Failure:
-        """Why the server hasn't sent something in time."""
-        reason = self.line.absence or "the queue is paused, or has too much to do"
-        return Failure(FAILED, f"the {what} wasn't sent: {reason}", reason="unserved")
+        """Why the server hasn't done something in time."""
+        reason = self.line.absence or "the line has too much to do"
+        return Failure(FAILED, f"the {what} has no result so far, and may still be sent: {reason}", reason="unserved")
 
     def _acknowledged(self, uid: Uid, completion: Completion) -> Completion:
         """A completion that is an acknowledgement. Raises Failure for any other."""
@@ -151,13 +151,16 @@ class Work:
             self.line.end()
 
     def _discovered(self) -> Discovery:
-        until = time.monotonic() + self._asker.wait
+        """The end of the discovery, which may take long. Only one without a frame in time is given up."""
+        frames, until = -1, 0.0
         while True:
-            self._client.queue.run(self.line)
+            self._client.queue._step(self.line)
             found = self._client.next_discovery()
             if found is not None:
                 return found
-            if time.monotonic() >= until:
+            if frames != self.line.frames:
+                frames, until = self.line.frames, time.monotonic() + self._asker.wait
+            elif time.monotonic() >= until:
                 raise self._unserved("discovery")
             self._client.queue._sleep(GLANCE_SECONDS)
 

@@ -102,6 +102,11 @@ class TextLine(OpenLine):
         line._program = program
         return line
 
+    @property
+    def is_there(self) -> bool:
+        """Whether the far end may answer. A command that has ended has to be started again."""
+        return self._program is None or self._program.poll() is None
+
     def exchange(self, frame: bytes) -> bytes:
         """Writes the frame's line, and reads the line that answers it."""
         return self._turns.alone(lambda: self._exchange(frame))

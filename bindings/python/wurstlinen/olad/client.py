@@ -72,6 +72,9 @@ class OlaQueue:
             done += 1
         return done
 
+    def _step(self, line: object) -> int:
+        return self.run()
+
     def _requested(self, number: int, request: Request) -> Completion:
         try:
             reply = self.daemon.request(self.universe, request.target.number, request.sub_device, request.pid,

@@ -50,6 +50,8 @@ class SharedQueue:
         self.outstanding: Set[Tuple[OutcomeKind, int]] = set()
         # What takes the frames that the server has sent, for any client, if this one has subscribed to them.
         self.on_frame: Callable[[Keys], None] = lambda keys: None
+        # What is told how many of these it didn't get, since it read too slowly.
+        self.on_missed: Callable[[int], None] = lambda count: None
         # What is told why something of this client's failed to be sent.
         self.on_failure: Callable[[str], None] = lambda reason: None
 
@@ -65,6 +67,8 @@ class SharedQueue:
             self.is_there, self.reason = bool(keys["there"]), str(keys.get("reason", ""))
         elif keys.get("event") == "frame":
             self.on_frame(keys)
+        elif keys.get("event") == "missed":
+            self.on_missed(int(keys["count"]))
 
     def _end(self, outcome: Outcome, keys: Keys) -> None:
         if "reason" in keys:
@@ -86,6 +90,10 @@ class SharedQueue:
         while self.outstanding and not self._is_paused and self.is_there:
             self.connection.wait()
         return len(self.outcomes) - before
+
+    def _step(self, line: object) -> None:
+        if not self.outcomes:
+            self.connection.receive(SLICE_SECONDS)
 
     def _sleep(self, seconds: float) -> None:
         """Waits. Raises LineFailed when the server ends."""
@@ -149,7 +157,7 @@ class SharedClient:
         self.close()
 
     def close(self) -> None:
-        """Ends the connection. What is outstanding is finished, and nobody hears of it."""
+        """Ends the connection. What is outstanding is still done, as soon as it can be, and nobody hears of it."""
         self.queue.connection.close()
 
     def submit(self, request: Request) -> int:

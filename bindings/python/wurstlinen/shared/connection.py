@@ -12,7 +12,7 @@ from typing import Callable, Deque, List, Optional, TypeVar
 from .. import _faults
 from .._faults import Fault
 from .._turns import Turns
-from ..line import LineFailed
+from ..line import LineBusy, LineFailed
 from . import place
 from .words import MOST_ANSWER_BYTES, MOST_NAME, VERSION, BadRequest, Keys, Lines, line_of
 
@@ -22,6 +22,8 @@ READ_BYTES = 1 << 16
 QUIET_SECONDS = 2.0
 ANSWER_SECONDS = 10.0
 MILLISECONDS = 1000
+# What a server says, or does, to which the answer is to try again.
+PASSING = ("Closed", "HasEnded", "TooManyClients", "TooManyConnections")
 
 
 class NotServed(LineFailed):
@@ -34,6 +36,10 @@ class Refused(LineFailed):
     def __init__(self, name: str, text: str) -> None:
         super().__init__(f"the server of the line refused it: {text}")
         self.name = name
+
+
+class HasEnded(LineFailed):
+    """The server has ended the connection."""
 
 
 class Connection:
@@ -57,13 +63,22 @@ class Connection:
         # What takes results and events, as they come.
         self.on_object: Callable[[Keys], None] = lambda keys: None
         try:
-            self.hello = self.ask({"do": "hello", "version": VERSION, "name": name_of_program()})
+            self.hello = self._greeted()
         except BaseException:
             self.close()
             raise
 
+    def _greeted(self) -> Keys:
+        """The server's answer to hello. Raises LineBusy if it serves others, or ends: soon the line may be free."""
+        try:
+            return self.ask({"do": "hello", "version": VERSION, "name": name_of_program()})
+        except (Refused, HasEnded, Fault) as fault:
+            if (fault.name if isinstance(fault, Refused) else type(fault).__name__) not in PASSING:
+                raise
+            raise LineBusy(str(fault), f"the server of {self._line}") from None
+
     def close(self) -> None:
-        """Ends the connection. What is outstanding is finished and dropped."""
+        """Ends the connection. What is outstanding is still done."""
         self._socket.close()
 
     @property
@@ -139,7 +154,7 @@ class Connection:
             # What has come until then says why.
             while self._receive():
                 pass
-            raise self._lost("has ended") from None
+            raise HasEnded(f"the server of {self._line} has ended") from None
 
     def _next(self, until: float) -> Optional[Keys]:
         """The next object that comes before the time `until` of `time.monotonic`; None if none comes."""
@@ -156,7 +171,7 @@ class Connection:
             except OSError:
                 data = b""
             if not data:
-                raise self._lost("has ended")
+                raise HasEnded(f"the server of {self._line} has ended")
             self._objects.extend(self._read(data))
         return self._objects.popleft()
 

@@ -58,5 +58,6 @@ class Lane:
             if outcome is None:
                 return
             ended = self._requests if isinstance(outcome, Completion) else self._discoveries
-            ended.discard(outcome.number)
-            yield outcome
+            if outcome.number in ended:
+                ended.remove(outcome.number)
+                yield outcome

@@ -1,6 +1,7 @@
 """The socket of a line's server: made by the server itself, or passed to it by systemd."""
 from __future__ import annotations
 
+import contextlib
 import fcntl
 import grp
 import os
@@ -8,9 +9,11 @@ import socket
 from pathlib import Path
 from typing import FrozenSet, Iterator, Optional
 
+from .peer import refuse_waiting
 from .place import (
     MOST_PATH_BYTES, OWN_MODE, ROOT, SYSTEM_FOLDER, BadPlace, check_folder, check_socket, own_folder, path_of,
 )
+from .words import BadRequest
 
 GROUP_MODE = 0o750
 SOCKET_MODE = 0o600
@@ -41,28 +44,62 @@ def group_number(name: str) -> int:
         raise BadPlace(f"there is no group {name}") from None
 
 
+class Passed:
+    """The socket that systemd has passed, which stays when the server ends. Raises BadPlace for a wrong one."""
+
+    # Its mode lets programs in.
+    users: Optional[FrozenSet[int]] = None
+
+    def __init__(self, listener: socket.socket) -> None:
+        listens = listener.getsockopt(socket.SOL_SOCKET, socket.SO_ACCEPTCONN)
+        if listener.family != socket.AF_UNIX or listener.type != socket.SOCK_STREAM or not listens:
+            raise BadPlace("the socket that systemd passes isn't one that listens on a path")
+        self.listener = listener
+
+    def listen(self) -> None:
+        """It listens already."""
+
+    def leave(self) -> None:
+        """For who waits, systemd starts another server."""
+
+    def close(self) -> None:
+        """Closes it here."""
+        self.listener.close()
+
+
 class Place:
-    """The socket of a line's server, for as long as it runs. Two servers of a line can't both have it."""
+    """The socket of a line's server, for as long as it runs. Two servers of a line can't both have it.
+
+    Before it listens, and when the server leaves it, nobody finds it.
+    """
 
     def __init__(self, line: str, group: Optional[str] = None) -> None:
+        self._line = line
         self._group = None if group is None else group_number(group)
         self.path = path_of(made_folder(self._group), line)
         if len(os.fsencode(self.path)) > MOST_PATH_BYTES:
             raise BadPlace(f"{self.path} is longer than the {MOST_PATH_BYTES} bytes that a socket's name may have")
         self._lock = _locked(self.path.with_suffix(".lock"), line)
         try:
+            self._make_room()
             self.listener = self._bound()
+            self._made = os.lstat(self.path)
         except BaseException:
             os.close(self._lock)
             raise
 
-    def _bound(self) -> socket.socket:
+    def _make_room(self) -> None:
+        """Removes the socket of a server that has died. Raises BadPlace for one that somebody listens on."""
         try:
             check_socket(self.path)
-            # Whoever had it has ended: the lock was free.
+            # A server that systemd has started has no lock, and systemd has none.
+            if is_listened_on(self.path):
+                raise BadPlace(f"{self._line} is served already: another program listens on {self.path}")
             self.path.unlink()
         except FileNotFoundError:
             pass
+
+    def _bound(self) -> socket.socket:
         listener = socket.socket(socket.AF_UNIX)
         before = os.umask(0o777 & ~SOCKET_MODE)
         try:
@@ -75,7 +112,6 @@ class Place:
         if self._group is not None:
             os.chown(self.path, -1, self._group)
             os.chmod(self.path, SOCKET_GROUP_MODE)
-        listener.listen()
         return listener
 
     @property
@@ -83,11 +119,38 @@ class Place:
         """Whose programs may connect; None: whom the socket's mode lets in."""
         return frozenset((os.geteuid(), ROOT)) if self._group is None else None
 
+    def listen(self) -> None:
+        """Programs can connect from now on."""
+        self.listener.listen()
+
+    def leave(self) -> None:
+        """Removes the socket, unless it is another server's now. Who has connected is told so."""
+        with contextlib.suppress(OSError):
+            if os.path.samestat(os.lstat(self.path), self._made):
+                self.path.unlink()
+        refuse_waiting(self.listener, BadRequest("the server ends", "Closed"))
+
     def close(self) -> None:
-        """Removes the socket."""
+        """Leaves it."""
+        self.leave()
         self.listener.close()
-        self.path.unlink(missing_ok=True)
         os.close(self._lock)
+
+
+def is_listened_on(path: Path) -> bool:
+    """Whether somebody listens on a socket. Raises FileNotFoundError."""
+    with socket.socket(socket.AF_UNIX) as trying:
+        trying.setblocking(False)
+        try:
+            trying.connect(str(path))
+        except FileNotFoundError:
+            raise
+        except ConnectionRefusedError:
+            return False
+        except OSError:
+            # Too many want to connect, or it is a socket of another kind.
+            pass
+        return True
 
 
 def _locked(path: Path, line: str) -> int:
@@ -115,10 +178,3 @@ def activated() -> Iterator[socket.socket]:
         os.set_inheritable(descriptor, False)
         yield socket.socket(fileno=descriptor)
 
-
-def checked(listener: socket.socket) -> socket.socket:
-    """Such a socket, which listens on a path. Raises BadPlace."""
-    listens = listener.getsockopt(socket.SOL_SOCKET, socket.SO_ACCEPTCONN)
-    if listener.family != socket.AF_UNIX or listener.type != socket.SOCK_STREAM or not listens:
-        raise BadPlace("the socket that systemd passes isn't one that listens on a path")
-    return listener

@@ -1,12 +1,14 @@
 """A server's end of one connection."""
 from __future__ import annotations
 
+import contextlib
 import socket
 import time
-from typing import List, Optional, Set
+from collections import deque
+from typing import Deque, List, Optional, Set
 
 from .lane import Lane
-from .words import MOST_LINE_BYTES, BadRequest, Keys, Lines, line_of
+from .words import MOST_ID, MOST_LINE_BYTES, BadRequest, Keys, Lines, is_number, line_of
 
 READ_BYTES = 4096
 # Above this, nothing more is read from a program that doesn't read, and no event is kept for it.
@@ -26,9 +28,13 @@ class Peer:
         connection.setblocking(False)
         self.connection = connection
         self.lane: Optional[Lane] = None
-        # Its hello, which is answered when a client of the queue is free, and lines that came after it.
+        # What it asks for, and its hello, which is answered when a client of the queue is free.
+        self.held: Deque[bytes] = deque()
         self.hello: Optional[Keys] = None
-        self.held: List[bytes] = []
+        # How many of its requests were refused, one after another.
+        self.faults = 0
+        # The events of its connection that the server waits for.
+        self.watched = 0
         self.subscribed: Set[str] = set()
         self.has_paused = False
         self.is_over = False
@@ -37,13 +43,22 @@ class Peer:
         self._lines = Lines(MOST_LINE_BYTES)
         self._unread = bytearray()
         self._missed = 0
-        self._faults = 0
         self._deadline: Optional[float] = time.monotonic() + HELLO_SECONDS
 
     @property
-    def reads(self) -> bool:
-        """Whether requests are read from it now."""
+    def listens(self) -> bool:
+        """Whether it is answered now: it reads what it gets, and its hello doesn't wait."""
         return not self.is_leaving and self.hello is None and len(self._unread) < MOST_UNREAD_BYTES
+
+    @property
+    def reads(self) -> bool:
+        """Whether more requests are read from it now."""
+        return self.listens and not self.held
+
+    @property
+    def asks(self) -> bool:
+        """Whether a request of its own can be answered now."""
+        return self.listens and bool(self.held)
 
     @property
     def writes(self) -> bool:
@@ -84,18 +99,17 @@ class Peer:
 
     def refuse(self, fault: BadRequest, request: Optional[Keys] = None) -> None:
         """Says why a request is refused. Whoever is refused too often has to leave."""
-        self._faults += 1
+        self.faults += 1
         self.say({**id_of(request), "error": fault.name, "text": str(fault)})
-        if self._faults >= MOST_FAULTS:
-            self.leave(BadRequest(f"{MOST_FAULTS} requests were refused", "TooManyFaults"))
+        if self.faults >= MOST_FAULTS:
+            self.leave(BadRequest(f"{MOST_FAULTS} requests were refused, one after another", "TooManyFaults"))
 
-    def leave(self, fault: Optional[BadRequest] = None) -> None:
+    def leave(self, fault: BadRequest, request: Optional[Keys] = None) -> None:
         """Nothing more is read from it. It gets what waits for it, and the reason."""
         if self.is_leaving:
             return
         self.is_leaving = True
-        if fault is not None:
-            self.say({"error": fault.name, "text": str(fault)})
+        self.say({**id_of(request), "error": fault.name, "text": str(fault)})
         self._deadline = time.monotonic() + FAREWELL_SECONDS
         self.is_over = self.is_over or not self._unread
 
@@ -133,4 +147,15 @@ class Peer:
 def id_of(request: Optional[Keys]) -> Keys:
     """The part of an answer that says which request it answers."""
     found = None if request is None else request.get("id")
-    return {} if found is None else {"id": found}
+    return {"id": found} if is_number(found, MOST_ID) else {}
+
+
+def refuse_waiting(listener: socket.socket, fault: BadRequest) -> None:
+    """Tells those that have connected, and weren't accepted, why they aren't served."""
+    listener.setblocking(False)
+    # The last accept fails: nobody is left, or the socket has never listened.
+    with contextlib.suppress(OSError):
+        while True:
+            peer = Peer(listener.accept()[0])
+            peer.leave(fault)
+            peer.close()

@@ -70,6 +70,10 @@ def path_of(folder: Path, line: str) -> Path:
         path = folder / f"{os.fsdecode(b'-'.join(words))}.socket"
         if len(os.fsencode(path)) <= MOST_PATH_BYTES:
             return path
+    if kind == "exec":
+        # What a command does depends on its folder.
+        here = os.stat(".")
+        rest = f"{here.st_dev}:{here.st_ino}:{rest}"
     # The usual line needs no checksum.
     import hashlib
     return folder / f"{kind}-{hashlib.sha256(os.fsencode(rest)).hexdigest()[:DIGITS]}.socket"

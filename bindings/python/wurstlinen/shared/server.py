@@ -8,10 +8,11 @@ import selectors
 import socket
 import time
 from dataclasses import dataclass
-from typing import Callable, Dict, FrozenSet, List, Optional
+from typing import Callable, Dict, FrozenSet, Iterable, List, Optional, Union
 
 from .. import MOST_CLIENTS, Fault, LogFull, RunFaultKind, Session, Status
 from .lane import DEPTH, PLACES, Lane, Outcome
+from .listening import Passed, Place
 from .peer import READ_BYTES, Peer, id_of
 from .place import user_of
 from .words import (
@@ -42,14 +43,15 @@ class Facts:
 
 
 class Server:
-    """Serves the connections of a listening socket until `end` is called.
+    """Serves the programs that connect at a place until `end` is called.
 
     `session` is the line's, and nobody else has joined it.
     """
 
-    def __init__(self, listener: socket.socket, session: Session, facts: Facts) -> None:
-        listener.setblocking(False)
-        self._listener = listener
+    def __init__(self, place: Union[Place, Passed], session: Session, facts: Facts) -> None:
+        self._place = place
+        self._listener = place.listener
+        self._listener.setblocking(False)
         self._session = session
         self._facts = facts
         self._lanes = [Lane(session.join(PLACES)) for _ in range(MOST_CLIENTS)]
@@ -63,6 +65,8 @@ class Server:
         self._listens = False
         self._listens_from = 0.0
         self._devices_run = 0
+        # The answer of the last run, which takes long to make if there are many devices.
+        self._devices: Keys = {"run": 0, "devices": []}
         self._left_at = time.monotonic()
 
     def wake(self) -> None:
@@ -107,15 +111,19 @@ class Server:
         return self._worker
 
     def _turn(self, seconds: float) -> None:
-        """Waits until something happens, and does what it asks for."""
+        """Waits until something happens, and does what it asks for: one request of each program."""
         self._listen()
-        for key, events in self._selector.select(seconds):
+        for key, events in self._selector.select(0.0 if any(peer.asks for peer in self._peers) else seconds):
             if key.fileobj is self._listener:
                 self._accept()
             elif isinstance(key.data, Peer):
                 self._serve(key.data, events)
             else:
                 self._drain_waking()
+        self.worker.make_room()
+        for peer in self._peers:
+            if peer.asks:
+                self._answer(peer, peer.held.popleft())
         self._hand_out()
         self._housekeep()
 
@@ -148,7 +156,6 @@ class Server:
             peer.close()
             return
         self._peers.append(peer)
-        self._selector.register(connection, selectors.EVENT_READ, peer)
         if self._facts.users is not None and user_of(connection) not in self._facts.users:
             peer.leave(BadRequest("this line is another user's", "OtherUser"))
 
@@ -158,25 +165,25 @@ class Server:
             peer.write()
         if events & selectors.EVENT_READ and peer.reads:
             try:
-                peer.held += peer.read()
+                peer.held.extend(peer.read())
             except BadRequest as fault:
                 peer.leave(fault)
-        self._answer_held(peer)
-
-    def _answer_held(self, peer: Peer) -> None:
-        """Does what the lines ask for that have come, unless its hello waits."""
-        while peer.held and peer.hello is None and not peer.is_leaving:
-            self._answer(peer, peer.held.pop(0))
 
     def _answer(self, peer: Peer, line: bytes) -> None:
-        """Does what a line asks for."""
+        """Does what a line asks for. A fault of the server's own ends this program alone."""
+        try:
+            self._do(peer, line)
+        except Exception as fault:
+            peer.leave(BadRequest(f"the server has a fault: {fault!r}", "ServerFault"))
+
+    def _do(self, peer: Peer, line: bytes) -> None:
         keys: Optional[Keys] = None
         try:
             keys = object_of(line)
             number_in(keys, "id", MOST_ID, 0)
             name = keys.get("do")
             if not isinstance(name, str) or name not in ANSWERS:
-                raise BadRequest(f"there is nothing to do that is called {shortened(str(name))}")
+                raise BadRequest(f"there is nothing to do that is called {shortened(name)}")
             if (peer.lane is None) != (name == "hello"):
                 raise BadRequest("the first request is hello, and only that one", "NoHello")
             answer = ANSWERS[name](self, peer, keys)
@@ -185,6 +192,7 @@ class Server:
         except Fault as fault:
             peer.say({**id_of(keys), "error": type(fault).__name__, "text": str(fault)})
         else:
+            peer.faults = 0
             if answer is not None:
                 peer.say({**id_of(keys), **answer})
 
@@ -194,7 +202,7 @@ class Server:
         if keys.get("version") != VERSION:
             raise BadRequest(f"this server has version {VERSION} of the protocol", "BadVersion")
         if all(lane.owner is not None for lane in self._lanes):
-            peer.leave(BadRequest(f"{MOST_CLIENTS} programs use this line", "TooManyClients"))
+            peer.leave(BadRequest(f"{MOST_CLIENTS} programs use this line", "TooManyClients"), keys)
             return
         peer.hello = keys
         self._welcome(peer)
@@ -227,25 +235,31 @@ class Server:
     def devices(self, peer: Peer, keys: Keys) -> Keys:
         """The devices of the last run without a fault."""
         check_keys(keys, ())
-        return {"run": self._session.devices_run(), "devices": list(map(keys_of_device, self._session.devices()))}
+        if self._devices["run"] != self._session.devices_run():
+            self._devices = {"run": self._session.devices_run(),
+                             "devices": list(map(keys_of_device, self._session.devices()))}
+        return self._devices
 
     def pause(self, peer: Peer, keys: Keys) -> Keys:
         """An operator stops what isn't sent so far, for as long as it is connected."""
         check_keys(keys, ())
+        self._set_pause(True)
         peer.has_paused = True
-        self._set_pause()
         return {"paused": True}
 
     def resume(self, peer: Peer, keys: Keys) -> Keys:
         """The same operator lets it go on. Another may still have paused it."""
         check_keys(keys, ())
+        self._set_pause(self._is_paused_by(other for other in self._peers if other is not peer))
         peer.has_paused = False
-        self._set_pause()
         return {"paused": self._session.is_paused()}
 
-    def _set_pause(self) -> None:
-        """Pauses the queue as long as an operator wants it."""
-        wanted = any(peer.has_paused for peer in self._peers)
+    @staticmethod
+    def _is_paused_by(peers: Iterable[Peer]) -> bool:
+        return any(peer.has_paused for peer in peers)
+
+    def _set_pause(self, wanted: bool) -> None:
+        """Pauses the queue, or has it go on."""
         if wanted == self._session.is_paused() or self._is_ending:
             return
         (self._session.pause if wanted else self._session.resume)()
@@ -275,7 +289,7 @@ class Server:
         keys: Keys = {"line": self._facts.line, "there": self.worker.is_line_there,
                       "paused": self._session.is_paused(), "clients": clients,
                       "outstanding": sum(lane.outstanding for lane in self._lanes)}
-        return keys if keys["there"] else {**keys, "reason": self.worker.reason}
+        return keys if keys["there"] else {**keys, "reason": self.worker.absence}
 
     def _hand_out(self) -> None:
         """Sends results and events to those who want them, and clients of the queue to those who wait for one."""
@@ -294,14 +308,20 @@ class Server:
         for peer in self._peers:
             if peer.hello is not None:
                 self._welcome(peer)
-                self._answer_held(peer)
 
     def _result(self, outcome: Outcome) -> Keys:
         """How a call ended; with the reason if the line failed."""
         keys = outcome_keys(outcome)
         if keys.get("status") == Status.FAILED_TO_SEND or keys.get("fault") == RunFaultKind.LINE_FAILED:
-            keys["reason"] = "the server ends" if self._is_ending else self.worker.reason
+            is_end = self._is_ending or self.worker.fault is not None
+            keys["reason"] = self._end_reason if is_end else self.worker.reason
         return keys
+
+    @property
+    def _end_reason(self) -> str:
+        """Why the server ends."""
+        fault = self.worker.fault
+        return "the server ends" if fault is None else f"the line has ended the server: {fault!r}"
 
     def _tell(self, event: Keys, subject: Optional[str] = None) -> None:
         for peer in self._peers:
@@ -313,33 +333,39 @@ class Server:
         now = time.monotonic()
         for peer in self._peers:
             if peer.is_late(now) and peer.lane is None and not peer.is_leaving:
-                peer.leave(no_lane(peer))
+                peer.leave(no_lane(peer), peer.hello)
             elif peer.is_late(now):
                 peer.is_over = True
         over = [peer for peer in self._peers if peer.is_over]
         for peer in over:
             self._peers.remove(peer)
-            self._selector.unregister(peer.connection)
+            self._watch(peer, 0)
             peer.close()
         if over:
             self._left_at = now
             self._set_frames()
         # If the log was full, the next turn does it.
         with contextlib.suppress(LogFull):
-            self._set_pause()
+            self._set_pause(self._is_paused_by(self._peers))
         for peer in self._peers:
-            self._watch(peer)
+            self._watch(peer, (selectors.EVENT_READ if peer.reads else 0) |
+                        (selectors.EVENT_WRITE if peer.writes else 0))
 
-    def _watch(self, peer: Peer) -> None:
-        """Waits for what a connection can do next."""
-        events = (selectors.EVENT_READ if peer.reads else 0) | (selectors.EVENT_WRITE if peer.writes else 0)
-        if events and self._selector.get_key(peer.connection).events != events:
-            self._selector.modify(peer.connection, events, peer)
+    def _watch(self, peer: Peer, events: int) -> None:
+        """Waits for what a connection can do next. One that can do nothing isn't watched."""
+        if events == peer.watched:
+            return
+        if peer.watched:
+            self._selector.unregister(peer.connection)
+        if events:
+            self._selector.register(peer.connection, events, peer)
+        peer.watched = events
 
     def _finish(self) -> None:
         """Answers everybody, as far as they read it."""
         self._is_ending = True
         self._stop_listening()
+        self._place.leave()
         self._session.close()
         until = time.monotonic() + ENDING_SECONDS
         while any(lane.outstanding for lane in self._lanes) and time.monotonic() < until and not self.worker.fault:
@@ -347,7 +373,7 @@ class Server:
         self.worker.end()
         self._hand_out()
         for peer in self._peers:
-            peer.leave(BadRequest("the server ends", "Closed"))
+            peer.leave(BadRequest(self._end_reason, "Closed"))
         until = time.monotonic() + ENDING_SECONDS
         while self._peers and time.monotonic() < until:
             self._turn(until - time.monotonic())

@@ -63,18 +63,23 @@ def check_keys(keys: Keys, known: Iterable[str]) -> None:
             raise BadRequest(f"there is no key {shortened(key)} here")
 
 
-def shortened(text: str) -> str:
+def shortened(word: object) -> str:
     """A client's word in a message."""
+    text = type(word).__name__ if isinstance(word, (dict, list)) else str(word)
     return repr(text if len(text) <= MOST_NAME else f"{text[:MOST_NAME]}..")
+
+
+def is_number(value: object, most: int) -> bool:
+    """Whether it is a whole number. JSON's true and false are numbers to Python."""
+    return isinstance(value, int) and not isinstance(value, bool) and 0 <= value <= most
 
 
 def number_in(keys: Keys, key: str, most: int, absent: Optional[int] = None) -> int:
     """A whole number of a request. Raises BadRequest."""
     value = keys.get(key, absent)
-    # JSON's true and false are numbers to Python.
-    if not isinstance(value, int) or isinstance(value, bool) or not 0 <= value <= most:
+    if not is_number(value, most):
         raise BadRequest(f"{key} isn't a whole number from 0 to {most}")
-    return value
+    return int(value)
 
 
 def text_in(keys: Keys, key: str, form: "re.Pattern[str]", what: str, absent: Optional[str] = None) -> str:

@@ -9,7 +9,7 @@ from typing import Any, Callable, Deque, Dict, List, Optional
 from .. import LineFailed, LogFull, Session
 from ..entries import Entry
 from ..lines import OpenLine
-from .journal import Exchange, Journal, entry_keys, entry_line
+from .journal import CAPACITY, Exchange, Journal, entry_keys, entry_line
 from .log_file import LogFile
 
 # How often it is looked whether an adapter is still there, or there again.
@@ -20,6 +20,8 @@ GLANCE_SECONDS = 0.01
 # How long the thread has to end, and how long once its line is closed.
 SOON_SECONDS = 0.2
 END_SECONDS = 5.0
+# So many free entries of the session's log are enough for all calls of a turn of the server.
+ROOM = CAPACITY // 2
 # If the server's other thread is behind by so many frames, the line waits for it.
 MOST_EVENTS = 1000
 
@@ -37,7 +39,10 @@ class Worker:
         self._open_line = open_line
         self._notify = notify
         self._log = log
+        # Another adapter would send under another UID, to other devices.
+        self._source = line.source
         self._journal = Journal(session)
+        self._recording = threading.Lock()
         self._exchange_shown = Exchange()
         self._has_work = threading.Event()
         self._is_ending = threading.Event()
@@ -48,8 +53,9 @@ class Worker:
         self.events: Deque[Dict[str, Any]] = deque()
         # Whether somebody wants frames.
         self.shows_frames = False
-        # Why the last exchange failed that did.
+        # Why the last exchange failed that did, and why the line can't be used now.
         self.reason = ""
+        self.absence = ""
         # What the line has raised besides LineFailed, which ends the server.
         self.fault: Optional[BaseException] = None
 
@@ -111,6 +117,7 @@ class Worker:
     def _reply(self, frame: bytes) -> Optional[bytes]:
         """What the line answers to a frame; None if it failed."""
         if self._gone_since is not None:
+            self.reason = self.absence
             return None
         try:
             return self._line.exchange(frame)
@@ -119,32 +126,42 @@ class Worker:
             return None
 
     def _report(self, reply: Optional[bytes]) -> None:
-        """Hands on what came, and what the session has logged: events before the results that they lead to."""
+        """Hands on what came, and what the session has logged: events before the results that they lead to.
+
+        Waits for a thread that is behind with them.
+        """
         def report() -> List[Entry]:
             """Both in one step."""
             self._session.fail() if reply is None else self._session.deliver(reply)
             return self._show_new()
 
-        self._write(self._session._turns.alone(report))
+        self._keep(report)
         self._notify()
+        while len(self.events) > MOST_EVENTS and not self._is_ending.is_set():
+            time.sleep(GLANCE_SECONDS)
 
     def _look_at_line(self) -> None:
         """Notes whether the adapter is gone, and opens it again if it is there."""
         if self._gone_since is None and not self._line.is_there:
             self._line.close()
             self._gone_since = time.monotonic()
-            self.reason = self.reason or "the adapter is gone"
-            self._say({"event": "line", "there": False, "reason": self.reason})
+            self.absence = "the adapter is gone"
+            self._say({"event": "line", "there": False, "reason": self.absence})
         if self._gone_since is not None and time.monotonic() >= self._next_look:
             self._open_again()
 
     def _open_again(self) -> None:
         self._next_look = time.monotonic() + LOOK_SECONDS
         try:
-            self._line = self._open_line()
+            line = self._open_line()
         except (LineFailed, OSError, ValueError) as fault:
-            self.reason = str(fault)
+            self.absence = str(fault)
             return
+        if line.source != self._source:
+            line.close()
+            self.absence = "another adapter is in its place"
+            return
+        self._line = line
         self._gone_since = None
         self._has_work.set()
         self._say({"event": "line", "there": True})
@@ -153,9 +170,14 @@ class Worker:
         self.events.append(event)
         self._notify()
 
+    def make_room(self) -> None:
+        """Makes place for the entries of calls, while an exchange takes long. The server's other thread calls it."""
+        if self._session.free_entries() < ROOM:
+            self._keep(self._show_new)
+
     def _record(self) -> None:
         """Hands on what the session has logged."""
-        self._write(self._show_new())
+        self._keep(self._show_new)
 
     def _show_new(self) -> List[Entry]:
         """The session's new entries. Subscribers get the exchanges among them."""
@@ -168,10 +190,9 @@ class Worker:
         self.events.extend(filter(None, shown if self.shows_frames else []))
         return entries
 
-    def _write(self, entries: List[Entry]) -> None:
-        """Writes entries to the log, and waits for a thread that is behind."""
-        if self._log is not None:
-            self._log.add([entry_line(entry_keys(entry)) for entry in entries])
-        while len(self.events) > MOST_EVENTS and not self._is_ending.is_set():
-            self._notify()
-            time.sleep(GLANCE_SECONDS)
+    def _keep(self, show: Callable[[], List[Entry]]) -> None:
+        """Writes the entries to the log that are shown, while no other thread does."""
+        with self._recording:
+            entries = self._session._turns.alone(show)
+            if self._log is not None:
+                self._log.add([entry_line(entry_keys(entry)) for entry in entries])

@@ -1,0 +1,83 @@
+"""The log of a server: whole lines of a session's log, in a file that doesn't grow for ever."""
+from __future__ import annotations
+
+import json
+from typing import List
+from unittest import mock
+
+from common import LongTestCase, folder, needs_library
+from servers import Program, command, serve
+from test_serve import FIVE, GET
+from wurstlinen.shared.log_file import LogFile
+
+LINE = f"rig:{FIVE}"
+
+
+@needs_library
+class Logs(LongTestCase):
+    """The log of a server."""
+
+    def test_it_is_a_sessions_log(self) -> None:
+        with folder() as made:
+            log = made / "log"
+            with serve(made, "--line", LINE, "--log", str(log)) as server, Program(server.socket) as program:
+                program.ask({"do": "discover"})
+                program.ask(GET)
+                program.next("data")
+            entries = [json.loads(line) for line in log.read_text().splitlines()]
+            self.assertEqual([each["entry"] for each in entries[:17]], ["opening", *["join"] * 16])
+            self.assertEqual(entries[-1], {"entry": "close"})
+            self.assertEqual(sum(each["entry"] == "accept" for each in entries),
+                             sum(each["entry"] == "finish" for each in entries))
+            done = command(made, "trace", str(log))
+            self.assertEqual((done.returncode, done.stdout.count("\n")),
+                             (0, sum(each["entry"] == "send" for each in entries)))
+
+    def test_a_server_says_that_its_disk_is_full(self) -> None:
+        with folder() as made:
+            with serve(made, "--line", LINE, "--log", "/dev/full") as server:
+                pass
+            self.assertRegex(server.said, "^wurstlinen: /dev/full: .*; the log goes on when it can be written again\n$")
+
+    def test_it_does_not_grow_for_ever(self) -> None:
+        with folder() as made:
+            said: List[str] = []
+            log = LogFile(str(made / "log"), said.append, 100)
+            log.open()
+            for number in range(50):
+                log.add([b"%09d\n" % number] * 2)
+            log.close()
+            self.assertEqual([(made / name).stat().st_size for name in ("log", "log.1")], [100, 100])
+            self.assertEqual((made / "log").read_bytes()[-10:], b"000000049\n")
+            self.assertEqual((said, sorted(each.name for each in made.iterdir())), ([], ["log", "log.1"]))
+
+    def test_it_goes_on_in_a_new_file_if_it_is_moved(self) -> None:
+        with folder() as made:
+            log = LogFile(str(made / "log"), self.fail)
+            log.add([b"1\n"])
+            (made / "log").rename(made / "old")
+            log.add([b"2\n"])
+            (made / "log").unlink()
+            log.add([b"3\n"])
+            log.close()
+            self.assertEqual(((made / "old").read_bytes(), (made / "log").read_bytes()), (b"1\n", b"3\n"))
+
+    def test_a_full_disk_is_reported_once_and_loses_no_half_line(self) -> None:
+        with folder() as made:
+            said: List[str] = []
+            log = LogFile(str(made / "log"), said.append)
+            log.add([b"first\n"])
+            full = LogFile("/dev/full", said.append)
+            full.open()
+            file, log._file = log._file, None
+            with mock.patch.object(log, "_name", "/dev/full"):
+                log.add([b"lost\n"])
+                log.add([b"lost\n", b"too\n"])
+            file.close()
+            log.add([b"last\n"])
+            log.close()
+            full.close()
+            self.assertEqual((made / "log").read_bytes(), b"first\nlast\n")
+            self.assertEqual(len(said), 2, said)
+            self.assertTrue(said[0].endswith("the log goes on when it can be written again"), said)
+            self.assertTrue(said[1].endswith("the log goes on after 3 lost lines"), said)
