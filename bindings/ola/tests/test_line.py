@@ -3,7 +3,8 @@
 usage: test_line.py REDIRECT
   REDIRECT  what redirect.c makes
 
-WURSTLINEN_LIBRARY names the C library. The last line is 'N passed, M failed'.
+WURSTLINEN_LIBRARY names the C library, and WURSTLINEN_PROGRAM the proved program. The last line is "N passed, M
+failed".
 """
 from __future__ import annotations
 
