@@ -120,7 +120,7 @@ class StandInQueue:
         """Waits as the queue does."""
         time.sleep(seconds)
 
-    def run(self, line: Line) -> int:
+    def _step(self, line: Line) -> int:
         """Makes the exchanges of all requests."""
         while self.waiting and not self._is_paused:
             number, request = self.waiting.popleft()

@@ -399,7 +399,7 @@ class Kept(Asks):
         client = self.client()
         asker = Asker(client, Rig(one(label="Lamp")), 1.0, clock=self.clock.time, sleep=self.clock.sleep)
         client.submit(Request(DEVICE, Pid.MANUFACTURER_LABEL))
-        client.queue.run(asker.line)
+        client.queue._step(asker.line)
         client.queue.pause()
         with self.assertRaises(Unserved) as caught:
             asker.get(DEVICE, LABEL)
