@@ -1,6 +1,6 @@
 -- What is said of a session that was read, and of one that was served.
 use Rattle.std.proofs.Common.{◌≡◌, ℕ, Bool, List, Option, Result, Ok, Err}
-use Rattle.std.proofs.Common.{ap}
+use Rattle.std.proofs.Common.{refl}
 use Rattle.std.specs.Prelude.{IfOk, IfSome, OnOk, is_some}
 use Rattle.clap.specs.Words.{Text}
 use Rattle.rdm_files.specs.declared.session.file.SessionFile.{SessionFile}
