@@ -1,4 +1,5 @@
--- What a run on an honest line still costs at most, in half exchanges: half of one is the least that a level adds.
+-- What a run on an honest or noisy line still costs at most, in half exchanges: half of one is the least that a level
+-- adds.
 use Rattle.rdm_agent.proofs.Common.{◌⊎◌, filter, has, is_within, Span, whole, LineState, Phase, AgentState, found_uids}
 use Rattle.rdm_agent.proofs.Common.{is_new, Sweep, Unmuting, MutingKnown, Searching, MutingRead, Sweeping, MutingSwept}
 use Rattle.rdm_agent.proofs.Common.{Ended, Search, Steady, Quick, Checking, MutingStray}

@@ -105,7 +105,8 @@ pub record IsInNoise (present : List ℕ) (w : ℕ) (run : RunSoFar) : Type 0 wh
   pub not_aborted : run.aborted ≡ false
   pub budgeted : enough_in_noise present run.kind run.known w ≤ run.budget
 
--- each quick run on such a line ends like this, with the budget that suffices
+-- Each quick run on such a line ends like this, with the budget that suffices. Never more than seven branches in a row
+-- are disturbed.
 abbrev pub EndsInNoisyBound : Type 0
 EndsInNoisyBound = OfEachRun Quick (λ kind known budget x b. (present : List ℕ) (w : ℕ) → IsNoisy present w x
     → enough_in_noise present kind known w ≤ budget → EndsWithin (enough_in_noise present kind known w) b)

@@ -41,7 +41,7 @@ answered_again u n (Mute v) heard = if is_acked heard then 0 else n
 answered_again u n Unmute heard = 0
 answered_again u n Other heard = 0
 
--- how often in a row it was at the end of a list
+-- how often in a row it was answered by bytes at the end of a list
 abbrev pub answers_in_a_row : ℕ → List Seen → ℕ
 answers_in_a_row u x = fold (λ n e. answered_again u n e.asked e.heard) 0 x
 

@@ -202,7 +202,8 @@ impl Agent {
     /// On an honest line the result has no device that was never there, and `Ok` has each one that was always there. On
     /// a noisy line whose devices stay, `Ok` has exactly these, and `Err` no others. On an honest line the result is
     /// `Ok` if at most 1,024 devices stayed, the budget suffices for them, no exchange failed and the run wasn't
-    /// aborted. So it is for a quick search on a noisy line, if no more than seven branches in a row were disturbed.
+    /// aborted. A quick run on a noisy line also ends with `Ok`, if its budget allows 15 exchanges more for each
+    /// disturbed one, and never more than seven branches in a row were disturbed.
     ///
     /// The set is copied. [`Agent::found`] and [`Agent::fault`] return the same without a copy.
     pub fn end(self) -> Result<DeviceSet, (AgentFault, DeviceSet)>
@@ -239,11 +240,12 @@ impl Agent {
         ensures no_stranger_in_fault { AfterEach self (λ run. (sets : List (List ℕ)) (u : ℕ) →
             HonestOver sets run.exchanges → IfErr result (λ e. has (uids_of e.1) u ≡ true → IsInOne u sets)) }
 
-        // If no exchange failed and the budget suffices for the devices, it has no fault.
+        // If no exchange failed and the budget suffices for the devices, a run on an honest line has no fault.
         ensures no_fault { AfterEach self (λ run. (present : List ℕ) →
             IsUndisturbed present run → IsOkAnd result (λ s. uids_of s ≡ present)) }
 
-        // The same for a quick run on a noisy line, whose budget suffices for its disturbed exchanges, too.
+        // The same for a quick run on a noisy line, if its budget also allows 15 exchanges for each disturbed one, and
+        // never more than seven branches in a row are disturbed.
         ensures no_fault_in_noise { AfterEach self (λ run. (present : List ℕ) (w : ℕ) →
             IsInNoise present w run → IsOkAnd result (λ s. uids_of s ≡ present)) }
     {

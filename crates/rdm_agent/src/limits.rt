@@ -20,7 +20,7 @@ pub(crate) const BADS_ASIDE: u8 = 4;
 
 /// The steady search of a quick run asks a range again after a bad answer, and mutes what it spelt, only while it had
 /// at most this many branches.
-pub(crate) const SOON: u8 = 5;
+pub(crate) const BRANCHES_BELIEVED: u8 = 5;
 
 /// It splits the range after this many bad answers in a row.
 pub(crate) const BADS_BELIEVED: u8 = 3;
@@ -40,7 +40,7 @@ const FRAMES_PER_DEVICE: u64 = 370;
 
 /// The exchanges that suffice for [`MOST_DEVICES`] devices and as many known UIDs: 384,008.
 /// The line may lose up to four replies in a row. A steady run on an honest line makes no more, and ends without
-/// fault; a quick one may need up to 205 more.
+/// a fault; a quick one may need up to 205 more.
 ///
 /// For `n` devices and `k` known UIDs these are `8 + 370 n + 5 k`:
 ///

@@ -10,7 +10,7 @@ ghost use Rattle.rdm_agent.specs.body.Sound.{IsStack};
 ghost use Rattle.rdm_agent.specs.body.GoesOn.{GoesOn, MovesTo, IsConsistent};
 
 use crate::fault::AgentFault;
-use crate::limits::{BAD_ANSWERS, BADS_BELIEVED, MOST_SPENT, SOON, TRIES};
+use crate::limits::{BAD_ANSWERS, BADS_BELIEVED, BRANCHES_BELIEVED, MOST_SPENT, TRIES};
 use crate::phase::Phase;
 use crate::run_state::{RunState, device_from, spare_of};
 use crate::search::Search;
@@ -204,7 +204,7 @@ fn spare_at(search: Search, top: UidRange, bads: u8) -> u8
 fn is_soon(search: Search, top: UidRange, spent: u8) -> bool
     ensures { result ≡ is_soon search top spent }
 {
-    search == Search::Steady || top.lo == top.hi || spent <= SOON
+    search == Search::Steady || top.lo == top.hi || spent <= BRANCHES_BELIEVED
 }
 
 // Whether a range that had so many bad answers in a row and so many branches is asked again.
@@ -214,6 +214,6 @@ fn asks_again(search: Search, top: UidRange, bads: u8, spent: u8) -> bool
     match search {
         Search::Steady => false,
         Search::Quick if top.lo == top.hi => bads < BAD_ANSWERS,
-        Search::Quick => spent <= SOON && bads < BADS_BELIEVED,
+        Search::Quick => spent <= BRANCHES_BELIEVED && bads < BADS_BELIEVED,
     }
 }
