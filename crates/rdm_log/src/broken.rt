@@ -66,8 +66,10 @@ impl Model for BrokenAnswers {
 }
 
 impl BrokenAnswers {
-    ghost use Rattle.std.specs.Prelude.{◌≡◌};
+    ghost use Rattle.std.specs.Prelude.{◌≡◌, true, false};
+    ghost use Rattle.rdm_log.specs.declared.broken.AnswerKey.{AnswerKey};
     ghost use Rattle.rdm_log.specs.log.BrokenKeys.{is_open, none_open, with_open, with_closed, without, lists};
+    ghost use Rattle.rdm_log.specs.log.BrokenKeys.{same_key};
     ghost use Rattle.rdm_log.specs.log.Broken.{after_end, is_end_flagged};
 
     /// No key is open.
@@ -94,12 +96,18 @@ impl BrokenAnswers {
     pub fn is_open(&self, key: &AnswerKey) -> bool
         ensures { result ≡ is_open self.now key.now }
     {
-        self.lists(key) != self.inverted
+        if self.inverted {
+            !self.lists(key)
+        } else {
+            self.lists(key)
+        }
     }
 
-    /// Opens the key.
+    /// Opens the key. Each other that is open stays open.
     pub fn insert(&mut self, key: AnswerKey)
-        ensures { self.new ≡ with_open key self.old }
+        ensures set { self.new ≡ with_open key self.old }
+        ensures own { is_open self.new key ≡ true }
+        ensures others { (k : AnswerKey) → is_open self.old k ≡ true → is_open self.new k ≡ true }
     {
         self.strike(&key);
         if self.inverted {
@@ -113,9 +121,12 @@ impl BrokenAnswers {
         }
     }
 
-    /// Closes the key.
+    /// Closes the key. Each other that is open stays open.
     pub fn remove(&mut self, key: AnswerKey)
-        ensures { self.new ≡ with_closed key self.old }
+        ensures set { self.new ≡ with_closed key self.old }
+        ensures own { is_open self.new key ≡ false }
+        ensures others { (k : AnswerKey) → same_key key k ≡ false → is_open self.old k ≡ true
+            → is_open self.new k ≡ true }
     {
         self.strike(&key);
         if !self.inverted {

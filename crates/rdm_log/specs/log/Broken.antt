@@ -2,8 +2,8 @@
 --
 -- A device gives a long answer in parts (E1.20, ACK_OVERFLOW), and goes on at its next GET where it stopped. If a part is
 -- lost, whoever asks for the same next gets only the rest, as an answer that looks complete.
-use Rattle.std.specs.Prelude.{ℕ, Bool, true, false, ◌&&◌, not, List, [], ◌∷◌, ◌++◌, length, drop, filter, Option, Some}
-use Rattle.std.specs.Prelude.{None, ◌==◌, nat_lt, if◌then◌else◌, option_and_then, option_map, slice_get}
+use Rattle.std.specs.Prelude.{ℕ, Bool, true, false, ◌&&◌, List, [], ◌∷◌, ◌++◌, Option, Some, None, ◌==◌}
+use Rattle.std.specs.Prelude.{if◌then◌else◌, option_and_then, option_map, slice_get}
 use Rattle.std.specs.List.{list_any}
 use Rattle.rdm_wire.specs.declared.request.Request.{Request}
 use Rattle.rdm_wire.specs.declared.request.ReqClass.{ReqClass}
@@ -13,7 +13,6 @@ use Rattle.rdm_wire.specs.declared.response.AckType.TheVariants.{Ack}
 use Rattle.rdm_join.specs.declared.joiner.ReplyHead.{ReplyHead}
 use Rattle.rdm_join.specs.declared.status.Status.{Status}
 use Rattle.rdm_join.specs.declared.status.Status.TheVariants.{Completed, WasBroadcast, NoMemory}
-use Rattle.rdm_join.specs.Result.{Joined}
 use Rattle.rdm_log.specs.declared.broken.AnswerKey.{AnswerKey}
 use Rattle.rdm_log.specs.declared.entry.Opening.{Opening}
 use Rattle.rdm_log.specs.declared.entry.Entry.{Entry}
@@ -112,10 +111,14 @@ incomplete o h = after_entries [] h (record { keys = o.broken; flagged = [] })
 abbrev pub broken_keys : Opening → List Entry → BrokenKeys
 broken_keys o h = (incomplete o h).keys
 
--- whether the answer that this entry reports may be incomplete: it is the Finish of such a request
+-- whether an entry is the Finish of one of these requests
+abbrev pub is_flagged : List ℕ → Entry → Bool
+is_flagged flagged (Finish n status len) = list_any (λ m. n == m) flagged
+is_flagged flagged _ = false
+
+-- whether the answer that an entry reports may be incomplete
 abbrev pub may_be_incomplete : Opening → List Entry → Entry → Bool
-may_be_incomplete o h (Finish n status len) = list_any (λ m. n == m) (incomplete o h).flagged
-may_be_incomplete o h _ = false
+may_be_incomplete o h e = is_flagged (incomplete o h).flagged e
 
 -- the same for the client's oldest uncollected outcome
 abbrev pub oldest_may_be_incomplete : Opening → List Entry → ℕ → Option Bool

@@ -208,8 +208,8 @@ abbrev pub due : QueueState → Option OwedOutcome
 due s = owed_next (end_of_oldest s) s.waiting
 
 -- whether the answer of the oldest request, which ends like this, may be incomplete; and the keys that are open then
-abbrev pub is_flagged : QueueState → Joined → Bool
-is_flagged s done = is_end_flagged (key_of_first s.waiting) done.status done.head s.broken
+abbrev pub flag_at_end : QueueState → Joined → Bool
+flag_at_end s done = is_end_flagged (key_of_first s.waiting) done.status done.head s.broken
 
 abbrev pub broken_after : QueueState → Joined → BrokenKeys
 broken_after s done = after_end (key_of_first s.waiting) s.under_way done.status done.head s.broken
@@ -223,7 +223,7 @@ finishes_oldest s d = record s {
   decided = None;
   owed = owes d.client (owed_value d) s;
   broken = broken_after s d.done;
-  flags = flags_more d.client (is_flagged s d.done) s;
+  flags = flags_more d.client (flag_at_end s d.done) s;
 }
 
 -- the request that was due was finished, with this entry
