@@ -1,5 +1,5 @@
 -- The meaning of C's structs, and the status of a call with one that has none.
-use Rattle.std.specs.Prelude.{ℕ, ◌^◌, true, false, List, length, Option, Some, None, ◌==◌, is_some, nat_lt}
+use Rattle.std.specs.Prelude.{ℕ, Bool, ◌^◌, true, false, List, length, Option, Some, None, ◌==◌, is_some, nat_lt}
 use Rattle.std.specs.Prelude.{if◌then◌else◌}
 use Rattle.rdm_wire.specs.Uid.{is_broadcast}
 use Rattle.rdm_wire.specs.declared.device.Device.{Device}

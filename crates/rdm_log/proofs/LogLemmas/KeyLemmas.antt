@@ -49,26 +49,27 @@ own_struck k (x ∷ ks) = by_test (same_key k x) refl (own_struck k ks)
 
 pub none_struck : (j k : AnswerKey) (ks : List AnswerKey) → lists j ks ≡ false → lists j (without k ks) ≡ false
 none_struck j k [] none = refl
-none_struck j k (x ∷ ks) none = by_test (not (same_key k x)) (parts (same_key j x) (lists j ks) none)
+none_struck j k (x ∷ ks) none =
+    by_test (not (same_key k x)) (parts (same_key j x) (lists j ks) none) (λ rest. none_struck j k ks rest)
   where
     parts : (a b : Bool) → (a || b) ≡ false → (a ≡ false) × (b ≡ false)
     parts false b all = (refl, all)
     parts true b all = absurd (false≢true (sym all))
 
     by_test : (b : Bool) → (same_key j x ≡ false) × (lists j ks ≡ false)
+        → (lists j ks ≡ false → lists j (without k ks) ≡ false)
         → lists j (cond b (x ∷ without k ks) (without k ks)) ≡ false
-    by_test true both = rw (both.0, none_struck j k ks both.1) refl
-    by_test false both = none_struck j k ks both.1
+    by_test true both later = rw (both.0, later both.1) refl
+    by_test false both later = later both.1
 
 pub other_kept : (j k : AnswerKey) (ks : List AnswerKey) → same_key k j ≡ false → lists j (without k ks) ≡ lists j ks
 other_kept j k [] other = refl
-other_kept j k (x ∷ ks) other = by_test (same_key k x) refl
+other_kept j k (x ∷ ks) other = by_test (same_key k x) refl (other_kept j k ks other)
   where
-    by_test : (b : Bool) → same_key k x ≡ b
+    by_test : (b : Bool) → same_key k x ≡ b → lists j (without k ks) ≡ lists j ks
         → lists j (cond (not b) (x ∷ without k ks) (without k ks)) ≡ (same_key j x || lists j ks)
-    by_test false is = ap (λ b. same_key j x || b) (other_kept j k ks other)
-    by_test true is =
-        rw (← same_from k x is, same_other j k other) (other_kept j k ks other)
+    by_test false is later = ap (λ b. same_key j x || b) later
+    by_test true is later = rw (← same_from k x is, same_other j k other) later
 
 pub none_dropped : (j : AnswerKey) (ks : List AnswerKey) → lists j ks ≡ false → lists j (drop 1 ks) ≡ false
 none_dropped j [] none = refl
@@ -167,22 +168,25 @@ closes_none_else j k b other was = by_mode b.inverted was
         ∙ by_room (nat_lt (length (without k b.keys)) 64) (none_struck j k b.keys (from_not (lists j b.keys) is)))
     by_mode false is = other_kept j k b.keys other ∙ is
 
+abbrev pub inverted_of : BrokenKeys → Bool
+inverted_of b = b.inverted
+
 -- while the set isn't inverted, it has no other key that it hadn't before
 pub opened_before : (j k : AnswerKey) (b : BrokenKeys) → (with_open k b).inverted ≡ false → same_key k j ≡ false
     → is_open (with_open k b) j ≡ true → (b.inverted ≡ false) × (is_open b j ≡ true)
 opened_before j k b not_inverted other is = by_mode b.inverted not_inverted is
   where
     by_room : (c : Bool)
-        → (if c then record { inverted = false; keys = without k b.keys ++ k ∷ [] }
-        else record { inverted = true; keys = [] }).inverted ≡ false
+        → inverted_of (if c then record { inverted = false; keys = without k b.keys ++ k ∷ [] }
+        else record { inverted = true; keys = [] }) ≡ false
         → is_open (if c then record { inverted = false; keys = without k b.keys ++ k ∷ [] }
         else record { inverted = true; keys = [] }) j ≡ true → lists j b.keys ≡ true
     by_room true fits has = sym (other_kept j k b.keys other) ∙ (sym (other_listed j k (without k b.keys) other) ∙ has)
     by_room false fits has = absurd (false≢true (sym fits))
 
     by_mode : (c : Bool)
-        → (if c then record { inverted = true; keys = without k b.keys }
-        else listed_open k (without k b.keys)).inverted ≡ false
+        → inverted_of (if c then record { inverted = true; keys = without k b.keys }
+        else listed_open k (without k b.keys)) ≡ false
         → is_open (if c then record { inverted = true; keys = without k b.keys }
         else listed_open k (without k b.keys)) j ≡ true
         → (c ≡ false) × ((if c then not (lists j b.keys) else lists j b.keys) ≡ true)
@@ -198,8 +202,8 @@ closed_before j k b not_inverted is = by_mode b.inverted not_inverted is
     listed false none kept = absurd (false≢true (sym (none_struck j k b.keys none) ∙ kept))
 
     by_mode : (c : Bool)
-        → (if c then listed_closed k (without k b.keys)
-        else record { inverted = false; keys = without k b.keys }).inverted ≡ false
+        → inverted_of (if c then listed_closed k (without k b.keys)
+        else record { inverted = false; keys = without k b.keys }) ≡ false
         → is_open (if c then listed_closed k (without k b.keys)
         else record { inverted = false; keys = without k b.keys }) j ≡ true
         → (c ≡ false) × ((if c then not (lists j b.keys) else lists j b.keys) ≡ true)

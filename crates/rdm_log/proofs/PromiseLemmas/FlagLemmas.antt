@@ -20,7 +20,7 @@ use Rattle.rdm_log.proofs.LogLemmas.LegalFacts.{legal_facts, unfinished_index, L
 use Rattle.rdm_log.proofs.LogLemmas.BrokenLemmas.{after_entries-append, which, IsFinishOf, finish_number}
 use Rattle.rdm_log.proofs.LogLemmas.BrokenLemmas.{flag_of_new, flag_of_old, flagged_below, unchanged}
 use Rattle.rdm_log.proofs.LogLemmas.KeyLemmas.{same_from, opens_own, opens_none_else, closes_none_else}
-use Rattle.rdm_log.proofs.LogLemmas.KeyLemmas.{opened_before, closed_before}
+use Rattle.rdm_log.proofs.LogLemmas.KeyLemmas.{opened_before, closed_before, inverted_of}
 
 -- the request of a Finish is the oldest unfinished one
 key_is_first : (o : Opening) (h : List Entry) (n : ℕ) (status : Status) (len : ℕ) (key : AnswerKey)
@@ -109,48 +109,47 @@ stays_open : (o : Opening) (front entries : List Entry) (key : AnswerKey) (i : I
     → WholeWithin front entries key ⊎ (is_open (after_entries front entries i).keys key ≡ true)
 unfolding after_entries
 stays_open o front [] key i each was = inr was
-stays_open o front (e ∷ entries) key i each was = by_kind (which e)
+stays_open o front (e ∷ entries) key i each was =
+    by_kind (which e) (λ is. stays_open o (front ++ e ∷ []) entries key (after_entry front e i)
+    (rw (append_assoc front (e ∷ []) entries) each) is)
   where
-    later : is_open (after_entry front e i).keys key ≡ true
-        → WholeWithin front (e ∷ entries) key
+    Goes : Type 0
+    Goes = is_open (after_entry front e i).keys key ≡ true
+        → WholeWithin (front ++ e ∷ []) entries key
         ⊎ (is_open (after_entries (front ++ e ∷ []) entries (after_entry front e i)).keys key ≡ true)
-    later is = either (stays_open o (front ++ e ∷ []) entries key (after_entry front e i)
-        (rw (append_assoc front (e ∷ []) entries) each) is)
-      where
-        either : WholeWithin (front ++ e ∷ []) entries key
-            ⊎ (is_open (after_entries (front ++ e ∷ []) entries (after_entry front e i)).keys key ≡ true)
-            → WholeWithin front (e ∷ entries) key
-            ⊎ (is_open (after_entries (front ++ e ∷ []) entries (after_entry front e i)).keys key ≡ true)
-        either (inl w) = inl (whole_later front e entries key w)
-        either (inr is) = inr is
 
-    by_kind : IsFinishOf e ⊎ (finished_of e ≡ None)
-        → WholeWithin front (e ∷ entries) key
+    Result : Type 0
+    Result = WholeWithin front (e ∷ entries) key
         ⊎ (is_open (after_entries (front ++ e ∷ []) entries (after_entry front e i)).keys key ≡ true)
-    by_kind (inr other) = later (rw (unchanged front e i other) was)
-    by_kind (inl f) =
-        by_end (end_leaves key (key_of_first (unfinished front)) (was_sent f.number front) f.status
-        (head_of_result f.number front) i.keys was)
-      where
-        by_end : ((key_of_first (unfinished front) ≡ Some key)
-            × (is_whole f.status (head_of_result f.number front) ≡ true))
-            ⊎ (is_open (after_end (key_of_first (unfinished front)) (was_sent f.number front) f.status
-            (head_of_result f.number front) i.keys) key ≡ true)
-            → WholeWithin front (e ∷ entries) key
-            ⊎ (is_open (after_entries (front ++ e ∷ []) entries (after_entry front e i)).keys key ≡ true)
-        by_end (inr is) = later (rw f.is is)
-        by_end (inl whole) = inl (record {
-          first = [];
-          last = entries;
-          number = f.number;
-          status = f.status;
-          len = f.len;
-          stands = ap (λ x. x ∷ entries) f.is;
-          whole = rw append-nil (record {
-            get = first_is_get o front f.number f.status f.len key (rw f.is at (each front entries e refl)) whole.0;
-            whole = whole.1;
-          });
-        })
+
+    either : WholeWithin (front ++ e ∷ []) entries key
+        ⊎ (is_open (after_entries (front ++ e ∷ []) entries (after_entry front e i)).keys key ≡ true) → Result
+    either (inl w) = inl (whole_later front e entries key w)
+    either (inr is) = inr is
+
+    by_end : (f : IsFinishOf e) → ((key_of_first (unfinished front) ≡ Some key)
+        × (is_whole f.status (head_of_result f.number front) ≡ true))
+        ⊎ (is_open (after_end (key_of_first (unfinished front)) (was_sent f.number front) f.status
+        (head_of_result f.number front) i.keys) key ≡ true) → Goes → Result
+    by_end f (inr is) later = either (later (rw f.is is))
+    by_end f (inl whole) later = inl (record {
+      first = [];
+      last = entries;
+      number = f.number;
+      status = f.status;
+      len = f.len;
+      stands = ap (λ x. x ∷ entries) f.is;
+      whole = rw append-nil (record {
+        get = first_is_get o front f.number f.status f.len key (rw f.is at (each front entries e refl)) whole.0;
+        whole = whole.1;
+      });
+    })
+
+    by_kind : IsFinishOf e ⊎ (finished_of e ≡ None) → Goes → Result
+    by_kind (inr other) later = either (later (rw (unchanged front e i other) was))
+    by_kind (inl f) later =
+        by_end f (end_leaves key (key_of_first (unfinished front)) (was_sent f.number front) f.status
+        (head_of_result f.number front) i.keys was) later
 
 -- a request that is flagged stays flagged
 still_flagged : (n : ℕ) (front entries : List Entry) (i : Incomplete) → list_any (λ m. n == m) i.flagged ≡ true
@@ -295,7 +294,7 @@ end_opens key (Some own) sent status head b fits is = by_whole (is_whole status 
     by_key false other was broken fits is = inr (opened_before key own b fits other is)
 
     by_sent : (c d : Bool) → sent ≡ c → breaks_off status ≡ d
-        → (if c && d then with_open own b else b).inverted ≡ false
+        → inverted_of (if c && d then with_open own b else b) ≡ false
         → is_open (if c && d then with_open own b else b) key ≡ true
         → ((Some own ≡ Some key) × (sent ≡ true) × (breaks_off status ≡ true))
         ⊎ ((b.inverted ≡ false) × (is_open b key ≡ true))
@@ -304,7 +303,7 @@ end_opens key (Some own) sent status head b fits is = by_whole (is_whole status 
     by_sent false d was broken fits is = inr (fits, is)
 
     by_whole : (c : Bool)
-        → (if c then with_closed own b else if sent && breaks_off status then with_open own b else b).inverted ≡ false
+        → inverted_of (if c then with_closed own b else if sent && breaks_off status then with_open own b else b) ≡ false
         → is_open (if c then with_closed own b else if sent && breaks_off status then with_open own b else b) key
         ≡ true
         → ((Some own ≡ Some key) × (sent ≡ true) × (breaks_off status ≡ true))
