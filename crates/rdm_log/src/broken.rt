@@ -66,10 +66,8 @@ impl Model for BrokenAnswers {
 }
 
 impl BrokenAnswers {
-    ghost use Rattle.std.specs.Prelude.{◌≡◌, true, false};
-    ghost use Rattle.rdm_log.specs.declared.broken.AnswerKey.{AnswerKey};
+    ghost use Rattle.std.specs.Prelude.{◌≡◌};
     ghost use Rattle.rdm_log.specs.log.BrokenKeys.{is_open, none_open, with_open, with_closed, without, lists};
-    ghost use Rattle.rdm_log.specs.log.BrokenKeys.{same_key};
     ghost use Rattle.rdm_log.specs.log.Broken.{after_end, is_end_flagged};
 
     /// No key is open.
@@ -103,11 +101,9 @@ impl BrokenAnswers {
         }
     }
 
-    /// Opens the key. Each other that is open stays open.
+    /// Opens the key. Each other that is open stays open (law [`open_keys_stay`](crate::laws::open_keys_stay)).
     pub fn insert(&mut self, key: AnswerKey)
-        ensures set { self.new ≡ with_open key self.old }
-        ensures own { is_open self.new key ≡ true }
-        ensures others { (k : AnswerKey) → is_open self.old k ≡ true → is_open self.new k ≡ true }
+        ensures { self.new ≡ with_open key self.old }
     {
         self.strike(&key);
         if self.inverted {
@@ -121,12 +117,9 @@ impl BrokenAnswers {
         }
     }
 
-    /// Closes the key. Each other that is open stays open.
+    /// Closes the key. Each other that is open stays open (law [`open_keys_stay`](crate::laws::open_keys_stay)).
     pub fn remove(&mut self, key: AnswerKey)
-        ensures set { self.new ≡ with_closed key self.old }
-        ensures own { is_open self.new key ≡ false }
-        ensures others { (k : AnswerKey) → same_key key k ≡ false → is_open self.old k ≡ true
-            → is_open self.new k ≡ true }
+        ensures { self.new ≡ with_closed key self.old }
     {
         self.strike(&key);
         if !self.inverted {

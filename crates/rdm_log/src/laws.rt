@@ -27,7 +27,8 @@ pub use headline::{
 };
 pub use limits::limits_are;
 pub use logs::{
-    broken_answers_are_flagged, counts_of_a_log, faults_in_order, log_grows, no_send_is_no_legal_send, rooms, sample_is_legal,
+    broken_answers_are_flagged, counts_of_a_log, faults_in_order, log_grows,
+    no_send_is_no_legal_send, open_keys_stay, rooms, sample_is_legal,
 };
 pub use runs::{
     counts_of_discoveries, order_at_a_close, runs_are_legal, runs_are_seen,

@@ -12,6 +12,8 @@ ghost use Rattle.rdm_log.specs.declared.entry.Owner.{Owner};
 ghost use Rattle.rdm_log.specs.declared.fault.JoinFault.TheVariants as join_faults;
 ghost use Rattle.rdm_log.specs.declared.fault.WorkFault.TheVariants as faults;
 ghost use Rattle.rdm_log.specs.log.History.{awaited, free_room};
+ghost use Rattle.rdm_log.specs.declared.broken.AnswerKey.{AnswerKey};
+ghost use Rattle.rdm_log.specs.log.BrokenKeys.{BrokenKeys, same_key, is_open, with_open, with_closed};
 ghost use Rattle.rdm_log.specs.log.Broken.{may_be_incomplete};
 ghost use Rattle.rdm_log.specs.log.Clients.{uncollected, outstanding_requests};
 ghost use Rattle.rdm_log.specs.log.Refusals.{join_fault, submit_fault, IsRefused};
@@ -53,6 +55,15 @@ pub fn counts_of_a_log()
     ensures settled { outstanding_requests sample_opening 0 closed_log ≡ 0 }
     ensures told { told sample_opening 0 closed_log ≡ Finish 0 Timeout 0 ∷ [] }
     ensures outcome { outcome_of closed_log (Finish 0 Timeout 0) ≡ Some (RequestValue (Some 0) (ended Timeout)) }
+{}
+
+/// A key that is opened is open, and one that is closed isn't. Each other that was open still is.
+pub fn open_keys_stay()
+    ensures opened { (key : AnswerKey) (b : BrokenKeys) → is_open (with_open key b) key ≡ true }
+    ensures closed { (key : AnswerKey) (b : BrokenKeys) → is_open (with_closed key b) key ≡ false }
+    ensures stays { (k key : AnswerKey) (b : BrokenKeys) → is_open b k ≡ true → is_open (with_open key b) k ≡ true }
+    ensures stays_too { (k key : AnswerKey) (b : BrokenKeys) → same_key key k ≡ false → is_open b k ≡ true
+        → is_open (with_closed key b) k ≡ true }
 {}
 
 /// A client's answer breaks off. The next client to ask the same gets only the last part, and is told so. Whoever asks
