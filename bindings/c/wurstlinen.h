@@ -177,6 +177,7 @@ struct wurst_completion {
     uint16_t sub_device;
     uint16_t pid;
     bool has_head;           /* there is a last reply: only with WURST_COMPLETED */
+    bool may_be_incomplete;  /* its first parts may be missing, since the last GET of it broke off: GET again */
 };
 
 struct wurst_end {
@@ -340,8 +341,7 @@ uint32_t wurst_controller_fail(struct wurst_controller *handle);
  * WURST_UNKNOWN_CLIENT, WURST_NOTHING. */
 uint32_t wurst_controller_oldest(struct wurst_controller *handle, uint8_t client, uint32_t *kind);
 
-/* Collects a client's oldest outcome if it is a request's, with its data. The client may then have one more request
- * outstanding.
+/* Collects a client's oldest outcome if it is a request's, with its data. It is then no longer outstanding.
  * WURST_UNKNOWN_CLIENT, WURST_NOTHING, WURST_OTHER_OUTCOME; WURST_BUFFER_TOO_SMALL: only completion->len is written,
  * the number of bytes needed, and the outcome stays. */
 uint32_t wurst_controller_next_completion(struct wurst_controller *handle, uint8_t client,

@@ -111,6 +111,37 @@ static void TEST(joins_parts)(void) {
     CALL(dispose)(&queue);
 }
 
+/* Makes one exchange: the device answers with this type and these data, or is silent without data. */
+static void TEST(exchange)(HANDLE *queue, uint8_t type, const char *data) {
+    size_t size = strlen(data);
+    CHECK(CALL(take)(queue, frame, sizeof frame, &len) == WURST_DONE);
+    CHECK(CALL(deliver)(queue, reply, size == 0 ? 0 : answer(frame, type, (const uint8_t *)data, size, reply))
+          == WURST_DONE);
+}
+
+/* Client 0 loses the last part of an answer. Client 1 gets only that part, and then all of it. */
+static void TEST(says_what_may_be_incomplete)(void) {
+    HANDLE queue = {0};
+    uint8_t client = 0;
+    CHECK(OPEN(&queue, &setup) == WURST_DONE);
+    CHECK(CALL(join)(&queue, 1, &client) == WURST_DONE && CALL(join)(&queue, 2, &client) == WURST_DONE);
+    CHECK(CALL(submit)(&queue, 0, &device_info, no_bytes, 0, &number) == WURST_DONE);
+    CHECK(CALL(submit)(&queue, 1, &device_info, no_bytes, 0, &number) == WURST_DONE);
+    CHECK(CALL(submit)(&queue, 1, &device_info, no_bytes, 0, &number) == WURST_DONE);
+    TEST(exchange)(&queue, 3, "first");
+    TEST(exchange)(&queue, 0, "");
+    TEST(exchange)(&queue, 0, "last");
+    TEST(exchange)(&queue, 3, "first");
+    TEST(exchange)(&queue, 0, "last");
+    CHECK(CALL(next_completion)(&queue, 0, &done, buffer, sizeof buffer) == WURST_DONE);
+    CHECK(done.status == WURST_TIMEOUT && !done.may_be_incomplete);
+    CHECK(CALL(next_completion)(&queue, 1, &done, buffer, sizeof buffer) == WURST_DONE);
+    CHECK(done.status == WURST_COMPLETED && done.len == 4 && done.may_be_incomplete);
+    CHECK(CALL(next_completion)(&queue, 1, &done, buffer, sizeof buffer) == WURST_DONE);
+    CHECK(done.status == WURST_COMPLETED && done.len == 9 && !done.may_be_incomplete);
+    CALL(dispose)(&queue);
+}
+
 /* A packet of 257 bytes, the longest, fills its buffer. */
 static void TEST(fills_a_frame)(void) {
     static const struct wurst_request label = {UINT64_C(0x123400000007), WURST_SET, 0x0203, 0x0082};
@@ -219,6 +250,7 @@ static void TEST(all)(void) {
     TEST(is_closed_handle)();
     TEST(serves_a_request)();
     TEST(joins_parts)();
+    TEST(says_what_may_be_incomplete)();
     TEST(fills_a_frame)();
     TEST(refuses)();
     TEST(pauses_and_closes)();

@@ -34,7 +34,8 @@ class RequestForm(ctypes.Structure):
 
 class CompletionForm(ctypes.Structure):
     _fields_ = [("number", c_uint64), ("len", c_size_t), ("status", c_uint32), ("ack", c_uint32),
-                ("response_class", c_uint32), ("sub_device", c_uint16), ("pid", c_uint16), ("has_head", c_bool)]
+                ("response_class", c_uint32), ("sub_device", c_uint16), ("pid", c_uint16), ("has_head", c_bool),
+                ("may_be_incomplete", c_bool)]
 
 
 class EndForm(ctypes.Structure):

@@ -13,6 +13,7 @@ ghost use Rattle.rdm_log.specs.log.History.{awaited, is_idle, is_paused, is_clos
 ghost use Rattle.rdm_log.specs.log.Runs.{known_devices, devices_run};
 ghost use Rattle.rdm_log.specs.promises.Blocks.{JoinAdds, SubmitAdds, DiscoverAdds, PauseAdds, ResumeAdds, CloseAdds};
 ghost use Rattle.rdm_log.specs.promises.Blocks.{TakeAdds, DeliverAdds, CollectAdds};
+ghost use Rattle.rdm_log.specs.log.Broken.{oldest_may_be_incomplete};
 ghost use Rattle.rdm_log.specs.promises.Outcomes.{oldest_kind, request_outcome, discovery_outcome};
 ghost use Rattle.rdm_queue.specs.promises.EachLog.{ForEachLog, AddsToEach, IsSetUp};
 ghost use Rattle.rdm_queue.specs.promises.Lengths.{oldest_length};
@@ -295,10 +296,12 @@ pub extern "C" fn wurst_controller_next_completion(
     ensures needed { result ≡ BUFFER_TOO_SMALL → ForEachLog handle.old.controller
         (λ o h. oldest_length o h client ≡ Some completion.new.len) }
     ensures collected { result ≡ DONE → (number : ℕ) × (done : Completion)
-        × (completion.new ≡ form_of_completion number done) × AddsToEach handle.old.controller
-        (λ k. CollectAdds k.opening k.entries (record { 0 = client }) (Some (request_outcome (number, done))))
+        × (completion.new ≡ form_of_completion number done completion.new.may_be_incomplete)
+        × AddsToEach handle.old.controller (λ k. CollectAdds k.opening k.entries (record { 0 = client }) (Some (request_outcome (number, done))))
         handle.new.controller × ForEachLog handle.old.controller (λ o h. take completion.new.len buffer.new
         ≡ done.bytes.items) }
+    ensures may_be_incomplete { result ≡ DONE → ForEachLog handle.old.controller
+        (λ o h. oldest_may_be_incomplete o h client ≡ Some completion.new.may_be_incomplete) }
     ensures only_len { result ≡ BUFFER_TOO_SMALL →
         completion.new ≡ record completion.old { len = completion.new.len } }
     ensures kept { result ≢ DONE → result ≢ BUFFER_TOO_SMALL → completion.new ≡ completion.old }

@@ -14,6 +14,7 @@ ghost use Rattle.rdm_log.specs.log.LogState.{is_full_log, begun, blank_log, noth
 ghost use Rattle.rdm_log.specs.log.Runs.{known_devices, devices_run};
 ghost use Rattle.rdm_log.specs.promises.Blocks.{JoinLogs, SubmitLogs, DiscoverLogs, PauseLogs, ResumeLogs, TakeLogs};
 ghost use Rattle.rdm_log.specs.promises.Blocks.{CloseAdds, DeliverAdds, CollectAdds, GrowsBy};
+ghost use Rattle.rdm_log.specs.log.Broken.{oldest_may_be_incomplete};
 ghost use Rattle.rdm_log.specs.promises.Outcomes.{oldest_kind, request_outcome, discovery_outcome};
 ghost use Rattle.rdm_queue.specs.promises.Lengths.{oldest_length};
 ghost use Rattle.rdm_handles.specs.Forms.{setup_of, setup_status, request_status, request_of, kind_of};
@@ -343,9 +344,12 @@ pub extern "C" fn wurst_session_next_completion(
     ensures needed { result ≡ BUFFER_TOO_SMALL → oldest_length handle.old.session.opening handle.old.session.entries
         client ≡ Some completion.new.len }
     ensures collected { result ≡ DONE → (number : ℕ) × (done : Completion)
-        × (completion.new ≡ form_of_completion number done) × (take completion.new.len buffer.new ≡ done.bytes.items)
+        × (completion.new ≡ form_of_completion number done completion.new.may_be_incomplete)
+        × (take completion.new.len buffer.new ≡ done.bytes.items)
         × GrowsBy handle.old.session (CollectAdds handle.old.session.opening handle.old.session.entries
         (record { 0 = client }) (Some (request_outcome (number, done)))) handle.new.session }
+    ensures may_be_incomplete { result ≡ DONE → oldest_may_be_incomplete handle.old.session.opening
+        handle.old.session.entries client ≡ Some completion.new.may_be_incomplete }
     ensures only_len { result ≡ BUFFER_TOO_SMALL →
         completion.new ≡ record completion.old { len = completion.new.len } }
     ensures kept { result ≢ DONE → result ≢ BUFFER_TOO_SMALL → completion.new ≡ completion.old }

@@ -7,7 +7,7 @@ use crate::fields::{between, digits, leading_number, medium, number, small, uid}
 use crate::line::{DiscoveryOpening, SessionOpening};
 use arrayvec::ArrayVec;
 use rdm_agent::Search;
-use rdm_log::{MOST_CLIENTS, Opening};
+use rdm_log::{BrokenAnswers, MOST_CLIENTS, Opening};
 use rdm_wire::{Device, DeviceSet, Uid, UidSet};
 
 /// The opening of a discovery's log that a line seems to have.
@@ -48,6 +48,7 @@ fn opening(line: &str) -> Option<Opening> {
         closed: line.contains("\"closed\":true"),
         devices: devices(between(line, "\"devices\":[", "]")?)?,
         devices_run: number(line, "\"devices_run\":")?,
+        broken: BrokenAnswers::new(),
         next_request: number(line, "\"next_request\":")?,
         next_ask: number(line, "\"next_ask\":")?,
         next_run: number(line, "\"next_run\":")?,

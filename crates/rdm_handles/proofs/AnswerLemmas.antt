@@ -1,5 +1,5 @@
 -- What a look at a client's oldest outcome shows is what a collect gives.
-use Rattle.std.proofs.Common.{◌≡◌, ℕ, List, length, Option, Some, None, refl, ap, sym, ◌∙◌}
+use Rattle.std.proofs.Common.{◌≡◌, ℕ, Bool, List, length, Option, Some, None, refl, ap, sym, ◌∙◌}
 use Rattle.std.specs.Prelude.{option_map, option_and_then, unwrap_or}
 use Rattle.rdm_log.specs.declared.entry.Opening.{Opening}
 use Rattle.rdm_log.specs.declared.entry.Entry.{Entry}
@@ -11,6 +11,7 @@ use Rattle.rdm_log.specs.promises.Blocks.{IsOldest}
 use Rattle.rdm_log.specs.promises.Outcomes.{outcome_value}
 use Rattle.rdm_queue.specs.promises.Lengths.{length_of_value, answer_length, oldest_length}
 use Rattle.rdm_handles.specs.Forms.{form_with_head, form_of_completion}
+use Rattle.rdm_handles.specs.declared.forms.CompletionForC.{CompletionForC}
 
 -- its length is that which was told
 pub length_of_oldest : (o : Opening) (h : List Entry) (c : ℕ) (outcome : Outcome) → IsOldest o h c outcome
@@ -29,5 +30,12 @@ form_len : (number len status : ℕ) (head : Option ReplyHead) → (form_with_he
 form_len number len status None = refl
 form_len number len status (Some head) = refl
 
-pub completion_len : (number : ℕ) (done : Completion) → (form_of_completion number done).len ≡ length done.bytes.items
-completion_len number done = form_len number (length done.bytes.items) (number_of_status done.status) done.reply
+pub completion_len : (number : ℕ) (done : Completion) (flag : Bool)
+    → (form_of_completion number done flag).len ≡ length done.bytes.items
+completion_len number done flag = form_len number (length done.bytes.items) (number_of_status done.status) done.reply
+
+-- it has its own flag
+pub own_flag : (number : ℕ) (done : Completion) (flag : Bool) (form : CompletionForC)
+    → form ≡ form_of_completion number done flag → form ≡ form_of_completion number done form.may_be_incomplete
+own_flag number done flag form is =
+    is ∙ ap (λ b. form_of_completion number done b) (sym (ap (λ f. f.may_be_incomplete) is))

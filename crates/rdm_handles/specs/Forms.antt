@@ -1,5 +1,5 @@
 -- The meaning of C's structs, and the status of a call with one that has none.
-use Rattle.std.specs.Prelude.{ℕ, ◌^◌, true, false, List, length, Option, Some, None, ◌==◌, is_some, nat_lt}
+use Rattle.std.specs.Prelude.{ℕ, Bool, ◌^◌, true, false, List, length, Option, Some, None, ◌==◌, is_some, nat_lt}
 use Rattle.std.specs.Prelude.{if◌then◌else◌}
 use Rattle.rdm_wire.specs.Uid.{is_broadcast}
 use Rattle.rdm_wire.specs.declared.device.Device.{Device}
@@ -104,6 +104,7 @@ form_with_head number len status None = record {
   sub_device = 0;
   pid = 0;
   has_head = false;
+  may_be_incomplete = false;
 }
 form_with_head number len status (Some head) = record {
   number = number;
@@ -114,12 +115,15 @@ form_with_head number len status (Some head) = record {
   sub_device = head.sub_device;
   pid = head.pid;
   has_head = true;
+  may_be_incomplete = false;
 }
 
--- how a request ended, without its data
-abbrev pub form_of_completion : ℕ → Completion → CompletionForC
-form_of_completion number done =
-    form_with_head number (length done.bytes.items) (number_of_status done.status) done.reply
+-- how a request ended, without its data, and whether its answer may be incomplete
+abbrev pub form_of_completion : ℕ → Completion → Bool → CompletionForC
+form_of_completion number done flag =
+    record (form_with_head number (length done.bytes.items) (number_of_status done.status) done.reply) {
+      may_be_incomplete = flag;
+    }
 
 -- a fault's number; 0 for none
 abbrev pub number_of_fault : Option AgentFault → ℕ

@@ -10,6 +10,7 @@ ghost use Rattle.rdm_log.specs.declared.outcome.DiscoveryEnd.{DiscoveryEnd};
 ghost use Rattle.rdm_log.specs.declared.outcome.OutcomeKind.TheVariants as kinds;
 ghost use Rattle.rdm_log.specs.log.History.{awaited};
 ghost use Rattle.rdm_log.specs.promises.Blocks.{JoinAdds, SubmitAdds, DiscoverAdds, TakeAdds, DeliverAdds, CollectAdds};
+ghost use Rattle.rdm_log.specs.log.Broken.{oldest_may_be_incomplete};
 ghost use Rattle.rdm_log.specs.promises.Outcomes.{oldest_kind, request_outcome, discovery_outcome};
 ghost use Rattle.rdm_queue.specs.promises.EachLog.{ForEachLog, AddsToEach, IsSetUp};
 ghost use Rattle.rdm_queue.specs.promises.Lengths.{oldest_length};
@@ -202,10 +203,12 @@ pub fn next_completion(
     ensures needed { result ≡ BUFFER_TOO_SMALL → ForEachLog controller.old (λ o h.
         oldest_length o h client ≡ Some completion.new.len) }
     ensures collected { result ≡ DONE → (number : ℕ) × (done : Completion)
-        × (completion.new ≡ form_of_completion number done)
+        × (completion.new ≡ form_of_completion number done completion.new.may_be_incomplete)
         × AddsToEach controller.old (λ k.
         CollectAdds k.opening k.entries (record { 0 = client }) (Some (request_outcome (number, done)))) controller.new
         × ForEachLog controller.old (λ o h. take completion.new.len buffer.new ≡ done.bytes.items) }
+    ensures may_be_incomplete { result ≡ DONE → ForEachLog controller.old (λ o h.
+        oldest_may_be_incomplete o h client ≡ Some completion.new.may_be_incomplete) }
     ensures only_len { result ≡ BUFFER_TOO_SMALL →
         completion.new ≡ record completion.old { len = completion.new.len } }
     ensures kept { result ≢ DONE → result ≢ BUFFER_TOO_SMALL → completion.new ≡ completion.old }
@@ -215,10 +218,14 @@ pub fn next_completion(
         return UNKNOWN_CLIENT;
     }
     let client = ClientId(client);
-    let needed = match controller.oldest(client) {
+    let (needed, may_be_incomplete) = match controller.oldest(client) {
         None => return NOTHING,
         Some(Oldest::Discovery { .. }) => return OTHER_OUTCOME,
-        Some(Oldest::Request { done, .. }) => done.bytes.len(),
+        Some(Oldest::Request {
+            done,
+            may_be_incomplete,
+            ..
+        }) => (done.bytes.len(), may_be_incomplete),
     };
     if needed > buffer.len() {
         completion.len = needed;
@@ -227,7 +234,7 @@ pub fn next_completion(
     let Some((number, done)) = controller.next_completion(client) else {
         return NOTHING;
     };
-    *completion = completion_for_c(number, &done);
+    *completion = completion_for_c(number, &done, may_be_incomplete);
     put_bytes(buffer, &done.bytes);
     DONE
 }

@@ -159,16 +159,23 @@ pub fn status_of_ask(fault: AskFault) -> u32
     }
 }
 
-/// How the request with this number ended.
-pub fn completion_for_c(number: u64, done: &Completion) -> CompletionForC
-    ensures { result ≡ form_of_completion number done.now }
+/// How the request with this number ended, and whether its answer may be incomplete.
+pub fn completion_for_c(
+    number: u64,
+    done: &Completion,
+    may_be_incomplete: bool,
+) -> CompletionForC
+    ensures { result ≡ form_of_completion number done.now may_be_incomplete }
 {
-    form_with_head(
-        number,
-        done.bytes.len(),
-        u32::from(done.status.number()),
-        done.reply,
-    )
+    CompletionForC {
+        may_be_incomplete,
+        ..form_with_head(
+            number,
+            done.bytes.len(),
+            u32::from(done.status.number()),
+            done.reply,
+        )
+    }
 }
 
 // The same from its parts; without a head its fields are 0.
@@ -185,6 +192,7 @@ fn form_with_head(number: u64, len: usize, status: u32, head: Option<ReplyHead>)
             sub_device: 0,
             pid: 0,
             has_head: false,
+            may_be_incomplete: false,
         },
         Some(head) => CompletionForC {
             number,
@@ -195,6 +203,7 @@ fn form_with_head(number: u64, len: usize, status: u32, head: Option<ReplyHead>)
             sub_device: head.sub_device,
             pid: head.pid,
             has_head: true,
+            may_be_incomplete: false,
         },
     }
 }

@@ -49,6 +49,8 @@ pub struct CompletionForC {
     pub pid: u16,
     /// Whether there is a head: only with status 0.
     pub has_head: bool,
+    /// Whether the answer may lack its first parts: such a GET broke off before, and none was answered whole since.
+    pub may_be_incomplete: bool,
 }
 
 /// How a discovery ended, without its devices.

@@ -14,6 +14,7 @@ ghost use Rattle.rdm_log.specs.log.LogState.{is_full_log, begun, blank_log, noth
 ghost use Rattle.rdm_log.specs.log.LogState.{MayGoOn};
 ghost use Rattle.rdm_log.specs.promises.Blocks.{JoinLogs, SubmitLogs, DiscoverLogs, PauseLogs, ResumeLogs, TakeLogs};
 ghost use Rattle.rdm_log.specs.promises.Blocks.{DeliverAdds, CollectAdds, GrowsBy};
+ghost use Rattle.rdm_log.specs.log.Broken.{oldest_may_be_incomplete};
 ghost use Rattle.rdm_log.specs.promises.Outcomes.{oldest_kind, request_outcome, discovery_outcome};
 ghost use Rattle.rdm_queue.specs.promises.Lengths.{oldest_length};
 ghost use Rattle.rdm_handles.specs.Forms.{setup_of, setup_status, request_status, request_of, kind_of};
@@ -268,9 +269,12 @@ pub fn next_completion(
     ensures needed { result ≡ BUFFER_TOO_SMALL →
         oldest_length session.old.opening session.old.entries client ≡ Some completion.new.len }
     ensures collected { result ≡ DONE → (number : ℕ) × (done : Completion)
-        × (completion.new ≡ form_of_completion number done) × (take completion.new.len buffer.new ≡ done.bytes.items)
+        × (completion.new ≡ form_of_completion number done completion.new.may_be_incomplete)
+        × (take completion.new.len buffer.new ≡ done.bytes.items)
         × GrowsBy session.old (CollectAdds session.old.opening session.old.entries (record { 0 = client })
         (Some (request_outcome (number, done)))) session.new }
+    ensures may_be_incomplete { result ≡ DONE →
+        oldest_may_be_incomplete session.old.opening session.old.entries client ≡ Some completion.new.may_be_incomplete }
     ensures only_len { result ≡ BUFFER_TOO_SMALL →
         completion.new ≡ record completion.old { len = completion.new.len } }
     ensures kept { result ≢ DONE → result ≢ BUFFER_TOO_SMALL → completion.new ≡ completion.old }
@@ -281,10 +285,14 @@ pub fn next_completion(
         return UNKNOWN_CLIENT;
     }
     let client = ClientId(client);
-    let needed = match session.oldest(client) {
+    let (needed, may_be_incomplete) = match session.oldest(client) {
         None => return NOTHING,
         Some(Oldest::Discovery { .. }) => return OTHER_OUTCOME,
-        Some(Oldest::Request { done, .. }) => done.bytes.len(),
+        Some(Oldest::Request {
+            done,
+            may_be_incomplete,
+            ..
+        }) => (done.bytes.len(), may_be_incomplete),
     };
     if needed > buffer.len() {
         completion.len = needed;
@@ -293,7 +301,7 @@ pub fn next_completion(
     let Some((number, done)) = session.next_completion(client) else {
         return NOTHING;
     };
-    *completion = completion_for_c(number, &done);
+    *completion = completion_for_c(number, &done, may_be_incomplete);
     put_bytes(buffer, &done.bytes);
     DONE
 }

@@ -17,3 +17,5 @@ pub mod ClientLemmas
 pub mod ClientFacts
 pub mod ClientSteps
 pub mod RoomLemmas
+pub mod BrokenLemmas
+pub mod KeyLemmas

@@ -11,6 +11,8 @@ pub mod RunReports
 pub mod OneRunServes
 pub mod RunsAnswer
 pub mod OutcomeLemmas
+pub mod IncompleteLemmas
+pub mod FlagLemmas
 pub mod StableOutcomes
 pub mod AnswersReportTheLine
 pub mod OwnDiscoveries

@@ -2,6 +2,8 @@
 pub mod Entries
 pub mod History
 pub mod Clients
+pub mod BrokenKeys
+pub mod Broken
 pub mod Runs
 pub mod Refusals
 pub mod Due

@@ -5,6 +5,7 @@ pub mod LogInBound
 pub mod Blocks
 pub mod Explains
 pub mod Headline
+pub mod Flags
 pub mod Discoveries
 pub mod Promised
 pub mod EventsHeadline

@@ -1,4 +1,5 @@
 //! What a log holds.
+use crate::broken::BrokenAnswers;
 use arrayvec::ArrayVec;
 use rdm_agent::{AgentFault, Kind, Search};
 use rdm_join::{LineEvent, Status};
@@ -151,6 +152,8 @@ pub struct Opening {
     pub devices: DeviceSet,
     /// The run that found the devices; 0 before the first.
     pub devices_run: u64,
+    /// What GETs asked for whose answers broke off.
+    pub broken: BrokenAnswers,
     /// The next request's number.
     pub next_request: u64,
     /// The next discovery's number.

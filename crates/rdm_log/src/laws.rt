@@ -22,12 +22,13 @@ pub use explained::{
     wasted_run_is_not_explained,
 };
 pub use headline::{
-    answers_keep_promises, exactly_one_result, first_in_first_out, full_queue_refuses,
+    answers_keep_promises, exactly_one_result, first_in_first_out, flags_hold, full_queue_refuses,
     joined_answer, legal_keeps_promises, nothing_after_close, own_requests,
 };
 pub use limits::limits_are;
 pub use logs::{
-    counts_of_a_log, faults_in_order, log_grows, no_send_is_no_legal_send, rooms, sample_is_legal,
+    broken_answers_are_flagged, counts_of_a_log, faults_in_order, log_grows,
+    no_send_is_no_legal_send, open_keys_stay, rooms, sample_is_legal,
 };
 pub use runs::{
     counts_of_discoveries, order_at_a_close, runs_are_legal, runs_are_seen,

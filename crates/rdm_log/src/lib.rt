@@ -11,6 +11,7 @@
 //!   time and allocates nothing.
 #![tactic(auto)]
 
+mod broken;
 mod config;
 mod entry;
 mod event;
@@ -21,6 +22,7 @@ mod outcome;
 mod page;
 mod work;
 
+pub use broken::{AnswerKey, BrokenAnswers, MOST_BROKEN};
 pub use config::{Config, IntoSetup, MOST_PLACES, Setup};
 pub use entry::{
     Call, Cause, ClientId, Entry, MOST_CLIENTS, MOST_DISCOVERIES, NEVER_GIVEN,

@@ -1,4 +1,5 @@
 //! The log of a session.
+use crate::broken::BrokenAnswers;
 use crate::entry::{Entry, Opening};
 use arrayvec::ArrayVec;
 use rdm_agent::Search;
@@ -271,6 +272,7 @@ impl Log {
             closed: false,
             devices: DeviceSet::new(),
             devices_run: 0,
+            broken: BrokenAnswers::new(),
             next_request: 0,
             next_ask: 0,
             next_run: 0,

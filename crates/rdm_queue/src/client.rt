@@ -29,6 +29,8 @@ pub(crate) enum Owed {
     Request {
         number: u64,
         done: Completion,
+        /// Whether its answer may lack its first parts.
+        may_be_incomplete: bool,
     },
     Discovery {
         number: u64,
@@ -52,6 +54,8 @@ pub(crate) struct Client {
 impl Client {
     ghost use Rattle.rdm_queue.specs.body.Rings.{IsNewClient, ClientAccepts, ClientFinishes, ClientAnswers};
     ghost use Rattle.rdm_queue.specs.body.Rings.{ClientCollects, HasSets, first_kind_owed, owed_values, value_shown};
+    ghost use Rattle.rdm_queue.specs.body.Rings.{client_flags};
+    ghost use Rattle.rdm_queue.specs.promises.Oldest.{flag_shown};
     ghost use Rattle.rdm_log.specs.promises.Outcomes.{outcome_value, request_outcome, discovery_outcome};
     ghost use Rattle.rdm_log.specs.declared.outcome.OutcomeKind.TheVariants as kinds;
 
@@ -132,10 +136,10 @@ impl Client {
     }
 
     /// Finishes its oldest request with this end, and returns the entry.
-    pub(crate) fn finish_oldest(&mut self, done: Completion) -> Entry
+    pub(crate) fn finish_oldest(&mut self, done: Completion, may_be_incomplete: bool) -> Entry
         requires some { 0 < deque_len self.old.waiting }
         requires room { deque_len self.old.outcomes < deque_capacity self.old.outcomes }
-        ensures { ClientFinishes self.old done result self.new }
+        ensures { ClientFinishes self.old done may_be_incomplete result self.new }
     {
         let Some(oldest) = self.waiting.pop_front() else {
             unreachable!();
@@ -148,6 +152,7 @@ impl Client {
         self.outcomes.push_back_reserved(Owed::Request {
             number: oldest.number,
             done,
+            may_be_incomplete,
         });
         entry
     }
@@ -173,12 +178,18 @@ impl Client {
     /// A look at its oldest outcome.
     pub(crate) fn oldest_outcome(&self) -> Option<Oldest<'_>>
         requires { HasSets self.now }
-        ensures { option_map value_shown result ≡ slice_get (owed_values self.now) 0 }
+        ensures value { option_map value_shown result ≡ slice_get (owed_values self.now) 0 }
+        ensures flag { option_map flag_shown result ≡ slice_get (client_flags self.now) 0 }
     {
         match self.outcomes.front()? {
-            Owed::Request { number, done } => Some(Oldest::Request {
+            Owed::Request {
+                number,
+                done,
+                may_be_incomplete,
+            } => Some(Oldest::Request {
                 number: *number,
                 done,
+                may_be_incomplete: *may_be_incomplete,
             }),
             Owed::Discovery { number, run, fault } => {
                 let Some(set) = self.sets.oldest() else {
@@ -204,7 +215,7 @@ impl Client {
         let Some(Owed::Request { .. }) = self.outcomes.front() else {
             return None;
         };
-        let Owed::Request { number, done } = self.outcomes.pop_front()? else {
+        let Owed::Request { number, done, .. } = self.outcomes.pop_front()? else {
             unreachable!();
         };
         Some((number, done))

@@ -46,7 +46,8 @@ impl Controller {
     ghost use Rattle.rdm_log.specs.promises.Blocks.{DiscoverAdds, TakeAdds, DeliverAdds, CollectAdds, WorkAdds};
     ghost use Rattle.rdm_log.specs.promises.Blocks.{number_or_fault, IsOldest};
     ghost use Rattle.rdm_queue.specs.promises.EachLog.{ForEachLog, AddsToEach, IsSetUp};
-    ghost use Rattle.rdm_queue.specs.promises.Oldest.{outcome_shown, kind_shown};
+    ghost use Rattle.rdm_queue.specs.promises.Oldest.{outcome_shown, kind_shown, flag_shown};
+    ghost use Rattle.rdm_log.specs.log.Broken.{oldest_may_be_incomplete};
     ghost use Rattle.rdm_queue.specs.body.Agrees.{StandsAfter, ForEachBlock, AddsAmid, Ends, FinishesEach};
     ghost use Rattle.rdm_queue.specs.body.State.{unended, uncollected};
     ghost use Rattle.rdm_log.specs.log.Runs.{known_devices, devices_run};
@@ -215,6 +216,8 @@ impl Controller {
         ensures kind { ForEachLog self.now (λ o h. option_map kind_shown result ≡ oldest_kind o h client.0) }
         ensures outcome { IfSome result (λ oldest. ForEachLog self.now
             (λ o h. IsOldest o h client.0 (outcome_shown oldest))) }
+        ensures may_be_incomplete { ForEachLog self.now
+            (λ o h. option_map flag_shown result ≡ oldest_may_be_incomplete o h client.0) }
     {
         self.queue.oldest_outcome(client)
     }

@@ -11,6 +11,9 @@ pub enum Oldest<'a> {
         number: u64,
         /// How it ended.
         done: &'a Completion,
+        /// Whether its answer may lack its first parts. It is the first whole answer to such a GET after one that broke
+        /// off, so the device may have gone on where that one stopped. The next GET gets all of it.
+        may_be_incomplete: bool,
     },
     /// A discovery has ended.
     Discovery {
@@ -23,7 +26,7 @@ pub enum Oldest<'a> {
 
 impl Oldest<'_> {
     ghost use Rattle.std.specs.Prelude.{◌≡◌};
-    ghost use Rattle.rdm_queue.specs.promises.Oldest.{kind_shown};
+    ghost use Rattle.rdm_queue.specs.promises.Oldest.{kind_shown, flag_shown};
 
     /// Its kind.
     pub fn kind(&self) -> OutcomeKind
@@ -32,6 +35,18 @@ impl Oldest<'_> {
         match self {
             Oldest::Request { .. } => OutcomeKind::Request,
             Oldest::Discovery { .. } => OutcomeKind::Discovery,
+        }
+    }
+
+    /// Whether it is a request's whose answer may lack its first parts.
+    pub fn may_be_incomplete(&self) -> bool
+        ensures { result ≡ flag_shown self.now }
+    {
+        match self {
+            Oldest::Request {
+                may_be_incomplete, ..
+            } => *may_be_incomplete,
+            Oldest::Discovery { .. } => false,
         }
     }
 }

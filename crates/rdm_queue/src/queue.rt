@@ -14,7 +14,7 @@ use arrayvec::ArrayVec;
 use rdm_agent::{Agent, Kind, Op, Search};
 use rdm_join::{Joiner, Sent};
 use rdm_log::{
-    AskCompletion, ClientId, Completion, Config, DiscoveryEnd, JoinFault, MOST_CLIENTS, Opening,
+    AskCompletion, BrokenAnswers, ClientId, Completion, Config, DiscoveryEnd, JoinFault, MOST_CLIENTS, Opening,
     Outcome, Owner, Setup, Work, WorkFault,
 };
 use rdm_wire::{DeviceSet, Frame, Request, UidSet, encode_request};
@@ -55,6 +55,8 @@ pub(crate) struct Queue {
     /// The devices of the last run without fault, and that run; none and 0 before the first.
     devices: DeviceSet,
     devices_run: u64,
+    /// What GETs asked for whose answers broke off.
+    broken: BrokenAnswers,
 }
 
 impl Model for Queue {
@@ -86,9 +88,10 @@ impl Queue {
     ghost use Rattle.rdm_queue.specs.body.State.{QueueState, first_state, first_join_fault, first_submit_fault};
     ghost use Rattle.rdm_queue.specs.body.State.{first_ask_fault, first_fault, number_for, asked_of, joins_client};
     ghost use Rattle.rdm_queue.specs.body.State.{accepts_work, accepts_request, asks_discovery, collects_oldest};
-    ghost use Rattle.rdm_queue.specs.body.State.{owed_to, uncollected, first_kind, CollectsOldest, opening_of};
+    ghost use Rattle.rdm_queue.specs.body.State.{owed_to, flags_to, uncollected, first_kind, CollectsOldest, opening_of};
     ghost use Rattle.rdm_queue.specs.body.Sending.{to_send, request_to_send, run_to_send, IsGiven, GivesRequest};
     ghost use Rattle.rdm_queue.specs.body.Sending.{GivesRun, begun, kind_of};
+    ghost use Rattle.rdm_queue.specs.promises.Oldest.{flag_shown};
 
     /// A queue without clients, neither paused nor closed, whose numbers begin at 0.
     pub(crate) fn new(alloc: Global, setup: Setup) -> Queue
@@ -114,6 +117,7 @@ impl Queue {
             agent: Agent::start(Kind::Full, &UidSet::new(), setup.config.budget),
             devices: DeviceSet::new(),
             devices_run: 0,
+            broken: BrokenAnswers::new(),
         }
     }
 
@@ -357,7 +361,8 @@ impl Queue {
 
     /// A look at a client's oldest outcome.
     pub(crate) fn oldest_outcome(&self, client: ClientId) -> Option<Oldest<'_>>
-        ensures { option_map value_shown result ≡ slice_get (owed_to client.0 self.now) 0 }
+        ensures value { option_map value_shown result ≡ slice_get (owed_to client.0 self.now) 0 }
+        ensures flag { option_map flag_shown result ≡ slice_get (flags_to client.0 self.now) 0 }
     {
         self.clients.get(usize::from(client.0))?.oldest_outcome()
     }
@@ -446,6 +451,7 @@ impl Queue {
             closed: self.closed,
             devices: self.devices.copied(),
             devices_run: self.devices_run,
+            broken: self.broken.copied(),
             next_request: self.next_request,
             next_ask: self.next_ask,
             next_run: self.next_run,

@@ -10,7 +10,7 @@ use arrayvec::ArrayVec;
 use rdm_agent::Kind;
 use rdm_join::LineEvent;
 use rdm_log::{
-    AskFault, Call, Cause, ClientId, Completion, DiscoveryEnd, Entry, IntoSetup, JoinFault,
+    AskFault, BrokenAnswers, Call, Cause, ClientId, Completion, DiscoveryEnd, Entry, IntoSetup, JoinFault,
     LEAST_FREE, Log, LogFull, MOST_ENTRIES, NotAsked, NotIdle, Opening, Outcome, Setup,
     SubmitFault, Work, WorkFault,
 };
@@ -54,7 +54,8 @@ impl Session {
     ghost use Rattle.rdm_log.specs.promises.Blocks.{WorkLogs, number_or_fault, IsOldest};
     ghost use Rattle.rdm_log.specs.promises.Outcomes.{oldest_kind, request_outcome, discovery_outcome};
     ghost use Rattle.rdm_log.specs.declared.outcome.OutcomeKind.TheVariants as kinds;
-    ghost use Rattle.rdm_queue.specs.promises.Oldest.{outcome_shown, kind_shown};
+    ghost use Rattle.rdm_queue.specs.promises.Oldest.{outcome_shown, kind_shown, flag_shown};
+    ghost use Rattle.rdm_log.specs.log.Broken.{oldest_may_be_incomplete};
     ghost use Rattle.rdm_queue.specs.body.Agrees.{StandsAfter};
 
     /// A session without clients, neither paused nor closed. Its discovery runs are numbered from 1, and all else from
@@ -263,6 +264,8 @@ impl Session {
         ensures kind { option_map kind_shown result ≡ oldest_kind self.now.opening self.now.entries client.0 }
         ensures outcome { IfSome result (λ oldest.
             IsOldest self.now.opening self.now.entries client.0 (outcome_shown oldest)) }
+        ensures may_be_incomplete { option_map flag_shown result
+            ≡ oldest_may_be_incomplete self.now.opening self.now.entries client.0 }
     {
         self.controller.oldest(client)
     }
@@ -519,6 +522,7 @@ fn opening_of(setup: &Setup) -> Opening
         closed: false,
         devices: DeviceSet::new(),
         devices_run: 0,
+        broken: BrokenAnswers::new(),
         next_request: 0,
         next_ask: 0,
         next_run: 1,

@@ -7,6 +7,8 @@ use Rattle.rdm_log.specs.declared.entry.Opening.{Opening}
 use Rattle.rdm_log.specs.declared.entry.Entry.{Entry}
 use Rattle.rdm_log.specs.log.History.{free_room, reserved, is_paused, is_closed, places}
 use Rattle.rdm_log.specs.log.History.{next_request, next_ask, next_tn}
+use Rattle.rdm_log.specs.log.BrokenKeys.{none_open}
+use Rattle.rdm_log.specs.log.Broken.{broken_keys}
 use Rattle.rdm_log.specs.log.Runs.{next_run, known_devices, devices_run}
 
 -- The opening, all entries after it, and how many entries fit. The oldest of the entries may have been handed out,
@@ -60,6 +62,7 @@ blank_opening = record {
   closed = false;
   devices = [];
   devices_run = 0;
+  broken = none_open;
   next_request = 0;
   next_ask = 0;
   next_run = 0;
@@ -112,6 +115,7 @@ opening_after o h = record {
   closed = is_closed o h;
   devices = known_devices o h;
   devices_run = devices_run o h;
+  broken = broken_keys o h;
   next_request = next_request o h;
   next_ask = next_ask o h;
   next_run = next_run o h;

@@ -15,6 +15,7 @@ use Rattle.rdm_log.specs.declared.event.Event.{Event}
 use Rattle.rdm_log.specs.declared.event.Event.TheVariants as events
 use Rattle.rdm_log.specs.declared.event.Answer.{Answer}
 use Rattle.rdm_log.specs.declared.event.Answer.TheVariants as answers
+use Rattle.rdm_log.specs.log.BrokenKeys.{none_open}
 use Rattle.rdm_log.specs.log.LogState.{LogState}
 
 -- a GET of PID 0060, asked once, answered by silence
@@ -34,6 +35,7 @@ sample_opening = record {
   closed = false;
   devices = [];
   devices_run = 0;
+  broken = none_open;
   next_request = 0;
   next_ask = 0;
   next_run = 1;

@@ -9,6 +9,7 @@ ghost use Rattle.rdm_log.specs.log.LogState.{LogState};
 ghost use Rattle.rdm_log.specs.promises.Explains.{Explains};
 ghost use Rattle.rdm_log.specs.promises.Headline.{OneResult, OwnRequests, OwnAnswers, InOrder, FullRefuses};
 ghost use Rattle.rdm_log.specs.promises.Headline.{NothingAfterClose};
+ghost use Rattle.rdm_log.specs.promises.Flags.{FlagsHold};
 ghost use Rattle.rdm_log.specs.promises.LogInBound.{InBound};
 ghost use Rattle.rdm_log.specs.promises.Promised.{LegalPromised, Promised};
 ghost use Rattle.rdm_log.specs.promises.EventsHeadline.{EventsPromised};
@@ -44,6 +45,13 @@ pub fn full_queue_refuses()
 /// Nothing starts after a close.
 pub fn nothing_after_close()
     ensures { (o : Opening) (h : List Entry) → Legal o h → NothingAfterClose o h }
+{}
+
+/// An answer that isn't flagged has all its parts, if the device begins each answer at its first part unless the last
+/// GET of it broke off (E1.20, ACK_OVERFLOW): after a GET that broke off, the next one of the same that is answered
+/// whole is flagged. While the queue notes all GETs that broke off, no other is.
+pub fn flags_hold()
+    ensures { (o : Opening) (h : List Entry) → Legal o h → FlagsHold o h }
 {}
 
 /// All that clients are promised for a legal log holds for each legal log. If the log is also in bound, all that they

@@ -17,11 +17,11 @@ pub close_amid : (o : Opening) (h : List Entry) (s : QueueState) → is_closed o
     → StandsAmid o (h ++ Close ∷ []) (record s { closed = true })
 close_amid o h s open_ after = record {
   each = pushed o h Close after.legal.each (after.legal.settled, open_);
-  stands = stands_same o h Close s s.places s.paused true s.owed after.legal.each (after.legal.settled, open_)
+  stands = stands_same o h Close s s.places s.paused true s.owed s.flags after.legal.each (after.legal.settled, open_)
       (same_work o h Close refl refl refl refl refl refl)
       (rw (joins_same h Close refl) after.stands.places_are) (after.stands.paused_is ∙ sym (is_paused-push o h Close))
       (sym (is_closed-push o h Close)) (λ c. refl) refl (rw (joins_same h Close refl) after.stands.owed_for_each)
-      after.stands;
+      (λ c. refl) (rw (joins_same h Close refl) after.stands.flags_for_each) after.stands;
 }
 
 -- the state of the oldest request, if its result is open

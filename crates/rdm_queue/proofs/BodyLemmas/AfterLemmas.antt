@@ -35,6 +35,7 @@ use Rattle.rdm_log.proofs.LogLemmas.ClientFacts.{outstanding_parts, outstanding_
 use Rattle.rdm_log.proofs.LogLemmas.PushLemmas.{joins_more}
 use Rattle.rdm_log.proofs.LogLemmas.KeepsLegal.{join_keeps, refuse_keeps, collect_keeps, pause_keeps, resume_keeps}
 use Rattle.rdm_log.proofs.LogLemmas.KeepsLegal.{accept_keeps, ask_keeps}
+unfoldable use Rattle.rdm_log.specs.log.Broken.{after_entries}
 use Rattle.rdm_queue.proofs.BodyLemmas.InvariantLemmas.{none_owed_more}
 use Rattle.rdm_queue.proofs.BodyLemmas.AgreesSame.{SameWork, same_work, stands_same}
 use Rattle.rdm_queue.proofs.BodyLemmas.AgreesWork.{stands_accept, stands_ask, stands_collect}
@@ -51,7 +52,7 @@ clients_after o h s after = client_facts o h after.legal.each
 -- a queue without calls
 pub first_after : (setup : Setup) → StandsAfter (opened setup) [] (first_state setup)
 unfolding joins accepts asks sends cames finishes answers collectors traded of_request verdicts awaited is_paused
-    is_closed answers_to last_run
+    is_closed answers_to last_run after_entries
 first_after setup = record {
   legal = empty (opened setup);
   goes_on = tt;
@@ -77,6 +78,9 @@ first_after setup = record {
     devices_run_is = refl;
     owed_for_each = refl;
     outcomes_are = λ c. refl;
+    broken_is = refl;
+    flags_for_each = refl;
+    flags_are = λ c. refl;
     all_outcomes = refl;
     first_run = omega arith;
   };
@@ -92,12 +96,14 @@ pub join_after : (o : Opening) (h : List Entry) (s : QueueState) (c : ClientId) 
 join_after o h s c n passes client after = record {
   legal = join_keeps o h c n after.legal passes (client ∙ ap length after.stands.places_are);
   goes_on = after.goes_on;
-  stands = stands_same o h e s (s.places ++ n ∷ []) s.paused s.closed (s.owed ++ [] ∷ []) after.legal.each
+  stands = stands_same o h e s (s.places ++ n ∷ []) s.paused s.closed (s.owed ++ [] ∷ []) (s.flags ++ [] ∷ [])
+      after.legal.each
       (after.legal.settled, passes, client ∙ ap length after.stands.places_are)
       (same_work o h e refl refl refl refl refl refl)
       (rw (joins_more h e n refl, after.stands.places_are) (append_assoc o.places.items (joins h) (n ∷ [])))
       (after.stands.paused_is ∙ sym (is_paused-push o h e)) (after.stands.closed_is ∙ sym (is_closed-push o h e))
-      (none_owed_more s.owed) (sum_more s.owed) long after.stands;
+      (none_owed_more s.owed) (sum_more s.owed) (long s.owed after.stands.owed_for_each) (none_owed_more s.flags)
+      (long s.flags after.stands.flags_for_each) after.stands;
 }
   where
     e : Entry
@@ -110,11 +116,12 @@ join_after o h s c n passes client after = record {
         ap (λ l. sum l) (map-append (λ (ds : List OutcomeValue). length ds) lists ([] ∷ []))
         ∙ (sum_by-append (λ (m : ℕ). m) (map (λ (ds : List OutcomeValue). length ds) lists) (0 ∷ []) ∙ omega arith)
 
-    long : length (s.owed ++ [] ∷ []) ≡ length (o.places.items ++ joins (h ++ e ∷ []))
-    long = rw (joins_more h e n refl)
-        (let one = length-append s.owed ([] ∷ []) in let two = length-append o.places.items (joins h ++ n ∷ []) in
+    long : {X : Type 0} (lists : List (List X)) → length lists ≡ length (o.places.items ++ joins h)
+        → length (lists ++ [] ∷ []) ≡ length (o.places.items ++ joins (h ++ e ∷ []))
+    long lists same = rw (joins_more h e n refl)
+        (let one = length-append lists ([] ∷ []) in let two = length-append o.places.items (joins h ++ n ∷ []) in
         let three = length-append (joins h) (n ∷ []) in let four = length-append o.places.items (joins h) in
-        let same = after.stands.owed_for_each in omega arith)
+        omega arith)
 
 -- a refusal
 refuse_after : (o : Opening) (h : List Entry) (s : QueueState) (e : Entry) → MayFollow o h e → Legal o (h ++ e ∷ [])
@@ -123,9 +130,10 @@ refuse_after : (o : Opening) (h : List Entry) (s : QueueState) (e : Entry) → M
 refuse_after o h s e may legal work joined paused closed after = record {
   legal = legal;
   goes_on = after.goes_on;
-  stands = stands_same o h e s s.places s.paused s.closed s.owed after.legal.each may work
+  stands = stands_same o h e s s.places s.paused s.closed s.owed s.flags after.legal.each may work
       (rw joined after.stands.places_are) (after.stands.paused_is ∙ sym paused) (after.stands.closed_is ∙ sym closed)
-      (λ c. refl) refl (rw joined after.stands.owed_for_each) after.stands;
+      (λ c. refl) refl (rw joined after.stands.owed_for_each) (λ c. refl) (rw joined after.stands.flags_for_each)
+      after.stands;
 }
 
 refused_after : (o : Opening) (h : List Entry) (s : QueueState) (c : Option ClientId) (call : calls.the_data)
@@ -228,9 +236,9 @@ switch_after : (o : Opening) (h : List Entry) (s : QueueState) (e : Entry) (paus
 switch_after o h s e paused may legal work joined paused_is closed after = record {
   legal = legal;
   goes_on = after.goes_on;
-  stands = stands_same o h e s s.places paused s.closed s.owed after.legal.each may work
+  stands = stands_same o h e s s.places paused s.closed s.owed s.flags after.legal.each may work
       (rw joined after.stands.places_are) (sym paused_is) (after.stands.closed_is ∙ sym closed) (λ c. refl) refl
-      (rw joined after.stands.owed_for_each) after.stands;
+      (rw joined after.stands.owed_for_each) (λ c. refl) (rw joined after.stands.flags_for_each) after.stands;
 }
 
 pub pause_after : (o : Opening) (h : List Entry) (s : QueueState) → can_pause o h ≡ true → StandsAfter o h s

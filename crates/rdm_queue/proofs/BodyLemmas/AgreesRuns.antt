@@ -35,7 +35,11 @@ use Rattle.rdm_log.proofs.LogLemmas.ClientLemmas.{answers_answer_own, answers_an
 use Rattle.rdm_log.proofs.LogLemmas.RunLemmas.{no_exchanges, run_exchanges_sent, run_exchanges_came_own}
 use Rattle.rdm_log.proofs.LogLemmas.RunLemmas.{run_exchanges_same}
 use Rattle.rdm_log.proofs.LogLemmas.RunFacts.{RunFacts, never_named}
-use Rattle.rdm_queue.proofs.BodyLemmas.AgreesWork.{unanswered_of, count_more, owed_more}
+use Rattle.rdm_queue.proofs.Common.{uncollected}
+use Rattle.rdm_log.specs.log.Broken.{Incomplete}
+use Rattle.rdm_log.proofs.LogLemmas.BrokenLemmas.{incomplete_same}
+use Rattle.rdm_log.proofs.PromiseLemmas.IncompleteLemmas.{flags_same}
+use Rattle.rdm_queue.proofs.BodyLemmas.AgreesWork.{unanswered_of, count_more, owed_more, flags_grow}
 use Rattle.rdm_log.proofs.LogLemmas.BegunLemmas.{before_begun, begins_now}
 
 -- an agent that asks for more wasn't stopped
@@ -383,6 +387,13 @@ stands_answer o h s a q f found run agent devices devices_from each may asked_fa
           rw (collectors_same h e refl, finishes_same h e refl, answered_more h e _ refl, length-append (answers h) _)
           (let more = count_more s.owed a.client (answer_value a q f found) within in let all = stands.all_outcomes in
           omega arith);
+      broken_is = stands.broken_is ∙ ap (λ (i : Incomplete). i.keys) (sym (incomplete_same o h e refl));
+      flags_for_each = length-set s.flags a.client _ ∙ rw (joins_same h e refl) stands.flags_for_each;
+      flags_are =
+          flags_grow o h k e s a.client false flags_within
+          (λ c own. answers_answer_own o c h a.number q f a.client client_is own)
+          (λ c other. answers_answer_other o c h a.number q f a.client client_is other) (collectors_same h e refl)
+          clients.collected_within refl (λ c. stands.flags_are c ∙ sym (flags_same o h e refl (uncollected o c h)));
       first_run = stands.first_run;
     }
   where
@@ -394,6 +405,10 @@ stands_answer o h s a q f found run agent devices devices_from each may asked_fa
 
     within : a.client < length s.owed
     within = rw stands.owed_for_each (asked_facts.askers (length (answers h) + 0) a (unanswered_index h 0 a oldest))
+
+    flags_within : a.client < length s.flags
+    flags_within =
+        rw stands.flags_for_each (asked_facts.askers (length (answers h) + 0) a (unanswered_index h 0 a oldest))
 
     client_is : client_of_discovery o h a.number ≡ Some a.client
     client_is = client_of_unanswered o h asked_facts 0 a oldest

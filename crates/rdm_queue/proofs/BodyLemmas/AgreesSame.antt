@@ -14,6 +14,10 @@ use Rattle.rdm_log.specs.log.Runs.{next_run}
 use Rattle.rdm_queue.specs.body.State.{uncollected as uncollected_by}
 use Rattle.rdm_log.proofs.LogLemmas.PushLemmas.{SameRequests, same_after, pushes}
 use Rattle.rdm_log.proofs.LogLemmas.ClientLemmas.{brings_work, ends_work, no_accept, no_ask, no_finish, no_reply}
+use Rattle.rdm_queue.proofs.Common.{get_or, map}
+use Rattle.rdm_log.specs.log.Broken.{broken_keys, incomplete, may_be_incomplete}
+use Rattle.rdm_log.proofs.LogLemmas.BrokenLemmas.{incomplete_same}
+use Rattle.rdm_queue.specs.body.State.{flags_to}
 use Rattle.rdm_queue.proofs.BodyLemmas.RunningLemmas.{run_same}
 
 -- nothing of the work, its answers and their collects is different
@@ -23,6 +27,7 @@ pub record SameWork (o : Opening) (h k : List Entry) : Type 0 where
   pub running : SameRunning o h k
   pub same_collectors : collectors k ≡ collectors h
   pub same_answers_to : (c : ℕ) → answers_to o c k ≡ answers_to o c h
+  pub same_incomplete : incomplete o k ≡ incomplete o h
 
 pub same_work : (o : Opening) (h : List Entry) (e : Entry) → brings_work e ≡ false → ends_work e ≡ false
     → sending_of e ≡ None → came_of e ≡ None → collector_of e ≡ None → awaits_after (awaited h) e ≡ awaited h
@@ -33,6 +38,7 @@ same_work o h e brings ends send came collect waits = record {
   running = same_running o h e send came (no_reply e ends);
   same_collectors = collectors_same h e collect;
   same_answers_to = λ c. answers_same o c h e brings ends;
+  same_incomplete = incomplete_same o h e (no_finish e ends);
 }
 
 -- what awaits its reply
@@ -135,30 +141,40 @@ traded o h (Send owner frame) s new each may is stands line =
     let outcomes : (c : ℕ) → owed_to c s ≡ filter_map (outcome_of (h ++ e ∷ [])) (uncollected o c (h ++ e ∷ [])) =
     λ c. rw (answers_same o c h e refl refl, collectors_same h e refl)
     (stands.outcomes_are c ∙ sym (outcomes_step o h e each may c)) in
-    search (pushes, known, outcomes, line, stands)
+    let broken : s.broken ≡ broken_keys o (h ++ e ∷ []) =
+    stands.broken_is ∙ ap (λ i. i.keys) (sym (incomplete_same o h e refl)) in
+    let flags : (c : ℕ) → flags_to c s ≡ map (may_be_incomplete o (h ++ e ∷ [])) (uncollected o c (h ++ e ∷ [])) =
+    λ c. rw (incomplete_same o h e refl, answers_same o c h e refl refl, collectors_same h e refl) (stands.flags_are c) in
+    search (pushes, known, outcomes, broken, flags, line, stands)
 traded o h (Came event) s new each may is stands line =
     let e = Came event in
     let known = stands.devices_are ∙ sym (known_step o h e each may (answered_same h e refl)) in
     let outcomes : (c : ℕ) → owed_to c s ≡ filter_map (outcome_of (h ++ e ∷ [])) (uncollected o c (h ++ e ∷ [])) =
     λ c. rw (answers_same o c h e refl refl, collectors_same h e refl)
     (stands.outcomes_are c ∙ sym (outcomes_step o h e each may c)) in
-    search (pushes, known, outcomes, line, stands)
+    let broken : s.broken ≡ broken_keys o (h ++ e ∷ []) =
+    stands.broken_is ∙ ap (λ i. i.keys) (sym (incomplete_same o h e refl)) in
+    let flags : (c : ℕ) → flags_to c s ≡ map (may_be_incomplete o (h ++ e ∷ [])) (uncollected o c (h ++ e ∷ [])) =
+    λ c. rw (incomplete_same o h e refl, answers_same o c h e refl refl, collectors_same h e refl) (stands.flags_are c) in
+    search (pushes, known, outcomes, broken, flags, line, stands)
 traded o h _ s new each may is stands line = cc
 
 -- the entry is about neither the line nor the work
 pub stands_same : (o : Opening) (h : List Entry) (e : Entry) (s : QueueState) (ps : List ℕ) (paused closed : Bool)
-    (owed : List (List OutcomeValue)) → EachAfter (MayFollow o) h → MayFollow o h e → SameWork o h (h ++ e ∷ [])
+    (owed : List (List OutcomeValue)) (flags : List (List Bool)) → EachAfter (MayFollow o) h → MayFollow o h e → SameWork o h (h ++ e ∷ [])
     → ps ≡ places o (h ++ e ∷ []) → paused ≡ is_paused o (h ++ e ∷ []) → closed ≡ is_closed o (h ++ e ∷ [])
     → ((c : ℕ) → owed_to c (record s { owed = owed }) ≡ owed_to c s)
     → uncollected_by (record s { owed = owed }) ≡ uncollected_by s → length owed ≡ length (places o (h ++ e ∷ []))
+    → ((c : ℕ) → get_or flags c [] ≡ flags_to c s) → length flags ≡ length (places o (h ++ e ∷ []))
     → Agrees o h s → Agrees o (h ++ e ∷ []) (record s {
       places = ps;
       paused = paused;
       closed = closed;
       owed = owed;
+      flags = flags;
     })
-stands_same o h e s ps paused closed owed each may work places_are paused_is closed_is owed_same count_same long
-    stands = record {
+stands_same o h e s ps paused closed owed flags each may work places_are paused_is closed_is owed_same count_same long
+    flags_same flags_long stands = record {
       source_is = stands.source_is;
       greatest_is = stands.greatest_is;
       budget_is = stands.budget_is;
@@ -185,6 +201,11 @@ stands_same o h e s ps paused closed owed each may work places_are paused_is clo
       all_outcomes =
           rw (work.same_collectors, work.requests.same_finishes, work.running.same_answers)
           (ap (λ n. n + length (collectors h)) count_same ∙ stands.all_outcomes);
+      broken_is = stands.broken_is ∙ ap (λ i. i.keys) (sym work.same_incomplete);
+      flags_for_each = flags_long;
+      flags_are =
+          λ c. rw (work.same_incomplete, work.same_answers_to c, work.same_collectors)
+          (flags_same c ∙ stands.flags_are c);
       first_run = stands.first_run;
     }
   where
@@ -192,7 +213,7 @@ stands_same o h e s ps paused closed owed each may work places_are paused_is clo
     k = h ++ e ∷ []
 
     new : QueueState
-    new = record s { places = ps; paused = paused; closed = closed; owed = owed }
+    new = record s { places = ps; paused = paused; closed = closed; owed = owed; flags = flags }
 
     line : AgreesOnLine o k new
     line =

@@ -38,12 +38,25 @@ use Rattle.rdm_log.proofs.LogLemmas.RunningLemmas.{same_running_came}
 use Rattle.rdm_queue.proofs.BodyLemmas.RunningLemmas.{run_same}
 use Rattle.rdm_queue.proofs.BodyLemmas.AgreesSame.{devices_run_same, AgreesOnLine, with_line, same_line, line_same}
 use Rattle.rdm_queue.proofs.BodyLemmas.AgreesSame.{traded}
+use Rattle.rdm_queue.proofs.Common.{map, map-append, option_and_then, Status}
+use Rattle.std.proofs.lemmas.List.{drop-map}
+use Rattle.rdm_join.specs.declared.status.Status.TheVariants.{Completed}
+use Rattle.rdm_log.specs.declared.broken.AnswerKey.{AnswerKey}
+use Rattle.rdm_log.specs.log.BrokenKeys.{BrokenKeys}
+use Rattle.rdm_log.specs.log.Broken.{Incomplete, incomplete, broken_keys, may_be_incomplete, after_end}
+use Rattle.rdm_log.specs.log.Broken.{is_end_flagged, is_whole, key_of_first}
+use Rattle.rdm_log.proofs.LogLemmas.ClientLemmas.{no_finish}
+use Rattle.rdm_log.proofs.LogLemmas.BrokenLemmas.{incomplete_same, incomplete_push}
+use Rattle.rdm_log.proofs.PromiseLemmas.IncompleteLemmas.{flags_finish, flag_of_finish}
+use Rattle.rdm_queue.specs.body.State.{flags_to, flags_more, broken_after, flag_at_end}
 
 -- what an entry that ends no work leaves as it was
 record Kept (o : Opening) (h k : List Entry) (s new : QueueState) : Type 0 where
   line : AgreesOnLine o k (with_line new s)
   devices_are : s.devices ≡ known_devices o k
   outcomes : (c : ℕ) → filter_map (outcome_of k) (uncollected o c h) ≡ filter_map (outcome_of h) (uncollected o c h)
+  same_incomplete : incomplete o k ≡ incomplete o h
+  broken_is : s.broken ≡ broken_keys o k
 
 kept : (o : Opening) (h : List Entry) (e : Entry) (s new : QueueState) → EachAfter (MayFollow o) h → MayFollow o h e
     → sending_of e ≡ None → came_of e ≡ None → ends_work e ≡ false → awaits_after (awaited h) e ≡ awaited h
@@ -52,6 +65,8 @@ kept o h e s new each may send came ends waits stands = record {
   line = line_same o h (h ++ e ∷ []) s new (same_line o h e send came ends waits) stands;
   devices_are = stands.devices_are ∙ sym (known_step o h e each may (answered_same h e (no_reply e ends)));
   outcomes = outcomes_step o h e each may;
+  same_incomplete = incomplete_same o h e (no_finish e ends);
+  broken_is = stands.broken_is ∙ ap (λ i. i.keys) (sym (incomplete_same o h e (no_finish e ends)));
 }
 
 -- a request is accepted
@@ -69,7 +84,13 @@ stands_accept o h s c n request each may facts ask_facts number stands =
     let outcomes : (d : ℕ) → owed_to d s ≡ filter_map (outcome_of k) (uncollected o d k) =
     λ d. rw (answers_accept o d h facts ask_facts c n request, collectors_same h (Accept c n request) refl)
     (stands.outcomes_are d ∙ sym (rest.outcomes d)) in
-    search (pushes, next, waiting, outcomes, rest.line, rest, stands)
+    let flags : (d : ℕ) → flags_to d s ≡ map (may_be_incomplete o k) (uncollected o d k) =
+    λ d. rw (
+      rest.same_incomplete,
+      answers_accept o d h facts ask_facts c n request,
+      collectors_same h (Accept c n request) refl,
+    ) (stands.flags_are d) in
+    search (pushes, next, waiting, outcomes, flags, rest.line, rest, stands)
 
 -- a discovery is asked
 pub stands_ask : (o : Opening) (h : List Entry) (s : QueueState) (c : ClientId) (n : ℕ) (kind : Kind)
@@ -85,7 +106,13 @@ stands_ask o h s c n kind each may facts ask_facts number stands =
     let outcomes : (d : ℕ) → owed_to d s ≡ filter_map (outcome_of k) (uncollected o d k) =
     λ d. rw (answers_ask o d h facts ask_facts c n kind, collectors_same h (Ask c n kind) refl)
     (stands.outcomes_are d ∙ sym (rest.outcomes d)) in
-    search (pushes, next, asked, outcomes, rest.line, rest, stands)
+    let flags : (d : ℕ) → flags_to d s ≡ map (may_be_incomplete o k) (uncollected o d k) =
+    λ d. rw (
+      rest.same_incomplete,
+      answers_ask o d h facts ask_facts c n kind,
+      collectors_same h (Ask c n kind) refl,
+    ) (stands.flags_are d) in
+    search (pushes, next, asked, outcomes, flags, rest.line, rest, stands)
 
 -- a request's frame is sent
 pub was_sent_own : (n : ℕ) (ss : List Sending) (frame : ArrayVec ℕ)
@@ -214,20 +241,20 @@ stands_came o h s sent event decided joiner each may facts was standing stands =
     }
 
 -- an outcome is collected
-removed_rest : (lists : List (List OutcomeValue)) (c n : ℕ)
-    → get_or (removed_at lists c) n [] ≡ (if n == c then drop 1 (get_or lists n []) else get_or lists n [])
-removed_rest lists c n = by_client (cases_eq n c) (cases_lt c (length lists))
+removed_rest : {X : Type 0} (lists : List (List X)) (c n : ℕ)
+    → get_or (set lists c (drop 1 (get_or lists c []))) n [] ≡ (if n == c then drop 1 (get_or lists n []) else get_or lists n [])
+removed_rest {X} lists c n = by_client (cases_eq n c) (cases_lt c (length lists))
   where
-    none : {ds es : List OutcomeValue} → ds ≡ [] → es ≡ [] → ds ≡ drop 1 es
+    none : {ds es : List X} → ds ≡ [] → es ≡ [] → ds ≡ drop 1 es
     none p q = p ∙ ap (drop 1) (sym q)
 
     by_client : (n ≡ c) ⊎ (n ≡ c → ⊥) → (c < length lists) ⊎ (length lists ≤ c)
-        → get_or (removed_at lists c) n [] ≡ (if n == c then drop 1 (get_or lists n []) else get_or lists n [])
+        → get_or (set lists c (drop 1 (get_or lists c []))) n [] ≡ (if n == c then drop 1 (get_or lists n []) else get_or lists n [])
     by_client (inl same) (inl within) =
         rw (eq-eqb n c same, same) (get_or-set_same lists c (drop 1 (get_or lists c [])) [] within)
     by_client (inl same) (inr past) =
         rw (eq-eqb n c same, same)
-        (none (get_or_past (removed_at lists c) c []
+        (none (get_or_past (set lists c (drop 1 (get_or lists c []))) c []
         (let long = length-set lists c (drop 1 (get_or lists c [])) in omega arith)) (get_or_past lists c [] past))
     by_client (inr other) within =
         rw (ne_eqb n c other) (get_or-set_other lists c n (drop 1 (get_or lists c [])) [] other)
@@ -252,7 +279,9 @@ stands_collect o h s c d each may first stands =
     ≡ length (finishes k) + length (answers k) =
     let less = count_less s.owed c.0 d first in let all = stands.all_outcomes in
     simp (pushes, length_push) (omega arith) in
-    search (pushes, long, all, outcomes, rest.line, rest, stands)
+    let flags_long : length (collects_oldest s c.0).flags ≡ length (places o k) =
+    length-set s.flags c.0 _ ∙ simp pushes stands.flags_for_each in
+    search (pushes, long, all, outcomes, flags_long, flags rest.same_incomplete, rest.line, rest, stands)
   where
     e : Entry
     e = Collect c
@@ -286,6 +315,27 @@ stands_collect o h s c d each may first stands =
             (ap (drop 1) agree ∙ sym (outcomes_rest o client k h (uncollected o client h) (answers_passed o client h)))
         by_client (inr other) =
             rw (collects client, other, append-nil (collects_by client h), answers_same o client h e refl refl) agree
+
+    flags : incomplete o k ≡ incomplete o h → (client : ℕ)
+        → flags_to client (collects_oldest s c.0) ≡ map (may_be_incomplete o k) (uncollected o client k)
+    flags same client = removed_rest s.flags c.0 client ∙ by_client (cases_Bool (client == c.0))
+      where
+        by_client : ((client == c.0) ≡ true) ⊎ ((client == c.0) ≡ false)
+            → (if client == c.0 then drop 1 (flags_to client s) else flags_to client s)
+            ≡ map (may_be_incomplete o k) (uncollected o client k)
+        by_client (inl own) =
+            rw (
+              same,
+              collects client,
+              own,
+              length-append (collects_by client h) (c.0 ∷ []),
+              answers_same o client h e refl refl,
+              ← drop-drop 1 (length (collects_by client h)) (answers_to o client h),
+            )
+            (ap (drop 1) (stands.flags_are client) ∙ sym (drop-map (may_be_incomplete o h) 1 (uncollected o client h)))
+        by_client (inr other) =
+            rw (same, collects client, other, append-nil (collects_by client h), answers_same o client h e refl refl)
+            (stands.flags_are client)
 
 -- the last frame has one owner
 pub last_owner : (ss xs ys : List Sending) (n r : ℕ) (frame other : ArrayVec ℕ)
@@ -331,6 +381,49 @@ owed_more o h k e s client d within own other same few outcome_is before c = by_
               outcome_is,
             ) refl
     by_client (inr not) = owes-other s client c d not ∙ rw (other c (ne_eqb c client not), same) (before c)
+
+-- one more flag
+pub flags_grow : (o : Opening) (h k : List Entry) (e : Entry) (s : QueueState) (client : ℕ) (flag : Bool)
+    → client < length s.flags → ((c : ℕ) → (c == client) ≡ true → answers_to o c k ≡ answers_to o c h ++ e ∷ [])
+    → ((c : ℕ) → (c == client) ≡ false → answers_to o c k ≡ answers_to o c h) → collectors k ≡ collectors h
+    → ((c : ℕ) → length (collects_by c h) ≤ length (answers_to o c h)) → may_be_incomplete o k e ≡ flag
+    → ((c : ℕ) → flags_to c s ≡ map (may_be_incomplete o k) (uncollected o c h)) → (c : ℕ)
+    → get_or (flags_more client flag s) c [] ≡ map (may_be_incomplete o k) (uncollected o c k)
+flags_grow o h k e s client flag within own other same few flag_is before c = by_client (cases_eq c client)
+  where
+    by_client : (c ≡ client) ⊎ (c ≡ client → ⊥)
+        → get_or (flags_more client flag s) c [] ≡ map (may_be_incomplete o k) (uncollected o c k)
+    by_client (inl is) =
+        rw (is, get_or-set_same s.flags client (flags_to client s ++ flag ∷ []) [] within)
+        (more client (own client (eq-eqb client client refl)))
+      where
+        more : (c : ℕ) → answers_to o c k ≡ answers_to o c h ++ e ∷ []
+            → flags_to c s ++ flag ∷ [] ≡ map (may_be_incomplete o k) (uncollected o c k)
+        more c grows =
+            rw (
+              uncollected_more o c h k e (ap (λ l. filter (λ b. c == b) l) same) (few c) grows,
+              map-append (may_be_incomplete o k) (uncollected o c h) (e ∷ []),
+              ← before c,
+              flag_is,
+            ) refl
+    by_client (inr not) =
+        get_or-set_other s.flags client c (flags_to client s ++ flag ∷ []) [] not
+        ∙ rw (other c (ne_eqb c client not), same) (before c)
+
+-- what a Finish says of its end is what the queue has noted
+pub whole_so : (status : Status) (r : Option Joined) → is_whole status (completion_of status r).head
+    ≡ is_whole status (option_and_then (λ j. j.head) r)
+whole_so Completed None = refl
+whole_so Completed (Some j) = refl
+whole_so _ r = refl
+
+pub end_so : (key : Option AnswerKey) (sent : Bool) (status : Status) (r : Option Joined) (b : BrokenKeys)
+    → (after_end key sent status (completion_of status r).head b
+    ≡ after_end key sent status (option_and_then (λ j. j.head) r) b)
+    × (is_end_flagged key status (completion_of status r).head b
+    ≡ is_end_flagged key status (option_and_then (λ j. j.head) r) b)
+end_so None sent status r b = (refl, refl)
+end_so (Some key) sent status r b = (rw (whole_so status r) refl, rw (whole_so status r) refl)
 
 -- no frame of a request was sent
 pub none_sent : (n : ℕ) (ss : List Sending)
@@ -378,6 +471,14 @@ stands_finish o h s a rest done each may facts clients oldest completes idle non
       rw (collectors_same h e refl, finishes_more h e _ refl, answered_same h e refl, length-append (finishes h) _)
       (let more = count_more s.owed a.client (owed_value (owed_for done a)) within in
       let all = stands.all_outcomes in omega arith);
+  broken_is = broken_so;
+  flags_for_each = length-set s.flags a.client _ ∙ rw (joins_same h e refl) stands.flags_for_each;
+  flags_are =
+      flags_grow o h k e s a.client (flag_at_end s done) flags_within
+      (λ c own. answers_finish_own o c h a.number done.status (length done.data_) a.client client_is own)
+      (λ c other. answers_finish_other o c h a.number done.status (length done.data_) a.client client_is other)
+      (collectors_same h e refl) clients.collected_within flag_so
+      (λ c. stands.flags_are c ∙ sym (flags_finish o h a.number done.status (length done.data_) each may c));
   first_run = stands.first_run;
 }
   where
@@ -414,3 +515,23 @@ stands_finish o h s a rest done each may facts clients oldest completes idle non
 
     client_is : client_of_request o h a.number ≡ Some a.client
     client_is = client_of_accepted o h facts (length (finishes h) + 0) a (unfinished_index h 0 a first)
+
+    flags_within : a.client < length s.flags
+    flags_within = rw stands.flags_for_each (facts.clients (length (finishes h) + 0) a (unfinished_index h 0 a first))
+
+    head_is : done.head ≡ (completion_of done.status (result a.number h)).head
+    head_is = ap (λ (j : Joined). j.head) completes
+
+    broken_so : broken_after s done ≡ broken_keys o k
+    broken_so =
+        ap (λ head. after_end (key_of_first s.waiting) s.under_way done.status head s.broken) head_is
+        ∙ ((end_so (key_of_first s.waiting) s.under_way done.status (result a.number h) s.broken).0
+        ∙ rw (stands.waiting_are, stands.under_way_is, ← number, stands.broken_is)
+        (sym (ap (λ (i : Incomplete). i.keys) (incomplete_push o h e))))
+
+    flag_so : may_be_incomplete o k e ≡ flag_at_end s done
+    flag_so =
+        flag_of_finish o h a.number done.status (length done.data_) each may
+        ∙ sym (ap (λ head. is_end_flagged (key_of_first s.waiting) done.status head s.broken) head_is
+        ∙ ((end_so (key_of_first s.waiting) s.under_way done.status (result a.number h) s.broken).1
+        ∙ rw (stands.waiting_are, stands.broken_is) refl))

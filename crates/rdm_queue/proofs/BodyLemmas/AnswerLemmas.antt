@@ -13,6 +13,7 @@ use Rattle.rdm_queue.proofs.BodyLemmas.RingFields.{AreClientsOf, are_clients}
 use Rattle.rdm_queue.proofs.BodyLemmas.InvariantLemmas.{asked_joined, first_counts, held-answers}
 use Rattle.rdm_queue.proofs.BodyLemmas.RingLemmas.{places_stayed}
 use Rattle.rdm_queue.proofs.BodyLemmas.RingSteps.{room_for_outcome, room_for_set, rings-answer, owed-answer}
+use Rattle.rdm_queue.proofs.BodyLemmas.RingSteps.{flags-answer}
 
 pub nonempty : (xs : List Asked) → (length xs == 0) ≡ false → 0 < length xs
 nonempty [] is = absurd (false≢true (sym is))
@@ -154,7 +155,8 @@ pub clients-answer : (s : QueueState) (clients : List Client) (i : ℕ) (k l : C
 clients-answer s clients i k l a r f found run are can less same_index answers =
     subst (λ n. AreClientsOf new (set clients n l)) (sym same_index) (are_clients new (set clients a.client l) kept
     (places_stayed clients a.client k l can.at answers.rings.places ∙ are.places)
-    (owed-answer s clients k l a r f found (sym are.owed) are.kept.rings can.at answers))
+    (owed-answer s clients k l a r f found (sym are.owed) are.kept.rings can.at answers)
+    (flags-answer s clients a.client k l a.number r f found (sym are.flags) can.at answers))
   where
     new : QueueState
     new = record (answers_oldest s a r f found) { run = run }

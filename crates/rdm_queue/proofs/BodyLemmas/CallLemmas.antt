@@ -17,7 +17,11 @@ use Rattle.rdm_log.specs.declared.outcome.DiscoveryEnd.{DiscoveryEnd}
 use Rattle.rdm_log.specs.promises.Blocks.{JoinAdds, CollectAdds, IsOldest}
 use Rattle.rdm_queue.specs.declared.oldest.Oldest.{Oldest}
 use Rattle.rdm_queue.specs.declared.oldest.Oldest.TheVariants as shown
-use Rattle.rdm_queue.specs.promises.Oldest.{outcome_shown, kind_shown}
+use Rattle.rdm_queue.proofs.Common.{uncollected}
+use Rattle.std.proofs.lemmas.Option.{slice_get-map}
+use Rattle.rdm_log.specs.log.Broken.{oldest_may_be_incomplete, may_be_incomplete}
+use Rattle.rdm_queue.specs.body.State.{flags_to}
+use Rattle.rdm_queue.specs.promises.Oldest.{outcome_shown, kind_shown, flag_shown}
 use Rattle.rdm_queue.specs.body.Rings.{value_shown}
 use Rattle.rdm_queue.specs.body.State.{kind_of_value}
 use Rattle.rdm_queue.proofs.BodyLemmas.EndLemmas.{ends_amid, ends_in_bound_amid, settled_after}
@@ -131,7 +135,7 @@ not_kind None s c kind other = λ o h after is. other (kind_after o h s c after 
 
 -- what a look at the oldest outcome shows
 kind_of_shown : (x : Oldest) → kind_of_value (value_shown x) ≡ kind_shown x
-kind_of_shown (shown.Request number done) = refl
+kind_of_shown (shown.Request number done flag) = refl
 kind_of_shown (shown.Discovery end set) = refl
 
 kind_of_look : (r : Option Oldest) → option_map kind_shown r ≡ option_map kind_of_value (option_map value_shown r)
@@ -148,6 +152,12 @@ pub shown_outcome : (r : Option Oldest) (s : QueueState) (c : ClientId)
     → IfSome r (λ x. ForEachLog s (λ o h. IsOldest o h c.0 (outcome_shown x)))
 shown_outcome None s c told = tt
 shown_outcome (Some x) s c told = λ o h after. oldest_after o h s c (outcome_shown x) told after
+
+pub shown_flag : (r : Option Oldest) (s : QueueState) (c : ℕ) → option_map flag_shown r ≡ slice_get (flags_to c s) 0
+    → ForEachLog s (λ o h. option_map flag_shown r ≡ oldest_may_be_incomplete o h c)
+shown_flag r s c told =
+    λ o h after.
+    told ∙ (ap (λ l. slice_get l 0) (after.stands.flags_are c) ∙ slice_get-map (may_be_incomplete o h) (uncollected o c h) 0)
 
 -- one fewer is left to end
 less_first : {X : Type 0} (xs : List X) (x : X) → slice_get xs 0 ≡ Some x → length (drop 1 xs) < length xs

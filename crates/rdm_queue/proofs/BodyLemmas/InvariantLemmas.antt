@@ -7,6 +7,7 @@ use Rattle.rdm_queue.proofs.Common.{ltb-false, or_parts, cases_lt, cases_eq, map
 use Rattle.rdm_queue.proofs.Common.{get_or-set_other, length-set, length-map, length-drop, sum_by-append, IsAscending}
 use Rattle.rdm_queue.proofs.Common.{Request, Joined, Kind, JoinFault, Accepted, AskedDiscovery}
 use Rattle.rdm_queue.proofs.Common.{OutcomeValue, StateInvariant, served_by, QueueState, RunState, outstanding}
+use Rattle.rdm_queue.specs.body.State.{flags_more}
 use Rattle.rdm_queue.proofs.Common.{outstanding_asks, owes, is_discovery, owed_for, finishes_oldest, accepts_request}
 use Rattle.rdm_queue.proofs.Common.{accepted_as, asks_discovery, joins_client, collects_oldest, first_join_fault}
 use Rattle.rdm_queue.proofs.Common.{first_submit_fault, first_ask_fault, slice_get_first, AgentState, next_op, End}
@@ -116,7 +117,12 @@ pub held-answers : (s : QueueState) (a : AskedDiscovery) (d : OutcomeValue) (run
     → served_by s.run ≤ served_by run + 1 → served_by run ≤ served_by s.run → served_by run + 1 ≤ length s.asked
     → MatchOption run (Unit {0}) (λ r. r.number < s.next_run)
     → MatchOption run (Unit {0}) (λ r. s.devices_run ≡ r.number → IsKept s)
-    → StateInvariant (record s { asked = drop 1 s.asked; owed = owes a.client d s; run = run })
+    → StateInvariant (record s {
+      asked = drop 1 s.asked;
+      owed = owes a.client d s;
+      flags = flags_more a.client false s;
+      run = run;
+    })
 held-answers s a d run held at discovery serves less most within begun kept = record {
   source = held.source;
   greatest = held.greatest;
@@ -334,7 +340,7 @@ held-collects s c held = record {
 }
 
 -- one client more, without requests
-pub none_owed_more : (lists : List (List OutcomeValue)) (c : ℕ) → get_or (lists ++ [] ∷ []) c [] ≡ get_or lists c []
+pub none_owed_more : {X : Type 0} (lists : List (List X)) (c : ℕ) → get_or (lists ++ [] ∷ []) c [] ≡ get_or lists c []
 none_owed_more [] zero = refl
 none_owed_more [] (suc c) = refl
 none_owed_more (ds ∷ lists) zero = refl

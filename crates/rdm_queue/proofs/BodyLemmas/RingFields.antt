@@ -6,12 +6,17 @@ use Rattle.rdm_queue.proofs.Common.{completion_value, merged, IsNewClient, Clien
 use Rattle.rdm_queue.proofs.Common.{ClientCollects, owed_values, state_of, places_of, waiting_rings, owed_rings}
 use Rattle.rdm_queue.proofs.Common.{QueueInvariant, QueueState, owed_for, finishes_oldest, accepts_request}
 use Rattle.rdm_queue.proofs.Common.{joins_client, first_join_fault, first_submit_fault, CollectsOldest}
+use Rattle.rdm_queue.proofs.Common.{Bool, map}
+use Rattle.rdm_queue.specs.body.Rings.{client_flags, flag_of_owed}
+use Rattle.rdm_queue.specs.body.Fields.{flag_rings}
+use Rattle.rdm_queue.specs.body.State.{flags_more, flag_at_end}
 use Rattle.rdm_queue.proofs.BodyLemmas.InvariantLemmas.{first_counts}
 use Rattle.rdm_queue.proofs.BodyLemmas.ValueLemmas.{values-fresh}
 use Rattle.rdm_queue.proofs.BodyLemmas.RingLemmas.{places_stayed, set_same}
 use Rattle.rdm_queue.proofs.BodyLemmas.RingSteps.{values_at, owed-accept, owed-finish, owed-collect, kept-finish}
 use Rattle.rdm_queue.proofs.BodyLemmas.RingSteps.{kept-accept, kept-collect, kept-join, room_for_request}
 use Rattle.rdm_queue.proofs.BodyLemmas.RingSteps.{room_for_outcome}
+use Rattle.rdm_queue.proofs.BodyLemmas.RingSteps.{flags-accept, flags-finish, flags-collect}
 use Rattle.rdm_queue.proofs.BodyLemmas.OldestLemmas.{oldest_within, some_waits}
 use Rattle.rdm_queue.proofs.BodyLemmas.FieldLemmas.{waiting_are, read_at, known_client}
 
@@ -21,18 +26,20 @@ pub record AreClientsOf (s : QueueState) (clients : List Client) : Type 0 where
   pub places : places_of clients ≡ s.places
   pub waiting : merged (λ a. a.number) (waiting_rings clients) ≡ s.waiting
   pub owed : owed_rings clients ≡ s.owed
+  pub flags : flag_rings clients ≡ s.flags
 
 pub own_clients : (c : Inside) → QueueInvariant (state_of c) c.clients.items
     → AreClientsOf (state_of c) c.clients.items
-own_clients c held = record { kept = held; places = refl; waiting = refl; owed = refl }
+own_clients c held = record { kept = held; places = refl; waiting = refl; owed = refl; flags = refl }
 
 pub are_clients : (s : QueueState) (clients : List Client) → QueueInvariant s clients → places_of clients ≡ s.places
-    → owed_rings clients ≡ s.owed → AreClientsOf s clients
-are_clients s clients kept places owed = record {
+    → owed_rings clients ≡ s.owed → flag_rings clients ≡ s.flags → AreClientsOf s clients
+are_clients s clients kept places owed flags = record {
   kept = kept;
   places = places;
   waiting = waiting_are s clients kept;
   owed = owed;
+  flags = flags;
 }
 
 -- a client joins
@@ -46,6 +53,9 @@ clients-join s clients k places are fresh passes =
     (map-append owed_values clients (k ∷ [])
     ∙ (ap (λ ds. owed_rings clients ++ ds ∷ []) (values-fresh k places fresh)
     ∙ ap (λ (lists : List (List OutcomeValue)). lists ++ [] ∷ []) are.owed))
+    (map-append client_flags clients (k ∷ [])
+    ∙ (ap (λ ds. flag_rings clients ++ ds ∷ []) (ap (λ ds. map flag_of_owed ds) fresh.none_owed)
+    ∙ ap (λ (lists : List (List Bool)). lists ++ [] ∷ []) are.flags))
 
 -- a client's request is accepted: no fault refuses it, and the client, read at its index, has capacity for it
 pub record CanAccept (s : QueueState) (clients : List Client) (c : ℕ) (k : Client) : Type 0 where
@@ -72,7 +82,8 @@ clients-accept s clients c i k l request are can same_index accepts =
     (are_clients (accepts_request s c request) (set clients c l)
     (kept-accept s clients c k l request are.kept can.at accepts can.passes)
     (places_stayed clients c k l can.at accepts.rings.places ∙ are.places)
-    (owed-accept clients c s.next_request k l request can.at accepts ∙ are.owed))
+    (owed-accept clients c s.next_request k l request can.at accepts ∙ are.owed)
+    (flags-accept clients c s.next_request k l request can.at accepts ∙ are.flags))
 
 -- the oldest request is finished: its client, read at its index, has it, and capacity for its outcome
 pub record CanFinish (s : QueueState) (clients : List Client) (a : Accepted) (k : Client) : Type 0 where
@@ -97,40 +108,46 @@ can_finish s clients ys a i d are oldest same_index read = record {
         (oldest_within s clients a.client are.kept (a, oldest, refl))
 
 pub clients-finish : (s : QueueState) (clients : List Client) (i : ℕ) (k l : Client) (done : Completion)
-    (entry : Entry) (a : Accepted) → AreClientsOf s clients → CanFinish s clients a k → a.client ≡ i
-    → ClientFinishes k done entry l
+    (flag : Bool) (entry : Entry) (a : Accepted) → AreClientsOf s clients → CanFinish s clients a k → a.client ≡ i
+    → flag ≡ flag_at_end s (completion_value done) → ClientFinishes k done flag entry l
     → AreClientsOf (finishes_oldest s (owed_for (completion_value done) a)) (set clients i l)
-clients-finish s clients i k l done entry a are can same_index finishes =
+clients-finish s clients i k l done flag entry a are can same_index flag_is finishes =
     subst (λ n. AreClientsOf (finishes_oldest s (owed_for (completion_value done) a)) (set clients n l)) same_index
     (are_clients (finishes_oldest s (owed_for (completion_value done) a)) (set clients a.client l)
-    (kept-finish s clients k l done entry a are.kept can.at finishes can.oldest)
+    (kept-finish s clients k l done flag entry a are.kept can.at finishes can.oldest)
     (places_stayed clients a.client k l can.at finishes.rings.places ∙ are.places)
-    (owed-finish s clients k l done entry a (sym are.owed) are.kept.rings can.at finishes can.oldest))
+    (owed-finish s clients k l done flag entry a (sym are.owed) are.kept.rings can.at finishes can.oldest)
+    (flags-finish s clients a.client k l done flag entry (sym are.flags) can.at finishes
+    ∙ ap (λ b. flags_more a.client b s) flag_is))
 
 -- a client's oldest outcome is removed, if a call returns one
+abbrev with_rings : QueueState → List Client → QueueState
+with_rings s clients = record s { owed = owed_rings clients; flags = flag_rings clients }
+
 pub record MayCollect {X : Type 0} (s : QueueState) (clients : List Client) (c : ℕ) (l : Client) (r : Option X)
     (value : X → OutcomeValue) : Type 0 where
-  pub are : AreClientsOf (record s { owed = owed_rings (set clients c l) }) (set clients c l)
-  pub removed : IfSome r (λ x. CollectsOldest s c (value x) (record s { owed = owed_rings (set clients c l) }))
+  pub are : AreClientsOf (with_rings s (set clients c l)) (set clients c l)
+  pub removed : IfSome r (λ x. CollectsOldest s c (value x) (with_rings s (set clients c l)))
 
 pub may_collect : {X : Type 0} (s : QueueState) (clients : List Client) (c : ℕ) (k l : Client) (r : Option X)
     (value : X → OutcomeValue) → AreClientsOf s clients → slice_get clients c ≡ Some k
     → IfSome r (λ x. ClientCollects k (value x) l) → IfNone r (l ≡ k) → MayCollect s clients c l r value
 may_collect s clients c k l (Some x) value are at collects same =
     let is = owed-collect s clients c k l (value x) (sym are.owed) at collects in
+    let flags = flags-collect s clients c k l (value x) (sym are.flags) at collects in
     record {
-      are = are_clients (record s { owed = owed_rings (set clients c l) }) (set clients c l)
-          (rw is (kept-collect s clients c k l (value x) are.kept at collects))
-          (places_stayed clients c k l at collects.rings.places ∙ are.places) refl;
+      are = are_clients (with_rings s (set clients c l)) (set clients c l)
+          (rw (is, flags) (kept-collect s clients c k l (value x) are.kept at collects))
+          (places_stayed clients c k l at collects.rings.places ∙ are.places) refl refl;
       removed = record {
         oldest = ap (λ lists. slice_get (get_or lists c []) 0) (sym are.owed)
             ∙ ap (λ ds. slice_get ds 0) (values_at clients c k at ∙ collects.outcomes);
-        new_is = ap (λ lists. record s { owed = lists }) is;
+        new_is = rw (is, flags) refl;
       };
     }
 may_collect s clients c k l None value are at collects same = record {
-  are = are_clients (record s { owed = owed_rings (set clients c l) }) (set clients c l)
-      (rw (same, set_same clients c k at, are.owed) are.kept)
-      (places_stayed clients c k l at (ap (λ m. m.places) same) ∙ are.places) refl;
+  are = are_clients (with_rings s (set clients c l)) (set clients c l)
+      (rw (same, set_same clients c k at, are.owed, are.flags) are.kept)
+      (places_stayed clients c k l at (ap (λ m. m.places) same) ∙ are.places) refl refl;
   removed = tt;
 }

@@ -11,7 +11,12 @@ use Rattle.rdm_queue.proofs.Common.{places_of, QueueInvariant, QueueState, outst
 use Rattle.rdm_queue.proofs.Common.{owed_value, owes, accepted_as, accepts_request, finishes_oldest, joins_client}
 use Rattle.rdm_queue.proofs.Common.{collects_oldest, first_join_fault, first_submit_fault, owed_to, is_discovery}
 use Rattle.rdm_queue.proofs.Common.{first_kind, kind_of_value, answer_value, all_at, slice_get_first}
+use Rattle.rdm_queue.proofs.Common.{Bool, Owed}
 use Rattle.rdm_queue.specs.declared.pending.Running.{Running}
+use Rattle.rdm_queue.specs.declared.client.Owed.TheVariants as owed
+use Rattle.rdm_queue.specs.body.Rings.{client_flags, flag_of_owed}
+use Rattle.rdm_queue.specs.body.Fields.{flag_rings}
+use Rattle.rdm_queue.specs.body.State.{flags_more, flags_to}
 use Rattle.rdm_queue.specs.body.QueueInvariant.{RingsInvariant}
 use Rattle.rdm_queue.proofs.BodyLemmas.InvariantLemmas.{has_place, has_room, held-finishes, held-accepts, held-collects}
 use Rattle.rdm_queue.proofs.BodyLemmas.InvariantLemmas.{held-joins}
@@ -72,18 +77,18 @@ oldest_is s clients k a w ws rings at items oldest =
     cc
 
 -- the oldest request is finished
-pub rings-finish : (s : QueueState) (clients : List Client) (k l : Client) (done : Completion) (entry : Entry)
+pub rings-finish : (s : QueueState) (clients : List Client) (k l : Client) (done : Completion) (flag : Bool) (entry : Entry)
     (a : Accepted) → RingsInvariant s clients → slice_get clients a.client ≡ Some k
-    → (finishes : ClientFinishes k done entry l) → slice_get s.waiting 0 ≡ Some a
+    → (finishes : ClientFinishes k done flag entry l) → slice_get s.waiting 0 ≡ Some a
     → RingsInvariant (finishes_oldest s (owed_for (completion_value done) a)) (set clients a.client l)
-rings-finish s clients k l done entry a rings at finishes oldest = record {
+rings-finish s clients k l done flag entry a rings at finishes oldest = record {
   waiting = subst (λ lists. AreShares (λ (b : Accepted). b.client) lists (drop 1 s.waiting))
       (sym (ring_changed waiting_ring clients a.client l (waiting_ring a.client l) refl))
       (shares_rest (λ b. b.client) (waiting_rings clients) (drop 1 s.waiting) a (waiting_ring a.client l) all first);
   sizes = all_set HasRings clients a.client l rings.sizes
       (same_sizes k l (all_at HasRings clients rings.sizes a.client k at) finishes.rings);
   sets = all_set HasSets clients a.client l rings.sets
-      (sets-finish k l done entry finishes (all_at HasSets clients rings.sets a.client k at));
+      (sets-finish k l done flag entry finishes (all_at HasSets clients rings.sets a.client k at));
 }
   where
     same : a ≡ accepted_is a.client finishes.oldest
@@ -100,10 +105,10 @@ rings-finish s clients k l done entry a rings at finishes oldest = record {
         ∙ ap (λ b. b ∷ waiting_ring a.client l) (sym same))
 
 -- the entry of its end
-pub entry-finish : (s : QueueState) (clients : List Client) (k l : Client) (done : Completion) (entry : Entry)
+pub entry-finish : (s : QueueState) (clients : List Client) (k l : Client) (done : Completion) (flag : Bool) (entry : Entry)
     (a : Accepted) → RingsInvariant s clients → slice_get clients a.client ≡ Some k
-    → (finishes : ClientFinishes k done entry l) → slice_get s.waiting 0 ≡ Some a → a.number ≡ finishes.oldest.number
-entry-finish s clients k l done entry a rings at finishes oldest =
+    → (finishes : ClientFinishes k done flag entry l) → slice_get s.waiting 0 ≡ Some a → a.number ≡ finishes.oldest.number
+entry-finish s clients k l done flag entry a rings at finishes oldest =
     ap (λ (b : Accepted). b.number)
     (oldest_is s clients k a finishes.oldest l.waiting.items rings at finishes.waiting oldest)
 
@@ -130,19 +135,19 @@ pub owed-accept : (clients : List Client) (c n : ℕ) (k l : Client) (request : 
     → ClientAccepts k n request l → owed_rings (set clients c l) ≡ owed_rings clients
 owed-accept clients c n k l request at accepts = owed_stayed clients c k l at (rw (accepts.outcomes, accepts.sets) refl)
 
-pub owed-finish : (s : QueueState) (clients : List Client) (k l : Client) (done : Completion) (entry : Entry)
+pub owed-finish : (s : QueueState) (clients : List Client) (k l : Client) (done : Completion) (flag : Bool) (entry : Entry)
     (a : Accepted) → s.owed ≡ owed_rings clients → RingsInvariant s clients → slice_get clients a.client ≡ Some k
-    → (finishes : ClientFinishes k done entry l) → slice_get s.waiting 0 ≡ Some a
+    → (finishes : ClientFinishes k done flag entry l) → slice_get s.waiting 0 ≡ Some a
     → owed_rings (set clients a.client l) ≡ owes a.client (owed_value (owed_for (completion_value done) a)) s
-owed-finish s clients k l done entry a owed rings at finishes oldest =
+owed-finish s clients k l done flag entry a owed rings at finishes oldest =
     owed_changed clients a.client l
     ∙ rw (
       owed,
       values_at clients a.client k at,
       finishes.outcomes,
       finishes.sets,
-      values-request k.outcomes.items k.sets.items finishes.oldest.number done,
-      ← entry-finish s clients k l done entry a rings at finishes oldest,
+      values-request k.outcomes.items k.sets.items finishes.oldest.number done flag,
+      ← entry-finish s clients k l done flag entry a rings at finishes oldest,
     ) refl
 
 pub owed-answer : (s : QueueState) (clients : List Client) (k l : Client) (a : AskedDiscovery) (r : ℕ)
@@ -167,6 +172,57 @@ owed-collect s clients c k l outcome owed at collects =
     owed_changed clients c l
     ∙ rw (owed, values_at clients c k at)
     (ap (λ ds. set (owed_rings clients) c ds) (ap (λ ds. drop 1 ds) (sym collects.outcomes)))
+
+-- the flags of their outcomes
+pub flags_at : (clients : List Client) (c : ℕ) (k : Client) → slice_get clients c ≡ Some k
+    → get_or (flag_rings clients) c [] ≡ client_flags k
+flags_at [] c k at = cc
+flags_at (l ∷ clients) zero k at = let same : l ≡ k = cc in rw same refl
+flags_at (l ∷ clients) (suc c) k at = flags_at clients c k at
+
+flags_changed : (clients : List Client) (c : ℕ) (l : Client)
+    → flag_rings (set clients c l) ≡ set (flag_rings clients) c (client_flags l)
+flags_changed [] c l = refl
+flags_changed (k ∷ clients) zero l = refl
+flags_changed (k ∷ clients) (suc c) l = ap (λ lists. client_flags k ∷ lists) (flags_changed clients c l)
+
+flags_stayed : (clients : List Client) (c : ℕ) (k l : Client) → slice_get clients c ≡ Some k
+    → client_flags l ≡ client_flags k → flag_rings (set clients c l) ≡ flag_rings clients
+flags_stayed [] c k l at same = refl
+flags_stayed (m ∷ clients) zero k l at same =
+    let here : m ≡ k = cc in rw here (ap (λ v. v ∷ flag_rings clients) same)
+flags_stayed (m ∷ clients) (suc c) k l at same = ap (λ lists. client_flags m ∷ lists) (flags_stayed clients c k l at same)
+
+pub flags-accept : (clients : List Client) (c n : ℕ) (k l : Client) (request : Request) → slice_get clients c ≡ Some k
+    → ClientAccepts k n request l → flag_rings (set clients c l) ≡ flag_rings clients
+flags-accept clients c n k l request at accepts =
+    flags_stayed clients c k l at (ap (λ ds. map flag_of_owed ds) accepts.outcomes)
+
+flags_pushed : (s : QueueState) (clients : List Client) (c : ℕ) (k l : Client) (d : Owed)
+    → s.flags ≡ flag_rings clients → slice_get clients c ≡ Some k → l.outcomes.items ≡ k.outcomes.items ++ d ∷ []
+    → flag_rings (set clients c l) ≡ flags_more c (flag_of_owed d) s
+flags_pushed s clients c k l d flags at more =
+    flags_changed clients c l
+    ∙ rw (flags, flags_at clients c k at, more, map-append flag_of_owed k.outcomes.items (d ∷ [])) refl
+
+pub flags-finish : (s : QueueState) (clients : List Client) (c : ℕ) (k l : Client) (done : Completion) (flag : Bool)
+    (entry : Entry) → s.flags ≡ flag_rings clients → slice_get clients c ≡ Some k → ClientFinishes k done flag entry l
+    → flag_rings (set clients c l) ≡ flags_more c flag s
+flags-finish s clients c k l done flag entry flags at finishes =
+    flags_pushed s clients c k l (owed.Request finishes.oldest.number done flag) flags at finishes.outcomes
+
+pub flags-answer : (s : QueueState) (clients : List Client) (c : ℕ) (k l : Client) (n r : ℕ) (f : Option AgentFault)
+    (found : List Device) → s.flags ≡ flag_rings clients → slice_get clients c ≡ Some k → ClientAnswers k n r f found l
+    → flag_rings (set clients c l) ≡ flags_more c false s
+flags-answer s clients c k l n r f found flags at answers =
+    flags_pushed s clients c k l (owed.Discovery n r f) flags at answers.outcomes
+
+pub flags-collect : (s : QueueState) (clients : List Client) (c : ℕ) (k l : Client) (outcome : OutcomeValue)
+    → s.flags ≡ flag_rings clients → slice_get clients c ≡ Some k → ClientCollects k outcome l
+    → flag_rings (set clients c l) ≡ (collects_oldest s c).flags
+flags-collect s clients c k l outcome flags at collects =
+    flags_changed clients c l
+    ∙ rw (flags, flags_at clients c k at) (ap (λ ds. set (flag_rings clients) c ds) collects.flags)
 
 -- a discovery is answered
 pub rings-answer : (s new : QueueState) (clients : List Client) (c : ℕ) (k l : Client) (n r : ℕ) (f : Option AgentFault)
@@ -280,13 +336,13 @@ room_for_set s clients c k held owed at some =
     omega (arith, sizes.sets)
 
 -- what the whole queue keeps through these
-pub kept-finish : (s : QueueState) (clients : List Client) (k l : Client) (done : Completion) (entry : Entry)
-    (a : Accepted) → QueueInvariant s clients → slice_get clients a.client ≡ Some k → ClientFinishes k done entry l
+pub kept-finish : (s : QueueState) (clients : List Client) (k l : Client) (done : Completion) (flag : Bool) (entry : Entry)
+    (a : Accepted) → QueueInvariant s clients → slice_get clients a.client ≡ Some k → ClientFinishes k done flag entry l
     → slice_get s.waiting 0 ≡ Some a
     → QueueInvariant (finishes_oldest s (owed_for (completion_value done) a)) (set clients a.client l)
-kept-finish s clients k l done entry a held at finishes oldest = record {
+kept-finish s clients k l done flag entry a held at finishes oldest = record {
   state = held-finishes s (completion_value done) a held.state oldest;
-  rings = rings-finish s clients k l done entry a held.rings at finishes oldest;
+  rings = rings-finish s clients k l done flag entry a held.rings at finishes oldest;
 }
 
 pub kept-accept : (s : QueueState) (clients : List Client) (c : ℕ) (k l : Client) (request : Request)
@@ -325,6 +381,11 @@ pub first_at : (s : QueueState) (clients : List Client) (c : ℕ) (k : Client) �
     → slice_get clients c ≡ Some k → slice_get (owed_to c s) 0 ≡ slice_get (owed_values k) 0
 first_at s clients c k owed at =
     ap (λ lists. slice_get (get_or lists c []) 0) owed ∙ ap (λ ds. slice_get ds 0) (values_at clients c k at)
+
+pub first_flag_at : (s : QueueState) (clients : List Client) (c : ℕ) (k : Client) → s.flags ≡ flag_rings clients
+    → slice_get clients c ≡ Some k → slice_get (flags_to c s) 0 ≡ slice_get (client_flags k) 0
+first_flag_at s clients c k flags at =
+    ap (λ lists. slice_get (get_or lists c []) 0) flags ∙ ap (λ ds. slice_get ds 0) (flags_at clients c k at)
 
 pub if_none : {X : Type 0} {P Q : Type 0} (r : Option X) → (P → Q) → IfNone r P → IfNone r Q
 if_none (Some x) so p = tt

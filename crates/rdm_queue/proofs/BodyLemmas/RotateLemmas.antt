@@ -13,6 +13,10 @@ use Rattle.rdm_queue.specs.declared.pending.Awaited.TheVariants as awaiting
 use Rattle.rdm_log.specs.log.History.{uncollected_count}
 use Rattle.rdm_log.specs.log.Runs.{number_after}
 use Rattle.rdm_log.specs.log.LogState.{opening_after}
+use Rattle.rdm_queue.proofs.Common.{map, uncollected as uncollected_in}
+use Rattle.rdm_log.specs.log.Broken.{may_be_incomplete}
+unfoldable use Rattle.rdm_log.specs.log.Broken.{after_entries}
+use Rattle.rdm_queue.proofs.BodyLemmas.AfterLemmas.{none_owed_after}
 use Rattle.rdm_queue.specs.body.State.{opening_of, uncollected}
 use Rattle.rdm_queue.proofs.BodyLemmas.OutstandingLemmas.{in_all, in_all-cons}
 use Rattle.rdm_queue.proofs.BodyLemmas.AgreesWork.{none_sent}
@@ -105,7 +109,7 @@ from_one first (Some r) some = omega arith
 pub rotated : (o : Opening) (h : List Entry) (s : QueueState) → is_idle h ≡ true → StandsAfter o h s
     → StandsAfter (opening_after o h) [] s
 unfolding joins accepts asks sends cames finishes answers collectors traded of_request verdicts awaited is_paused
-    is_closed answers_to last_run
+    is_closed answers_to last_run after_entries
 rotated o h s idle after = record {
   legal = empty (opening_after o h);
   goes_on = rw none tt;
@@ -131,6 +135,9 @@ rotated o h s idle after = record {
     devices_run_is = stands.devices_run_is;
     owed_for_each = rw append-nil stands.owed_for_each;
     outcomes_are = λ c. none_in s.owed c (none_owed o h s rest stands);
+    broken_is = stands.broken_is;
+    flags_for_each = rw append-nil stands.flags_for_each;
+    flags_are = λ c. stands.flags_are c ∙ ap (map (may_be_incomplete o h)) (none_uncollected c);
     all_outcomes = rw (none_owed o h s rest stands) refl;
     first_run = from_one o.next_run (last_run h) stands.first_run;
   };
@@ -147,6 +154,10 @@ rotated o h s idle after = record {
 
     none : s.run ≡ None
     none = no_run o h s rest stands
+
+    none_uncollected : (c : ℕ) → uncollected_in o c h ≡ []
+    none_uncollected c =
+        none_owed_after o h s c (sym (ap (λ l. slice_get l 0) (none_in s.owed c (none_owed o h s rest stands)))) after
 
 -- and the session's entries still fit
 pub session_rotated : (o : Opening) (h : List Entry) (s : QueueState) (room gone : ℕ) (keeps : Bool) → 1 ≤ room
@@ -187,6 +198,7 @@ opening_is o h s stands =
       stands.closed_is,
       stands.devices_are,
       stands.devices_run_is,
+      stands.broken_is,
       stands.next_request_is,
       stands.next_ask_is,
       stands.next_run_is,

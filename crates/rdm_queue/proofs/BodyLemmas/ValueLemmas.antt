@@ -12,7 +12,7 @@ use Rattle.rdm_queue.specs.body.Rings.{owes_discovery, kind_of_owed}
 pub length-values : (ds : List Owed) (sets : List (List Device)) → length (values ds sets) ≡ length ds
 unfolding values
 length-values [] sets = refl
-length-values (owed.Request number done ∷ ds) sets = ap suc (length-values ds sets)
+length-values (owed.Request number done flag ∷ ds) sets = ap suc (length-values ds sets)
 length-values (owed.Discovery number run fault ∷ ds) [] = ap suc (length-values ds [])
 length-values (owed.Discovery number run fault ∷ ds) (s ∷ sets) = ap suc (length-values ds sets)
 
@@ -20,24 +20,24 @@ pub discoveries-values : (ds : List Owed) (sets : List (List Device))
     → length (filter is_discovery (values ds sets)) ≡ length (filter owes_discovery ds)
 unfolding values
 discoveries-values [] sets = refl
-discoveries-values (owed.Request number done ∷ ds) sets = discoveries-values ds sets
+discoveries-values (owed.Request number done flag ∷ ds) sets = discoveries-values ds sets
 discoveries-values (owed.Discovery number run fault ∷ ds) [] = ap suc (discoveries-values ds [])
 discoveries-values (owed.Discovery number run fault ∷ ds) (s ∷ sets) = ap suc (discoveries-values ds sets)
 
 -- one more of a request, and of a discovery with its set
-pub values-request : (ds : List Owed) (sets : List (List Device)) (n : ℕ) (done : Completion)
-    → values (ds ++ owed.Request n done ∷ []) sets ≡ values ds sets
+pub values-request : (ds : List Owed) (sets : List (List Device)) (n : ℕ) (done : Completion) (flag : Bool)
+    → values (ds ++ owed.Request n done flag ∷ []) sets ≡ values ds sets
     ++ RequestValue (Some n) (completion_value done) ∷ []
 unfolding values
-values-request [] sets n done = refl
-values-request (owed.Request number own ∷ ds) sets n done =
-    ap (λ l. RequestValue (Some number) (completion_value own) ∷ l) (values-request ds sets n done)
-values-request (owed.Discovery number run fault ∷ ds) [] n done =
+values-request [] sets n done flag = refl
+values-request (owed.Request number own other ∷ ds) sets n done flag =
+    ap (λ l. RequestValue (Some number) (completion_value own) ∷ l) (values-request ds sets n done flag)
+values-request (owed.Discovery number run fault ∷ ds) [] n done flag =
     ap (λ l. DiscoveryValue (Some number) (record { run = run; fault = fault; devices = [] }) ∷ l)
-    (values-request ds [] n done)
-values-request (owed.Discovery number run fault ∷ ds) (s ∷ sets) n done =
+    (values-request ds [] n done flag)
+values-request (owed.Discovery number run fault ∷ ds) (s ∷ sets) n done flag =
     ap (λ l. DiscoveryValue (Some number) (record { run = run; fault = fault; devices = s }) ∷ l)
-    (values-request ds sets n done)
+    (values-request ds sets n done flag)
 
 pub values-discovery : (ds : List Owed) (sets : List (List Device)) (n r : ℕ) (f : Option AgentFault)
     (found : List Device) → length sets ≡ length (filter owes_discovery ds)
@@ -46,7 +46,7 @@ pub values-discovery : (ds : List Owed) (sets : List (List Device)) (n r : ℕ) 
 unfolding values
 values-discovery [] [] n r f found same = refl
 values-discovery [] (s ∷ sets) n r f found same = absurd (omega arith)
-values-discovery (owed.Request number own ∷ ds) sets n r f found same =
+values-discovery (owed.Request number own other ∷ ds) sets n r f found same =
     ap (λ l. RequestValue (Some number) (completion_value own) ∷ l) (values-discovery ds sets n r f found same)
 values-discovery (owed.Discovery number run fault ∷ ds) [] n r f found same = absurd (omega arith)
 values-discovery (owed.Discovery number run fault ∷ ds) (s ∷ sets) n r f found same =
@@ -54,13 +54,13 @@ values-discovery (owed.Discovery number run fault ∷ ds) (s ∷ sets) n r f fou
     (values-discovery ds sets n r f found (omega arith))
 
 -- and the sets go with them
-pub sets-finish : (k l : Client) (done : Completion) (entry : Entry) (finishes : ClientFinishes k done entry l)
-    → HasSets k → HasSets l
-sets-finish k l done entry finishes has =
+pub sets-finish : (k l : Client) (done : Completion) (flag : Bool) (entry : Entry)
+    (finishes : ClientFinishes k done flag entry l) → HasSets k → HasSets l
+sets-finish k l done flag entry finishes has =
     rw (
       finishes.outcomes,
       finishes.sets,
-      filter-append owes_discovery k.outcomes.items (owed.Request finishes.oldest.number done ∷ []),
+      filter-append owes_discovery k.outcomes.items (owed.Request finishes.oldest.number done flag ∷ []),
       length-append (filter owes_discovery k.outcomes.items) [],
     ) (omega (arith, has))
 
@@ -91,14 +91,15 @@ unfolding values
 values-fresh k places fresh = ap (λ ds. values ds k.sets.items) fresh.none_owed
 
 -- the oldest removed: a request's, or a discovery's
-pub collects-request : (k l : Client) (n : ℕ) (done : Completion)
-    → k.outcomes.items ≡ owed.Request n done ∷ l.outcomes.items → l.waiting ≡ k.waiting → l.sets ≡ k.sets
+pub collects-request : (k l : Client) (n : ℕ) (done : Completion) (flag : Bool)
+    → k.outcomes.items ≡ owed.Request n done flag ∷ l.outcomes.items → l.waiting ≡ k.waiting → l.sets ≡ k.sets
     → l.places ≡ k.places → deque_capacity l.outcomes ≡ deque_capacity k.outcomes → HasSets k
     → ClientCollects k (RequestValue (Some n) (completion_value done)) l
 unfolding values
-collects-request k l n done items waits sets places room has = record {
+collects-request k l n done flag items waits sets places room has = record {
   waiting = ap (λ w. w.items) waits;
   outcomes = rw (items, sets) refl;
+  flags = rw items refl;
   has_sets = rw sets (has ∙ rw items refl);
   rings = record {
     places = places;
@@ -120,6 +121,7 @@ unfolding values
 collects-discovery k l n r f found items set waits places room set_room has = record {
   waiting = ap (λ w. w.items) waits;
   outcomes = rw (items, set) refl;
+  flags = rw items refl;
   has_sets = fewer (length l.sets.items) (length (filter owes_discovery l.outcomes.items))
       (ap (λ l. length l) (sym set) ∙ (has ∙ rw items refl));
   rings = record { places = places; waiting = ap (λ w. deque_capacity w) waits; outcomes = room; sets = set_room };
@@ -133,7 +135,7 @@ pub kind_first : (ds : List Owed) (sets : List (List Device))
     → option_map kind_of_value (slice_get (values ds sets) 0) ≡ option_map kind_of_owed (slice_get ds 0)
 unfolding values
 kind_first [] sets = refl
-kind_first (owed.Request number done ∷ ds) sets = refl
+kind_first (owed.Request number done flag ∷ ds) sets = refl
 kind_first (owed.Discovery number run fault ∷ ds) [] = refl
 kind_first (owed.Discovery number run fault ∷ ds) (s ∷ sets) = refl
 
@@ -143,12 +145,12 @@ unfolding values
 none_first [] sets none = refl
 none_first (d ∷ ds) sets none = absurd (omega arith)
 
-pub request_first : (ds : List Owed) (sets : List (List Device)) (n : ℕ) (done : Completion)
-    → slice_get ds 0 ≡ Some (owed.Request n done)
+pub request_first : (ds : List Owed) (sets : List (List Device)) (n : ℕ) (done : Completion) (flag : Bool)
+    → slice_get ds 0 ≡ Some (owed.Request n done flag)
     → slice_get (values ds sets) 0 ≡ Some (RequestValue (Some n) (completion_value done))
 unfolding values
-request_first [] sets n done first = cc
-request_first (d ∷ ds) sets n done first = let is : d ≡ owed.Request n done = cc in rw is refl
+request_first [] sets n done flag first = cc
+request_first (d ∷ ds) sets n done flag first = let is : d ≡ owed.Request n done flag = cc in rw is refl
 
 pub discovery_first : (ds : List Owed) (sets : List (List Device)) (n r : ℕ) (f : Option AgentFault)
     (found : List Device) → slice_get ds 0 ≡ Some (owed.Discovery n r f) → slice_get sets 0 ≡ Some found

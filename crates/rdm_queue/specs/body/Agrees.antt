@@ -1,5 +1,5 @@
 -- Which logs describe a queue's state: those that say what it holds.
-use Rattle.std.specs.Prelude.{◌≡◌, ◌≢◌, ℕ, ◌+◌, ◌≤◌, Bool, true, false, List, [], ◌∷◌, ◌++◌, length, filter_map}
+use Rattle.std.specs.Prelude.{◌≡◌, ◌≢◌, ℕ, ◌+◌, ◌≤◌, Bool, true, false, List, [], ◌∷◌, ◌++◌, length, filter_map, map}
 use Rattle.std.specs.Prelude.{Option, Some, None, slice_get}
 use Rattle.arrayvec.specs.ArrayVec.{ArrayVec}
 use Rattle.rdm_wire.specs.Frames.{asked_in}
@@ -27,7 +27,8 @@ use Rattle.rdm_log.specs.promises.Outcomes.{outcome_of}
 use Rattle.rdm_log.specs.log.LogState.{LogState}
 use Rattle.rdm_log.specs.promises.Blocks.{AllResults, is_result}
 use Rattle.rdm_log.specs.promises.InBound.{FaultNeedsClose, AnswersInBound}
-use Rattle.rdm_queue.specs.body.State.{QueueState, RunState, owed_to, IsStanding}
+use Rattle.rdm_log.specs.log.Broken.{broken_keys, may_be_incomplete}
+use Rattle.rdm_queue.specs.body.State.{QueueState, RunState, owed_to, flags_to, IsStanding}
 use Rattle.rdm_queue.specs.body.State.{uncollected as uncollected_by}
 
 -- the number of the oldest unfinished request, or of the next one if there is none
@@ -114,6 +115,9 @@ pub record Agrees (o : Opening) (h : List Entry) (s : QueueState) : Type 0 where
   pub devices_run_is : s.devices_run ≡ devices_run o h
   pub owed_for_each : length s.owed ≡ length (places o h)
   pub outcomes_are : (c : ℕ) → owed_to c s ≡ filter_map (outcome_of h) (uncollected o c h)
+  pub broken_is : s.broken ≡ broken_keys o h
+  pub flags_for_each : length s.flags ≡ length (places o h)
+  pub flags_are : (c : ℕ) → flags_to c s ≡ map (may_be_incomplete o h) (uncollected o c h)
   pub all_outcomes : uncollected_by s + length (collectors h) ≡ length (finishes h) + length (answers h)
   -- runs are numbered from 1
   pub first_run : 1 ≤ o.next_run

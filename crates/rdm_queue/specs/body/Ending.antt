@@ -1,5 +1,5 @@
 -- What a queue ends next: a discovery by its run or by a close, or the oldest request.
-use Rattle.std.specs.Prelude.{◌≡◌, ◌≢◌, ℕ, ◌-◌, true, List, [], drop, Option, Some, None, if◌then◌else◌}
+use Rattle.std.specs.Prelude.{◌≡◌, ◌≢◌, ℕ, ◌-◌, true, false, List, [], drop, Option, Some, None, if◌then◌else◌}
 use Rattle.std.specs.Prelude.{slice_get, nat_lt}
 use Rattle.rdm_wire.specs.declared.device.Device.{Device}
 use Rattle.rdm_agent.specs.Machine.{AgentState, fault_of}
@@ -13,7 +13,7 @@ use Rattle.rdm_log.specs.declared.entry.Entry.TheVariants.{Answer}
 use Rattle.rdm_log.specs.log.Entries.{AskedDiscovery}
 use Rattle.rdm_log.specs.promises.Outcomes.{OutcomeValue}
 use Rattle.rdm_log.specs.promises.Outcomes.OutcomeValue.{DiscoveryValue}
-use Rattle.rdm_queue.specs.body.State.{QueueState, RunState, owes, is_closing, due, IsFinished}
+use Rattle.rdm_queue.specs.body.State.{QueueState, RunState, owes, flags_more, is_closing, due, IsFinished}
 
 -- an agent that was stopped: one that has ended is unchanged
 abbrev pub stopped_at : Op → AgentState → AgentState
@@ -34,7 +34,11 @@ answer_value a run fault found = DiscoveryValue (Some a.number) (record { run = 
 -- the oldest discovery, answered with this end
 abbrev pub answers_oldest : QueueState → AskedDiscovery → ℕ → Option AgentFault → List Device → QueueState
 answers_oldest s a run fault found =
-    record s { asked = drop 1 s.asked; owed = owes a.client (answer_value a run fault found) s }
+    record s {
+      asked = drop 1 s.asked;
+      owed = owes a.client (answer_value a run fault found) s;
+      flags = flags_more a.client false s;
+    }
 
 -- the run, with one discovery fewer to answer
 abbrev pub one_less : RunState → Option RunState
@@ -60,6 +64,7 @@ answers_by_run s r a =
       devices = devices_after fault agent.found s.devices;
       devices_run = devices_run_after fault r.number s.devices_run;
       owed = owes a.client (answer_value a r.number fault agent.found) s;
+      flags = flags_more a.client false s;
     }
 
 -- the oldest discovery was answered by its run, with this entry

@@ -1,5 +1,5 @@
 -- A queue's fields, as its state.
-use Rattle.std.specs.Prelude.{ℕ, ◌+◌, List, [], ◌∷◌, map, option_map}
+use Rattle.std.specs.Prelude.{ℕ, Bool, ◌+◌, List, [], ◌∷◌, map, option_map}
 use Rattle.rdm_queue.specs.declared.client.Waiting.{Waiting}
 use Rattle.rdm_queue.specs.declared.client.Client.{Client}
 use Rattle.rdm_queue.specs.declared.pending.Asked.{Asked}
@@ -7,7 +7,7 @@ use Rattle.rdm_queue.specs.declared.pending.Running.{Running}
 use Rattle.rdm_queue.specs.declared.queue.Queue.TheInside.{Inside}
 use Rattle.rdm_log.specs.log.Entries.{Accepted, AskedDiscovery}
 use Rattle.rdm_log.specs.promises.Outcomes.{OutcomeValue, completion_value}
-use Rattle.rdm_queue.specs.body.Rings.{owed_values}
+use Rattle.rdm_queue.specs.body.Rings.{owed_values, client_flags}
 use Rattle.rdm_queue.specs.body.State.{QueueState, RunState}
 use Rattle.rdm_queue.specs.body.Merged.{merged}
 
@@ -34,6 +34,9 @@ waiting_rings ks = rings_from waiting_ring 0 ks
 
 abbrev pub owed_rings : List Client → List (List OutcomeValue)
 owed_rings ks = map owed_values ks
+
+abbrev pub flag_rings : List Client → List (List Bool)
+flag_rings ks = map client_flags ks
 
 abbrev pub places_of : List Client → List ℕ
 places_of ks = map (λ k. k.places) ks
@@ -62,4 +65,6 @@ state_of c = record {
   devices = c.devices;
   devices_run = c.devices_run;
   owed = owed_rings c.clients.items;
+  broken = c.broken;
+  flags = flag_rings c.clients.items;
 }

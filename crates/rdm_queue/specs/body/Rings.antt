@@ -1,6 +1,6 @@
 -- A client's rings, and how its calls change them.
 use Rattle.std.specs.Prelude.{◌≡◌, ℕ, ◌+◌, ◌≤◌, Bool, true, false, List, [], ◌∷◌, ◌++◌, length, filter, Option, Some}
-use Rattle.std.specs.Prelude.{option_map, slice_get}
+use Rattle.std.specs.Prelude.{option_map, slice_get, map, drop}
 use Rattle.std.specs.VecDeque.{deque_capacity}
 use Rattle.rdm_wire.specs.declared.request.Request.{Request}
 use Rattle.rdm_wire.specs.declared.device.Device.{Device}
@@ -21,7 +21,7 @@ use Rattle.rdm_log.specs.promises.Outcomes.OutcomeValue.{RequestValue, Discovery
 
 -- a discovery's outcome
 abbrev pub owes_discovery : Owed → Bool
-owes_discovery (owed.Request number done) = false
+owes_discovery (owed.Request number done flag) = false
 owes_discovery (owed.Discovery number run fault) = true
 
 -- each discovery among the outcomes has its set
@@ -31,7 +31,7 @@ HasSets k = length k.sets.items ≡ length (filter owes_discovery k.outcomes.ite
 -- outcomes as their client sees them; the discoveries among them have these sets, in order
 unfoldable pub values : List Owed → List (List Device) → List OutcomeValue
 values [] sets = []
-values (owed.Request number done ∷ ds) sets = RequestValue (Some number) (completion_value done) ∷ values ds sets
+values (owed.Request number done flag ∷ ds) sets = RequestValue (Some number) (completion_value done) ∷ values ds sets
 values (owed.Discovery number run fault ∷ ds) [] =
     DiscoveryValue (Some number) (record { run = run; fault = fault; devices = [] }) ∷ values ds []
 values (owed.Discovery number run fault ∷ ds) (set ∷ sets) =
@@ -39,6 +39,14 @@ values (owed.Discovery number run fault ∷ ds) (set ∷ sets) =
 
 abbrev pub owed_values : Client → List OutcomeValue
 owed_values k = values k.outcomes.items k.sets.items
+
+-- whether an outcome is an answer that may be incomplete
+abbrev pub flag_of_owed : Owed → Bool
+flag_of_owed (owed.Request number done flag) = flag
+flag_of_owed (owed.Discovery number run fault) = false
+
+abbrev pub client_flags : Client → List Bool
+client_flags k = map flag_of_owed k.outcomes.items
 
 -- a client's rings are as large as its queue depth needs
 pub record HasRings (k : Client) : Type 0 where
@@ -68,11 +76,11 @@ pub record ClientAccepts (old : Client) (number : ℕ) (request : Request) (new 
   pub sets : new.sets.items ≡ old.sets.items
   pub rings : SameRings old new
 
--- its oldest request was finished with this end, and this entry
-pub record ClientFinishes (old : Client) (done : Completion) (entry : Entry) (new : Client) : Type 0 where
+-- its oldest request was finished with this end, and this entry; its answer may be incomplete, or not
+pub record ClientFinishes (old : Client) (done : Completion) (flag : Bool) (entry : Entry) (new : Client) : Type 0 where
   pub oldest : Waiting
   pub waiting : old.waiting.items ≡ oldest ∷ new.waiting.items
-  pub outcomes : new.outcomes.items ≡ old.outcomes.items ++ owed.Request oldest.number done ∷ []
+  pub outcomes : new.outcomes.items ≡ old.outcomes.items ++ owed.Request oldest.number done flag ∷ []
   pub sets : new.sets.items ≡ old.sets.items
   pub entry_is : entry ≡ Finish oldest.number done.status (length done.bytes.items)
   pub rings : SameRings old new
@@ -87,7 +95,7 @@ pub record ClientAnswers (old : Client) (number run : ℕ) (fault : Option Agent
 
 -- the kind of its oldest outcome
 abbrev pub kind_of_owed : Owed → OutcomeKind
-kind_of_owed (owed.Request number done) = kinds.Request
+kind_of_owed (owed.Request number done flag) = kinds.Request
 kind_of_owed (owed.Discovery number run fault) = kinds.Discovery
 
 abbrev pub first_kind_owed : Client → Option OutcomeKind
@@ -101,6 +109,7 @@ value_shown x = outcome_value (outcome_shown x)
 pub record ClientCollects (old : Client) (outcome : OutcomeValue) (new : Client) : Type 0 where
   pub waiting : new.waiting.items ≡ old.waiting.items
   pub outcomes : owed_values old ≡ outcome ∷ owed_values new
+  pub flags : client_flags new ≡ drop 1 (client_flags old)
   pub has_sets : HasSets new
   pub rings : SameRings old new
 

@@ -25,6 +25,8 @@ use Rattle.rdm_log.specs.declared.work.Work.TheVariants.{Submit, Discover}
 use Rattle.rdm_log.specs.declared.entry.Opening.{Opening}
 use Rattle.rdm_log.specs.declared.entry.Entry.{Entry}
 use Rattle.rdm_log.specs.declared.entry.Entry.TheVariants.{Finish}
+use Rattle.rdm_log.specs.log.BrokenKeys.{BrokenKeys, none_open}
+use Rattle.rdm_log.specs.log.Broken.{key_of_first, after_end, is_end_flagged}
 use Rattle.rdm_log.specs.log.Entries.{Accepted, AskedDiscovery}
 use Rattle.rdm_log.specs.log.Refusals.{join_fault_at, submit_fault_at, ask_fault_at}
 use Rattle.rdm_log.specs.promises.Outcomes.{OutcomeValue}
@@ -76,6 +78,10 @@ pub record QueueState : Type 0 where
   pub devices_run : ℕ
   -- for each client the outcomes that it hasn't collected, oldest first
   pub owed : List (List OutcomeValue)
+  -- what GETs asked for whose answers broke off
+  pub broken : BrokenKeys
+  -- for each of those outcomes whether it is an answer that may be incomplete
+  pub flags : List (List Bool)
 
 -- a queue with this set-up, before its first call
 abbrev pub first_state : Setup → QueueState
@@ -102,6 +108,8 @@ first_state setup = record {
   devices = [];
   devices_run = 0;
   owed = [];
+  broken = none_open;
+  flags = [];
 }
 
 abbrev pub waiting_of : ℕ → QueueState → List Accepted
@@ -116,6 +124,13 @@ owed_to c s = get_or s.owed c []
 -- one more outcome for a client
 abbrev pub owes : ℕ → OutcomeValue → QueueState → List (List OutcomeValue)
 owes c d s = set s.owed c (owed_to c s ++ d ∷ [])
+
+-- the same for the flags of a client's outcomes
+abbrev pub flags_to : ℕ → QueueState → List Bool
+flags_to c s = get_or s.flags c []
+
+abbrev pub flags_more : ℕ → Bool → QueueState → List (List Bool)
+flags_more c flag s = set s.flags c (flags_to c s ++ flag ∷ [])
 
 -- all uncollected outcomes
 abbrev pub uncollected : QueueState → ℕ
@@ -156,7 +171,8 @@ number_for s (Discover kind) = s.next_ask
 
 -- one more client, with this queue depth
 abbrev pub joins_client : QueueState → ℕ → QueueState
-joins_client s n = record s { places = s.places ++ n ∷ []; owed = s.owed ++ [] ∷ [] }
+joins_client s n =
+    record s { places = s.places ++ n ∷ []; owed = s.owed ++ [] ∷ []; flags = s.flags ++ [] ∷ [] }
 
 -- how a request ended, as its client sees it, and the entry of its Finish
 abbrev pub owed_value : OwedOutcome → OutcomeValue
@@ -191,6 +207,13 @@ owed_next None waiting = None
 abbrev pub due : QueueState → Option OwedOutcome
 due s = owed_next (end_of_oldest s) s.waiting
 
+-- whether the answer of the oldest request, which ends like this, may be incomplete; and the keys that are open then
+abbrev pub flag_at_end : QueueState → Joined → Bool
+flag_at_end s done = is_end_flagged (key_of_first s.waiting) done.status done.head s.broken
+
+abbrev pub broken_after : QueueState → Joined → BrokenKeys
+broken_after s done = after_end (key_of_first s.waiting) s.under_way done.status done.head s.broken
+
 -- the oldest request, finished with this end
 abbrev pub finishes_oldest : QueueState → OwedOutcome → QueueState
 finishes_oldest s d = record s {
@@ -199,6 +222,8 @@ finishes_oldest s d = record s {
   joiner = fresh_joiner;
   decided = None;
   owed = owes d.client (owed_value d) s;
+  broken = broken_after s d.done;
+  flags = flags_more d.client (flag_at_end s d.done) s;
 }
 
 -- the request that was due was finished, with this entry
@@ -229,7 +254,8 @@ accepts_work s c (Discover kind) = asks_discovery s c kind
 
 -- a client's oldest outcome removed
 abbrev pub collects_oldest : QueueState → ℕ → QueueState
-collects_oldest s c = record s { owed = set s.owed c (drop 1 (owed_to c s)) }
+collects_oldest s c =
+    record s { owed = set s.owed c (drop 1 (owed_to c s)); flags = set s.flags c (drop 1 (flags_to c s)) }
 
 -- this was the client's oldest outcome, and was removed
 pub record CollectsOldest (old : QueueState) (c : ℕ) (outcome : OutcomeValue) (new : QueueState) : Type 0 where
@@ -256,6 +282,7 @@ opening_of s = record {
   closed = s.closed;
   devices = s.devices;
   devices_run = s.devices_run;
+  broken = s.broken;
   next_request = s.next_request;
   next_ask = s.next_ask;
   next_run = s.next_run;

@@ -9,7 +9,7 @@ use crate::pending::{Awaited, Running};
 use crate::queue::Queue;
 use rdm_agent::{AgentFault, Op};
 use rdm_join::{Joiner, LineEvent, Sent, Status, Step, judge};
-use rdm_log::{Completion, Entry};
+use rdm_log::{AnswerKey, Completion, Entry};
 use rdm_wire::DeviceSet;
 use std::alloc::Global;
 
@@ -23,6 +23,7 @@ impl Queue {
     ghost use Rattle.rdm_log.specs.log.Entries.{Accepted, AskedDiscovery};
     ghost use Rattle.rdm_queue.specs.body.State.{end_of_oldest, due, IsFinished, owed_for, finish_of, finishes_oldest};
     ghost use Rattle.rdm_queue.specs.body.State.{is_closing, HearsRequest};
+    ghost use Rattle.rdm_log.specs.log.Broken.{key_of_first};
     ghost use Rattle.rdm_queue.specs.body.Sending.{hears_run};
     ghost use Rattle.rdm_queue.specs.body.Ending.{IsEnded, AnswersByRun, AnswersUnserved, HasNothingDue};
     ghost use Rattle.rdm_queue.specs.body.Ending.{HasRunUnderWay, HasNoneUnserved, agent_at_end, devices_after};
@@ -197,9 +198,10 @@ impl Queue {
         if self.decided.is_none() && !self.is_closing() {
             return None;
         }
-        let (at, _) = self.oldest()?;
+        let (at, oldest) = self.oldest()?;
+        let key = AnswerKey::of(&oldest.request);
         let done = self.end_of_oldest()?;
-        Some(self.finish(at, done))
+        Some(self.finish(at, key, done))
     }
 
     // Takes out how the oldest request has ended.
@@ -217,18 +219,22 @@ impl Queue {
         None
     }
 
-    // Finishes the oldest request, which is this client's, with this end, and returns its entry.
-    fn finish(&mut self, at: usize, done: Completion) -> Entry
+    // Finishes the oldest request, which is this client's and has this key, with this end, and returns its entry.
+    fn finish(&mut self, at: usize, key: Option<AnswerKey>, done: Completion) -> Entry
         requires oldest { (accepted : Accepted) × (slice_get self.old.waiting 0 ≡ Some accepted)
             × (accepted.client ≡ at) }
+        requires key { key ≡ key_of_first self.old.waiting }
         requires removed { self.old.decided ≡ None }
         ensures finished { (accepted : Accepted) × (slice_get self.old.waiting 0 ≡ Some accepted)
             × (result ≡ finish_of (owed_for (completion_value done) accepted))
             × (self.new ≡ finishes_oldest self.old (owed_for (completion_value done) accepted)) }
     {
+        let may_be_incomplete = self
+            .broken
+            .end(key, self.under_way, done.status, done.reply);
         self.joiner.reset();
         self.under_way = false;
-        self.clients[at].finish_oldest(done)
+        self.clients[at].finish_oldest(done, may_be_incomplete)
     }
 }
 

@@ -6,7 +6,7 @@ use Rattle.rdm_log.specs.promises.Blocks.{IsOldest}
 use Rattle.rdm_log.specs.promises.Outcomes.{request_outcome}
 use Rattle.rdm_queue.specs.declared.oldest.Oldest.{Oldest}
 use Rattle.rdm_queue.specs.promises.Oldest.{outcome_shown}
-use Rattle.rdm_handles.proofs.AnswerLemmas.{same_length, completion_len}
+use Rattle.rdm_handles.proofs.AnswerLemmas.{same_length, completion_len, own_flag}
 use Rattle.rdm_handles.proofs.sessions.next_completion.Goals as goal
 
 pub returns-clause-collected : goal.returns-clause-collected
@@ -27,10 +27,10 @@ returns-clause-collected c done =
     let fits : length c.deref.result.now ≤ length
     c.args.buffer.now = omega (arith, needs, same, c.if-needed-buffer.false) in
     let len : c.completion_for_c.result.len ≡ c.put_bytes.result = ap (λ form. form.len) c.completion_for_c.ensures
-    ∙ (completion_len c.in-Some.number c.in-Some.done ∙ (sym same ∙ sym (c.put_bytes.ensures.all fits))) in (
+    ∙ (completion_len c.in-Some.number c.in-Some.done _ ∙ (sym same ∙ sym (c.put_bytes.ensures.all fits))) in (
       c.in-Some.number,
       c.in-Some.done,
-      c.completion_for_c.ensures,
+      own_flag c.in-Some.number c.in-Some.done _ c.completion_for_c.result c.completion_for_c.ensures,
       ap (λ n. take n c.put_bytes.new.buffer) len ∙ (c.put_bytes.ensures.front fits ∙ c.deref.ensures.value),
       c.in-Some.ensures.adds,
     )

@@ -36,6 +36,7 @@ invariant_of-self c =
       are.places,
       are.waiting,
       are.owed,
+      are.flags,
     ) are.kept
 
 pub returns-clause-accepted : goal.returns-clause-accepted
@@ -48,4 +49,5 @@ returns-clause-accepted c =
       are.places,
       are.waiting,
       are.owed,
+      are.flags,
     ) refl

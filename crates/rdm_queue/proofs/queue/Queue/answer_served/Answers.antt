@@ -71,6 +71,7 @@ invariant_of-self c =
       are.places,
       are.waiting,
       are.owed,
+      are.flags,
       asked_rest c.self.inside.asked.items c.remove-asked.new.self.items c.remove-asked.ensures.items,
       c.one_less-self-inside.ensures,
     ) are.kept
@@ -88,6 +89,7 @@ returns c =
         are.places,
         are.waiting,
         are.owed,
+        are.flags,
         asked_rest c.self.inside.asked.items c.remove-asked.new.self.items c.remove-asked.ensures.items,
         c.one_less-self-inside.ensures,
       ) refl,

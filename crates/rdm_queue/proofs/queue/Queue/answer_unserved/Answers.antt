@@ -69,6 +69,7 @@ invariant_of-self c =
       are.places,
       are.waiting,
       are.owed,
+      are.flags,
       asked_rest c.self.inside.asked.items c.remove-asked.new.self.items c.remove-asked.ensures.items,
       none,
     ) are.kept
@@ -89,6 +90,7 @@ returns-clause-ended c =
             are.places,
             are.waiting,
             are.owed,
+            are.flags,
             asked_rest c.self.inside.asked.items c.remove-asked.new.self.items c.remove-asked.ensures.items,
             none,
           ) refl);

@@ -42,12 +42,18 @@ abbrev next : goal.After-self-2-1 → QueueState
 next c =
     finishes_oldest (state_of c.self.inside) (owed_for (completion_value c.args.done) c.requires.oldest.0)
 
+flag_is : (c : goal.After-self-2-1) → c.end.result ≡ flag_at_end (state_of c.self.inside) (completion_value c.args.done)
+flag_is c =
+    c.end.ensures.flagged
+    ∙ ap (λ key. is_end_flagged key c.args.done.status c.args.done.reply c.self.inside.broken)
+    (c.requires.key ∙ ap (λ (t : QueueState). key_of_first t.waiting) (sym c.self.view_is))
+
 finished : (c : goal.After-self-2-1)
     → AreClientsOf (next c) (set c.self.inside.clients.items c.args.at c.finish_oldest.new.self)
 finished c =
     clients-finish (state_of c.self.inside) c.self.inside.clients.items c.args.at _ c.finish_oldest.new.self c.args.done
-    c.finish_oldest.result c.requires.oldest.0 (own_clients c.self.inside c.self.invariant)
-    (can (goal.at.returns c).After-index-deref_mut-at) c.requires.oldest.2 c.finish_oldest.ensures
+    c.end.result c.finish_oldest.result c.requires.oldest.0 (own_clients c.self.inside c.self.invariant)
+    (can (goal.at.returns c).After-index-deref_mut-at) c.requires.oldest.2 (flag_is c) c.finish_oldest.ensures
 
 removed : (c : goal.After-self-2-1) → (state_of c.self.inside).decided ≡ None
 removed c = ap (λ (t : QueueState). t.decided) c.self.view_is ∙ c.requires.removed
@@ -61,6 +67,7 @@ invariant_of-self c =
       are.places,
       are.waiting,
       are.owed,
+      are.flags,
       c.reset.ensures.stands,
       removed c,
     ) are.kept
@@ -77,13 +84,14 @@ returns c =
         c.finish_oldest.ensures.entry_is
             ∙ ap (λ n. Finish n c.args.done.status (length c.args.done.bytes.items))
             (sym (entry-finish (state_of c.self.inside) clients _ c.finish_oldest.new.self c.args.done
-            c.finish_oldest.result c.requires.oldest.0 c.self.invariant.rings before.at c.finish_oldest.ensures
+            c.end.result c.finish_oldest.result c.requires.oldest.0 c.self.invariant.rings before.at c.finish_oldest.ensures
             before.oldest)),
         rw (
           written clients c.deref_mut.result.now c.args.at c.finish_oldest.new.self c.deref_mut.ensures.value,
           are.places,
           are.waiting,
           are.owed,
+          are.flags,
           c.reset.ensures.stands,
           removed c,
         ) refl,

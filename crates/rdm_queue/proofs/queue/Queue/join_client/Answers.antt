@@ -16,7 +16,7 @@ joined c =
 
 pub invariant_of-self : goal.invariant_of-self
 invariant_of-self c =
-    let are = joined c in rw (c.push.ensures.items, are.places, are.waiting, are.owed) are.kept
+    let are = joined c in rw (c.push.ensures.items, are.places, are.waiting, are.owed, are.flags) are.kept
 
 pub returns-clause-joined : goal.returns-clause-joined
 returns-clause-joined c =
@@ -24,5 +24,5 @@ returns-clause-joined c =
     rw (← c.self.view_is) (
       passes c,
       c.len.ensures.value ∙ sym (length-map c.self.inside.clients.items (λ (k : Client). k.places)),
-      rw (c.push.ensures.items, are.places, are.waiting, are.owed) refl,
+      rw (c.push.ensures.items, are.places, are.waiting, are.owed, are.flags) refl,
     )
