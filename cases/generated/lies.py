@@ -1,7 +1,7 @@
 """Logs of two discoveries each in which a fixture lies, and what explain shows of them.
 
 A rig in Python makes them, with a search in Python. What is expected comes from a model of the honest line of
-docs/PROOFS.md, and without losses also from the table of docs/TESTS.md. Neither shares code with the program.
+docs/PROOFS.md, and without losses also from TABLE, made by hand. Neither shares code with the program.
 """
 from __future__ import annotations
 
@@ -28,6 +28,13 @@ HIDDEN, UNMUTED, GARBLED = "silent branches", "silent mutes", "garbled mute"
 # What is said of a device that breaks none: it acknowledged a mute, or didn't.
 FOUND, MISSED = "found", "not found"
 # What each lie shows without losses: the rule that its fixture breaks, and where bytes come that no honest line allows.
+# - "unmutes late" breaks none, since a fixture may stay muted until the third unmute.
+# - Bytes after the text of a UID are ignored, so "adds bytes" breaks none.
+# - "answers all" is stray from a range without honest fixtures, and then with other bytes from a UID alone. Nothing
+#   shows it if the first such range has its own UID, as when it is alone: it is muted there.
+# - The mutes of "stays unmuted" are acknowledged, so its bytes are stray after its mute.
+# - The replies of "cuts short" and "wrong sum" count as collisions, until its UID alone is asked.
+# No lie makes other bytes answer a mute (GARBLED).
 TABLE: Dict[str, Tuple[str, Sequence[str]]] = {
     "hides": (HIDDEN, ()), "ignores mutes": (UNMUTED, ()), "every other": ("", ()), "unmutes late": ("", ()),
     "adds bytes": ("", ()), "answers all": ("", ("below", "next", "below and above")),
