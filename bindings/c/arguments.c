@@ -1,6 +1,6 @@
 /* The arguments of the process, and errno, for a program that is compiled for another kind of machine. The kit has
- * these four functions for x86-64 only, as objects, so here they are by the contracts of its crate os. The gate compares
- * both. */
+ * these four functions for x86-64 only, as objects, so here they are by the contracts of its crate os. The gate
+ * compares both. */
 #include <errno.h>
 #include <stddef.h>
 #include <sys/types.h>
