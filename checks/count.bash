@@ -23,6 +23,24 @@ skip() {
     note 0 "$1" "$2"
 }
 
+# Begins to measure the steps of a part, in a file of its own.
+begin_laps() {
+    times_file="$1"
+    began=$SECONDS
+    spent=0
+}
+
+# Says how long a step took, with the processor seconds of all that it started.
+lap() {
+    local now
+    # A subshell would have times of its own. The second line is that of what this shell has started.
+    times > "$times_file"
+    now="$(awk -F '[ms ]+' 'NR == 2 { print int(60 * ($1 + $3) + $2 + $4) }' "$times_file")"
+    echo "$1: $((now - spent)) processor seconds, in $((SECONDS - began)) seconds"
+    began=$SECONDS
+    spent="$now"
+}
+
 # Runs a part of this part, which notes its own tests. They are named below $1.
 part_of() {
     [ -z "$tap_file" ] || local -x TAP_FILE="$tap_file" TAP_PART="$tap_part: $1"

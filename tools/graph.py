@@ -1,4 +1,4 @@
-"""Reads crates.txt, which says what each crate depends on, for `tools/build_program` and `tools/build_archive`."""
+"""Reads crates.txt, which says what each crate depends on, for `tools/build_program` and `tools/build_crate`."""
 from pathlib import Path
 from typing import Dict, List
 

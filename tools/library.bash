@@ -6,6 +6,11 @@
 # The shared object's version of the interface. It changes if programs have to be recompiled.
 soname=libwurstlinen.so.0
 
+# The compilers, and what makes archives, with their options. tools/cross.bash has those for another kind of machine.
+c_compiler=(cc)
+cpp_compiler=(c++)
+archiver=ar
+
 # Proves and builds the archive, unless it is up to date. rt prints what it does.
 build_archive() {
     (cd "$1/crates/rdm_c" && rt lib)
@@ -14,11 +19,11 @@ build_archive() {
 # Makes libwurstlinen.a and the shared object in a folder, from the archive of rdm_c.
 make_library() {
     local root="$1" archive="$2" folder="$3"
-    cc -std=c11 -O2 -fPIC -Wall -Wextra -c "$root/bindings/c/heap.c" -o "$folder/heap.o" || return
+    "${c_compiler[@]}" -std=c11 -O2 -fPIC -Wall -Wextra -c "$root/bindings/c/heap.c" -o "$folder/heap.o" || return
     printf '{ global: wurst_*; local: *; };\n' > "$folder/exports"
-    cc -shared -Wl,-soname,"$soname" -Wl,--version-script="$folder/exports" -o "$folder/$soname" \
+    "${c_compiler[@]}" -shared -Wl,-soname,"$soname" -Wl,--version-script="$folder/exports" -o "$folder/$soname" \
         -Wl,--whole-archive "$archive" -Wl,--no-whole-archive "$folder/heap.o" || return
-    cp "$archive" "$folder/libwurstlinen.a" && ar rs "$folder/libwurstlinen.a" "$folder/heap.o" || return
+    cp "$archive" "$folder/libwurstlinen.a" && "$archiver" rs "$folder/libwurstlinen.a" "$folder/heap.o" || return
     rm "$folder/heap.o" "$folder/exports"
 }
 
@@ -62,7 +67,8 @@ ola_library=libwurstlinen-ola.so
 ola_flags=(-std=c++17 -pthread -Wall -Wextra -Werror -pedantic)
 
 has_ola_headers() {
-    echo '#include <ola/rdm/QueueingRDMController.h>' | c++ "${ola_flags[@]}" -x c++ -fsyntax-only - 2> /dev/null
+    echo '#include <ola/rdm/QueueingRDMController.h>' \
+        | "${cpp_compiler[@]}" "${ola_flags[@]}" -x c++ -fsyntax-only - 2> /dev/null
 }
 
 # Makes that library in a folder that has libwurstlinen.a. It exports only the members of OLA's classes that it
@@ -81,8 +87,8 @@ make_ola_library() {
     local: *;
 };
 END
-    c++ "${ola_flags[@]}" -O2 -fPIC -shared -fmacro-prefix-map="$root/=" -I"$root/bindings/c" -I"$root/bindings/cpp" \
-        "$root"/bindings/ola/*.cpp -o "$folder/$ola_library" -Wl,--version-script="$folder/exports" -Wl,--no-undefined \
-        "$folder/libwurstlinen.a" -lolacommon -ldl || return
+    "${cpp_compiler[@]}" "${ola_flags[@]}" -O2 -fPIC -shared -fmacro-prefix-map="$root/=" -I"$root/bindings/c" \
+        -I"$root/bindings/cpp" "$root"/bindings/ola/*.cpp -o "$folder/$ola_library" \
+        -Wl,--version-script="$folder/exports" -Wl,--no-undefined "$folder/libwurstlinen.a" -lolacommon -ldl || return
     rm "$folder/exports"
 }

@@ -14,7 +14,8 @@ from .comparing import differences
 from .far_end import attached, descriptors_of
 from .forms import is_findings
 
-SECONDS = 120
+# Threads that wait for each other get little of a busy machine. Only a case that fails waits until then.
+SECONDS = 600
 MOST_SHOWN = 200
 NOBODY = 65534
 MODE_OF_ALL = 0o755

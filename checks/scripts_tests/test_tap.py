@@ -10,7 +10,7 @@ from typing import List
 from clone import ROOT, Clone, new_clone
 
 PARTS = ("memory", "copies", "mutants", "pages", "layout", "linters", "scripts", "lines", "cases", "bindings", "fuzz",
-         "ola", "rust")
+         "ola", "rust", "arm")
 RT = """#!/bin/sh
 echo 'rt: rdm_wire is kept: an earlier run on this machine proved the same files over the same libraries'
 echo 'rt: rdm_join proved'
@@ -49,7 +49,7 @@ class Tap(unittest.TestCase):
         (self.clone.root / "checks").mkdir()
         for name in ("check", "checks/count.bash", "checks/tap.bash"):
             shutil.copy(ROOT / name, self.clone.root / name)
-        for part in (*(f"checks/{name}" for name in PARTS), "trust", "tools/build_archive"):
+        for part in (*(f"checks/{name}" for name in PARTS), "trust", "tools/build_crate"):
             self.put(part, GOOD)
         self.clone.put("rt", "#!/bin/sh\necho 'rt: rdm_wire proved'\necho '1 passed, 0 failed'\n")
         self.file: Path = self.clone.folder / "results.tap"
