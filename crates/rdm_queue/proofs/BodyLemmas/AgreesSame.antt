@@ -176,7 +176,8 @@ traded o h _ s new each may is stands line = cc
 
 -- the entry is about neither the line nor the work
 pub stands_same : (o : Opening) (h : List Entry) (e : Entry) (s : QueueState) (ps : List ℕ) (paused closed : Bool)
-    (owed : List (List OutcomeValue)) (flags : List (List Bool)) → EachAfter (MayFollow o) h → MayFollow o h e → SameWork o h (h ++ e ∷ [])
+    (owed : List (List OutcomeValue)) (flags : List (List Bool)) → EachAfter (MayFollow o) h → MayFollow o h e
+    → SameWork o h (h ++ e ∷ [])
     → ps ≡ places o (h ++ e ∷ []) → paused ≡ is_paused o (h ++ e ∷ []) → closed ≡ is_closed o (h ++ e ∷ [])
     → ((c : ℕ) → owed_to c (record s { owed = owed }) ≡ owed_to c s)
     → uncollected_by (record s { owed = owed }) ≡ uncollected_by s → length owed ≡ length (places o (h ++ e ∷ []))

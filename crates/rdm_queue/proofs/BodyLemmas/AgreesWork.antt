@@ -238,14 +238,16 @@ stands_came o h s sent event decided joiner each may facts was standing stands =
 
 -- an outcome is collected
 removed_rest : {X : Type 0} (lists : List (List X)) (c n : ℕ)
-    → get_or (set lists c (drop 1 (get_or lists c []))) n [] ≡ (if n == c then drop 1 (get_or lists n []) else get_or lists n [])
+    → get_or (set lists c (drop 1 (get_or lists c []))) n []
+    ≡ (if n == c then drop 1 (get_or lists n []) else get_or lists n [])
 removed_rest {X} lists c n = by_client (cases_eq n c) (cases_lt c (length lists))
   where
     none : {ds es : List X} → ds ≡ [] → es ≡ [] → ds ≡ drop 1 es
     none p q = p ∙ ap (drop 1) (sym q)
 
     by_client : (n ≡ c) ⊎ (n ≡ c → ⊥) → (c < length lists) ⊎ (length lists ≤ c)
-        → get_or (set lists c (drop 1 (get_or lists c []))) n [] ≡ (if n == c then drop 1 (get_or lists n []) else get_or lists n [])
+        → get_or (set lists c (drop 1 (get_or lists c []))) n []
+    ≡ (if n == c then drop 1 (get_or lists n []) else get_or lists n [])
     by_client (inl same) (inl within) =
         rw (eq-eqb n c same, same) (get_or-set_same lists c (drop 1 (get_or lists c [])) [] within)
     by_client (inl same) (inr past) =

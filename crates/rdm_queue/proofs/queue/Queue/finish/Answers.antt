@@ -57,7 +57,8 @@ finished : (c : goal.After-self-2-1)
     → AreClientsOf (next c) (set c.self.inside.clients.items c.args.at c.finish_oldest.new.self)
 finished c =
     clients-finish (state_of c.self.inside) c.self.inside.clients.items c.args.at _ c.finish_oldest.new.self c.args.done
-    c.end-may_be_incomplete.result c.finish_oldest.result c.requires.oldest.0 (own_clients c.self.inside c.self.invariant)
+    c.end-may_be_incomplete.result c.finish_oldest.result c.requires.oldest.0
+    (own_clients c.self.inside c.self.invariant)
     (can (goal.at.returns c).After-index-deref_mut-at) c.requires.oldest.2 (flag_is c) c.finish_oldest.ensures
 
 removed : (c : goal.After-self-2-1) → (state_of c.self.inside).decided ≡ None
@@ -91,7 +92,8 @@ returns c =
         c.finish_oldest.ensures.entry_is
             ∙ ap (λ n. Finish n c.args.done.status (length c.args.done.bytes.items))
             (sym (entry-finish (state_of c.self.inside) clients _ c.finish_oldest.new.self c.args.done
-            c.end-may_be_incomplete.result c.finish_oldest.result c.requires.oldest.0 c.self.invariant.rings before.at c.finish_oldest.ensures
+            c.end-may_be_incomplete.result c.finish_oldest.result c.requires.oldest.0 c.self.invariant.rings before.at
+            c.finish_oldest.ensures
             before.oldest)),
         rw (
           written clients c.deref_mut.result.now c.args.at c.finish_oldest.new.self c.deref_mut.ensures.value,
