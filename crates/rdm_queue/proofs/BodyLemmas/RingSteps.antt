@@ -137,7 +137,8 @@ pub owed-accept : (clients : List Client) (c n : ℕ) (k l : Client) (request : 
 owed-accept clients c n k l request at accepts = owed_stayed clients c k l at (rw (accepts.outcomes, accepts.sets) refl)
 
 pub owed-finish : (s : QueueState) (clients : List Client) (k l : Client) (done : Completion) (flag : Bool)
-    (entry : Entry) (a : Accepted) → s.owed ≡ owed_rings clients → RingsInvariant s clients → slice_get clients a.client ≡ Some k
+    (entry : Entry) (a : Accepted) → s.owed ≡ owed_rings clients → RingsInvariant s clients
+    → slice_get clients a.client ≡ Some k
     → (finishes : ClientFinishes k done flag entry l) → slice_get s.waiting 0 ≡ Some a
     → owed_rings (set clients a.client l) ≡ owes a.client (owed_value (owed_for (completion_value done) a)) s
 owed-finish s clients k l done flag entry a owed rings at finishes oldest =
@@ -339,7 +340,8 @@ room_for_set s clients c k held owed at some =
 
 -- what the whole queue keeps through these
 pub kept-finish : (s : QueueState) (clients : List Client) (k l : Client) (done : Completion) (flag : Bool)
-    (entry : Entry) (a : Accepted) → QueueInvariant s clients → slice_get clients a.client ≡ Some k → ClientFinishes k done flag entry l
+    (entry : Entry) (a : Accepted) → QueueInvariant s clients → slice_get clients a.client ≡ Some k
+    → ClientFinishes k done flag entry l
     → slice_get s.waiting 0 ≡ Some a
     → QueueInvariant (finishes_oldest s (owed_for (completion_value done) a)) (set clients a.client l)
 kept-finish s clients k l done flag entry a held at finishes oldest = record {
