@@ -297,9 +297,9 @@ pub extern "C" fn wurst_controller_next_completion(
         (λ o h. oldest_length o h client ≡ Some completion.new.len) }
     ensures collected { result ≡ DONE → (number : ℕ) × (done : Completion)
         × (completion.new ≡ form_of_completion number done completion.new.may_be_incomplete)
-        × AddsToEach handle.old.controller (λ k. CollectAdds k.opening k.entries (record { 0 = client }) (Some (request_outcome (number, done))))
-        handle.new.controller × ForEachLog handle.old.controller (λ o h. take completion.new.len buffer.new
-        ≡ done.bytes.items) }
+        × AddsToEach handle.old.controller (λ k. CollectAdds k.opening k.entries (record { 0 = client })
+        (Some (request_outcome (number, done)))) handle.new.controller
+        × ForEachLog handle.old.controller (λ o h. take completion.new.len buffer.new ≡ done.bytes.items) }
     ensures may_be_incomplete { result ≡ DONE → ForEachLog handle.old.controller
         (λ o h. oldest_may_be_incomplete o h client ≡ Some completion.new.may_be_incomplete) }
     ensures only_len { result ≡ BUFFER_TOO_SMALL →

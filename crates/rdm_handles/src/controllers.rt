@@ -221,11 +221,13 @@ pub fn next_completion(
     let (needed, may_be_incomplete) = match controller.oldest(client) {
         None => return NOTHING,
         Some(Oldest::Discovery { .. }) => return OTHER_OUTCOME,
-        Some(Oldest::Request {
-            done,
-            may_be_incomplete,
-            ..
-        }) => (done.bytes.len(), may_be_incomplete),
+        Some(
+            Oldest::Request {
+                done,
+                may_be_incomplete,
+                ..
+            },
+        ) => (done.bytes.len(), may_be_incomplete),
     };
     if needed > buffer.len() {
         completion.len = needed;

@@ -160,11 +160,7 @@ pub fn status_of_ask(fault: AskFault) -> u32
 }
 
 /// How the request with this number ended, and whether its answer may be incomplete.
-pub fn completion_for_c(
-    number: u64,
-    done: &Completion,
-    may_be_incomplete: bool,
-) -> CompletionForC
+pub fn completion_for_c(number: u64, done: &Completion, may_be_incomplete: bool) -> CompletionForC
     ensures { result ≡ form_of_completion number done.now may_be_incomplete }
 {
     CompletionForC {

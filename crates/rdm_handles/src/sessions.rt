@@ -273,8 +273,8 @@ pub fn next_completion(
         × (take completion.new.len buffer.new ≡ done.bytes.items)
         × GrowsBy session.old (CollectAdds session.old.opening session.old.entries (record { 0 = client })
         (Some (request_outcome (number, done)))) session.new }
-    ensures may_be_incomplete { result ≡ DONE →
-        oldest_may_be_incomplete session.old.opening session.old.entries client ≡ Some completion.new.may_be_incomplete }
+    ensures may_be_incomplete { result ≡ DONE → oldest_may_be_incomplete session.old.opening session.old.entries
+        client ≡ Some completion.new.may_be_incomplete }
     ensures only_len { result ≡ BUFFER_TOO_SMALL →
         completion.new ≡ record completion.old { len = completion.new.len } }
     ensures kept { result ≢ DONE → result ≢ BUFFER_TOO_SMALL → completion.new ≡ completion.old }
@@ -288,11 +288,13 @@ pub fn next_completion(
     let (needed, may_be_incomplete) = match session.oldest(client) {
         None => return NOTHING,
         Some(Oldest::Discovery { .. }) => return OTHER_OUTCOME,
-        Some(Oldest::Request {
-            done,
-            may_be_incomplete,
-            ..
-        }) => (done.bytes.len(), may_be_incomplete),
+        Some(
+            Oldest::Request {
+                done,
+                may_be_incomplete,
+                ..
+            },
+        ) => (done.bytes.len(), may_be_incomplete),
     };
     if needed > buffer.len() {
         completion.len = needed;

@@ -41,9 +41,9 @@ pub use controller::Controller;
 pub use oldest::Oldest;
 pub use promised::controllers_keep_promises;
 pub use rdm_log::{
-    Answer, AnswerKey, AskCompletion, AskFault, BoxedOutcome, BrokenAnswers, Call, Cause, ClientId, Completion, Config,
-    DiscoveryEnd, Entry, Event, IntoSetup, JoinFault, LEAST_FREE, Log, LogFull, MOST_CLIENTS,
-    MOST_DISCOVERIES, MOST_ENTRIES, MOST_FREE_ENTRIES, MOST_PLACES, NEVER_GIVEN,
+    Answer, AnswerKey, AskCompletion, AskFault, BoxedOutcome, BrokenAnswers, Call, Cause, ClientId,
+    Completion, Config, DiscoveryEnd, Entry, Event, IntoSetup, JoinFault, LEAST_FREE, Log, LogFull,
+    MOST_CLIENTS, MOST_DISCOVERIES, MOST_ENTRIES, MOST_FREE_ENTRIES, MOST_PLACES, NEVER_GIVEN,
     NEVER_GIVEN_TO_A_DISCOVERY, NoMemory, NotAsked, NotIdle, Opening, Outcome, OutcomeKind, Owner,
     Page, Setup, SubmitFault, Work, WorkFault, laws,
 };

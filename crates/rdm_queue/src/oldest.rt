@@ -44,7 +44,8 @@ impl Oldest<'_> {
     {
         match self {
             Oldest::Request {
-                may_be_incomplete, ..
+                may_be_incomplete,
+                ..
             } => *may_be_incomplete,
             Oldest::Discovery { .. } => false,
         }

@@ -14,8 +14,8 @@ use arrayvec::ArrayVec;
 use rdm_agent::{Agent, Kind, Op, Search};
 use rdm_join::{Joiner, Sent};
 use rdm_log::{
-    AskCompletion, BrokenAnswers, ClientId, Completion, Config, DiscoveryEnd, JoinFault, MOST_CLIENTS, Opening,
-    Outcome, Owner, Setup, Work, WorkFault,
+    AskCompletion, BrokenAnswers, ClientId, Completion, Config, DiscoveryEnd, JoinFault,
+    MOST_CLIENTS, Opening, Outcome, Owner, Setup, Work, WorkFault,
 };
 use rdm_wire::{DeviceSet, Frame, Request, UidSet, encode_request};
 use std::alloc::Global;
@@ -88,7 +88,8 @@ impl Queue {
     ghost use Rattle.rdm_queue.specs.body.State.{QueueState, first_state, first_join_fault, first_submit_fault};
     ghost use Rattle.rdm_queue.specs.body.State.{first_ask_fault, first_fault, number_for, asked_of, joins_client};
     ghost use Rattle.rdm_queue.specs.body.State.{accepts_work, accepts_request, asks_discovery, collects_oldest};
-    ghost use Rattle.rdm_queue.specs.body.State.{owed_to, flags_to, uncollected, first_kind, CollectsOldest, opening_of};
+    ghost use Rattle.rdm_queue.specs.body.State.{owed_to, uncollected, first_kind, CollectsOldest, opening_of};
+    ghost use Rattle.rdm_queue.specs.body.State.{flags_to};
     ghost use Rattle.rdm_queue.specs.body.Sending.{to_send, request_to_send, run_to_send, IsGiven, GivesRequest};
     ghost use Rattle.rdm_queue.specs.body.Sending.{GivesRun, begun, kind_of};
     ghost use Rattle.rdm_queue.specs.promises.Oldest.{flag_shown};

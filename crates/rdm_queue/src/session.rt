@@ -10,8 +10,8 @@ use arrayvec::ArrayVec;
 use rdm_agent::Kind;
 use rdm_join::LineEvent;
 use rdm_log::{
-    AskFault, BrokenAnswers, Call, Cause, ClientId, Completion, DiscoveryEnd, Entry, IntoSetup, JoinFault,
-    LEAST_FREE, Log, LogFull, MOST_ENTRIES, NotAsked, NotIdle, Opening, Outcome, Setup,
+    AskFault, BrokenAnswers, Call, Cause, ClientId, Completion, DiscoveryEnd, Entry, IntoSetup,
+    JoinFault, LEAST_FREE, Log, LogFull, MOST_ENTRIES, NotAsked, NotIdle, Opening, Outcome, Setup,
     SubmitFault, Work, WorkFault,
 };
 use rdm_wire::{DeviceSet, Frame, NoMemory, Request, copy_of_frame};

@@ -1,5 +1,6 @@
 -- Which keys are open after one was opened or closed.
-use Rattle.rdm_log.proofs.Common.{◌≡◌, ℕ, Bool, true, false, List, [], ◌∷◌, ◌++◌, drop, refl, sym, ap, ◌∙◌, ◌⊎◌, inl, inr}
+use Rattle.rdm_log.proofs.Common.{◌≡◌, ℕ, Bool, true, false, List, [], ◌∷◌, ◌++◌, drop, refl, sym, ap, ◌∙◌, ◌⊎◌}
+use Rattle.rdm_log.proofs.Common.{inl, inr}
 use Rattle.rdm_log.proofs.Common.{◌==◌, ◌&&◌, ◌||◌, not, cond, filter, list_any, list_any-append, cases_Bool, eq-eqb}
 use Rattle.rdm_log.proofs.Common.{eqb-true, false≢true, length, if◌then◌else◌}
 use Rattle.std.specs.Prelude.{nat_lt}

@@ -303,7 +303,8 @@ end_opens key (Some own) sent status head b fits is = by_whole (is_whole status 
     by_sent false d was broken fits is = inr (fits, is)
 
     by_whole : (c : Bool)
-        → inverted_of (if c then with_closed own b else if sent && breaks_off status then with_open own b else b) ≡ false
+        → inverted_of (if c then with_closed own b else if sent && breaks_off status then with_open own b else b)
+        ≡ false
         → is_open (if c then with_closed own b else if sent && breaks_off status then with_open own b else b) key
         ≡ true
         → ((Some own ≡ Some key) × (sent ≡ true) × (breaks_off status ≡ true))

@@ -1,7 +1,7 @@
 -- Which answers may be incomplete: the first to a GET after one that asked for the same broke off.
 --
--- A device gives a long answer in parts (E1.20, ACK_OVERFLOW), and goes on at its next GET where it stopped. If a part is
--- lost, whoever asks for the same next gets only the rest, as an answer that looks complete.
+-- A device gives a long answer in parts (E1.20, ACK_OVERFLOW), and goes on at its next GET where it stopped. If a part
+-- is lost, whoever asks for the same next gets only the rest, as an answer that looks complete.
 use Rattle.std.specs.Prelude.{ℕ, Bool, true, false, ◌&&◌, List, [], ◌∷◌, ◌++◌, Option, Some, None, ◌==◌}
 use Rattle.std.specs.Prelude.{if◌then◌else◌, option_and_then, option_map, slice_get}
 use Rattle.std.specs.List.{list_any}

@@ -4,8 +4,8 @@ use Rattle.std.specs.Prelude.{if◌then◌else◌}
 use Rattle.std.specs.List.{list_any}
 use Rattle.rdm_log.specs.declared.broken.AnswerKey.{AnswerKey}
 
--- The keys that are open. Once there are more than 64, the set is inverted: from then on it lists keys that were closed,
--- the 64 latest, and each key that it doesn't list counts as open.
+-- The keys that are open. Once there are more than 64, the set is inverted: from then on it lists keys that were
+-- closed, the 64 latest, and each key that it doesn't list counts as open.
 pub record BrokenKeys : Type 0 where
   pub inverted : Bool
   pub keys : List AnswerKey

@@ -15,7 +15,7 @@ use Rattle.rdm_queue.specs.body.State.{uncollected as uncollected_by}
 use Rattle.rdm_log.proofs.LogLemmas.PushLemmas.{SameRequests, same_after, pushes}
 use Rattle.rdm_log.proofs.LogLemmas.ClientLemmas.{brings_work, ends_work, no_accept, no_ask, no_finish, no_reply}
 use Rattle.rdm_queue.proofs.Common.{get_or, map}
-use Rattle.rdm_log.specs.log.Broken.{broken_keys, incomplete, may_be_incomplete}
+use Rattle.rdm_log.specs.log.Broken.{Incomplete, broken_keys, incomplete, is_flagged, may_be_incomplete}
 use Rattle.rdm_log.proofs.LogLemmas.BrokenLemmas.{incomplete_same}
 use Rattle.rdm_queue.specs.body.State.{flags_to}
 use Rattle.rdm_queue.proofs.BodyLemmas.RunningLemmas.{run_same}
@@ -40,6 +40,17 @@ same_work o h e brings ends send came collect waits = record {
   same_answers_to = λ c. answers_same o c h e brings ends;
   same_incomplete = incomplete_same o h e (no_finish e ends);
 }
+
+-- the flags of what a client hasn't collected
+pub flags_kept : (o : Opening) (h k : List Entry) (c : ℕ) → incomplete o k ≡ incomplete o h
+    → answers_to o c k ≡ answers_to o c h → collectors k ≡ collectors h
+    → map (may_be_incomplete o k) (uncollected o c k) ≡ map (may_be_incomplete o h) (uncollected o c h)
+flags_kept o h k c same answered collected =
+    ap (λ (es : List Entry). map (may_be_incomplete o k) es) uncollected_same
+    ∙ ap (λ (i : Incomplete). map (is_flagged i.flagged) (uncollected o c h)) same
+  where
+    uncollected_same : uncollected o c k ≡ uncollected o c h
+    uncollected_same = rw (answered, collected) refl
 
 -- what awaits its reply
 last_same : (h k : List Entry) (x : Sending) → sends k ≡ sends h → awaited k ≡ awaited h → IsLast h x → IsLast k x
@@ -144,7 +155,9 @@ traded o h (Send owner frame) s new each may is stands line =
     let broken : s.broken ≡ broken_keys o (h ++ e ∷ []) =
     stands.broken_is ∙ ap (λ i. i.keys) (sym (incomplete_same o h e refl)) in
     let flags : (c : ℕ) → flags_to c s ≡ map (may_be_incomplete o (h ++ e ∷ [])) (uncollected o c (h ++ e ∷ [])) =
-    λ c. rw (incomplete_same o h e refl, answers_same o c h e refl refl, collectors_same h e refl) (stands.flags_are c) in
+    λ c. stands.flags_are c
+    ∙ sym (flags_kept o h (h ++ e ∷ []) c (incomplete_same o h e refl) (answers_same o c h e refl refl)
+    (collectors_same h e refl)) in
     search (pushes, known, outcomes, broken, flags, line, stands)
 traded o h (Came event) s new each may is stands line =
     let e = Came event in
@@ -155,13 +168,16 @@ traded o h (Came event) s new each may is stands line =
     let broken : s.broken ≡ broken_keys o (h ++ e ∷ []) =
     stands.broken_is ∙ ap (λ i. i.keys) (sym (incomplete_same o h e refl)) in
     let flags : (c : ℕ) → flags_to c s ≡ map (may_be_incomplete o (h ++ e ∷ [])) (uncollected o c (h ++ e ∷ [])) =
-    λ c. rw (incomplete_same o h e refl, answers_same o c h e refl refl, collectors_same h e refl) (stands.flags_are c) in
+    λ c. stands.flags_are c
+    ∙ sym (flags_kept o h (h ++ e ∷ []) c (incomplete_same o h e refl) (answers_same o c h e refl refl)
+    (collectors_same h e refl)) in
     search (pushes, known, outcomes, broken, flags, line, stands)
 traded o h _ s new each may is stands line = cc
 
 -- the entry is about neither the line nor the work
 pub stands_same : (o : Opening) (h : List Entry) (e : Entry) (s : QueueState) (ps : List ℕ) (paused closed : Bool)
-    (owed : List (List OutcomeValue)) (flags : List (List Bool)) → EachAfter (MayFollow o) h → MayFollow o h e → SameWork o h (h ++ e ∷ [])
+    (owed : List (List OutcomeValue)) (flags : List (List Bool)) → EachAfter (MayFollow o) h → MayFollow o h e
+    → SameWork o h (h ++ e ∷ [])
     → ps ≡ places o (h ++ e ∷ []) → paused ≡ is_paused o (h ++ e ∷ []) → closed ≡ is_closed o (h ++ e ∷ [])
     → ((c : ℕ) → owed_to c (record s { owed = owed }) ≡ owed_to c s)
     → uncollected_by (record s { owed = owed }) ≡ uncollected_by s → length owed ≡ length (places o (h ++ e ∷ []))
@@ -204,8 +220,8 @@ stands_same o h e s ps paused closed owed flags each may work places_are paused_
       broken_is = stands.broken_is ∙ ap (λ i. i.keys) (sym work.same_incomplete);
       flags_for_each = flags_long;
       flags_are =
-          λ c. rw (work.same_incomplete, work.same_answers_to c, work.same_collectors)
-          (flags_same c ∙ stands.flags_are c);
+          λ c. flags_same c ∙ (stands.flags_are c
+          ∙ sym (flags_kept o h k c work.same_incomplete (work.same_answers_to c) work.same_collectors));
       first_run = stands.first_run;
     }
   where

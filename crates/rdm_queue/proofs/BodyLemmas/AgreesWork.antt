@@ -37,14 +37,14 @@ use Rattle.rdm_queue.proofs.BodyLemmas.OutstandingLemmas.{in_all, in_all-cons, r
 use Rattle.rdm_log.proofs.LogLemmas.RunningLemmas.{same_running_came}
 use Rattle.rdm_queue.proofs.BodyLemmas.RunningLemmas.{run_same}
 use Rattle.rdm_queue.proofs.BodyLemmas.AgreesSame.{devices_run_same, AgreesOnLine, with_line, same_line, line_same}
-use Rattle.rdm_queue.proofs.BodyLemmas.AgreesSame.{traded}
-use Rattle.rdm_queue.proofs.Common.{map, map-append, option_and_then, Status}
+use Rattle.rdm_queue.proofs.BodyLemmas.AgreesSame.{traded, flags_kept}
+use Rattle.rdm_queue.proofs.Common.{map, map-append, option_and_then, Status, set}
 use Rattle.std.proofs.lemmas.List.{drop-map}
 use Rattle.rdm_join.specs.declared.status.Status.TheVariants.{Completed}
 use Rattle.rdm_log.specs.declared.broken.AnswerKey.{AnswerKey}
 use Rattle.rdm_log.specs.log.BrokenKeys.{BrokenKeys}
 use Rattle.rdm_log.specs.log.Broken.{Incomplete, incomplete, broken_keys, may_be_incomplete, after_end}
-use Rattle.rdm_log.specs.log.Broken.{is_end_flagged, is_whole, key_of_first}
+use Rattle.rdm_log.specs.log.Broken.{is_end_flagged, is_flagged, is_whole, key_of_first}
 use Rattle.rdm_log.proofs.LogLemmas.ClientLemmas.{no_finish}
 use Rattle.rdm_log.proofs.LogLemmas.BrokenLemmas.{incomplete_same, incomplete_push}
 use Rattle.rdm_log.proofs.PromiseLemmas.IncompleteLemmas.{flags_finish, flag_of_finish}
@@ -85,11 +85,9 @@ stands_accept o h s c n request each may facts ask_facts number stands =
     λ d. rw (answers_accept o d h facts ask_facts c n request, collectors_same h (Accept c n request) refl)
     (stands.outcomes_are d ∙ sym (rest.outcomes d)) in
     let flags : (d : ℕ) → flags_to d s ≡ map (may_be_incomplete o k) (uncollected o d k) =
-    λ d. rw (
-      rest.same_incomplete,
-      answers_accept o d h facts ask_facts c n request,
-      collectors_same h (Accept c n request) refl,
-    ) (stands.flags_are d) in
+    λ d. stands.flags_are d
+    ∙ sym (flags_kept o h k d rest.same_incomplete (answers_accept o d h facts ask_facts c n request)
+    (collectors_same h (Accept c n request) refl)) in
     search (pushes, next, waiting, outcomes, flags, rest.line, rest, stands)
 
 -- a discovery is asked
@@ -107,11 +105,9 @@ stands_ask o h s c n kind each may facts ask_facts number stands =
     λ d. rw (answers_ask o d h facts ask_facts c n kind, collectors_same h (Ask c n kind) refl)
     (stands.outcomes_are d ∙ sym (rest.outcomes d)) in
     let flags : (d : ℕ) → flags_to d s ≡ map (may_be_incomplete o k) (uncollected o d k) =
-    λ d. rw (
-      rest.same_incomplete,
-      answers_ask o d h facts ask_facts c n kind,
-      collectors_same h (Ask c n kind) refl,
-    ) (stands.flags_are d) in
+    λ d. stands.flags_are d
+    ∙ sym (flags_kept o h k d rest.same_incomplete (answers_ask o d h facts ask_facts c n kind)
+    (collectors_same h (Ask c n kind) refl)) in
     search (pushes, next, asked, outcomes, flags, rest.line, rest, stands)
 
 -- a request's frame is sent
@@ -242,14 +238,16 @@ stands_came o h s sent event decided joiner each may facts was standing stands =
 
 -- an outcome is collected
 removed_rest : {X : Type 0} (lists : List (List X)) (c n : ℕ)
-    → get_or (set lists c (drop 1 (get_or lists c []))) n [] ≡ (if n == c then drop 1 (get_or lists n []) else get_or lists n [])
+    → get_or (set lists c (drop 1 (get_or lists c []))) n []
+    ≡ (if n == c then drop 1 (get_or lists n []) else get_or lists n [])
 removed_rest {X} lists c n = by_client (cases_eq n c) (cases_lt c (length lists))
   where
     none : {ds es : List X} → ds ≡ [] → es ≡ [] → ds ≡ drop 1 es
     none p q = p ∙ ap (drop 1) (sym q)
 
     by_client : (n ≡ c) ⊎ (n ≡ c → ⊥) → (c < length lists) ⊎ (length lists ≤ c)
-        → get_or (set lists c (drop 1 (get_or lists c []))) n [] ≡ (if n == c then drop 1 (get_or lists n []) else get_or lists n [])
+        → get_or (set lists c (drop 1 (get_or lists c []))) n []
+    ≡ (if n == c then drop 1 (get_or lists n []) else get_or lists n [])
     by_client (inl same) (inl within) =
         rw (eq-eqb n c same, same) (get_or-set_same lists c (drop 1 (get_or lists c [])) [] within)
     by_client (inl same) (inr past) =
@@ -320,22 +318,25 @@ stands_collect o h s c d each may first stands =
         → flags_to client (collects_oldest s c.0) ≡ map (may_be_incomplete o k) (uncollected o client k)
     flags same client = removed_rest s.flags c.0 client ∙ by_client (cases_Bool (client == c.0))
       where
+        agree : flags_to client s ≡ map (may_be_incomplete o k) (uncollected o client h)
+        agree =
+            stands.flags_are client
+            ∙ sym (ap (λ (i : Incomplete). map (is_flagged i.flagged) (uncollected o client h)) same)
+
         by_client : ((client == c.0) ≡ true) ⊎ ((client == c.0) ≡ false)
             → (if client == c.0 then drop 1 (flags_to client s) else flags_to client s)
             ≡ map (may_be_incomplete o k) (uncollected o client k)
         by_client (inl own) =
             rw (
-              same,
               collects client,
               own,
               length-append (collects_by client h) (c.0 ∷ []),
               answers_same o client h e refl refl,
               ← drop-drop 1 (length (collects_by client h)) (answers_to o client h),
             )
-            (ap (drop 1) (stands.flags_are client) ∙ sym (drop-map (may_be_incomplete o h) 1 (uncollected o client h)))
+            (ap (drop 1) agree ∙ drop-map (may_be_incomplete o k) 1 (uncollected o client h))
         by_client (inr other) =
-            rw (same, collects client, other, append-nil (collects_by client h), answers_same o client h e refl refl)
-            (stands.flags_are client)
+            rw (collects client, other, append-nil (collects_by client h), answers_same o client h e refl refl) agree
 
 -- the last frame has one owner
 pub last_owner : (ss xs ys : List Sending) (n r : ℕ) (frame other : ArrayVec ℕ)

@@ -157,7 +157,8 @@ pub shown_flag : (r : Option Oldest) (s : QueueState) (c : ℕ) → option_map f
     → ForEachLog s (λ o h. option_map flag_shown r ≡ oldest_may_be_incomplete o h c)
 shown_flag r s c told =
     λ o h after.
-    told ∙ (ap (λ l. slice_get l 0) (after.stands.flags_are c) ∙ slice_get-map (may_be_incomplete o h) (uncollected o c h) 0)
+    told ∙ (ap (λ l. slice_get l 0) (after.stands.flags_are c)
+    ∙ slice_get-map (may_be_incomplete o h) (uncollected o c h) 0)
 
 -- one fewer is left to end
 less_first : {X : Type 0} (xs : List X) (x : X) → slice_get xs 0 ≡ Some x → length (drop 1 xs) < length xs

@@ -77,8 +77,8 @@ oldest_is s clients k a w ws rings at items oldest =
     cc
 
 -- the oldest request is finished
-pub rings-finish : (s : QueueState) (clients : List Client) (k l : Client) (done : Completion) (flag : Bool) (entry : Entry)
-    (a : Accepted) → RingsInvariant s clients → slice_get clients a.client ≡ Some k
+pub rings-finish : (s : QueueState) (clients : List Client) (k l : Client) (done : Completion) (flag : Bool)
+    (entry : Entry) (a : Accepted) → RingsInvariant s clients → slice_get clients a.client ≡ Some k
     → (finishes : ClientFinishes k done flag entry l) → slice_get s.waiting 0 ≡ Some a
     → RingsInvariant (finishes_oldest s (owed_for (completion_value done) a)) (set clients a.client l)
 rings-finish s clients k l done flag entry a rings at finishes oldest = record {
@@ -105,9 +105,10 @@ rings-finish s clients k l done flag entry a rings at finishes oldest = record {
         ∙ ap (λ b. b ∷ waiting_ring a.client l) (sym same))
 
 -- the entry of its end
-pub entry-finish : (s : QueueState) (clients : List Client) (k l : Client) (done : Completion) (flag : Bool) (entry : Entry)
-    (a : Accepted) → RingsInvariant s clients → slice_get clients a.client ≡ Some k
-    → (finishes : ClientFinishes k done flag entry l) → slice_get s.waiting 0 ≡ Some a → a.number ≡ finishes.oldest.number
+pub entry-finish : (s : QueueState) (clients : List Client) (k l : Client) (done : Completion) (flag : Bool)
+    (entry : Entry) (a : Accepted) → RingsInvariant s clients → slice_get clients a.client ≡ Some k
+    → (finishes : ClientFinishes k done flag entry l) → slice_get s.waiting 0 ≡ Some a
+    → a.number ≡ finishes.oldest.number
 entry-finish s clients k l done flag entry a rings at finishes oldest =
     ap (λ (b : Accepted). b.number)
     (oldest_is s clients k a finishes.oldest l.waiting.items rings at finishes.waiting oldest)
@@ -135,8 +136,9 @@ pub owed-accept : (clients : List Client) (c n : ℕ) (k l : Client) (request : 
     → ClientAccepts k n request l → owed_rings (set clients c l) ≡ owed_rings clients
 owed-accept clients c n k l request at accepts = owed_stayed clients c k l at (rw (accepts.outcomes, accepts.sets) refl)
 
-pub owed-finish : (s : QueueState) (clients : List Client) (k l : Client) (done : Completion) (flag : Bool) (entry : Entry)
-    (a : Accepted) → s.owed ≡ owed_rings clients → RingsInvariant s clients → slice_get clients a.client ≡ Some k
+pub owed-finish : (s : QueueState) (clients : List Client) (k l : Client) (done : Completion) (flag : Bool)
+    (entry : Entry) (a : Accepted) → s.owed ≡ owed_rings clients → RingsInvariant s clients
+    → slice_get clients a.client ≡ Some k
     → (finishes : ClientFinishes k done flag entry l) → slice_get s.waiting 0 ≡ Some a
     → owed_rings (set clients a.client l) ≡ owes a.client (owed_value (owed_for (completion_value done) a)) s
 owed-finish s clients k l done flag entry a owed rings at finishes oldest =
@@ -191,7 +193,8 @@ flags_stayed : (clients : List Client) (c : ℕ) (k l : Client) → slice_get cl
 flags_stayed [] c k l at same = refl
 flags_stayed (m ∷ clients) zero k l at same =
     let here : m ≡ k = cc in rw here (ap (λ v. v ∷ flag_rings clients) same)
-flags_stayed (m ∷ clients) (suc c) k l at same = ap (λ lists. client_flags m ∷ lists) (flags_stayed clients c k l at same)
+flags_stayed (m ∷ clients) (suc c) k l at same =
+    ap (λ lists. client_flags m ∷ lists) (flags_stayed clients c k l at same)
 
 pub flags-accept : (clients : List Client) (c n : ℕ) (k l : Client) (request : Request) → slice_get clients c ≡ Some k
     → ClientAccepts k n request l → flag_rings (set clients c l) ≡ flag_rings clients
@@ -336,8 +339,9 @@ room_for_set s clients c k held owed at some =
     omega (arith, sizes.sets)
 
 -- what the whole queue keeps through these
-pub kept-finish : (s : QueueState) (clients : List Client) (k l : Client) (done : Completion) (flag : Bool) (entry : Entry)
-    (a : Accepted) → QueueInvariant s clients → slice_get clients a.client ≡ Some k → ClientFinishes k done flag entry l
+pub kept-finish : (s : QueueState) (clients : List Client) (k l : Client) (done : Completion) (flag : Bool)
+    (entry : Entry) (a : Accepted) → QueueInvariant s clients → slice_get clients a.client ≡ Some k
+    → ClientFinishes k done flag entry l
     → slice_get s.waiting 0 ≡ Some a
     → QueueInvariant (finishes_oldest s (owed_for (completion_value done) a)) (set clients a.client l)
 kept-finish s clients k l done flag entry a held at finishes oldest = record {

@@ -1,5 +1,7 @@
 use Rattle.rdm_queue.proofs.Common.{◌≡◌, ◌<◌, List, length, get_or, set, None, refl, sym, ap, ◌∙◌, subst, arith, Client}
 use Rattle.rdm_queue.proofs.Common.{Finish, completion_value, state_of, QueueState, finishes_oldest, owed_for}
+use Rattle.rdm_log.specs.log.Broken.{key_of_first, is_end_flagged}
+use Rattle.rdm_queue.specs.body.State.{flag_at_end}
 use Rattle.rdm_queue.proofs.BodyLemmas.FieldLemmas.{written}
 use Rattle.rdm_queue.proofs.BodyLemmas.OldestLemmas.{oldest_within}
 use Rattle.rdm_queue.proofs.BodyLemmas.RingSteps.{entry-finish}
@@ -42,17 +44,21 @@ abbrev next : goal.After-self-2-1 → QueueState
 next c =
     finishes_oldest (state_of c.self.inside) (owed_for (completion_value c.args.done) c.requires.oldest.0)
 
-flag_is : (c : goal.After-self-2-1) → c.end.result ≡ flag_at_end (state_of c.self.inside) (completion_value c.args.done)
+key_is : (c : goal.After-self-2-1) → c.args.key ≡ key_of_first (state_of c.self.inside).waiting
+key_is c = c.requires.key ∙ ap (λ (t : QueueState). key_of_first t.waiting) (sym c.self.view_is)
+
+flag_is : (c : goal.After-self-2-1)
+    → c.end-may_be_incomplete.result ≡ flag_at_end (state_of c.self.inside) (completion_value c.args.done)
 flag_is c =
-    c.end.ensures.flagged
-    ∙ ap (λ key. is_end_flagged key c.args.done.status c.args.done.reply c.self.inside.broken)
-    (c.requires.key ∙ ap (λ (t : QueueState). key_of_first t.waiting) (sym c.self.view_is))
+    c.end-may_be_incomplete.ensures.flagged
+    ∙ ap (λ key. is_end_flagged key c.args.done.status c.args.done.reply c.self.inside.broken) (key_is c)
 
 finished : (c : goal.After-self-2-1)
     → AreClientsOf (next c) (set c.self.inside.clients.items c.args.at c.finish_oldest.new.self)
 finished c =
     clients-finish (state_of c.self.inside) c.self.inside.clients.items c.args.at _ c.finish_oldest.new.self c.args.done
-    c.end.result c.finish_oldest.result c.requires.oldest.0 (own_clients c.self.inside c.self.invariant)
+    c.end-may_be_incomplete.result c.finish_oldest.result c.requires.oldest.0
+    (own_clients c.self.inside c.self.invariant)
     (can (goal.at.returns c).After-index-deref_mut-at) c.requires.oldest.2 (flag_is c) c.finish_oldest.ensures
 
 removed : (c : goal.After-self-2-1) → (state_of c.self.inside).decided ≡ None
@@ -70,6 +76,8 @@ invariant_of-self c =
       are.flags,
       c.reset.ensures.stands,
       removed c,
+      c.end-may_be_incomplete.ensures.ended,
+      key_is c,
     ) are.kept
 
 pub returns : goal.returns
@@ -84,7 +92,8 @@ returns c =
         c.finish_oldest.ensures.entry_is
             ∙ ap (λ n. Finish n c.args.done.status (length c.args.done.bytes.items))
             (sym (entry-finish (state_of c.self.inside) clients _ c.finish_oldest.new.self c.args.done
-            c.end.result c.finish_oldest.result c.requires.oldest.0 c.self.invariant.rings before.at c.finish_oldest.ensures
+            c.end-may_be_incomplete.result c.finish_oldest.result c.requires.oldest.0 c.self.invariant.rings before.at
+            c.finish_oldest.ensures
             before.oldest)),
         rw (
           written clients c.deref_mut.result.now c.args.at c.finish_oldest.new.self c.deref_mut.ensures.value,
@@ -94,6 +103,8 @@ returns c =
           are.flags,
           c.reset.ensures.stands,
           removed c,
+          c.end-may_be_incomplete.ensures.ended,
+          key_is c,
         ) refl,
       );
     }

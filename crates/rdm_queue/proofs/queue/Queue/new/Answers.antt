@@ -10,6 +10,7 @@ invariant_of-result c =
       c.new_in-2.ensures,
       c.start.ensures.state,
       c.new-3.ensures,
+      c.new-4.ensures,
       waiting_are (first_state c.args.setup) [] (first_kept c.args.setup c.requires),
     )
     (first_kept c.args.setup c.requires)
@@ -21,5 +22,6 @@ returns c = rw (
   c.new_in-2.ensures,
   c.start.ensures.state,
   c.new-3.ensures,
+  c.new-4.ensures,
   waiting_are (first_state c.args.setup) [] (first_kept c.args.setup c.requires),
 ) refl
