@@ -51,8 +51,8 @@ call_cargo() (
     exec cargo "${@:2}" "${crates_from[@]}"
 )
 
-# Writes the workspace into the folder $1, and builds $2 there as the other words say. What cargo prints goes to standard
-# error if that is wanted; else only its faults do. If it isn't built, the script ends, and says why.
+# Writes the workspace into the folder $1, and builds $2 there as the other words say. What cargo prints goes to
+# standard error if that is wanted; else only its faults do. If it isn't built, the script ends, and says why.
 build_rust() {
     local folder="$1" what="$2" printed lack=""
     "$root/tools/plain_rust" "$folder" || fail "$not_run" "$what isn't built"

@@ -86,8 +86,8 @@ class WithCargo(unittest.TestCase):
         self.without_kit()
         self.clone.put_cargo(NO_CRATES)
         self.expect("decode 00", 125, "",
-                    f"{COMPILING}wurstlinen: the program isn't built: cargo has no network and no crates: on Debian, apt "
-                    "install librust-arrayvec-dev librust-clap-dev librust-hex-dev librust-itoa-dev "
+                    f"{COMPILING}wurstlinen: the program isn't built: cargo has no network and no crates: on Debian, "
+                    "apt install librust-arrayvec-dev librust-clap-dev librust-hex-dev librust-itoa-dev "
                     "librust-serde-json-dev librust-thiserror-dev\n")
         self.assertEqual(list(self.clone.root.glob("out/rust/wurstlinen.b*")), [])
         for option in ("--install", "--install-library", "--package"):
