@@ -79,8 +79,7 @@ build_program() {
     local status
     if [ "$compiler" = rustc ]; then
         say "compiling the program with $(rustc_version), about a minute"
-        build_rust "$workspace" --release --package wurstlinen-program --bin wurstlinen \
-            || fail "$not_run" "the program isn't built"
+        build_rust "$workspace" "the program" --release --package wurstlinen-program --bin wurstlinen
         built_program="$workspace/target/release/wurstlinen"
         return
     fi
@@ -108,10 +107,8 @@ make_archive() {
     if [ "$compiler" = rustc ]; then
         say "compiling the C library with $(rustc_version), about a minute"
         archive="$workspace/target/library/librdm_c.a"
-        if ! build_rust "$workspace" --profile library --package wurstlinen-c \
-            || ! archive_of_rust "${archive%/*}" "$archive"; then
-            fail "$not_run" "the library wasn't built"
-        fi
+        build_rust "$workspace" "the C library" --profile library --package wurstlinen-c
+        archive_of_rust "${archive%/*}" "$archive" || fail "$not_run" "the C library isn't built"
         return
     fi
     archive="$root/crates/rdm_c/out/librdm_c.a"

@@ -9,7 +9,7 @@ soname=libwurstlinen.so.0
 # The compilers, and what makes archives, with their options. tools/cross.bash has those for another kind of machine.
 c_compiler=(cc)
 cpp_compiler=(c++)
-archiver=ar
+archiver="ar"
 
 # Proves and builds the archive, unless it is up to date. rt prints what it does.
 build_archive() {

@@ -51,24 +51,24 @@ call_cargo() (
     exec cargo "${@:2}" "${crates_from[@]}"
 )
 
-# Writes the workspace into the folder $1, and builds there as the other words say. What cargo prints goes to standard
-# error if that is wanted; else only its faults do.
+# Writes the workspace into the folder $1, and builds $2 there as the other words say. What cargo prints goes to
+# standard error if that is wanted; else only its faults do. If it isn't built, the script ends, and says why.
 build_rust() {
-    local folder="$1" printed
-    "$root/tools/plain_rust" "$folder" || return
+    local folder="$1" what="$2" printed lack=""
+    "$root/tools/plain_rust" "$folder" || fail "$not_run" "$what isn't built"
     if [ -n "${verbose-}" ]; then
-        call_cargo "$folder" build "${@:2}" >&2
+        call_cargo "$folder" build "${@:3}" >&2 || fail "$not_run" "$what isn't built"
         return
     fi
-    printed="$(call_cargo "$folder" build --quiet "${@:2}" 2>&1)" && return
+    printed="$(call_cargo "$folder" build --quiet "${@:3}" 2>&1)" && return
     if grep -qE "can't find crate for .(std|core)" <<< "$printed"; then
-        echo "rustc has no std for its target: install that, or another rustc" >&2
+        lack=": rustc has no std for its target: install that, or another rustc"
     elif grep -qE "$no_crates" <<< "$printed"; then
-        echo "cargo has no network and no crates: on Debian, apt install ${debian_crates//$'\n'    / }" >&2
+        lack=": cargo has no network and no crates: on Debian, apt install ${debian_crates//$'\n'    / }"
     else
         printf '%s\n' "$printed" >&2
     fi
-    return 1
+    fail "$not_run" "$what isn't built$lack"
 }
 
 # Makes the archive $2 for the C library of what cargo has built below the folder $1. It has one object with the names

@@ -164,6 +164,39 @@ class Crates(unittest.TestCase):
         self.assertFalse(archive.exists())
 
 
+class Gate(unittest.TestCase):
+    """checks/arm, where its means are missing."""
+
+    def setUp(self) -> None:
+        context = new_clone()
+        self.clone: Clone = context.__enter__()
+        self.addCleanup(context.__exit__, None, None, None)
+        (self.clone.root / "checks").mkdir()
+        for name in ("arm", "count.bash"):
+            shutil.copy(ROOT / "checks" / name, self.clone.root / "checks")
+
+    def expect(self, status: int, out: str, *words: str, without: str = "nothing") -> None:
+        done = self.clone.run("checks/arm", *words, env=self.clone.environment_without(without))
+        self.assertEqual((done.returncode, done.stdout), (status, out))
+
+    def expect_skipped(self, why: str, without: str) -> None:
+        self.expect(0, f"skipped: what is for arm64, since {why}\n0 passed, 0 failed\n", without=without)
+
+    def test_what_is_missing_is_named(self) -> None:
+        # Stand-ins for what this machine may not have.
+        for name in ("gcc", "g++", "ar", "strip"):
+            self.clone.put(f"{CROSS}-{name}", "#!/bin/sh\nexit 1\n")
+        self.expect_skipped("there is no command qemu-aarch64: on Debian, apt install qemu-user", "qemu-aarch64")
+        (self.clone.bin / f"{CROSS}-g++").unlink()
+        self.expect_skipped(f"there is no command {CROSS}-g++: on Debian, apt install g++-{CROSS}", f"{CROSS}-g++")
+        (self.clone.bin / "rt").unlink()
+        self.expect_skipped("there is no command rt", "rt")
+
+    def test_wrong_words_are_refused(self) -> None:
+        for words in (("--begun",), ("--kept", "a", "--begun", "1"), ("more",)):
+            self.expect(2, "0 passed, 1 failed\n", *words)
+
+
 class Systems(unittest.TestCase):
     """tools/unpack_debian, with a stand-in for apt."""
 

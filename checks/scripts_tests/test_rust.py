@@ -10,6 +10,7 @@ from clone import ROOT, Clone, new_clone
 COMPILING = "wurstlinen: compiling the program with rustc 1.99.0, about a minute\n"
 PROVING = "wurstlinen: proving and building the program, about 20 minutes on four processors; a call after an " \
           "interrupt goes on\n"
+NO_STD = 'echo "error[E0463]: can\'t find crate for \\`std\\`" >&2; exit 101'
 NO_CRATES = 'echo "error: no matching package named \\`arrayvec\\` found" >&2; exit 101'
 ANSWER = "the program: decode 00\n"
 
@@ -84,15 +85,23 @@ class WithCargo(unittest.TestCase):
     def test_without_crates_nothing_is_kept(self) -> None:
         self.without_kit()
         self.clone.put_cargo(NO_CRATES)
-        done = self.clone.run("./wurstlinen", "decode", "00")
-        self.assertEqual((done.returncode, done.stdout), (125, ""))
-        self.assertIn("cargo has no network and no crates: on Debian, apt install librust-arrayvec-dev", done.stderr)
+        self.expect("decode 00", 125, "",
+                    f"{COMPILING}wurstlinen: the program isn't built: cargo has no network and no crates: on Debian, "
+                    "apt install librust-arrayvec-dev librust-clap-dev librust-hex-dev librust-itoa-dev "
+                    "librust-serde-json-dev librust-thiserror-dev\n")
         self.assertEqual(list(self.clone.root.glob("out/rust/wurstlinen.b*")), [])
         for option in ("--install", "--install-library", "--package"):
             self.assertEqual(self.clone.run("./wurstlinen", option, "new/folder").returncode, 125)
             self.assertFalse((self.clone.root / "new").exists(), option)
         self.clone.put_cargo()
         self.expect("decode 00", 0, ANSWER, COMPILING)
+
+    def test_a_target_without_std_is_named(self) -> None:
+        self.without_kit()
+        self.clone.put_cargo(NO_STD)
+        self.expect("decode 00", 125, "", f"{COMPILING}wurstlinen: the program isn't built: rustc has no std for its "
+                                          "target: install that, or another rustc\n")
+        self.assertEqual(list(self.clone.root.glob("out/rust/wurstlinen.b*")), [])
 
     def test_another_kit_is_named_and_proves_anew(self) -> None:
         (self.clone.root / "KIT").write_text("kit-of-tests logic 1\n")
