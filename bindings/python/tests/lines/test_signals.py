@@ -23,6 +23,7 @@ UID = "1234:00000001"
 OLD = f"uid,label\n{UID},Old\n"
 NEW = "uid,label,address,personality,model,slots\n1234:00000001,Lamp,1,1,Simulated fixture,1\n"
 WANTED = f"uid,label\n{UID},Front\n"
+UNPATCHED, PATCHED = f"uid,address,slots\n{UID},7,3\n", f"uid,address,slots\n{UID},1,3\n"
 LOG = '{"number":0,"operation":"unmute","frame":"cc","reply":""}\n'
 SIGNALS = (signal.SIGKILL, signal.SIGINT)
 # Each step gets one of these, too.
@@ -181,6 +182,17 @@ class Signals(LongTestCase):
             self.assertEqual(self.file.read_text(), WANTED)
 
         self.each(["apply", str(self.file), "--line", f"enttec:{self.emulator.path}"], begin, check)
+
+    def test_patch(self) -> None:
+        def begin() -> None:
+            for path in self.file.parent.iterdir():
+                path.unlink()
+            self.file.write_text(UNPATCHED)
+
+        def check(status: int) -> None:
+            self.assertIn(self.file.read_text(), (PATCHED,) if status == 0 else (UNPATCHED, PATCHED))
+
+        self.each(["patch", str(self.file), "--from", "1"], begin, check)
 
     def test_a_page(self) -> None:
         program, log = self.place / "program", self.place / "log"
