@@ -21,7 +21,8 @@ class Stranger:
     def __init__(self, *lines: object) -> None:
         self._place = Place("rig:/it")
         self._place.listen()
-        self._said = b"".join((each if isinstance(each, bytes) else json.dumps(each).encode()) + b"\n" for each in lines)
+        said = (each if isinstance(each, bytes) else json.dumps(each).encode() for each in lines)
+        self._said = b"".join(each + b"\n" for each in said)
         self._thread = threading.Thread(target=self._run)
         self._thread.start()
 
