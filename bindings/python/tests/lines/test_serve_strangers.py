@@ -10,8 +10,10 @@ from common import TestCase, needs_library
 from moments import held
 from servers import SECONDS, here, runtime
 from test_closing import Waiting
-from test_serve import LEFT, Gate
+from test_serve import FIVE, LEFT, Gate
 from wurstlinen import LineFailed, SharedClient, connect
+from wurstlinen.lines import OpenLine, Rig
+from wurstlinen.shared import worker
 from wurstlinen.shared.listening import Place
 
 
@@ -95,3 +97,32 @@ class Closing(TestCase):
         with runtime(), Stranger(GREETING), connect("rig:/it") as client, \
                 mock.patch("wurstlinen.shared.connection.ANSWER_SECONDS", SECONDS):
             Waiting(client.discover).ends(self, client.close, LineFailed, "isn't connected any more|has ended")
+
+    def test_an_end_while_the_line_is_being_opened_again(self) -> None:
+        class Adapter(Rig):
+            """A rig whose adapter is there, or gone."""
+
+            is_there = True
+            is_closed = False
+
+            def close(self) -> None:
+                self.is_closed = True
+
+        made: List[Adapter] = []
+        opens, may_open = threading.Event(), threading.Event()
+
+        def make() -> OpenLine:
+            if made:
+                opens.set()
+                may_open.wait(SECONDS)
+            made.append(Adapter(FIVE))
+            return made[-1]
+
+        with mock.patch.object(worker, "SOON_SECONDS", 0.0), mock.patch.object(worker, "END_SECONDS", 0.0):
+            with here(make) as server:
+                made[0].is_there = False
+                server.worker.wake()
+                self.assertTrue(opens.wait(SECONDS))
+            may_open.set()
+            server.worker._thread.join(SECONDS)
+        self.assertEqual([each.is_closed for each in made], [True, True])
