@@ -12,7 +12,7 @@ from pathlib import Path
 from typing import Iterator, List, Optional, Tuple
 from unittest import mock
 
-from common import TestCase, folder, needs_library
+from common import LongTestCase, TestCase, folder, needs_library
 from fronts import called
 from moments import FAULTS, Trace, elsewhere
 from test_closing import Waiting
@@ -104,7 +104,7 @@ def on(*answers: Optional[bytes]) -> Iterator[Tuple[Script, Daemon]]:
         yield script, daemon
 
 
-class Worst(TestCase):
+class Worst(LongTestCase):
     """Exceptions at any place, and a close from another thread."""
 
     def test_an_exception_at_each_line_of_a_call(self) -> None:
