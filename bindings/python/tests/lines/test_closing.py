@@ -142,7 +142,10 @@ class Adapters(TestCase):
                 began = time.monotonic()
                 emulator.__exit__(None, None, None)
                 self.assertLess(time.monotonic() - began, SECONDS + STANDSTILL)
-        time.sleep(0.1)
+        # The threads end when they next have a processor.
+        until = time.monotonic() + STANDSTILL
+        while held() != before and time.monotonic() < until:
+            time.sleep(0.01)
         self.assertEqual(held(), before)
 
 

@@ -5,16 +5,20 @@
 from __future__ import annotations
 
 import contextlib
+import itertools
 import socket
 import threading
 from pathlib import Path
 from typing import Iterator, List, Optional, Tuple
 from unittest import mock
 
-from common import TestCase, folder, needs_library
+from common import LongTestCase, TestCase, folder, needs_library
 from fronts import called
+from moments import FAULTS, Trace, elsewhere
+from test_closing import Waiting
 from wurstlinen import (
-    AckType, Completion, Kind, LineFailed, ReplyHead, Request, RequestClass, ResponseClass, RunFaultKind, Status, Uid,
+    AckType, Completion, Discovery, Kind, LineFailed, ReplyHead, Request, RequestClass, ResponseClass, RunFaultKind,
+    Status, Uid,
 )
 from wurstlinen.olad import client, rpc
 from wurstlinen.olad.client import OlaClient, universe_of
@@ -30,6 +34,7 @@ RESPONSE = bytes.fromhex("2400001008021001221e08001000180322020102288020300138ff
 REFUSED = bytes.fromhex("1c000010080410012216556e69766572736520646f65736e2774206578697374")
 # A list of 9abc:00000002 and 1234:00000001.
 UIDS = bytes.fromhex("0801120908bcb5021502000000120808b4241501000000")
+FOUND = [0x123400000001, 0x9ABC00000002]
 # A device with a port of RDM in universe 3, one of RDM without a universe, and one without RDM in universe 4.
 DEVICES = bytes.fromhex("0a3f080110051a0350726f2a1408001000180320012a0853657269616c203140012a0c080110002a046e6f6e65"
                         "40012a0b0802100018042a03646d783203352d31")
@@ -40,6 +45,10 @@ def answer(number: int, fields: bytes, kind: int = 2) -> bytes:
     """A message of olad's, which answers the call of this number."""
     message = encode([(1, kind), (2, number), (4, fields)])
     return len(message).to_bytes(3, "little") + b"\x10" + message
+
+
+# The only universe is 1.
+UNIVERSES = answer(1, encode([(1, encode([(1, 1)]))]))
 
 
 class Wire(TestCase):
@@ -95,6 +104,64 @@ def on(*answers: Optional[bytes]) -> Iterator[Tuple[Script, Daemon]]:
         yield script, daemon
 
 
+class Worst(LongTestCase):
+    """Exceptions at any place, and a close from another thread."""
+
+    def test_an_exception_at_each_line_of_a_call(self) -> None:
+        lists = [answer(number, UIDS) for number in (1, 2, 3)]
+        with on(lists[0]) as (_, daemon):
+            trace = Trace()
+            trace.run(lambda: daemon.uids(1))
+        self.assertGreater(len(trace.moments()), 50)
+        for moment, fault in zip(trace.moments(), itertools.cycle(FAULTS)):
+            with on(*lists) as (_, daemon):
+                with contextlib.suppress(KeyboardInterrupt, MemoryError):
+                    Trace(moment, fault).run(lambda: daemon.uids(1))
+                self.assertIn(elsewhere(lambda: asked(daemon)), (FOUND, None), str(moment))
+
+    def test_an_exception_loses_no_outcome(self) -> None:
+        def client_on(script: Script) -> OlaClient:
+            ola = OlaClient(f"ola:1:{script.port}")
+            ola.submit(IDENTIFY)
+            ola.discover(Kind.FULL)
+            return ola
+        answers = UNIVERSES, answer(2, RESPONSE[10:]), answer(3, UIDS)
+        with Script(*answers) as script, client_on(script) as ola:
+            trace = Trace()
+            trace.run(ola.queue.run)
+        for moment, fault in zip(trace.moments(), itertools.cycle(FAULTS)):
+            with Script(*answers) as script, client_on(script) as ola:
+                with contextlib.suppress(KeyboardInterrupt, MemoryError):
+                    Trace(moment, fault).run(ola.queue.run)
+                elsewhere(ola.queue.run)
+                kinds = [type(outcome) for outcome in iter(ola.next_outcome, None)]
+                self.assertEqual(kinds, [Completion, Discovery], str(moment))
+
+    def test_a_close(self) -> None:
+        with on(b"") as (_, daemon):
+            Waiting(lambda: daemon.uids(1)).ends(self, daemon.close, LineFailed, "the connection to olad is closed")
+            self.assertRaisesRegex(LineFailed, "the connection to olad is closed", daemon.uids, 1)
+
+    def test_threads_take_turns(self) -> None:
+        found: List[List[int]] = []
+        with on(*(answer(number, UIDS) for number in range(1, 41))) as (_, daemon):
+            threads = [threading.Thread(target=lambda: found.extend(daemon.uids(1) for _ in range(10)))
+                       for _ in range(4)]
+            for thread in threads:
+                thread.start()
+            for thread in threads:
+                thread.join()
+        self.assertEqual(found, [FOUND] * 40)
+
+
+def asked(daemon: Daemon) -> Optional[List[int]]:
+    """The devices that a daemon knows; None if the connection has ended."""
+    try:
+        return daemon.uids(1)
+    except LineFailed:
+        return None
+
+
 class Calls(TestCase):
     """Each call, and what may come instead of its answer."""
 
@@ -107,8 +174,7 @@ class Calls(TestCase):
 
     def test_lists(self) -> None:
         with on(answer(1, UIDS), answer(2, UIDS), answer(3, b""), answer(4, DEVICES)) as (script, daemon):
-            wanted = [0x123400000001, 0x9ABC00000002]
-            self.assertEqual((daemon.uids(1), daemon.discover(1, True), daemon.uids(1)), (wanted, wanted, []))
+            self.assertEqual((daemon.uids(1), daemon.discover(1, True), daemon.uids(1)), (FOUND, FOUND, []))
             self.assertEqual(daemon.ports(), [("Pro", "Serial 1", 3), ("Pro", "none", None)])
 
     def test_refusals_and_other_messages(self) -> None:
@@ -128,6 +194,13 @@ class Calls(TestCase):
                 self.assertRaises(LineFailed, daemon.uids, 1)
         with on(None) as (_, daemon):
             self.assertRaisesRegex(LineFailed, "olad has ended the connection", daemon.uids, 1)
+
+    def test_names_may_be_anybodys(self) -> None:
+        names = encode([(1, encode([(3, b"Pro\x1b]0;\xe2\x80\xae\xff"), (5, encode([(5, "B\xfchne\r"), (8, 1)]))]))])
+        with on(answer(1, names)) as (_, daemon):
+            self.assertEqual(daemon.ports(), [("Pro\\x1b]0;\\u202e\\xff", "B\xfchne\\r", None)])
+        with on(answer(1, b"\x1b[2Jno", 4)) as (_, daemon):
+            self.assertRaisesRegex(LineFailed, r"olad refused it: \\x1b\[2Jno", daemon.uids, 1)
 
     def test_no_daemon(self) -> None:
         with Script() as script:
@@ -157,8 +230,7 @@ class Clients(TestCase):
             self.assertRaises(ValueError, client.completion_of, 0, decode(encode(fields)))
 
     def test_calls(self) -> None:
-        universes = answer(1, encode([(1, encode([(1, 1)]))]))
-        with Script(universes, answer(2, RESPONSE[10:]), answer(3, b"", 4), answer(4, b"", 4)) as script:
+        with Script(UNIVERSES, answer(2, RESPONSE[10:]), answer(3, b"", 4), answer(4, b"", 4)) as script:
             with OlaClient(f"ola:1:{script.port}") as ola:
                 self.assertEqual((ola.submit(IDENTIFY), ola.submit(IDENTIFY), ola.discover(Kind.FULL)), (0, 1, 0))
                 self.assertIsNone(ola.next_outcome())
@@ -168,8 +240,7 @@ class Clients(TestCase):
                 self.assertIs(ola.next_discovery().fault.kind, RunFaultKind.LINE_FAILED)
 
     def test_a_daemon_that_goes_away(self) -> None:
-        universes = answer(1, encode([(1, encode([(1, 1)]))]))
-        with Script(universes, None) as script:
+        with Script(UNIVERSES, None) as script:
             status, _, errors = called("get", "1234:00000001", "device_label", "--line", f"ola:1:{script.port}")
             self.assertEqual((status, errors), (1, "wurstlinen: olad has ended the connection\n"))
 

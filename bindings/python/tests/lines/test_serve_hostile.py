@@ -15,6 +15,7 @@ from typing import Any, Dict, Iterator, List, Optional, Tuple
 from unittest import mock
 
 from common import TestCase, folder, needs_library
+from moments import held
 from servers import HELLO, SECONDS, Here, Program, here, runtime
 from test_serve import GET, LABEL, Gate, five
 from wurstlinen import Completion, LogFull, Status
@@ -295,6 +296,22 @@ class Places(TestCase):
                              [0o700, 0o600])
             found.close()
             self.assertFalse(found.path.exists())
+
+    def test_no_other_threads_file_gets_another_mode(self) -> None:
+        with runtime(), mock.patch("os.umask", side_effect=AssertionError("it is that of all threads")):
+            Place("rig:/it").close()
+
+    def test_what_cannot_be_made_leaves_nothing_open(self) -> None:
+        for call in ("fcntl.flock", "os.truncate", "os.write", "os.fchmod"):
+            before = held()
+            with runtime(), mock.patch(call, side_effect=OSError(errno.ENOSPC, "no space")):
+                self.assertRaisesRegex(OSError, "no space", Place, "rig:/it")
+            self.assertEqual(held(), before, call)
+
+    def test_what_systemd_does_not_say(self) -> None:
+        for count in ("", "x", "-1", "\u00b2", "1" * 5_000):
+            with mock.patch.dict(os.environ, LISTEN_PID=str(os.getpid()), LISTEN_FDS=count):
+                self.assertEqual(list(listening.activated()), [])
 
     def test_names(self) -> None:
         def name_of(line: str) -> str:

@@ -10,6 +10,7 @@ import termios
 import unittest
 import weakref
 from typing import Any, Callable, List, Optional, Tuple
+from unittest import mock
 
 from common import ENTTEC, LongTestCase, folder, needs_library, one
 from test_page import STAND_IN
@@ -23,13 +24,14 @@ UID = "1234:00000001"
 OLD = f"uid,label\n{UID},Old\n"
 NEW = "uid,label,address,personality,model,slots\n1234:00000001,Lamp,1,1,Simulated fixture,1\n"
 WANTED = f"uid,label\n{UID},Front\n"
+UNPATCHED, PATCHED = f"uid,address,slots\n{UID},7,3\n", f"uid,address,slots\n{UID},1,3\n"
 LOG = '{"number":0,"operation":"unmute","frame":"cc","reply":""}\n'
 SIGNALS = (signal.SIGKILL, signal.SIGINT)
 # Each step gets one of these, too.
 OTHERS = (signal.SIGTERM, signal.SIGHUP, signal.SIGPIPE)
 # What a command does to files and devices, as Python reports it, and calls that it doesn't report.
 EVENTS = {"open", "os.rename", "os.remove", "os.link", "os.chmod", "os.chown", "fcntl.flock", "fcntl.ioctl",
-          "subprocess.Popen"}
+          "subprocess.Popen", "os.mkdir", "os.truncate", "socket.bind"}
 CALLS = ((os, "write"), (os, "fsync"), (termios, "tcsetattr"))
 MODULES = (".py", ".pyc", ".so")
 # The first step of each kind is tried, and the last one.
@@ -181,6 +183,36 @@ class Signals(LongTestCase):
             self.assertEqual(self.file.read_text(), WANTED)
 
         self.each(["apply", str(self.file), "--line", f"enttec:{self.emulator.path}"], begin, check)
+
+    @needs_library
+    def test_serve(self) -> None:
+        runtime = self.place / "run"
+        runtime.mkdir(mode=0o700)
+
+        def begin() -> None:
+            for path in self.file.parent.iterdir():
+                path.unlink()
+
+        def check(status: int) -> None:
+            text = self.file.read_text() if self.file.exists() else ""
+            self.assertTrue(text.endswith("\n") if status == 0 else text.endswith("\n") or not text)
+            if status != KILLED:
+                self.assertEqual(list(runtime.rglob("*.socket")), [])
+
+        with mock.patch.dict(os.environ, XDG_RUNTIME_DIR=str(runtime)):
+            words = ["serve", "--line", f"enttec:{self.emulator.path}", "--idle", "0", "--log", str(self.file)]
+            self.each(words, begin, check)
+
+    def test_patch(self) -> None:
+        def begin() -> None:
+            for path in self.file.parent.iterdir():
+                path.unlink()
+            self.file.write_text(UNPATCHED)
+
+        def check(status: int) -> None:
+            self.assertIn(self.file.read_text(), (PATCHED,) if status == 0 else (UNPATCHED, PATCHED))
+
+        self.each(["patch", str(self.file), "--from", "1"], begin, check)
 
     def test_a_page(self) -> None:
         program, log = self.place / "program", self.place / "log"

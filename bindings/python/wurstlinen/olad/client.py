@@ -8,13 +8,14 @@ from __future__ import annotations
 import time
 from collections import deque
 from types import TracebackType
-from typing import Callable, Deque, List, Optional, Tuple, Type, Union
+from typing import Callable, Deque, List, Optional, Tuple, Type, Union, cast
 
 from .._queue import Outcome, kind_of
 from .._types import (
     AckType, Completion, Device, Discovery, Kind, OutcomeKind, ReplyHead, Request, RequestClass, ResponseClass,
     RunFault, RunFaultKind, Status, Uid,
 )
+from .._turns import Turns
 from ..line import LineFailed
 from .rpc import PORT, Daemon
 from .wire import Fields, bytes_in, number_in
@@ -47,6 +48,21 @@ def is_number(text: str, most: int) -> bool:
     return text.isascii() and text.isdigit() and len(text) <= len(str(most)) and int(text) <= most
 
 
+class Call:
+    """What was submitted. Its outcome is there once it has ended."""
+
+    def __init__(self, number: int, work: Union[Request, Kind]) -> None:
+        self.number = number
+        self.work = work
+        self.outcome: Optional[Outcome] = None
+
+    def failed(self) -> Outcome:
+        """Its outcome if olad fails."""
+        if isinstance(self.work, Request):
+            return Completion(self.number, Status.FAILED_TO_SEND, None, b"")
+        return Discovery(self.number, self.number + 1, RunFault(RunFaultKind.LINE_FAILED), ())
+
+
 class OlaQueue:
     """What olad has to do for one client. The calls are made one after another, by `run`."""
 
@@ -57,40 +73,49 @@ class OlaQueue:
     def __init__(self, daemon: Daemon, universe: int) -> None:
         self.daemon = daemon
         self.universe = universe
-        self.waiting: Deque[Tuple[int, Union[Request, Kind]]] = deque()
-        self.outcomes: Deque[Outcome] = deque()
+        self._turns = Turns()
+        # What isn't collected so far, oldest first.
+        self.calls: Deque[Call] = deque()
         # What is told why olad failed.
         self.on_failure: Callable[[str], None] = lambda reason: None
 
     def run(self, line: object = None) -> int:
-        """Has all done that was submitted, and returns how many outcomes that has."""
-        done = 0
-        while self.waiting:
-            number, work = self.waiting.popleft()
-            self.outcomes.append(self._requested(number, work) if isinstance(work, Request)
-                                 else self._discovered(number, work))
-            done += 1
-        return done
+        """Has all done that was submitted, and returns how many outcomes that has.
+
+        An exception that comes meanwhile, such as an interrupt, fails the call that is under way. Threads take turns.
+        """
+        return self._turns.alone(self._run)
+
+    def _run(self) -> int:
+        waiting = [call for call in tuple(self.calls) if call.outcome is None]
+        for call in waiting:
+            try:
+                call.outcome = self._done(call)
+            finally:
+                call.outcome = call.outcome or call.failed()
+        return len(waiting)
 
     def _step(self, line: object) -> int:
         return self.run()
 
-    def _requested(self, number: int, request: Request) -> Completion:
+    def _done(self, call: Call) -> Outcome:
+        """The outcome of a call that is made now."""
         try:
-            reply = self.daemon.request(self.universe, request.target.number, request.sub_device, request.pid,
-                                        request.data, request.request_class == RequestClass.SET)
-            return completion_of(number, reply)
+            if isinstance(call.work, Request):
+                return self._requested(call.number, call.work)
+            return self._discovered(call.number, call.work)
         except (LineFailed, ValueError) as fault:
             self.on_failure(str(fault))
-            return Completion(number, Status.FAILED_TO_SEND, None, b"")
+            return call.failed()
+
+    def _requested(self, number: int, request: Request) -> Completion:
+        reply = self.daemon.request(self.universe, request.target.number, request.sub_device, request.pid,
+                                    request.data, request.request_class == RequestClass.SET)
+        return completion_of(number, reply)
 
     def _discovered(self, number: int, kind: Kind) -> Discovery:
-        try:
-            found = self.daemon.discover(self.universe, kind == Kind.FULL)
-            return Discovery(number, number + 1, None, tuple(Device(Uid.from_number(uid)) for uid in found))
-        except (LineFailed, ValueError) as fault:
-            self.on_failure(str(fault))
-            return Discovery(number, number + 1, RunFault(RunFaultKind.LINE_FAILED), ())
+        found = self.daemon.discover(self.universe, kind == Kind.FULL)
+        return Discovery(number, number + 1, None, tuple(Device(Uid.from_number(uid)) for uid in found))
 
     def _sleep(self, seconds: float) -> None:
         time.sleep(seconds)
@@ -149,18 +174,18 @@ class OlaClient:
     def _wait(self, which: int, work: Union[Request, Kind]) -> int:
         number = self._numbers[which]
         self._numbers[which] += 1
-        self.queue.waiting.append((number, work))
+        self.queue.calls.append(Call(number, work))
         return number
+
+    def oldest(self) -> Optional[OutcomeKind]:
+        """The kind of its oldest outcome; None if there is none."""
+        outcome = self.queue.calls[0].outcome if self.queue.calls else None
+        return None if outcome is None else kind_of(outcome)
 
     def next_outcome(self) -> Optional[Outcome]:
         """Its oldest outcome; None if it has none."""
-        return self.queue.outcomes.popleft() if self.queue.outcomes else None
+        return None if self.oldest() is None else self.queue.calls.popleft().outcome
 
     def next_discovery(self) -> Optional[Discovery]:
         """The same, if it is a discovery's."""
-        first = self.queue.outcomes[0] if self.queue.outcomes else None
-        if first is None or kind_of(first) != OutcomeKind.DISCOVERY:
-            return None
-        outcome = self.queue.outcomes.popleft()
-        assert isinstance(outcome, Discovery)
-        return outcome
+        return cast(Discovery, self.next_outcome()) if self.oldest() == OutcomeKind.DISCOVERY else None

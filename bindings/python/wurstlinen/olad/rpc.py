@@ -1,13 +1,15 @@
 """Calls of OLA's daemon on the loopback interface (OLA 0.10.9, common/rpc and common/protocol/Ola.proto)."""
 from __future__ import annotations
 
+import contextlib
 import socket
 import struct
 import time
 from typing import Callable, List, NamedTuple, Optional, Sequence, Tuple, TypeVar
 
+from .._turns import Turns
 from ..line import LineFailed
-from .wire import BadMessage, Fields, Fixed, Value, bytes_in, decode, encode, messages_in, number_in
+from .wire import BadMessage, Fields, Fixed, Value, bytes_in, decode, encode, messages_in, number_in, text_in
 
 Read = TypeVar("Read")
 LOOPBACK = "127.0.0.1"
@@ -29,6 +31,10 @@ class NoDaemon(LineFailed):
     """No olad listens."""
 
 
+class Refused(LineFailed):
+    """olad refused a call."""
+
+
 class Port(NamedTuple):
     """An output port with RDM, and its universe, if it has one."""
 
@@ -38,18 +44,27 @@ class Port(NamedTuple):
 
 
 class Daemon:
-    """A connection to olad. Raises NoDaemon, and LineFailed if a call fails."""
+    """A connection to olad. Raises NoDaemon, and LineFailed if a call fails. Threads take turns.
+
+    What comes amid a call, such as an interrupt, ends the connection: the next answer would be read from its middle.
+    """
 
     def __init__(self, port: int = PORT) -> None:
         try:
             self._socket = socket.create_connection((LOOPBACK, port), CONNECT_SECONDS)
         except OSError as fault:
             raise NoDaemon(f"olad doesn't listen on port {port}: {fault.strerror or fault}") from None
+        self._turns = Turns()
+        self._is_closed = False
         self._left = bytearray()
         self._number = 0
 
     def close(self) -> None:
-        """Closes it."""
+        """Closes it. A call of another thread fails."""
+        self._is_closed = True
+        # Who waits for an answer would go on to wait.
+        with contextlib.suppress(OSError):
+            self._socket.shutdown(socket.SHUT_RDWR)
         self._socket.close()
 
     def universes(self) -> List[int]:
@@ -77,6 +92,22 @@ class Daemon:
     def _call(self, name: str, fields: Sequence[Tuple[int, Value]], read: Callable[[Fields], Read],
               seconds: float = 0.0) -> Read:
         """What `read` reads in the answer to a call."""
+        def called() -> Read:
+            """The same, unless something comes amid the call."""
+            try:
+                return self._called(name, fields, read, seconds)
+            except Refused:
+                raise
+            except BaseException:
+                self.close()
+                raise
+
+        return self._turns.alone(called)
+
+    def _called(self, name: str, fields: Sequence[Tuple[int, Value]], read: Callable[[Fields], Read],
+                seconds: float) -> Read:
+        if self._is_closed:
+            raise self._ended()
         self._number += 1
         seconds = seconds or CALL_SECONDS
         message = encode([(1, REQUEST), (2, self._number), (3, name), (4, encode(fields))])
@@ -90,7 +121,11 @@ class Daemon:
         except socket.timeout:
             raise LineFailed(f"olad didn't answer within {seconds:g} seconds") from None
         except OSError as fault:
-            raise LineFailed(f"olad has ended: {fault.strerror or fault}") from None
+            raise self._ended(f": {fault.strerror or fault}") from None
+
+    def _ended(self, why: str = "") -> LineFailed:
+        """What is wrong with a connection that has ended."""
+        return LineFailed("the connection to olad is closed" if self._is_closed else f"olad has ended{why}")
 
     def _answer(self, until: float) -> Fields:
         """The answer to the last call. Raises LineFailed, BadMessage and OSError."""
@@ -98,11 +133,11 @@ class Daemon:
             message = decode(self._next(until))
             kind = number_in(message, 1)
             if kind == DISCONNECT:
-                raise LineFailed("olad has ended the connection")
+                raise self._ended(" the connection")
             if number_in(message, 2) != self._number:
                 continue
             if kind == FAILED:
-                raise LineFailed(f"olad refused it: {bytes_in(message, 4).decode(errors='replace')}")
+                raise Refused(f"olad refused it: {text_in(message, 4)}")
             if kind != RESPONSE:
                 raise BadMessage(f"an answer of kind {kind}")
             return decode(bytes_in(message, 4))
@@ -120,7 +155,7 @@ class Daemon:
             self._socket.settimeout(max(0.001, until - time.monotonic()))
             data = self._socket.recv(READ_BYTES)
             if not data:
-                raise LineFailed("olad has ended the connection")
+                raise self._ended(" the connection")
             self._left += data
         found = bytes(self._left[:size])
         del self._left[:size]
@@ -136,10 +171,10 @@ def ports_in(reply: Fields) -> List[Port]:
     """The output ports with RDM in a list of devices."""
     found = []
     for device in messages_in(reply, 1):
-        name = bytes_in(device, 3).decode(errors="replace")
+        name = text_in(device, 3)
         for port in (each for each in messages_in(device, 5) if number_in(each, 8)):
             universe = number_in(port, 3) if 3 in port else None
-            found.append(Port(name, bytes_in(port, 5).decode(errors="replace"), universe))
+            found.append(Port(name, text_in(port, 5), universe))
     return found
 
 

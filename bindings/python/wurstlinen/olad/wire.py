@@ -107,6 +107,12 @@ def bytes_in(fields: Fields, field: int) -> bytes:
     return value
 
 
+def text_in(fields: Fields, field: int) -> str:
+    """The text in a field, with escapes for what a terminal would obey: it may be anybody's. Raises BadMessage."""
+    text = bytes_in(fields, field).decode(errors="backslashreplace")
+    return "".join(each if each.isprintable() else ascii(each)[1:-1] for each in text)
+
+
 def messages_in(fields: Fields, field: int) -> List[Fields]:
     """The messages in a field. Raises BadMessage."""
     return [decode(bytes_in({field: [value]}, field)) for value in fields.get(field, [])]

@@ -13,7 +13,7 @@ from .._types import (
     Completion, Device, Discovery, Kind, OutcomeKind, Request, RequestClass, Uid, data_of, pid_of, uid_of,
 )
 from ..line import Line, LineFailed
-from .connection import Connection, NotServed
+from .connection import Connection, NotServed, dict_of
 from .words import Keys, completion_of, devices_of, discovery_of, keys_of_request
 
 KIND_WORDS = {Kind.FULL: "full", Kind.INCREMENTAL: "incremental"}
@@ -38,7 +38,8 @@ class SharedQueue:
         self.line = ServersLine()
         # What the server calls its line, the controller's UID, and how many requests may be outstanding.
         self.name = str(hello["line"])
-        self.source = Uid.parse(hello["source"])
+        with self.connection.protocol():
+            self.source = Uid.parse(hello["source"])
         self.process = int(hello["process"])
         self.holder = f"process {self.process} ({self.source})"
         self.depth = int(hello["depth"])
@@ -103,11 +104,11 @@ class SharedQueue:
 
     def pause(self) -> None:
         """Has no run begun and no request sent until `resume`, or until this connection ends."""
-        self._is_paused = bool(self.connection.ask({"do": "pause"})["paused"])
+        self._is_paused = self.connection.ask({"do": "pause"}, paused_in)
 
     def resume(self) -> None:
         """Has them sent again. Another operator may still have paused the queue."""
-        self._is_paused = bool(self.connection.ask({"do": "resume"})["paused"])
+        self._is_paused = self.connection.ask({"do": "resume"}, paused_in)
 
     def is_paused(self) -> bool:
         """Whether sending is paused."""
@@ -116,24 +117,29 @@ class SharedQueue:
 
     def devices(self) -> Tuple[Device, ...]:
         """The devices that the last run without a fault found, ascending by UID."""
-        return devices_of(self.connection.ask({"do": "devices"}))
+        return self.connection.ask({"do": "devices"}, devices_of)
 
     def devices_run(self) -> int:
         """The number of the run that found them; 0 before the first."""
-        return int(self.connection.ask({"do": "devices"})["run"])
+        return self.connection.ask({"do": "devices"}, lambda keys: int(keys["run"]))
 
     def subscribe(self, to: Iterable[str]) -> None:
         """Has these changes reported, and no others."""
-        self.connection.ask({"do": "subscribe", "to": list(to)})
+        self.connection.ask({"do": "subscribe", "to": list(to)}, dict_of)
 
     def status(self) -> Keys:
         """How things are at the server."""
-        return self.connection.ask({"do": "status"})
+        return self.connection.ask({"do": "status"}, dict_of)
 
     def is_idle(self) -> bool:
         """Whether nothing of this client is outstanding or uncollected."""
         self.connection.receive(0.0)
         return not self.outstanding and not self.outcomes
+
+
+def paused_in(keys: Keys) -> bool:
+    """Whether an answer says that sending is paused."""
+    return bool(keys["paused"])
 
 
 class SharedClient:
@@ -170,7 +176,7 @@ class SharedClient:
         """Has a call accepted, and returns its number."""
         def submitted() -> int:
             """In one step, since another thread may receive the result."""
-            number = int(self.queue.connection.ask(keys)[name])
+            number = self.queue.connection.ask(keys, lambda answer: int(answer[name]))
             self.queue.outstanding.add((kind, number))
             return number
 

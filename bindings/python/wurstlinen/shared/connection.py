@@ -1,13 +1,15 @@
 """A client's end of a connection to the server of a line."""
 from __future__ import annotations
 
+import contextlib
 import json
 import os
 import select
+import socket
 import sys
 import time
 from collections import deque
-from typing import Callable, Deque, List, Optional, TypeVar
+from typing import Callable, Deque, Iterator, List, Optional, TypeVar
 
 from .. import _faults
 from .._faults import Fault
@@ -22,6 +24,8 @@ READ_BYTES = 1 << 16
 QUIET_SECONDS = 2.0
 ANSWER_SECONDS = 10.0
 MILLISECONDS = 1000
+# What a server says of itself, and of how things are.
+HELLO = {"line": str, "source": str, "process": int, "depth": int, "paused": bool, "there": bool, "clients": int}
 # What a server says, or does, to which the answer is to try again.
 PASSING = ("Closed", "HasEnded", "TooManyClients", "TooManyConnections")
 
@@ -71,14 +75,17 @@ class Connection:
     def _greeted(self) -> Keys:
         """The server's answer to hello. Raises LineBusy if it serves others, or ends: soon the line may be free."""
         try:
-            return self.ask({"do": "hello", "version": VERSION, "name": name_of_program()})
+            return self.ask({"do": "hello", "version": VERSION, "name": name_of_program()}, hello_in)
         except (Refused, HasEnded, Fault) as fault:
             if (fault.name if isinstance(fault, Refused) else type(fault).__name__) not in PASSING:
                 raise
             raise LineBusy(str(fault), f"the server of {self._line}") from None
 
     def close(self) -> None:
-        """Ends the connection. What is outstanding is still done."""
+        """Ends the connection. What is outstanding is still done. A call of another thread fails."""
+        # Who waits for the server would go on to wait.
+        with contextlib.suppress(OSError):
+            self._socket.shutdown(socket.SHUT_RDWR)
         self._socket.close()
 
     @property
@@ -100,9 +107,24 @@ class Connection:
 
         return self._turns.alone(done)
 
-    def ask(self, request: Keys) -> Keys:
-        """The answer to a request. Raises the queue's faults, Refused and LineFailed."""
-        return self.alone(lambda: self._ask(request))
+    def ask(self, request: Keys, read: Callable[[Keys], Made]) -> Made:
+        """What `read` reads in the answer to a request. Raises the queue's faults, Refused and LineFailed."""
+        def asked() -> Made:
+            """The same."""
+            answer = self._ask(request)
+            with self.protocol():
+                return read(answer)
+
+        return self.alone(asked)
+
+    @contextlib.contextmanager
+    def protocol(self) -> Iterator[None]:
+        """Ends the connection if what the server says isn't as the protocol has it. Then it raises LineFailed."""
+        try:
+            yield
+        except (KeyError, TypeError, ValueError, RecursionError, BadRequest):
+            self.close()
+            raise self._lost("says what is no object of the protocol") from None
 
     def _ask(self, request: Keys) -> Keys:
         self._number += 1
@@ -136,13 +158,14 @@ class Connection:
     def wait(self) -> None:
         """Takes what comes next. Raises LineFailed if the server doesn't live any more."""
         if not self.receive(QUIET_SECONDS):
-            self.ask({"do": "status"})
+            self.ask({"do": "status"}, dict_of)
 
     def _take(self, keys: Keys) -> None:
         """An object that answers no request."""
         if "error" in keys:
             self._farewell = Refused(str(keys["error"]), str(keys.get("text")))
-        else:
+            return
+        with self.protocol():
             self.on_object(keys)
 
     def _send(self, request: Keys) -> None:
@@ -176,24 +199,35 @@ class Connection:
         return self._objects.popleft()
 
     def _is_ready(self, until: float) -> bool:
-        if self.is_closed:
+        # Another thread may close it at any time.
+        descriptor = self._socket.fileno()
+        if descriptor < 0:
             raise self._lost("isn't connected any more")
         ready = select.poll()
-        ready.register(self._socket.fileno(), select.POLLIN)
+        ready.register(descriptor, select.POLLIN)
         return bool(ready.poll(max(0.0, until - time.monotonic()) * MILLISECONDS))
 
     def _read(self, data: bytes) -> List[Keys]:
         """The objects that these bytes complete."""
-        try:
-            found = [json.loads(line) for line in self._lines.add(data)]
-        except (ValueError, BadRequest):
-            raise self._lost("says what is no object of the protocol") from None
-        if not all(isinstance(each, dict) for each in found):
-            raise self._lost("says what is no object of the protocol")
-        return found
+        with self.protocol():
+            return [dict_of(json.loads(line)) for line in self._lines.add(data)]
 
     def _lost(self, why: str) -> LineFailed:
         return LineFailed(f"the server of {self._line} {why}")
+
+
+def dict_of(value: object) -> Keys:
+    """A value that is an object. Raises TypeError."""
+    if not isinstance(value, dict):
+        raise TypeError
+    return value
+
+
+def hello_in(keys: Keys) -> Keys:
+    """An answer to hello. Raises KeyError and TypeError."""
+    if any(type(keys[key]) is not kind for key, kind in HELLO.items()):
+        raise TypeError
+    return keys
 
 
 def checked(answer: Keys) -> Keys:

@@ -5,6 +5,7 @@ import contextlib
 import fcntl
 import grp
 import os
+import re
 import socket
 from pathlib import Path
 from typing import FrozenSet, Iterator, Optional
@@ -101,17 +102,16 @@ class Place:
 
     def _bound(self) -> socket.socket:
         listener = socket.socket(socket.AF_UNIX)
-        before = os.umask(0o777 & ~SOCKET_MODE)
         try:
+            # Its name gets this mode from the start. A umask would be that of all threads.
+            os.fchmod(listener.fileno(), SOCKET_MODE)
             listener.bind(str(self.path))
+            if self._group is not None:
+                os.chown(self.path, -1, self._group)
+                os.chmod(self.path, SOCKET_GROUP_MODE)
         except BaseException:
             listener.close()
             raise
-        finally:
-            os.umask(before)
-        if self._group is not None:
-            os.chown(self.path, -1, self._group)
-            os.chmod(self.path, SOCKET_GROUP_MODE)
         return listener
 
     @property
@@ -158,12 +158,15 @@ def _locked(path: Path, line: str) -> int:
     descriptor = os.open(path, os.O_RDWR | os.O_CREAT | os.O_NOFOLLOW | os.O_CLOEXEC, SOCKET_MODE)
     try:
         fcntl.flock(descriptor, fcntl.LOCK_EX | fcntl.LOCK_NB)
+        os.truncate(descriptor, 0)
+        os.write(descriptor, f"{os.getpid()}\n".encode())
     except BlockingIOError:
         process = os.read(descriptor, MOST_NUMBER_BYTES).decode(errors="replace").strip()
         os.close(descriptor)
         raise BadPlace(f"{line} is served by process {process or 'that begins now'}") from None
-    os.truncate(descriptor, 0)
-    os.write(descriptor, f"{os.getpid()}\n".encode())
+    except BaseException:
+        os.close(descriptor)
+        raise
     return descriptor
 
 
@@ -172,7 +175,7 @@ def activated() -> Iterator[socket.socket]:
     count = os.environ.pop("LISTEN_FDS", "")
     process = os.environ.pop("LISTEN_PID", "")
     os.environ.pop("LISTEN_FDNAMES", None)
-    if process != str(os.getpid()) or not count.isdigit():
+    if process != str(os.getpid()) or not re.fullmatch("[0-9]{1,4}", count):
         return
     for descriptor in range(FIRST_PASSED, FIRST_PASSED + int(count)):
         os.set_inheritable(descriptor, False)

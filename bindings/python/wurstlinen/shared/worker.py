@@ -162,6 +162,9 @@ class Worker:
             self.absence = "another adapter is in its place"
             return
         self._line = line
+        if self._is_ending.is_set():
+            # Who ends this may have closed the line before.
+            line.close()
         self._gone_since = None
         self._has_work.set()
         self._say({"event": "line", "there": True})
