@@ -1,15 +1,23 @@
 """A single discovery run."""
 
 import ctypes
+import enum
 from typing import Iterable, Optional, Tuple, Union
 
 from ._faults import check, given
+from ._forms import devices_of, run_fault
 from ._held import Held
 from ._library import Calls, DeviceForm, StartForm, buffer_of, room_for
-from ._types import (
-    DEFAULT_BUDGET, MOST_DEVICES, MOST_FRAME_BYTES, Device, Kind, Operation, RunFault, Search, Uid, devices_of,
-    run_fault, uid_of, whole)
+from ._types import DEFAULT_BUDGET, MOST_DEVICES, MOST_FRAME_BYTES, Device, Kind, RunFault, Search, Uid, uid_of, whole
 from .line import Line, LineFailed
+
+
+class Operation(enum.IntEnum):
+    """The operations of a run."""
+
+    UNMUTE = 0
+    MUTE = 1
+    BRANCH = 2
 
 
 class DiscoveryAgent(Held):

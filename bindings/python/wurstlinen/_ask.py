@@ -6,12 +6,10 @@ as the device says, and then takes messages until none is left. Here all of that
 from __future__ import annotations
 
 import time
-from dataclasses import dataclass
-from typing import Any, Callable, Dict, List, Optional, Protocol, Tuple, Union
+from typing import Any, Callable, Dict, List, NamedTuple, Optional, Protocol, Tuple, Union
 
 from ._types import (
-    AckType, Completion, Discovery, ReplyHead, Request, RequestClass, ResponseClass, Status, Uid, data_of, pid_of,
-    uid_of)
+    AckType, Completion, Outcome, ReplyHead, Request, RequestClass, ResponseClass, Status, Uid, data_of, pid_of, uid_of)
 from .line import Line
 
 QUEUED_MESSAGE = 0x0020
@@ -36,8 +34,6 @@ MOST_EXCHANGES = 1000
 FETCH_SECONDS = 5.0
 # What of that may be after the end of the wait.
 LAST_FETCH_SECONDS = 2.0
-
-Outcome = Union[Completion, Discovery]
 
 
 class AnyQueue(Protocol):
@@ -82,8 +78,7 @@ class Unserved(Exception):
         self.earlier = earlier
 
 
-@dataclass(frozen=True)
-class Answer:
+class Answer(NamedTuple):
     """How a request ended, after a wait if the device asked for one."""
 
     # The device's answer. It is still the ACK_TIMER if the answer didn't come in time.

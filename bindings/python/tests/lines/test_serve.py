@@ -18,7 +18,8 @@ from wurstlinen import (
     ResponseClass, SharedClient, Status, Uid, connect,
 )
 from wurstlinen.lines import OpenLine, Rig
-from wurstlinen.lines.packets import decode_packet, uid_text
+from wurstlinen.lines.packets import decode_packet
+from wurstlinen.lines.uids import uid_text
 from wurstlinen.shared import peer, server
 
 FIVE = ROOT / "bindings/examples/five_fixtures.json"

@@ -23,11 +23,11 @@ from fronts import called
 from servers import HELLO, SECONDS, TOOL, Program, command, environment, here, runtime, serve
 from test_serve import FIVE, FOUND, GET, LABEL, LEFT, TIMEOUT, Gate, five
 from wurstlinen import LineFailed, OutcomeKind, RunFaultKind, Status, Unserved, connect, tool
-from wurstlinen._queue import kind_of
+from wurstlinen._types import kind_of
 from wurstlinen.front.output import Failure, Output
 from wurstlinen.lines import EnttecPro, Rig, TextLine
 from wurstlinen.lines.emulator import Emulator, Widget
-from wurstlinen.lines.packets import uid_text
+from wurstlinen.lines.uids import uid_text
 from wurstlinen.shared import peer, place, server, worker
 from wurstlinen.shared.listening import Passed, Place
 from wurstlinen.tool import adapters, places, sharing
@@ -194,7 +194,7 @@ class Commands(LongTestCase):
         with runtime() as made:
             (made / "wurstlinen").mkdir()
             (made / "wurstlinen").chmod(0o755)
-            place.path_of(made / "wurstlinen", LINE).write_text("")
+            Path(place.path_of(str(made / "wurstlinen"), LINE)).write_text("")
             text = f"wurstlinen: {made}/wurstlinen isn't used: it isn't this user's own, with mode 0700\n"
             self.assertEqual(called("get", LEFT, "device_label", "--line", LINE), (0, "Front left\n", text))
             done = command(made, "serve", "--line", LINE)
@@ -463,7 +463,7 @@ class Ends(LongTestCase):
     def test_a_place_that_cannot_be_used_is_named(self) -> None:
         with folder() as made, socket.socket(socket.AF_UNIX) as listener:
             (made / "wurstlinen").mkdir(mode=0o700)
-            lock = place.path_of(made / "wurstlinen", LINE).with_suffix(".lock")
+            lock = Path(place.path_of(str(made / "wurstlinen"), LINE)).with_suffix(".lock")
             lock.symlink_to(made / "elsewhere")
             done = command(made, "serve", "--line", LINE)
             self.assertEqual((done.returncode, done.stderr),
@@ -477,7 +477,7 @@ class Ends(LongTestCase):
     def test_no_server_takes_a_socket_on_which_somebody_listens(self) -> None:
         with folder() as made, socket.socket(socket.AF_UNIX) as listener:
             (made / "wurstlinen").mkdir(mode=0o700)
-            path = str(place.path_of(made / "wurstlinen", LINE))
+            path = place.path_of(str(made / "wurstlinen"), LINE)
             listener.bind(path)
             listener.listen()
             done = command(made, "serve", "--line", LINE)
@@ -489,7 +489,7 @@ class Ends(LongTestCase):
     def test_a_socket_of_systemd(self) -> None:
         with folder() as made, socket.socket(socket.AF_UNIX) as listener:
             (made / "wurstlinen").mkdir(mode=0o700)
-            path = str(place.path_of(made / "wurstlinen", LINE))
+            path = place.path_of(str(made / "wurstlinen"), LINE)
             listener.bind(path)
             listener.listen()
             with Program(path, None) as program:

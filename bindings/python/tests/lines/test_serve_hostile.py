@@ -298,7 +298,7 @@ class Places(TestCase):
 
     def test_names(self) -> None:
         def name_of(line: str) -> str:
-            return place.path_of(Path("/run"), line).name
+            return Path(place.path_of("/run", line)).name
         self.assertEqual(name_of("enttec:/dev/ttyUSB0"), "dev-ttyUSB0.socket")
         # As `systemd-escape --path` has it.
         self.assertEqual(name_of("enttec:/dev/a-b/ü"), "dev-a\\x2db-\\xc3\\xbc.socket")
@@ -313,7 +313,11 @@ class Places(TestCase):
         finally:
             os.chdir(before)
         self.assertNotEqual(elsewhere, name_of("exec:sh far_end"))
-        self.assertRegex(name_of(f"enttec:/{'x' * 100}"), r"^enttec-[0-9a-f]{16}\.socket$")
+        self.assertEqual(name_of("text:/a-b,/c"), "text@-a\\x2db\\x2c-c.socket")
+        # `printf %s LONG | sha256sum`, where LONG is what comes after the kind.
+        for line, wanted in ((f"enttec:/{'x' * 100}", "enttec@e50e7828cbafcbee.socket"),
+                             (f"rig:/{'x' * 100}", "rig@e50e7828cbafcbee.socket")):
+            self.assertEqual(name_of(line), wanted)
 
     def test_an_adapter_keeps_its_name(self) -> None:
         with folder() as made, mock.patch.object(place, "BY_ID", str(made / "by-id")):
@@ -329,15 +333,15 @@ class Places(TestCase):
             self.assertEqual([place.canonical(line) for line in (device, link, other)], [device, link, link])
 
     def test_without_a_runtime_folder(self) -> None:
-        with folder() as made, mock.patch.object(place, "TEMPORARY_FOLDER", made):
+        with folder() as made, mock.patch.object(place, "TEMPORARY_FOLDER", str(made)):
             for runtime_folder in ("", "relative", "/nowhere", str(made / "file")):
                 with mock.patch.dict(os.environ, {"XDG_RUNTIME_DIR": runtime_folder}):
-                    self.assertEqual(place.own_folder(), made / f"wurstlinen-{os.geteuid()}")
+                    self.assertEqual(place.own_folder(), str(made / f"wurstlinen-{os.geteuid()}"))
             open_to_all = made / "open"
             open_to_all.mkdir()
             open_to_all.chmod(0o777)
             with mock.patch.dict(os.environ, {"XDG_RUNTIME_DIR": str(open_to_all)}):
-                self.assertEqual(place.own_folder().parent, made)
+                self.assertEqual(os.path.dirname(place.own_folder()), str(made))
                 found = Place("rig:/it")
                 self.assertEqual(stat.S_IMODE(os.lstat(found.path.parent).st_mode), 0o700)
                 found.close()
@@ -366,7 +370,7 @@ class Places(TestCase):
     def test_what_is_in_the_place_of_the_socket(self) -> None:
         with runtime() as made:
             (made / "wurstlinen").mkdir(mode=0o700)
-            path = place.path_of(made / "wurstlinen", "rig:/it")
+            path = Path(place.path_of(str(made / "wurstlinen"), "rig:/it"))
             for make, text in ((lambda: path.symlink_to("/elsewhere"), "it is a link"),
                                (lambda: path.write_text("kept"), "it is no socket"), (path.mkdir, "it is no socket")):
                 make()
@@ -454,8 +458,8 @@ class Places(TestCase):
     def test_a_group(self) -> None:
         with folder() as made:
             made.chmod(0o755)
-            with mock.patch.object(place, "SYSTEM_FOLDER", made / "wurstlinen"), \
-                    mock.patch.object(listening, "SYSTEM_FOLDER", made / "wurstlinen"), runtime():
+            with mock.patch.object(place, "SYSTEM_FOLDER", str(made / "wurstlinen")), \
+                    mock.patch.object(listening, "SYSTEM_FOLDER", str(made / "wurstlinen")), runtime():
                 found = Place("rig:/it", "nogroup")
                 modes = [(stat.S_IMODE(each.st_mode), each.st_gid)
                          for each in map(os.lstat, (found.path.parent, found.path))]

@@ -8,13 +8,13 @@ from typing import Callable, Deque, Iterable, Optional, Set, Tuple, Type, Union,
 
 from .._ask import DEFAULT_WAIT, Answer, Asker, Kept
 from .._faults import OtherOutcome
-from .._queue import Outcome, kind_of
 from .._types import (
-    Completion, Device, Discovery, Kind, OutcomeKind, Request, RequestClass, Uid, data_of, pid_of, uid_of,
+    Completion, Device, Discovery, Kind, Outcome, OutcomeKind, Request, RequestClass, Uid, data_of, kind_of, pid_of,
+    uid_of,
 )
 from ..line import Line, LineFailed
 from .connection import Connection, NotServed
-from .words import Keys, completion_of, devices_of, discovery_of, keys_of_request
+from .words import Keys, completion_of, devices_of, discovery_of, keys_of_request, uid_in
 
 KIND_WORDS = {Kind.FULL: "full", Kind.INCREMENTAL: "incremental"}
 SLICE_SECONDS = 0.1
@@ -38,7 +38,7 @@ class SharedQueue:
         self.line = ServersLine()
         # What the server calls its line, the controller's UID, and how many requests may be outstanding.
         self.name = str(hello["line"])
-        self.source = Uid.parse(hello["source"])
+        self.source = uid_in(hello["source"])
         self.process = int(hello["process"])
         self.holder = f"process {self.process} ({self.source})"
         self.depth = int(hello["depth"])

@@ -22,7 +22,7 @@ MOST_NUMBER_BYTES = 32
 FIRST_PASSED = 3
 
 
-def made_folder(group: Optional[int]) -> Path:
+def made_folder(group: Optional[int]) -> str:
     """The folder for the socket of a server. Raises BadPlace and OSError."""
     folder = own_folder() if group is None else SYSTEM_FOLDER
     try:
@@ -76,7 +76,7 @@ class Place:
     def __init__(self, line: str, group: Optional[str] = None) -> None:
         self._line = line
         self._group = None if group is None else group_number(group)
-        self.path = path_of(made_folder(self._group), line)
+        self.path = Path(path_of(made_folder(self._group), line))
         if len(os.fsencode(self.path)) > MOST_PATH_BYTES:
             raise BadPlace(f"{self.path} is longer than the {MOST_PATH_BYTES} bytes that a socket's name may have")
         self._lock = _locked(self.path.with_suffix(".lock"), line)
@@ -91,7 +91,7 @@ class Place:
     def _make_room(self) -> None:
         """Removes the socket of a server that has died. Raises BadPlace for one that somebody listens on."""
         try:
-            check_socket(self.path)
+            check_socket(str(self.path))
             # A server that systemd has started has no lock, and systemd has none.
             if is_listened_on(self.path):
                 raise BadPlace(f"{self._line} is served already: another program listens on {self.path}")

@@ -5,7 +5,6 @@ import argparse
 import os
 import signal
 import sys
-from pathlib import Path
 from types import FrameType
 from typing import TYPE_CHECKING, Iterator, List, Optional, Sequence, Tuple, Union
 
@@ -187,7 +186,7 @@ def is_other_log(name: str) -> bool:
         return False
 
 
-def run_explain(program: Path, words: List[str]) -> int:
+def run_explain(program: str, words: List[str]) -> int:
     """Explains a log, and writes a page about it. Raises Failure."""
     page = option(words, PAGE)
     if not page:
@@ -246,7 +245,7 @@ def run_program() -> int:
     return no_program("rdm_port") if program is None else become(program, sys.argv[1:])
 
 
-def become(program: Path, words: Sequence[str]) -> int:
+def become(program: str, words: Sequence[str]) -> int:
     """Runs the proved program in the place of this process."""
     for number in IGNORED:
         signal.signal(number, signal.SIG_DFL)

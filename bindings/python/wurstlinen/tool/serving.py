@@ -6,7 +6,6 @@ import re
 import subprocess
 import sys
 from contextlib import ExitStack
-from pathlib import Path
 from threading import Thread
 from typing import IO, Any, Dict, List, Optional, Sequence
 
@@ -15,7 +14,7 @@ from ..front.opening import opened
 from ..front.output import Output
 from ..front.watched import WatchedLine
 from ..lines import OpenLine, open_line, serve_text
-from ..lines.packets import uid_text
+from ..lines.uids import uid_text
 
 KINDS = ("enttec", "text", "exec", "rig")
 SECONDS_TO_END = 1.0
@@ -28,7 +27,7 @@ def is_served(text: Optional[str]) -> bool:
     return text is not None and text.partition(":")[0] in KINDS and ":" in text
 
 
-def serve(program: Path, words: Sequence[str], text: str, frames: Optional[str], wait_line: float) -> int:
+def serve(program: str, words: Sequence[str], text: str, frames: Optional[str], wait_line: float) -> int:
     """Runs the program with these words on a line, and returns its status."""
     output = Output(False)
     with opened(open_line, text, wait_line, output) as line, ExitStack() as stack:
