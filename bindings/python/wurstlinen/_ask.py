@@ -68,7 +68,7 @@ class AnyClient(Protocol):
 class Unserved(Exception):
     """The request has no result in time: the queue is paused, or its line has too much to do. It is still queued.
 
-    A server sends it later, even if its client has gone.
+    A server sends it later, unless its client has gone by then.
     """
 
     def __init__(self, queued: Tuple[Completion, ...] = (), earlier: Tuple[Outcome, ...] = ()) -> None:

@@ -250,8 +250,8 @@ def ended(client: AnyClient) -> Completion:
     from . import Completion
     outcome = client.next_outcome()
     if not isinstance(outcome, Completion):
-        raise LineFailed("the request has no result so far, and may still be sent: the queue is paused, or the server "
-                         "has no line now")
+        raise LineFailed("the request has no result so far, and is only sent if it was its turn: the queue is paused, "
+                         "or the server has no line now")
     return outcome
 
 

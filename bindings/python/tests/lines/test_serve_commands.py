@@ -161,13 +161,13 @@ class Commands(LongTestCase):
             for words, what in ((["get", LEFT, "device_label"], "request"), (["fixtures"], "discovery")):
                 status, _, errors = called(*words, "--line", LINE, "--wait", "0.2")
                 self.assertEqual((status, errors), (
-                    1, f"wurstlinen: the {what} has no result so far, and may still be sent: the queue is paused\n"))
+                    1, f"wurstlinen: the {what} has no result so far, and is only sent if it was its turn: the queue is paused\n"))
 
     def test_a_line_with_too_much_to_do(self) -> None:
         gate = Gate()
         with here(lambda: gate, name=LINE) as made, Program(made.place.path) as other:
             other.ask({"do": "discover"})
-            text = "has no result so far, and may still be sent: the line has too much to do\n"
+            text = "has no result so far, and is only sent if it was its turn: the line has too much to do\n"
             for words, what in ((["get", LEFT, "device_label"], "request"), (["fixtures"], "discovery")):
                 status, _, errors = called(*words, "--line", LINE, "--wait", "0.2")
                 self.assertEqual((status, errors), (1, f"wurstlinen: the {what} {text}"))

@@ -17,9 +17,9 @@ from unittest import mock
 from common import TestCase, folder, needs_library
 from servers import HELLO, SECONDS, Here, Program, here, runtime
 from test_serve import GET, LABEL, Gate, five
-from wurstlinen import Completion, LogFull, Status
+from wurstlinen import Completion, LogFull, Request, Status, Uid
 from wurstlinen.shared import journal, listening, peer, place, server, worker
-from wurstlinen.shared.lane import Lane
+from wurstlinen.shared.lane import Call, Lane
 from wurstlinen.shared.listening import Place
 from wurstlinen.shared.place import BadPlace
 
@@ -167,8 +167,8 @@ class Hostile(TestCase):
                 return self.outcomes.pop(0)
         foreign: Any = Foreign()
         lane = Lane(foreign)
-        lane.submit(foreign)
-        self.assertEqual([each.number for each in lane.collected()], [3])
+        lane.submit(Call(lane, 9, Request(Uid(0x1234, 1), 0x0082)))
+        self.assertEqual([each.number for each in lane.collected()], [9])
 
     def test_a_line_without_an_end(self) -> None:
         with self.served() as (made, good), Program(made.place.path) as bad:
@@ -296,6 +296,13 @@ class Places(TestCase):
             found.close()
             self.assertFalse(found.path.exists())
 
+    def test_modes_whatever_the_umask_is(self) -> None:
+        before = os.umask(0o377)
+        try:
+            self.test_modes()
+        finally:
+            os.umask(before)
+
     def test_names(self) -> None:
         def name_of(line: str) -> str:
             return Path(place.path_of("/run", line)).name
@@ -358,6 +365,7 @@ class Places(TestCase):
             made_by = [(lambda: target.symlink_to(other), "isn't used: it is no folder"),
                        (lambda: target.write_text(""), "isn't used: it is no folder"),
                        (lambda: (target.mkdir(), target.chmod(0o750)), own),
+                       (lambda: (target.mkdir(), target.chmod(0o500)), own),
                        *([(make_anothers, own)] if os.geteuid() == 0 else [])]
             for make, text in made_by:
                 make()
@@ -472,3 +480,6 @@ class Places(TestCase):
                 self.assertRaisesRegex(BadPlace, "others may write to it", place.connected, "rig:/it")
                 found.close()
                 self.assertRaisesRegex(BadPlace, "there is no group none", Place, "rig:/it", "none")
+                found.path.parent.chmod(0o750)
+                text = f"{found.path.parent} isn't used: it isn't the group daemon's, with mode 0750"
+                self.assertRaisesRegex(BadPlace, text, Place, "rig:/it", "daemon")

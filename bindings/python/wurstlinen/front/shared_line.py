@@ -19,6 +19,8 @@ class SharedLine(Watched):
     While a discovery is awaited, the runs of other programs are seen too, and forgotten when the next one begins.
     """
 
+    later = "is only sent if it was its turn"
+
     def __init__(self, queue: SharedQueue, output: Output, shown: Optional[str]) -> None:
         super().__init__(output, shown)
         self._queue = queue

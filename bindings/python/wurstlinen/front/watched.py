@@ -17,6 +17,8 @@ class Watched:
 
     # What is said of a discovery that ended well.
     ending = "discovery without a fault"
+    # What becomes of a request for which nobody waits any longer.
+    later = "may still be sent"
 
     def __init__(self, output: Output, shown: Optional[str]) -> None:
         self._output = output

@@ -77,7 +77,7 @@ class Work:
     def _unserved(self, what: str) -> Failure:
         """Why the server hasn't done something in time."""
         reason = self.line.absence or "the line has too much to do"
-        return Failure(FAILED, f"the {what} has no result so far, and may still be sent: {reason}", reason="unserved")
+        return Failure(FAILED, f"the {what} has no result so far, and {self.line.later}: {reason}", reason="unserved")
 
     def _acknowledged(self, uid: Uid, completion: Completion) -> Completion:
         """A completion that is an acknowledgement. Raises Failure for any other."""

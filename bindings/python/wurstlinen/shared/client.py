@@ -157,7 +157,7 @@ class SharedClient:
         self.close()
 
     def close(self) -> None:
-        """Ends the connection. What is outstanding is still done, as soon as it can be, and nobody hears of it."""
+        """Ends the connection. What is outstanding, and wasn't sent so far, isn't sent."""
         self.queue.connection.close()
 
     def submit(self, request: Request) -> int:

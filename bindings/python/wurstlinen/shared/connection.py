@@ -78,7 +78,7 @@ class Connection:
             raise LineBusy(str(fault), f"the server of {self._line}") from None
 
     def close(self) -> None:
-        """Ends the connection. What is outstanding is still done."""
+        """Ends the connection."""
         self._socket.close()
 
     @property

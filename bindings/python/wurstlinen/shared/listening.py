@@ -6,6 +6,7 @@ import fcntl
 import grp
 import os
 import socket
+import stat
 from pathlib import Path
 from typing import FrozenSet, Iterator, Optional
 
@@ -29,11 +30,22 @@ def made_folder(group: Optional[int]) -> str:
         os.mkdir(folder, OWN_MODE)
         if group is not None:
             os.chown(folder, -1, group)
-            os.chmod(folder, GROUP_MODE)
+        # Whatever the umask is.
+        os.chmod(folder, OWN_MODE if group is None else GROUP_MODE)
     except FileExistsError:
         pass
     check_folder(folder)
+    if group is not None:
+        check_group(folder, group)
     return folder
+
+
+def check_group(folder: str, group: int) -> None:
+    """Raises BadPlace if a folder that is there keeps a group out."""
+    found = os.lstat(folder)
+    can_enter = found.st_gid == group and found.st_mode & stat.S_IXGRP
+    if not can_enter and not found.st_mode & stat.S_IXOTH:
+        raise BadPlace(f"{folder} isn't used: it isn't the group {grp.getgrgid(group).gr_name}'s, with mode 0750")
 
 
 def group_number(name: str) -> int:

@@ -26,7 +26,7 @@ BY_ID = "/dev/serial/by-id"
 # A socket's address has so many bytes, and a zero.
 MOST_PATH_BYTES = 107
 OWN_MODE = 0o700
-OTHERS = 0o077
+MODE_BITS = 0o777
 WRITERS = 0o022
 DIGITS = 16
 # What systemd leaves as it is, besides letters and digits.
@@ -110,7 +110,7 @@ def check_folder(folder: str) -> FrozenSet[int]:
         if found.st_mode & WRITERS:
             raise BadPlace(f"{folder} isn't used: others may write to it")
         return frozenset((os.geteuid(), ROOT, found.st_uid))
-    if found.st_uid != os.geteuid() or found.st_mode & OTHERS:
+    if found.st_uid != os.geteuid() or found.st_mode & MODE_BITS != OWN_MODE:
         raise BadPlace(f"{folder} isn't used: it isn't this user's own, with mode 0700")
     return frozenset((os.geteuid(), ROOT))
 
