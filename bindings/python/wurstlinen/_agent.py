@@ -29,7 +29,7 @@ class DiscoveryAgent(Held):
     _calls = Calls("wurst_agent_")
 
     def __init__(self, source: Union[Uid, str], kind: Kind = Kind.FULL, known: Iterable[Union[Uid, str]] = (), *,
-                 budget: int = DEFAULT_BUDGET, search: Search = Search.STEADY, first_tn: int = 0) -> None:
+                 budget: int = DEFAULT_BUDGET, search: Search = Search.QUICK, first_tn: int = 0) -> None:
         super().__init__()
         numbers = [uid_of(uid).number for uid in known]
         start = StartForm(uid_of(source).number, whole(budget, 64, "budget"), int(kind), int(search),

@@ -197,7 +197,7 @@ class Controller(Queue):
     _calls = Calls("wurst_controller_")
 
     def __init__(self, source: Union[Uid, str], places: int = MOST_PLACES, *, budget: int = DEFAULT_BUDGET,
-                 search: Search = Search.STEADY) -> None:
+                 search: Search = Search.QUICK) -> None:
         super().__init__()
         check(self._calls.open(self._handle, setup_of(source, places, budget, search)))
 

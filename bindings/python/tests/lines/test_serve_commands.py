@@ -98,20 +98,24 @@ class Commands(LongTestCase):
                      if entry["operation"] == "mute" and entry["reply"]}
             self.assertEqual(mutes, {device["uid"] for device in FOUND})
 
-    def test_discover_prints_what_the_program_does(self) -> None:
+    def test_discover(self) -> None:
         with folder() as place, here(five, name=LINE):
             made_out, errors = io.StringIO(), io.StringIO()
 
             def discovered(*words: str) -> int:
                 with contextlib.redirect_stdout(made_out), contextlib.redirect_stderr(errors), \
-                        mock.patch.object(places, "program", lambda: Path("/nowhere/program")):
+                        mock.patch.object(places, "program", lambda: "/nowhere/program"):
                     return tool.main(["discover", "--line", LINE, *words])
             self.assertEqual(discovered("--quick", "--log", str(place / "log")), 0)
-            *lines, frames = made_out.getvalue().splitlines()
-            self.assertEqual(lines, [" ".join(filter(None, (each["uid"], each["control"].replace("0000", ""),
-                                                            each.get("binding", "")))) for each in FOUND])
-            self.assertEqual(frames, f"frames {len((place / 'log').read_text().splitlines()) - 1}")
-            for words in (["--budget", "9"], ["--known", LEFT], ["--source", "7a70:00000001"]):
+            frames = len((place / "log").read_text().splitlines()) - 1
+            self.assertEqual(made_out.getvalue().splitlines(), [
+                *(each["uid"] for each in FOUND[:-1]), f"{FOUND[-1]['uid']}  part of 9abc:00000002, has sub-devices",
+                f"5 devices, {frames} frames; discovery without a fault"])
+            made_out.truncate(made_out.seek(0))
+            self.assertEqual(discovered("--json"), 0)
+            self.assertEqual([json.loads(line) for line in made_out.getvalue().splitlines()],
+                             [*FOUND, {"devices": 5, "frames": frames, "fault": None}])
+            for words in (["--budget", "9"], ["--known", LEFT], ["--source", "7a70:00000001"], ["--steady"]):
                 with self.assertRaises(Failure) as raised:
                     discovered(*words)
                 self.assertEqual((raised.exception.status, str(raised.exception)), (
@@ -160,8 +164,8 @@ class Commands(LongTestCase):
             operator.next("id")
             for words, what in ((["get", LEFT, "device_label"], "request"), (["fixtures"], "discovery")):
                 status, _, errors = called(*words, "--line", LINE, "--wait", "0.2")
-                self.assertEqual((status, errors), (
-                    1, f"wurstlinen: the {what} has no result so far, and is only sent if it was its turn: the queue is paused\n"))
+                text = f"the {what} has no result so far, and is only sent if it was its turn: the queue is paused"
+                self.assertEqual((status, errors), (1, f"wurstlinen: {text}\n"))
 
     def test_a_line_with_too_much_to_do(self) -> None:
         gate = Gate()

@@ -231,7 +231,7 @@ class Server:
         return {"discovery": self._accepted(peer, KINDS[choice_in(keys, "kind", KINDS, "full")])}
 
     def _accepted(self, peer: Peer, what: Union[Request, Kind]) -> int:
-        if self._is_ending:
+        if self._is_ending or self._session.is_closed():
             raise Closed()
         assert peer.lane is not None
         return self._backlog.accept(peer.lane, what)
