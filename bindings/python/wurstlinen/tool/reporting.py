@@ -179,8 +179,9 @@ def translated(program: str, words: Sequence[str], output: Output) -> int:
     """Runs the program with these words, prints what it says, and returns its status."""
     report = Report(output)
     with ExitStack() as stack:
+        shown = streams()
         child = subprocess.Popen(["wurstlinen", *words], executable=program, encoding="utf-8",
-                                 errors="backslashreplace", **streams())  # type: ignore[call-overload]
+                                 errors="backslashreplace", stdout=shown["stdout"], stderr=shown["stderr"])
         wait = relay(child, report, stack)
         status = child.wait()
         wait()

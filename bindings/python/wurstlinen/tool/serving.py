@@ -5,7 +5,7 @@ import os
 import subprocess
 import sys
 from contextlib import ExitStack
-from typing import IO, Any, Dict, List, Optional, Sequence, Tuple
+from typing import Any, BinaryIO, Dict, List, Optional, Sequence, Tuple
 
 from ..commands import SOURCE
 from ..front.opening import opened
@@ -51,7 +51,7 @@ def serve(program: str, words: Sequence[str], text: str, frames: Optional[str], 
 
 
 def begun(program: str, words: Sequence[str], stack: ExitStack,
-          shown: Dict[str, int]) -> Tuple["subprocess.Popen[str]", IO[bytes], IO[bytes]]:
+          shown: Dict[str, int]) -> Tuple["subprocess.Popen[str]", BinaryIO, BinaryIO]:
     """The program, which has been started, with the streams of its frames and of their replies."""
     from_program, to_line = os.pipe()
     theirs = stack.enter_context(os.fdopen(from_program, "rb", 0))
