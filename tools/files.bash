@@ -31,32 +31,37 @@ put_link() (
     ln -s -- "$1" "$new" && mv -fT -- "$new" "$2"
 )
 
-# Puts a copy of a folder of Python files in the place of $2. The old folder is moved away before the new one takes its
-# name, and moved back if that fails.
-put_package() (
-    folder="$(mktemp -u -- "$(dirname -- "$2")/.${2##*/}.XXXXXX")" || exit
-    trap 'end_put_package "$2" "$folder"' EXIT
+# Puts a copy of a folder of Python files in the place of $2.
+put_package() {
+    put_folder copy_package "$1" "$2"
+}
+
+# Puts a folder in the place of $3, which the function $1 makes of the folder $2. The old folder is moved away before
+# the new one takes its name, and moved back if that fails.
+put_folder() (
+    folder="$(mktemp -u -- "$(dirname -- "$3")/.${3##*/}.XXXXXX")" || exit
+    trap 'end_put_folder "$3" "$folder"' EXIT
     mkdir -m 700 -- "$folder" || { trap - EXIT && exit 1; }
     # With these, the shell waits for a mv that is under way.
     trap 'exit 129' HUP
     trap 'exit 130' INT
     trap 'exit 143' TERM
-    copy_package "$1" "$folder/new" || exit
+    "$1" "$2" "$folder/new" || exit
     chmod -R u=rwX,go=rX -- "$folder/new" || exit
     # Another call may put its own folder there between the two steps.
     for ((tries = 0; tries < 10; tries++)); do
-        if [ -e "$2" ] || [ -L "$2" ]; then
+        if [ -e "$3" ] || [ -L "$3" ]; then
             rm -rf -- "$folder/old"
-            mv -T -- "$2" "$folder/old" 2> /dev/null || continue
+            mv -T -- "$3" "$folder/old" 2> /dev/null || continue
         fi
-        mv -T -- "$folder/new" "$2" 2> /dev/null && exit
+        mv -T -- "$folder/new" "$3" 2> /dev/null && exit
     done
-    echo "the folder $2 can't be replaced" >&2
+    echo "the folder $3 can't be replaced" >&2
     exit 1
 )
 
-# Removes the folder $2 of a call of put_package. If there is no package $1, the old one gets its name again.
-end_put_package() {
+# Removes the folder $2 of a call of put_folder. If there is no folder $1, the old one gets its name again.
+end_put_folder() {
     trap '' HUP INT TERM
     [ -e "$1" ] || [ -L "$1" ] || mv -T -- "$2/old" "$1" 2> /dev/null
     rm -rf -- "$2"

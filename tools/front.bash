@@ -109,19 +109,22 @@ ensure_library() {
     rm -rf "$made"
 }
 
-# Puts the command in Python into the place of $1, as one file.
+# Puts the command in Python into the place of $1, and what it loads into a folder of $2, which it knows as $3.
 install_front() (
-    staged="$(mktemp -d)" || exit
-    trap 'remove_at_end "$staged"' EXIT
-    mkdir "$staged/all" && copy_package "$root/bindings/python/wurstlinen" "$staged/all/wurstlinen" || exit
-    front_proof > "$staged/all/wurstlinen/PROOF" || exit
-    # Another version of Python compiles the sources. The bytes don't depend on when or where they were compiled.
-    PYTHONHASHSEED=0 python3 -m compileall -q -b -j 1 --invalidation-mode unchecked-hash -s "$staged/all" \
-        "$staged/all/wurstlinen" || exit
-    python3 -m zipapp --python "/usr/bin/env python3" --main wurstlinen.tool:call --output "$staged/one" \
-        "$staged/all" || exit
-    put "$staged/one" "$1" 755
+    put_folder copy_front "$root/bindings/python/wurstlinen" "$2/python" || exit
+    made="$(mktemp)" || exit
+    trap 'remove_at_end "$made"' EXIT
+    { echo "#!/usr/bin/env -S python3 -IS" && sed "s|@PACKAGES@|$3/python|" "$root/bindings/packages/wurstlinen.py"; } \
+        > "$made" || exit
+    put "$made" "$1" 755
 )
+
+# Makes the folder $2 with the package $1, compiled, and what it says of itself.
+copy_front() {
+    mkdir -- "$2" && copy_package "$1" "$2/wurstlinen" && front_proof > "$2/wurstlinen/PROOF" || return
+    # Another version of Python compiles the sources. The bytes don't depend on when or where they were compiled.
+    PYTHONHASHSEED=0 python3 -m compileall -q -j 1 --invalidation-mode unchecked-hash -s "$2" "$2/wurstlinen"
+}
 
 # What an installed command says of itself.
 front_proof() {

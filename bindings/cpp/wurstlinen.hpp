@@ -493,7 +493,7 @@ template <typename Form> struct Entries {
 class Controller : public detail::Queue<detail::ControllerCalls> {
 public:
     explicit Controller(Uid source, std::uint16_t places = WURST_MOST_PLACES,
-                        std::uint64_t budget = WURST_DEFAULT_BUDGET, wurst_search search = WURST_STEADY) {
+                        std::uint64_t budget = WURST_DEFAULT_BUDGET, wurst_search search = WURST_QUICK) {
         const wurst_setup setup{source.number(), budget, static_cast<std::uint32_t>(search), places};
         check(wurst_controller_open(handle_.get(), &setup));
     }
@@ -528,13 +528,13 @@ class Session : public detail::Queue<detail::SessionCalls> {
 public:
     // `entries`: the log's capacity.
     Session(Uid source, std::size_t entries, std::uint16_t places = WURST_MOST_PLACES,
-            std::uint64_t budget = WURST_DEFAULT_BUDGET, wurst_search search = WURST_STEADY) {
+            std::uint64_t budget = WURST_DEFAULT_BUDGET, wurst_search search = WURST_QUICK) {
         const wurst_setup setup{source.number(), budget, static_cast<std::uint32_t>(search), places};
         check(wurst_session_open(handle_.get(), &setup, entries));
     }
 
     Session(Uid source, WithoutLog, std::uint16_t places = WURST_MOST_PLACES,
-            std::uint64_t budget = WURST_DEFAULT_BUDGET, wurst_search search = WURST_STEADY) {
+            std::uint64_t budget = WURST_DEFAULT_BUDGET, wurst_search search = WURST_QUICK) {
         const wurst_setup setup{source.number(), budget, static_cast<std::uint32_t>(search), places};
         check(wurst_session_open_without_log(handle_.get(), &setup));
     }

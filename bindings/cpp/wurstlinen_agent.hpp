@@ -10,7 +10,7 @@ namespace wurst {
 class Agent {
 public:
     explicit Agent(Uid source, wurst_kind kind = WURST_FULL_DISCOVERY, const std::vector<Uid> &known = {},
-                   std::uint64_t budget = WURST_DEFAULT_BUDGET, wurst_search search = WURST_STEADY,
+                   std::uint64_t budget = WURST_DEFAULT_BUDGET, wurst_search search = WURST_QUICK,
                    std::uint8_t tn = 0) {
         std::vector<std::uint64_t> numbers;
         numbers.reserve(known.size() + 1);

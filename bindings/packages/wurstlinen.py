@@ -1,12 +1,12 @@
 """The command wurstlinen."""
+import os
 import signal
 import sys
-from pathlib import Path
 
 # While the package is loaded, an interrupt ends it without a word.
 signal.signal(signal.SIGINT, signal.SIG_DFL)
-# In an unpacked .tar.gz the package isn't where Python looks.
-sys.path.insert(0, str(Path(__file__).resolve().parent.parent / "lib/python3/site-packages"))
+# Python is told to look nowhere else but among its own modules.
+sys.path.append(os.path.join(os.path.dirname(os.path.realpath(__file__)), "@PACKAGES@"))
 from wurstlinen.tool import run  # noqa: E402
 
 sys.exit(run())

@@ -11,7 +11,7 @@ from typing import Dict, List, Optional, Tuple
 ROOT = os.path.dirname(os.path.dirname(os.path.dirname(os.path.abspath(__file__))))
 sys.path.insert(0, os.path.join(ROOT, "bindings", "python"))
 
-from wurstlinen import _faults, _library, _types, entries  # noqa: E402
+from wurstlinen import _agent, _faults, _library, _types, _wire, entries  # noqa: E402
 
 passed = failed = 0
 
@@ -194,8 +194,8 @@ def main() -> int:
     for name, kind in [("wurst_request_status", _types.Status), ("wurst_ack", _types.AckType),
                        ("wurst_search", _types.Search), ("wurst_kind", _types.Kind),
                        ("wurst_command_class", _types.RequestClass), ("wurst_response_class", _types.ResponseClass),
-                       ("wurst_outcome", _types.OutcomeKind), ("wurst_operation", _types.Operation),
-                       ("wurst_command_kind", _types.CommandKind), ("wurst_branch_reply", _types.BranchReplyKind),
+                       ("wurst_outcome", _types.OutcomeKind), ("wurst_operation", _agent.Operation),
+                       ("wurst_command_kind", _wire.CommandKind), ("wurst_branch_reply", _wire.BranchReplyKind),
                        ("wurst_call", entries.CallKind),
                        ("wurst_entry_kind", range(len(entries._READERS)))]:
         check(enum_of(header, name) == [int(one) for one in kind], f"the numbers of {name}")

@@ -246,8 +246,9 @@ static bool asks() {
 }
 
 int main() {
-    runs(wurst::Controller(source));
-    runs(wurst::Session(source, 10000));
+    // A steady search soon gives up on a device that doesn't mute.
+    runs(wurst::Controller(source, WURST_MOST_PLACES, WURST_DEFAULT_BUDGET, WURST_STEADY));
+    runs(wurst::Session(source, 10000, WURST_MOST_PLACES, WURST_DEFAULT_BUDGET, WURST_STEADY));
     outcomes();
     for (throws = 1; asks(); throws++) {
     }

@@ -21,8 +21,8 @@ sys.path.insert(0, os.path.join(ROOT, "bindings", "python"))
 
 from wurstlinen import DiscoveryAgent, RunFaultKind, Search, Uid  # noqa: E402
 from wurstlinen.lines.numbers import Pid, ResponseType  # noqa: E402
-from wurstlinen.lines.packets import (  # noqa: E402
-    Packet, decode_packet, encode_branch_reply, is_branch_frame, is_broadcast)
+from wurstlinen.lines.packets import Packet, decode_packet, encode_branch_reply, is_branch_frame  # noqa: E402
+from wurstlinen.lines.uids import is_broadcast  # noqa: E402
 
 SOURCE = Uid(0x7A70, 0x100)
 WORD = (1 << 64) - 1

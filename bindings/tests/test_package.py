@@ -480,7 +480,7 @@ class Memory(unittest.TestCase):
 
 class Loading(unittest.TestCase):
     def load(self, library: str) -> str:
-        done = subprocess.run([sys.executable, "-c", "import wurstlinen; str(wurstlinen.Uid(1, 2))"],
+        done = subprocess.run([sys.executable, "-c", "import wurstlinen; wurstlinen.Uid.parse('1234:00000001')"],
                               env={**os.environ, "WURSTLINEN_LIBRARY": library}, capture_output=True, text=True)
         return done.stderr.strip().splitlines()[-1] if done.returncode else ""
 

@@ -93,7 +93,7 @@ BYTES: Sequence[Tuple[str, Call, bytes, str]] = (
     ("26 bytes of a part", GET, PART.encode()[:26], "8"),
     ("all bytes of a part except the last", GET, PART.encode()[:27], "8"),
     ("a wrong sum", GET, PART.encode()[:-1] + b"\xa3", "10"),
-    ("a whole answer and a byte", GET, replace(PART, port_or_type=0).encode() + b"\xff", "0 00 0102"),
+    ("a whole answer and a byte", GET, PART._replace(port_or_type=0).encode() + b"\xff", "0 00 0102"),
     ("the longest answer", GET,
      bytes.fromhex("cc01ff7a70000001001234000000010000000000210060e7") + bytes(MOST_DATA) + b"\4\x66", LONGEST),
     ("a data length that is too large", GET,
@@ -135,7 +135,7 @@ def parts(lengths: Sequence[int], number: int = 0, last: int = ResponseType.ACK)
     """Parts of these lengths, the last one with the type `last`. Each byte is the low one of its part's index."""
     types = [ResponseType.ACK_OVERFLOW] * (len(lengths) - 1) + [last]
     return tuple(
-        replace(PART, transaction=(number + at) % 256, port_or_type=kind, data=bytes([at % 256]) * length).encode()
+        PART._replace(transaction=(number + at) % 256, port_or_type=kind, data=bytes([at % 256]) * length).encode()
         for at, (length, kind) in enumerate(zip(lengths, types))
     )
 
@@ -208,10 +208,10 @@ def in_parts() -> Iterator[Case]:
     empty = [0] * MOST_PARTS
     yield heard("as many parts as an answer has", Heard(GET, parts(empty), joined(empty)))
     yield heard("a part too many", Heard(GET, parts(empty, last=ResponseType.ACK_OVERFLOW), "4"))
-    begun, other = PART.encode(), replace(PART, transaction=1, port_or_type=ResponseType.ACK)
+    begun, other = PART.encode(), PART._replace(transaction=1, port_or_type=ResponseType.ACK)
     for name, call, fields in OTHERS:
-        yield heard(f"{name} after a part", Heard(call, (begun, replace(other, **fields).encode()), "4"))
-    nack = replace(PART, port_or_type=ResponseType.NACK_REASON, transaction=2, data=b"\0\6").encode()
+        yield heard(f"{name} after a part", Heard(call, (begun, other._replace(**fields).encode()), "4"))
+    nack = PART._replace(port_or_type=ResponseType.NACK_REASON, transaction=2, data=b"\0\6").encode()
     yield heard(
         "an answer after one that was cut off, and after a whole one",
         Heard(GET, (begun, b""), "3"),
@@ -226,7 +226,7 @@ def frames() -> Iterator[Case]:
     calls = [GET] * 255 + [{"set": "ffff:ffffffff", "pid": "1000", "sub": ALL_SUB_DEVICES, "param": "01"}, GET]
     one = heard("the frames of 257 requests", *(Heard(it, (b"",), "1" if "param" in it else "3") for it in calls))
     get = Packet(DEVICE, SOURCE, 0, PORT, 0, 0, CommandClass.GET, 0x0060)
-    sent = [replace(get, transaction=number % 256).encode().hex() for number in range(len(calls))]
+    sent = [get._replace(transaction=number % 256).encode().hex() for number in range(len(calls))]
     sent[255] = "cc0119ffffffffffff7a7000000100ff0100ffff30100001010b0b"
     yield sends(one, sent)
     longest = heard("the longest frame", Heard({**SET, "param": "00" * MOST_DATA}, (b"",), "3"))

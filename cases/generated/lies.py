@@ -16,7 +16,8 @@ from ..checker.tables import ROOT
 sys.path += [str(ROOT / "bindings/python"), str(ROOT / "bindings/python/tests/lines")]
 from search import SOURCE, Controller, Corrupt  # noqa: E402
 from wurstlinen.lines import Rig  # noqa: E402
-from wurstlinen.lines.packets import decode_branch_reply, decode_packet, parse_uid, uid_text  # noqa: E402
+from wurstlinen.lines.packets import decode_branch_reply, decode_packet  # noqa: E402
+from wurstlinen.lines.uids import parse_uid, uid_text  # noqa: E402
 from wurstlinen.lines.scene import parse_scene  # noqa: E402
 
 BELOW, LIAR, NEXT, ABOVE = "0123:00000005", "1234:00000009", "1234:0000000a", "9abc:00000002"

@@ -15,7 +15,8 @@ from ..checker.tables import ROOT
 sys.path += [str(ROOT / "bindings/python"), str(ROOT / "bindings/python/tests/lines")]
 from search import PORT, SOURCE  # noqa: E402
 from wurstlinen.lines.numbers import CommandClass, Pid, ResponseType  # noqa: E402
-from wurstlinen.lines.packets import ALL_DEVICES, Packet, encode_branch_reply, uid_text  # noqa: E402
+from wurstlinen.lines.packets import Packet, encode_branch_reply  # noqa: E402
+from wurstlinen.lines.uids import ALL_DEVICES, uid_text  # noqa: E402
 
 UIDS: Dict[str, int] = {
     "found": 0x123400000001,

@@ -48,6 +48,31 @@ echo "wurstlinen: two" >&2
 echo three
 exit 5
 """
+# What the program prints of a discovery with a fault, and of a session.
+FINDING = """#!/bin/sh
+echo "fault 1 4444:00000009"
+echo "frames 9"
+cat >&2 << END
+wurstlinen: a remark
+wurstlinen: a fault in words; found until then:
+1234:00000001
+1234:00000002 0002 1234:00000001
+1234:00000003 0008
+END
+exit 1
+"""
+SERVING = """#!/bin/sh
+cat << END
+client 0 request 0: 0 00 4c61
+client 0 request 1: 0 00 -
+client 12 request 2: 3
+client 1 discovery 0: ok 1234:00000001 9abc:00000002
+client 1 discovery 1: fault 3
+fault: scene
+END
+echo "wurstlinen: it is a test" >&2
+exit 1
+"""
 NO_ADAPTER = "wurstlinen: no adapter is plugged in; --line LINE or WURSTLINEN_LINE names another line\n"
 # Unmutes all devices, which none answers: the source is 7ff0:00000001.
 FRAME = "cc0118ffffffffffff7ff000000001000100000010000300"
@@ -114,13 +139,15 @@ class Commands(Place):
                       ["discover", f"--line=rig:{FIXTURES}", "--source=7ff0:00000001"]):
             done = self.call(*words)
             self.assertEqual((done.returncode, done.stderr), (5, ""))
-            self.assertRegex(done.stdout, r"^discover --line FD --replies FD --source.7ff0:00000001\n\n$")
+            self.assertRegex(done.stdout, r"^discover --line FD --replies FD --quick --source.7ff0:00000001\n\n$")
         done = self.call("run", "a b", "--log", "c", "--line", f"rig:{FIXTURES}")
         self.assertEqual((done.returncode, done.stdout), (5, "run --line FD --replies FD a b --log c\n\n"))
 
     def test_a_discovery_has_the_lines_own_source(self) -> None:
         done = self.call("discover", WURSTLINEN_LINE=f"rig:{FIXTURES}")
         self.assertEqual((done.returncode, done.stderr), (5, ""))
+        self.assertRegex(done.stdout, r"^discover --line FD --replies FD --source 7ff0:00000001 --quick\n")
+        done = self.call("discover", "--steady", WURSTLINEN_LINE=f"rig:{FIXTURES}")
         self.assertRegex(done.stdout, r"^discover --line FD --replies FD --source 7ff0:00000001\n")
 
     @unittest.skipIf(adapters.chips(), "an adapter is plugged in")
@@ -146,6 +173,41 @@ class Commands(Place):
             self.assertNotIn("--frames", done.stdout)
         # These have no line that is served here.
         self.expect(["discover", "x", "--frames"], 4, "discover x --frames\n")
+
+    def test_what_a_discovery_prints(self) -> None:
+        """FORMATS, the program: the control field and the binding UID. E1.20 says what the field's bits mean."""
+        self.put_program(FINDING)
+        words = ["discover", "--line", f"rig:{FIXTURES}"]
+        end = "the discovery ended early: the branch of 4444:00000009 alone was answered, but showed no new device"
+        self.expect(words, 1, "1234:00000001\n1234:00000002  part of 1234:00000001, has sub-devices\n"
+                              f"1234:00000003  behind a proxy\n3 devices, 9 frames; {end}\n", "wurstlinen: a remark\n")
+        done = self.call(*words, "--json")
+        self.assertEqual((done.returncode, done.stderr), (1, ""))
+        self.assertEqual([json.loads(line) for line in done.stdout.splitlines()], [
+            {"uid": "1234:00000001", "control": "0000"},
+            {"uid": "1234:00000002", "control": "0002", "binding": "1234:00000001"},
+            {"uid": "1234:00000003", "control": "0008"},
+            {"devices": 3, "frames": 9, "fault": end.partition(": ")[2]}])
+        # What is printed for a file is the program's own.
+        self.assertIn("fault 1 4444:00000009\n", self.call("discover", "a").stdout)
+        self.assertEqual(self.call("discover", "a", "--json").stdout, done.stdout)
+
+    def test_a_session_as_json(self) -> None:
+        self.put_program(SERVING)
+        wanted = [{"client": 0, "request": 0, "status": 0, "ack": 0, "data": "4c61"},
+                  {"client": 0, "request": 1, "status": 0, "ack": 0, "data": ""},
+                  {"client": 12, "request": 2, "status": 3},
+                  {"client": 1, "discovery": 0, "fault": None, "devices": ["1234:00000001", "9abc:00000002"]},
+                  {"client": 1, "discovery": 1, "fault": "the run has used up its budget of frames"},
+                  {"error": {"text": "it is a test", "reason": "scene"}}]
+        for more in ([], ["--line", f"rig:{FIXTURES}"]):
+            done = self.call("run", "a", "--json", *more)
+            self.assertEqual((done.returncode, done.stderr), (1, ""))
+            self.assertEqual([json.loads(line) for line in done.stdout.splitlines()], wanted)
+
+    def test_quick_and_steady(self) -> None:
+        self.expect(["discover", "--line", f"rig:{FIXTURES}", "--quick", "--steady"], 2, "fault: command line\n",
+                    "wurstlinen: --steady and --quick exclude each other\n")
 
     def test_progress_on_a_terminal(self) -> None:
         self.put_program(TALKING.format(frame=with_sum(FRAME)))
@@ -525,7 +587,8 @@ class Repository(unittest.TestCase):
         for more in ([], ["--quick"], ["--log", "x"]):
             done = self.clone.run("./wurstlinen", "discover", *more)
             self.assertEqual(done.returncode, 0, done.stderr)
-            wanted = " ".join(["the program: discover --line FD --replies FD --source 7ff0:00000001", *more])
+            wanted = " ".join(["the program: discover --line FD --replies FD --source 7ff0:00000001 --quick",
+                               *(each for each in more if each != "--quick")])
             self.assertEqual(re.sub(r"/dev/fd/\d+", "FD", done.stdout), f"{wanted}\n")
         for words in (["discover", "VERSION"], ["discover", "--line=out", "--source=a"], ["discover", "--", "VERSION"]):
             self.assertEqual(self.clone.run("./wurstlinen", *words).stdout, f"the program: {' '.join(words)}\n")

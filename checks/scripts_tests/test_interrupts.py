@@ -5,7 +5,6 @@ import shutil
 import signal
 import subprocess
 import unittest
-import zipfile
 from pathlib import Path
 from typing import Dict, List, Optional, Tuple
 
@@ -24,13 +23,8 @@ Tree = Dict[str, bytes]
 
 
 def data_of(path: Path) -> bytes:
-    """Where a link leads, what a whole archive of Python's files has, whose members have times, or a file's bytes."""
-    if path.is_symlink():
-        return str(path.readlink()).encode()
-    if not zipfile.is_zipfile(path):
-        return path.read_bytes()
-    with zipfile.ZipFile(path) as archive:
-        return repr(sorted((member.filename, member.CRC) for member in archive.infolist())).encode()
+    """Where a link leads, or a file's bytes."""
+    return str(path.readlink()).encode() if path.is_symlink() else path.read_bytes()
 
 
 def files_in(folder: Path) -> Tree:

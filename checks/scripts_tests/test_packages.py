@@ -267,8 +267,9 @@ class Packages(unittest.TestCase):
             self.assertEqual(self.clone.run("./wurstlinen", option, str(self.folder / option)).returncode, 0)
         package = self.folder / "--install-library/lib/python3/site-packages/wurstlinen"
         self.assertFalse((package / "libwurstlinen.so.0").exists())
-        with zipfile.ZipFile(self.folder / "--install/wurstlinen") as front:
-            self.assertEqual([name for name in front.namelist() if ".so" in name], [])
+        package = self.folder / "--install/libexec/wurstlinen/python/wurstlinen"
+        self.assertTrue((package / "_library.py").exists())
+        self.assertFalse((package / "libwurstlinen.so.0").exists())
 
     def test_libraries(self) -> None:
         root = self.unpacked(*PACKAGES)

@@ -1,15 +1,23 @@
 """A single discovery run."""
 
 import ctypes
+import enum
 from typing import Iterable, Optional, Tuple, Union
 
 from ._faults import check, given
+from ._forms import devices_of, run_fault
 from ._held import Held
 from ._library import Calls, DeviceForm, StartForm, buffer_of, room_for
-from ._types import (
-    DEFAULT_BUDGET, MOST_DEVICES, MOST_FRAME_BYTES, Device, Kind, Operation, RunFault, Search, Uid, devices_of,
-    run_fault, uid_of, whole)
+from ._types import DEFAULT_BUDGET, MOST_DEVICES, MOST_FRAME_BYTES, Device, Kind, RunFault, Search, Uid, uid_of, whole
 from .line import Line, LineFailed
+
+
+class Operation(enum.IntEnum):
+    """The operations of a run."""
+
+    UNMUTE = 0
+    MUTE = 1
+    BRANCH = 2
 
 
 class DiscoveryAgent(Held):
@@ -21,7 +29,7 @@ class DiscoveryAgent(Held):
     _calls = Calls("wurst_agent_")
 
     def __init__(self, source: Union[Uid, str], kind: Kind = Kind.FULL, known: Iterable[Union[Uid, str]] = (), *,
-                 budget: int = DEFAULT_BUDGET, search: Search = Search.STEADY, first_tn: int = 0) -> None:
+                 budget: int = DEFAULT_BUDGET, search: Search = Search.QUICK, first_tn: int = 0) -> None:
         super().__init__()
         numbers = [uid_of(uid).number for uid in known]
         start = StartForm(uid_of(source).number, whole(budget, 64, "budget"), int(kind), int(search),

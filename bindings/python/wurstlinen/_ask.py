@@ -7,12 +7,10 @@ GET whose answer may lack its first parts is made again.
 from __future__ import annotations
 
 import time
-from dataclasses import dataclass, replace
-from typing import Any, Callable, Dict, List, NoReturn, Optional, Protocol, Tuple, Type, Union
+from typing import Any, Callable, Dict, List, NamedTuple, NoReturn, Optional, Protocol, Tuple, Type, Union
 
 from ._types import (
-    AckType, Completion, Discovery, ReplyHead, Request, RequestClass, ResponseClass, Status, Uid, data_of, pid_of,
-    uid_of)
+    AckType, Completion, Outcome, ReplyHead, Request, RequestClass, ResponseClass, Status, Uid, data_of, pid_of, uid_of)
 from .line import Line
 
 QUEUED_MESSAGE = 0x0020
@@ -39,8 +37,6 @@ MOST_REPEATS = 5
 FETCH_SECONDS = 5.0
 # What of that may be after the end of the wait.
 LAST_FETCH_SECONDS = 2.0
-
-Outcome = Union[Completion, Discovery]
 
 
 class AnyQueue(Protocol):
@@ -87,7 +83,7 @@ class Unanswered(Exception):
 class Unserved(Unanswered):
     """The request has no result in time: the queue is paused, or its line has too much to do. It is still queued.
 
-    A server sends it later, even if its client has gone.
+    A server sends it later, unless its client has gone by then.
     """
 
     WHY = "the request has no result so far: the queue is paused, or its line has too much to do"
@@ -102,8 +98,7 @@ class Incomplete(Unanswered):
     WHY = "no whole answer came: other GETs of the same break off again and again"
 
 
-@dataclass(frozen=True)
-class Answer:
+class Answer(NamedTuple):
     """How a request ended, after a wait if the device asked for one."""
 
     # The device's answer. It is still the ACK_TIMER if the answer didn't come in time.
@@ -392,7 +387,7 @@ class Asking:
 
 def repeated(request: Request) -> Request:
     """A request for the same answer once more, also if the device took it out of its messages."""
-    return replace(request, data=GET_LAST_MESSAGE) if request.pid in (QUEUED_MESSAGE, STATUS_MESSAGES) else request
+    return request._replace(data=GET_LAST_MESSAGE) if request.pid in (QUEUED_MESSAGE, STATUS_MESSAGES) else request
 
 
 def is_echoed(request: Request) -> bool:

@@ -3,10 +3,10 @@
 import ctypes
 from typing import TYPE_CHECKING, Optional, Protocol, Union
 
+from ._forms import devices_of, run_fault
 from ._library import CompletionForm, DeviceForm, EndForm, room_for
 from ._types import (
-    MOST_DEVICES, MOST_PARAMETER_BYTES, AckType, Completion, Discovery, ReplyHead, ResponseClass, Status, devices_of,
-    run_fault)
+    MOST_DEVICES, MOST_PARAMETER_BYTES, AckType, Completion, Discovery, ReplyHead, ResponseClass, Status)
 
 if TYPE_CHECKING:
     from ._queue import Queue

@@ -8,18 +8,17 @@ from typing import Callable, DefaultDict, List, Optional, Tuple, Union, cast
 from ._ask import DEFAULT_WAIT, Answer, Asker, Kept
 from ._collecting import NO_NUMBER, Collecting, CollectingDiscovery, CollectingRequest
 from ._faults import Closed, OtherOutcome, check, given
+from ._forms import devices_of, form_of_request
 from ._held import Held, Unreturned
 from ._library import Call, Calls, DeviceForm, Setup, buffer_of, room_for
 from ._types import (
-    DEFAULT_BUDGET, MOST_DEVICES, MOST_FRAME_BYTES, MOST_PLACES, Completion, Device, Discovery, Kind, OutcomeKind,
-    Request, RequestClass, Search, Uid, data_of, devices_of, pid_of, uid_of, whole)
-from ._wire import form_of_request
+    DEFAULT_BUDGET, MOST_DEVICES, MOST_FRAME_BYTES, MOST_PLACES, Completion, Device, Discovery, Kind, Outcome,
+    OutcomeKind, Request, RequestClass, Search, Uid, data_of, kind_of, pid_of, uid_of, whole)
 from .line import Line, LineFailed
 
 NO_CLIENT = 255
 # A close ends a wait within this time.
 SLICE_SECONDS = 0.1
-Outcome = Union[Completion, Discovery]
 
 
 class Queue(Held):
@@ -198,7 +197,7 @@ class Controller(Queue):
     _calls = Calls("wurst_controller_")
 
     def __init__(self, source: Union[Uid, str], places: int = MOST_PLACES, *, budget: int = DEFAULT_BUDGET,
-                 search: Search = Search.STEADY) -> None:
+                 search: Search = Search.QUICK) -> None:
         super().__init__()
         check(self._calls.open(self._handle, setup_of(source, places, budget, search)))
 
@@ -305,7 +304,3 @@ class Client:
         queue = self.queue
         return kept.keep(lambda: check(queue._turns.alone(lambda: collecting.collect(queue, self.number))),
                          collecting.outcome)
-
-
-def kind_of(outcome: Outcome) -> OutcomeKind:
-    return OutcomeKind.REQUEST if isinstance(outcome, Completion) else OutcomeKind.DISCOVERY

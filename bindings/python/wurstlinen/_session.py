@@ -105,7 +105,7 @@ class Session(Queue, _Entries):
     _calls = Calls("wurst_session_")
 
     def __init__(self, source: Union[Uid, str], entries: int = 10_000, places: int = MOST_PLACES, *,
-                 budget: int = DEFAULT_BUDGET, search: Search = Search.STEADY, without_log: bool = False) -> None:
+                 budget: int = DEFAULT_BUDGET, search: Search = Search.QUICK, without_log: bool = False) -> None:
         super().__init__()
         self._logs: Unreturned[Log] = Unreturned()
         self._pages: Unreturned[Page] = Unreturned()

@@ -1,13 +1,10 @@
 """Values: UIDs, requests, outcomes."""
 
-import ctypes
 import enum
 import functools
-from dataclasses import dataclass
-from typing import ClassVar, Optional, Tuple, Union
+from typing import ClassVar, NamedTuple, Optional, Tuple, Union
 
-from ._faults import BadUid, check
-from ._library import LIBRARY, DeviceForm, buffer_of, room_for
+from ._faults import BadUid
 
 MOST_FRAME_BYTES = 257
 MOST_PARAMETER_BYTES = 231
@@ -52,10 +49,9 @@ class Uid:
     @classmethod
     def parse(cls, text: str) -> "Uid":
         """The UID that a text spells, as 7a70:00000001. Raises UidLength, UidSeparator or UidDigit."""
-        buffer, length = buffer_of(text.encode("utf-8", "surrogatepass"))
-        number = ctypes.c_uint64()
-        check(LIBRARY.wurst_uid_read(buffer, length, number))
-        return cls.from_number(number.value)
+        # Who reads no text needs no library.
+        from ._forms import read_uid
+        return cls.from_number(read_uid(text))
 
     @property
     def number(self) -> int:
@@ -75,9 +71,7 @@ class Uid:
         return self.device == 0xFFFFFFFF
 
     def __str__(self) -> str:
-        text = room_for(13)
-        check(LIBRARY.wurst_uid_write(self._number, text, 13))
-        return bytes(text).decode("ascii")
+        return f"{self.manufacturer:04x}:{self.device:08x}"
 
     def __repr__(self) -> str:
         return f"Uid.parse('{self}')"
@@ -170,27 +164,6 @@ class RunFaultKind(enum.IntEnum):
     ABORTED = 5
 
 
-class Operation(enum.IntEnum):
-    """The operations of a run."""
-
-    UNMUTE = 0
-    MUTE = 1
-    BRANCH = 2
-
-
-class CommandKind(enum.IntEnum):
-    UNMUTE = 0
-    BRANCH = 1
-    MUTE = 2
-    REQUEST = 3
-
-
-class BranchReplyKind(enum.IntEnum):
-    SILENT = 0
-    ONE = 1
-    COLLISION = 2
-
-
 def uid_of(uid: Union[Uid, str]) -> Uid:
     """A UID, or the one that a text spells."""
     return Uid.parse(uid) if isinstance(uid, str) else uid
@@ -210,8 +183,7 @@ def data_of(data: Union[bytes, str]) -> bytes:
     return data.encode("ascii") if isinstance(data, str) else data
 
 
-@dataclass(frozen=True)
-class Request:
+class Request(NamedTuple):
     """A request to a device, or to many."""
 
     target: Uid
@@ -221,8 +193,7 @@ class Request:
     request_class: RequestClass = RequestClass.GET
 
 
-@dataclass(frozen=True)
-class ReplyHead:
+class ReplyHead(NamedTuple):
     """What the last reply of a completed request says besides its data."""
 
     ack: AckType
@@ -231,8 +202,7 @@ class ReplyHead:
     sub_device: int
 
 
-@dataclass(frozen=True)
-class Completion:
+class Completion(NamedTuple):
     """How a request ended. Only COMPLETED has a `head`."""
 
     number: int
@@ -243,8 +213,7 @@ class Completion:
     may_be_incomplete: bool = False
 
 
-@dataclass(frozen=True)
-class Device:
+class Device(NamedTuple):
     """A device, with the control field and the binding UID of its first acknowledgement in a run."""
 
     uid: Uid
@@ -252,16 +221,14 @@ class Device:
     binding: Optional[Uid] = None
 
 
-@dataclass(frozen=True)
-class RunFault:
+class RunFault(NamedTuple):
     """Why a run ended early. Only CORRUPT has a `uid`."""
 
     kind: RunFaultKind
     uid: Optional[Uid] = None
 
 
-@dataclass(frozen=True)
-class Discovery:
+class Discovery(NamedTuple):
     """How a discovery ended, and the devices that its run found."""
 
     number: int
@@ -270,68 +237,8 @@ class Discovery:
     devices: Tuple[Device, ...]
 
 
-@dataclass(frozen=True)
-class Response:
-    """A device's response."""
-
-    source: Uid
-    dest: Uid
-    tn: int
-    ack: AckType
-    response_class: ResponseClass
-    pid: int
-    data: bytes = b""
-    sub_device: int = 0
-    count: int = 0
+Outcome = Union[Completion, Discovery]
 
 
-@dataclass(frozen=True)
-class MuteAck:
-    """What a device says when it acknowledges a mute."""
-
-    control: int
-    binding: Optional[Uid] = None
-
-
-@dataclass(frozen=True)
-class BranchReply:
-    """What came after a branch. Only ONE has a `uid`."""
-
-    kind: BranchReplyKind
-    uid: Optional[Uid] = None
-
-
-@dataclass(frozen=True)
-class Command:
-    """A controller's command. `target` is a mute's, `lo` and `hi` are a branch's."""
-
-    kind: CommandKind
-    source: Uid
-    tn: int
-    target: Optional[Uid] = None
-    lo: Optional[Uid] = None
-    hi: Optional[Uid] = None
-    request: Optional[Request] = None
-
-
-def uid_if(there: bool, number: int) -> Optional[Uid]:
-    return Uid.from_number(number) if there else None
-
-
-def run_fault(fault: int, corrupt: int) -> Optional[RunFault]:
-    if fault == 0:
-        return None
-    return RunFault(RunFaultKind(fault), uid_if(fault == RunFaultKind.CORRUPT, corrupt))
-
-
-def devices_of(forms: "ctypes.Array[DeviceForm]", count: int) -> Tuple[Device, ...]:
-    return tuple(
-        Device(Uid.from_number(form.uid), form.control, uid_if(form.has_binding, form.binding))
-        for form in forms[:count]
-    )
-
-
-def form_of_device(device: Device) -> DeviceForm:
-    binding = device.binding
-    number = 0 if binding is None else binding.number
-    return DeviceForm(device.uid.number, number, whole(device.control, 16, "control field"), binding is not None)
+def kind_of(outcome: Outcome) -> OutcomeKind:
+    return OutcomeKind.REQUEST if isinstance(outcome, Completion) else OutcomeKind.DISCOVERY

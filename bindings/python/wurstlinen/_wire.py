@@ -1,18 +1,72 @@
-"""Readers and writers of packets."""
+"""Readers and writers of packets, and what packets say."""
 
 import ctypes
+import enum
+from dataclasses import dataclass
 from typing import Optional
 
 from ._faults import check, given
-from ._library import LIBRARY, Call, CommandForm, MuteAckForm, RequestForm, ResponseForm, buffer_of, room_for
+from ._forms import form_of_device, form_of_request, uid_if
+from ._library import LIBRARY, Call, CommandForm, MuteAckForm, ResponseForm, buffer_of, room_for
 from ._types import (
-    MOST_FRAME_BYTES, MOST_PARAMETER_BYTES, AckType, BranchReply, BranchReplyKind, Command, CommandKind, Device,
-    MuteAck, Request, RequestClass, Response, ResponseClass, Uid, form_of_device, uid_if, whole)
+    MOST_FRAME_BYTES, MOST_PARAMETER_BYTES, AckType, Device, Request, RequestClass, ResponseClass, Uid, whole)
 
 
-def form_of_request(request: Request) -> RequestForm:
-    return RequestForm(request.target.number, int(request.request_class),
-                       whole(request.sub_device, 16, "sub-device"), whole(request.pid, 16, "PID"))
+class CommandKind(enum.IntEnum):
+    UNMUTE = 0
+    BRANCH = 1
+    MUTE = 2
+    REQUEST = 3
+
+
+class BranchReplyKind(enum.IntEnum):
+    SILENT = 0
+    ONE = 1
+    COLLISION = 2
+
+
+@dataclass(frozen=True)
+class Response:
+    """A device's response."""
+
+    source: Uid
+    dest: Uid
+    tn: int
+    ack: AckType
+    response_class: ResponseClass
+    pid: int
+    data: bytes = b""
+    sub_device: int = 0
+    count: int = 0
+
+
+@dataclass(frozen=True)
+class MuteAck:
+    """What a device says when it acknowledges a mute."""
+
+    control: int
+    binding: Optional[Uid] = None
+
+
+@dataclass(frozen=True)
+class BranchReply:
+    """What came after a branch. Only ONE has a `uid`."""
+
+    kind: BranchReplyKind
+    uid: Optional[Uid] = None
+
+
+@dataclass(frozen=True)
+class Command:
+    """A controller's command. `target` is a mute's, `lo` and `hi` are a branch's."""
+
+    kind: CommandKind
+    source: Uid
+    tn: int
+    target: Optional[Uid] = None
+    lo: Optional[Uid] = None
+    hi: Optional[Uid] = None
+    request: Optional[Request] = None
 
 
 def _frame(call: Call, *arguments: object, room: int = MOST_FRAME_BYTES) -> bytes:

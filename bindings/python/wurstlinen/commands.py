@@ -16,7 +16,7 @@ from typing import TYPE_CHECKING, Callable, List, Optional, Sequence, TextIO, Tu
 from .line import Line, LineFailed
 from .lines import open_line
 from .lines.opening import FORMS
-from .lines.packets import is_broadcast, parse_uid, uid_text
+from .lines.uids import is_broadcast, parse_uid, uid_text
 from .lines.waiting import DEFAULT_SECONDS, when_free
 
 if TYPE_CHECKING:
@@ -38,7 +38,7 @@ DEFAULT_WAIT = 10.0
 MOST_DATA_BYTES = 231
 # Python refuses to read very long numbers.
 MOST_DIGITS = 40
-VERSION = re.compile("([0-9]{1,3})[.]([0-9]{1,3})")
+VERSION = "([0-9]{1,3})[.]([0-9]{1,3})"
 ALL_SUB_DEVICES = 0xFFFF
 # The faults of a run, by their numbers.
 RUN_FAULTS = {
@@ -255,8 +255,8 @@ def ended(client: AnyClient) -> Completion:
     from . import Completion
     outcome = client.next_outcome()
     if not isinstance(outcome, Completion):
-        raise LineFailed("the request has no result so far, and may still be sent: the queue is paused, or the server "
-                         "has no line now")
+        raise LineFailed("the request has no result so far, and is only sent if it was its turn: the queue is paused, "
+                         "or the server has no line now")
     return outcome
 
 
@@ -402,7 +402,7 @@ def some_seconds(text: str) -> float:
 
 def version(text: str) -> Tuple[int, int]:
     """An argument that is a firmware's version."""
-    found = VERSION.fullmatch(text)
+    found = re.fullmatch(VERSION, text)
     if not found or max(map(int, found.groups())) > 255:
         raise argparse.ArgumentTypeError(f"'{text}' isn't a version such as 2.4")
     return int(found[1]), int(found[2])

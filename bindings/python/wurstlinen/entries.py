@@ -5,8 +5,9 @@ from dataclasses import dataclass
 from typing import Dict, Optional, Type, Union
 
 from ._faults import Closed, Fault, Full, NoPlaces, OutOfMemory, TooManyClients, UnknownClient
+from ._forms import run_fault
 from ._library import EntryForm
-from ._types import Kind, Request, RequestClass, RunFault, Status, Uid, run_fault
+from ._types import Kind, Request, RequestClass, RunFault, Status, Uid
 
 
 class CallKind(enum.IntEnum):

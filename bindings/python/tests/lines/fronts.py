@@ -12,7 +12,8 @@ from common import ROOT, TestCase, folder
 from wurstlinen.front import main, work
 from wurstlinen.lines import Rig
 from wurstlinen.lines.numbers import ResponseType
-from wurstlinen.lines.packets import decode_packet, uid_text
+from wurstlinen.lines.packets import decode_packet
+from wurstlinen.lines.uids import uid_text
 
 FIVE = ROOT / "bindings/examples/five_fixtures.json"
 LEFT = "1234:00000001"

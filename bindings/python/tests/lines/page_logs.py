@@ -9,7 +9,8 @@ import common  # noqa: F401  (it makes the package known)
 from search import Controller, Corrupt
 from wurstlinen.lines import Rig
 from wurstlinen.lines.numbers import ResponseType
-from wurstlinen.lines.packets import ALL_DEVICES, Packet, decode_packet, encode_branch_reply
+from wurstlinen.lines.packets import Packet, decode_packet, encode_branch_reply
+from wurstlinen.lines.uids import ALL_DEVICES
 from wurstlinen.lines.scene import Scene
 
 SOURCE = 0x7A7000000100

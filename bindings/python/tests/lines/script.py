@@ -8,7 +8,8 @@ from typing import Dict, List
 
 import common  # noqa: F401  (it makes the package known)
 from wurstlinen.lines.messages import Label, Message, MessageReader
-from wurstlinen.lines.packets import ALL_DEVICES, Packet
+from wurstlinen.lines.packets import Packet
+from wurstlinen.lines.uids import ALL_DEVICES
 
 LAMP = 0x123400000001
 GET = Packet(LAMP, 1, 0, 1, 0, 0, 0x20, 0x0082).encode()

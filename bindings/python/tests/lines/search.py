@@ -10,9 +10,8 @@ from typing import Dict, List, Optional, Set, Tuple
 
 from wurstlinen.line import Line, LineFailed
 from wurstlinen.lines.numbers import CommandClass, Pid, ResponseType
-from wurstlinen.lines.packets import (
-    ALL_DEVICES, Packet, decode_branch_reply, decode_packet, is_broadcast,
-)
+from wurstlinen.lines.packets import Packet, decode_branch_reply, decode_packet
+from wurstlinen.lines.uids import ALL_DEVICES, is_broadcast
 
 SOURCE = 0x7A7000000100
 TRIES = 5

@@ -6,7 +6,7 @@ import sys
 import common  # noqa: F401  (it makes the package known)
 from search import discover
 from wurstlinen.lines import TextLine
-from wurstlinen.lines.packets import uid_text
+from wurstlinen.lines.uids import uid_text
 
 
 def main() -> int:

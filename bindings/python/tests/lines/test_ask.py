@@ -3,7 +3,6 @@ from __future__ import annotations
 
 import threading
 import unittest
-from dataclasses import replace
 from typing import Any, List, Optional
 
 from asking import (
@@ -266,7 +265,7 @@ class Others(Asks):
                 reply = decode_packet(super().exchange(frame))
                 assert reply is not None
                 is_message = self.commands[-1].pid == QUEUED and reply.pid == LABEL
-                return replace(reply, sub_device=7, data=b"seven").encode() if is_message else reply.encode()
+                return reply._replace(sub_device=7, data=b"seven").encode() if is_message else reply.encode()
         self.check(self.ask(SubDevices(Queueing(1, LAMP)), sub_device=7), b"seven")
         answer = self.ask(SubDevices(Queueing(1, LAMP)), sub_device=3)
         self.assertTrue(answer.is_late)

@@ -22,7 +22,7 @@ from wurstlinen import commands
 from wurstlinen.line import LineFailed
 from wurstlinen.lines import EnttecPro, Rig, enttec, open_line
 from wurstlinen.lines.emulator import Emulator
-from wurstlinen.lines.packets import parse_uid
+from wurstlinen.lines.uids import parse_uid
 
 FIVE = ROOT / "bindings/examples/five_fixtures.json"
 ADAPTER = ROOT / "bindings/examples/adapter.sh"

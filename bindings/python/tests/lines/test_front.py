@@ -10,14 +10,13 @@ import subprocess
 import sys
 import time
 import unittest
-from dataclasses import replace
 from typing import Any, List, Optional
 from unittest import mock
 
 from common import PACKAGE, ROOT, TestCase, folder, needs_library
 from fronts import FIVE, LEFT, SLOW, OneRig, called
 from wurstlinen import Session, Uid, commands, entries
-from wurstlinen.front import files, frames, naming, pids, work
+from wurstlinen.front import files, frames, naming, pids
 from wurstlinen.front.output import Output
 from wurstlinen.lines import open_line
 from wurstlinen.lines.numbers import ResponseType
@@ -332,7 +331,7 @@ class Requests(OneRig):
 
             def dispose(self) -> None:
                 pass
-        with mock.patch.object(work, "Controller", Logged), folder() as place:
+        with mock.patch("wurstlinen._queue.Controller", Logged), folder() as place:
             for arguments in (["fixtures"], ["get", SLOW, "device_label"], ["set", LEFT, "dmx_start_address", "3"],
                               ["save", str(place / "rig.csv")], ["apply", str(place / "rig.csv")], ["identify", LEFT],
                               ["identify", "--each"], ["get", LEFT, "0x8001", "--wait", "1"]):
@@ -383,7 +382,7 @@ class Frames(TestCase):
         assert command is not None
         for kind, data, wanted in ((7, b"\x08", "response type 0x07, 0x08"), (2, b"\0\6\0", "NACK 0x000600"),
                                    (2, b"\0\6", "NACK data_out_of_range")):
-            reply = replace(command.answer(command.destination, ResponseType.ACK, data), port_or_type=kind)
+            reply = command.answer(command.destination, ResponseType.ACK, data)._replace(port_or_type=kind)
             self.assertEqual(shown(0, frame, reply.encode()),
                              f"0000  GET {LEFT} device_label  -> {wanted}")
         self.assertEqual(shown(0, b"\x01", b"\x02"), "0000  0x01  -> damaged, 0x02")

@@ -8,7 +8,6 @@ import json
 import os
 import re
 import unittest
-from dataclasses import replace
 from pathlib import Path
 from typing import Any, Callable, Dict, Iterator, List, Set, Tuple
 from unittest import mock
@@ -19,7 +18,8 @@ from wurstlinen.front import files, main, requests, work
 from wurstlinen.front.output import Failure, Output
 from wurstlinen.line import LineFailed
 from wurstlinen.lines.numbers import ResponseType
-from wurstlinen.lines.packets import decode_packet, uid_text
+from wurstlinen.lines.packets import decode_packet
+from wurstlinen.lines.uids import uid_text
 
 FIVE_TABLE = """\
 UID            ADDRESS  SLOTS  LABEL         MAKER       MODEL                PERSONALITY  NOTE
@@ -334,7 +334,7 @@ uid,label,address,personality,model,slots
             reply = moves(frame)
             command = decode_packet(frame)
             if command is not None and (command.command_class, command.pid) == (0x30, 0x00E0):
-                moves(replace(command, pid=0x00F0, data=b"\0\xc8").encode())
+                moves(command._replace(pid=0x00F0, data=b"\0\xc8").encode())
             return reply
         self.run_command("set", LEFT, "dmx_start_address", "30")
         with mock.patch.object(self.rig, "exchange", moving):

@@ -22,7 +22,7 @@ from wurstlinen import commands
 from wurstlinen.line import LineFailed
 from wurstlinen.lines import Rig
 from wurstlinen.lines.emulator import Widget
-from wurstlinen.lines.packets import parse_uid
+from wurstlinen.lines.uids import parse_uid
 from wurstlinen.lines.scene import Scene
 
 SOURCE = "7a70:00000100"

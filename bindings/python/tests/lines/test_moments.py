@@ -47,14 +47,14 @@ class Scene:
 
     def note(self, returned: Any) -> None:
         """Notes the outcomes in what a call has returned."""
-        if isinstance(returned, (list, tuple)):
-            for each in returned:
-                self.note(each)
+        if isinstance(returned, (Completion, Discovery)):
+            self.outcomes.append(returned)
         elif isinstance(returned, (Answer, Unserved)):
             self.note([*returned.queued, *returned.earlier])
             self.note(returned.completion if isinstance(returned, Answer) else None)
-        elif isinstance(returned, (Completion, Discovery)):
-            self.outcomes.append(returned)
+        elif isinstance(returned, (list, tuple)):
+            for each in returned:
+                self.note(each)
 
     def finish(self) -> None:
         """Collects what is there, and compares it with the log. Then another request is served."""

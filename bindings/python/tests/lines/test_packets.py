@@ -7,8 +7,8 @@ import unittest
 from common import TestCase
 from wurstlinen.lines.packets import (
     Packet, addresses, decode_branch_reply, decode_packet, encode_branch_reply, is_branch_frame, is_whole_packet,
-    parse_uid, uid_text,
 )
+from wurstlinen.lines.uids import parse_uid, uid_text
 
 GET = bytes.fromhex("cc01181234000000077a7000000001000100000020006000029e")
 BRANCH_REPLY = bytes.fromhex("fefefefefefefeaafa7ffa75aa55aa55aa55ab55ae57eff5")

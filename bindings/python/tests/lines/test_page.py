@@ -14,7 +14,6 @@ import sys
 import time
 import unittest
 import zlib
-from dataclasses import replace
 from pathlib import Path
 from typing import Any, Dict, List, Optional
 from unittest import mock
@@ -26,7 +25,8 @@ from wurstlinen.front.frames import Parts, answer_text, command_of
 from wurstlinen.front.page_frames import Asked, Came
 from wurstlinen.front.trace import exchanges
 from wurstlinen.lines.numbers import ResponseType
-from wurstlinen.lines.packets import ALL_DEVICES, Packet, decode_packet, encode_branch_reply, parse_uid, uid_text
+from wurstlinen.lines.packets import Packet, decode_packet, encode_branch_reply
+from wurstlinen.lines.uids import ALL_DEVICES, parse_uid, uid_text
 from wurstlinen.tool import explaining
 
 LOGS = ROOT / "cases/logs.txt"
@@ -133,16 +133,16 @@ class Frames(TestCase):
         value = get.answer(parse_uid(LEFT), ResponseType.ACK, b"Left")
         queued = Packet(parse_uid(LEFT), 1, 7, 1, 0, 0, 0x20, 0x20, b"\x04")
         for command, response, is_acknowledged in (
-                (mute, right, True), (mute, replace(right, data=bytes(8)), True),
-                (mute, replace(right, source=parse_uid(RIGHT)), False), (mute, replace(right, destination=2), False),
-                (mute, replace(right, transaction=8), False), (mute, replace(right, pid=3), False),
-                (mute, replace(right, data=b""), False), (mute, replace(right, data=bytes(3)), False),
-                (mute, replace(right, port_or_type=ResponseType.NACK_REASON), False),
-                (mute, replace(right, port_or_type=ResponseType.ACK_OVERFLOW), False),
-                (mute, replace(right, command_class=0x21), False),
-                (get, value, True), (get, replace(value, sub_device=0), False), (get, replace(value, pid=0x60), False),
-                (get, replace(value, command_class=0x31), False), (get, replace(value, transaction=6), False),
-                (replace(get, sub_device=0xffff), value, True), (queued, replace(value, command_class=0x31), True)):
+                (mute, right, True), (mute, right._replace(data=bytes(8)), True),
+                (mute, right._replace(source=parse_uid(RIGHT)), False), (mute, right._replace(destination=2), False),
+                (mute, right._replace(transaction=8), False), (mute, right._replace(pid=3), False),
+                (mute, right._replace(data=b""), False), (mute, right._replace(data=bytes(3)), False),
+                (mute, right._replace(port_or_type=ResponseType.NACK_REASON), False),
+                (mute, right._replace(port_or_type=ResponseType.ACK_OVERFLOW), False),
+                (mute, right._replace(command_class=0x21), False),
+                (get, value, True), (get, value._replace(sub_device=0), False), (get, value._replace(pid=0x60), False),
+                (get, value._replace(command_class=0x31), False), (get, value._replace(transaction=6), False),
+                (get._replace(sub_device=0xffff), value, True), (queued, value._replace(command_class=0x31), True)):
             frame = command.encode()
             found = page_frames.answer_to(page_frames.command_in(frame), frame, response.encode())
             self.assertEqual(found.came, Came.ACKNOWLEDGED if is_acknowledged else Came.OTHER_RESPONSE)

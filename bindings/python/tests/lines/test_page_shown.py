@@ -11,7 +11,8 @@ from browser import Page, browser, needs_chromium
 from common import TestCase, folder, scene
 from page_logs import DISCOVERY_OPENING, FEW_CLIENTS, SOURCE, discovered, exchange_line, long_log, session_of
 from wurstlinen.front import page
-from wurstlinen.lines.packets import ALL_DEVICES, Packet
+from wurstlinen.lines.packets import Packet
+from wurstlinen.lines.uids import ALL_DEVICES
 
 LEFT, SILENT = "1234:00000001", "1234:00000009"
 MANY = 100_000

@@ -13,7 +13,8 @@ from wurstlinen.line import LineFailed
 from wurstlinen.lines import Rig, SceneFault
 from wurstlinen.lines.keys import Keys
 from wurstlinen.lines.numbers import Pid, ResponseType
-from wurstlinen.lines.packets import ALL_DEVICES, Packet, decode_packet, uid_text
+from wurstlinen.lines.packets import Packet, decode_packet
+from wurstlinen.lines.uids import ALL_DEVICES, uid_text
 from wurstlinen.lines.scene import parse_scene
 
 LAMP = 0x123400000001

@@ -18,12 +18,15 @@ from wurstlinen import (
     ResponseClass, SharedClient, Status, Uid, connect,
 )
 from wurstlinen.lines import OpenLine, Rig
-from wurstlinen.lines.packets import decode_packet, uid_text
+from wurstlinen.lines.numbers import CommandClass, Pid
+from wurstlinen.lines.packets import decode_packet
+from wurstlinen.lines.uids import uid_text
 from wurstlinen.shared import peer, server
 
 FIVE = ROOT / "bindings/examples/five_fixtures.json"
 LEFT = "1234:00000001"
 GET = {"do": "get", "uid": LEFT, "pid": "0082"}
+SET = {"do": "set", "uid": LEFT, "pid": "00f0", "data": "0011"}
 # FORMATS, the status of a request.
 COMPLETED, FAILED_TO_SEND, TIMEOUT = 0, 2, 3
 LABEL = b"Front left".hex()
@@ -38,10 +41,11 @@ def five() -> OpenLine:
 
 
 class Gate(Rig):
-    """A rig that makes no exchange before it is opened."""
+    """A rig that makes no exchange before it is opened, and knows the start addresses that were set."""
 
     def __init__(self) -> None:
         super().__init__(FIVE)
+        self.addresses: List[int] = []
         self.is_open = threading.Event()
         self.began = threading.Semaphore(0)
 
@@ -49,6 +53,9 @@ class Gate(Rig):
         self.began.release()
         if not self.is_open.wait(SECONDS):
             raise LineFailed("the test doesn't open it")
+        command = decode_packet(frame)
+        if command is not None and (command.command_class, command.pid) == (CommandClass.SET, Pid.DMX_START_ADDRESS):
+            self.addresses.append(int.from_bytes(command.data, "big"))
         return super().exchange(frame)
 
     def close(self) -> None:
@@ -411,13 +418,45 @@ class Lending(TestCase):
             self.assertEqual(waiting.read()["request"], number["request"])
             waiting.close()
 
+    def test_what_a_program_that_has_gone_had_not_sent_is_not_sent(self) -> None:
+        gate = Gate()
+        with here(lambda: gate) as made, Program(made.place.path) as good:
+            good.ask(GET)
+            gate.began.acquire()
+            with Program(made.place.path) as dead:
+                for number in range(8):
+                    dead.ask({**SET, "data": f"{number + 1:04x}"})
+            while good.ask({"do": "status"})["clients"] > 1:
+                time.sleep(0.01)
+            gate.is_open.set()
+            good.next("data")
+            good.say(GET)
+            # The queue had the first already, and its program's results go to nobody.
+            self.assertEqual([good.next("data")["request"], gate.addresses], [9, [1]])
+
+    def test_a_pause_keeps_back_what_can_be_dropped(self) -> None:
+        gate = Gate()
+        gate.is_open.set()
+        with here(lambda: gate) as made, Program(made.place.path) as operator:
+            operator.ask({"do": "pause"})
+            with Program(made.place.path) as dead, Program(made.place.path) as good:
+                dead.ask(SET)
+                good.ask(GET)
+                dead.close()
+                left = 2
+                while left > 1:
+                    operator.say({"do": "status"})
+                    left = operator.next("outstanding")["outstanding"]
+                operator.say({"do": "resume"})
+                self.assertEqual((good.next("data")["request"], gate.addresses), (1, []))
+
     def test_nobody_waits_for_a_client_for_ever(self) -> None:
         gate = Gate()
         with mock.patch.object(peer, "HELLO_SECONDS", 0.2), mock.patch.object(server, "HOUSEKEEPING_SECONDS", 0.05), \
                 here(lambda: gate) as made:
             for _ in range(16):
                 with Program(made.place.path) as program:
-                    program.ask(GET)
+                    program.ask({"do": "discover"})
             with Program(made.place.path, None) as program:
                 program.say(HELLO)
                 self.assertEqual([each["error"] for each in program.rest()], ["TooManyClients"])

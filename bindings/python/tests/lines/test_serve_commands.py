@@ -23,11 +23,11 @@ from fronts import called
 from servers import HELLO, SECONDS, TOOL, Program, command, environment, here, runtime, serve
 from test_serve import FIVE, FOUND, GET, LABEL, LEFT, TIMEOUT, Gate, five
 from wurstlinen import LineFailed, OutcomeKind, RunFaultKind, Status, Unserved, connect, tool
-from wurstlinen._queue import kind_of
+from wurstlinen._types import kind_of
 from wurstlinen.front.output import Failure, Output
 from wurstlinen.lines import EnttecPro, Rig, TextLine
 from wurstlinen.lines.emulator import Emulator, Widget
-from wurstlinen.lines.packets import uid_text
+from wurstlinen.lines.uids import uid_text
 from wurstlinen.shared import peer, place, server, worker
 from wurstlinen.shared.listening import Passed, Place
 from wurstlinen.tool import adapters, places, sharing
@@ -98,20 +98,24 @@ class Commands(LongTestCase):
                      if entry["operation"] == "mute" and entry["reply"]}
             self.assertEqual(mutes, {device["uid"] for device in FOUND})
 
-    def test_discover_prints_what_the_program_does(self) -> None:
+    def test_discover(self) -> None:
         with folder() as place, here(five, name=LINE):
             made_out, errors = io.StringIO(), io.StringIO()
 
             def discovered(*words: str) -> int:
                 with contextlib.redirect_stdout(made_out), contextlib.redirect_stderr(errors), \
-                        mock.patch.object(places, "program", lambda: Path("/nowhere/program")):
+                        mock.patch.object(places, "program", lambda: "/nowhere/program"):
                     return tool.main(["discover", "--line", LINE, *words])
             self.assertEqual(discovered("--quick", "--log", str(place / "log")), 0)
-            *lines, frames = made_out.getvalue().splitlines()
-            self.assertEqual(lines, [" ".join(filter(None, (each["uid"], each["control"].replace("0000", ""),
-                                                            each.get("binding", "")))) for each in FOUND])
-            self.assertEqual(frames, f"frames {len((place / 'log').read_text().splitlines()) - 1}")
-            for words in (["--budget", "9"], ["--known", LEFT], ["--source", "7a70:00000001"]):
+            frames = len((place / "log").read_text().splitlines()) - 1
+            self.assertEqual(made_out.getvalue().splitlines(), [
+                *(each["uid"] for each in FOUND[:-1]), f"{FOUND[-1]['uid']}  part of 9abc:00000002, has sub-devices",
+                f"5 devices, {frames} frames; discovery without a fault"])
+            made_out.truncate(made_out.seek(0))
+            self.assertEqual(discovered("--json"), 0)
+            self.assertEqual([json.loads(line) for line in made_out.getvalue().splitlines()],
+                             [*FOUND, {"devices": 5, "frames": frames, "fault": None}])
+            for words in (["--budget", "9"], ["--known", LEFT], ["--source", "7a70:00000001"], ["--steady"]):
                 with self.assertRaises(Failure) as raised:
                     discovered(*words)
                 self.assertEqual((raised.exception.status, str(raised.exception)), (
@@ -160,14 +164,14 @@ class Commands(LongTestCase):
             operator.next("id")
             for words, what in ((["get", LEFT, "device_label"], "request"), (["fixtures"], "discovery")):
                 status, _, errors = called(*words, "--line", LINE, "--wait", "0.2")
-                self.assertEqual((status, errors), (
-                    1, f"wurstlinen: the {what} has no result so far, and may still be sent: the queue is paused\n"))
+                text = f"the {what} has no result so far, and is only sent if it was its turn: the queue is paused"
+                self.assertEqual((status, errors), (1, f"wurstlinen: {text}\n"))
 
     def test_a_line_with_too_much_to_do(self) -> None:
         gate = Gate()
         with here(lambda: gate, name=LINE) as made, Program(made.place.path) as other:
             other.ask({"do": "discover"})
-            text = "has no result so far, and may still be sent: the line has too much to do\n"
+            text = "has no result so far, and is only sent if it was its turn: the line has too much to do\n"
             for words, what in ((["get", LEFT, "device_label"], "request"), (["fixtures"], "discovery")):
                 status, _, errors = called(*words, "--line", LINE, "--wait", "0.2")
                 self.assertEqual((status, errors), (1, f"wurstlinen: the {what} {text}"))
@@ -194,7 +198,7 @@ class Commands(LongTestCase):
         with runtime() as made:
             (made / "wurstlinen").mkdir()
             (made / "wurstlinen").chmod(0o755)
-            place.path_of(made / "wurstlinen", LINE).write_text("")
+            Path(place.path_of(str(made / "wurstlinen"), LINE)).write_text("")
             text = f"wurstlinen: {made}/wurstlinen isn't used: it isn't this user's own, with mode 0700\n"
             self.assertEqual(called("get", LEFT, "device_label", "--line", LINE), (0, "Front left\n", text))
             done = command(made, "serve", "--line", LINE)
@@ -463,7 +467,7 @@ class Ends(LongTestCase):
     def test_a_place_that_cannot_be_used_is_named(self) -> None:
         with folder() as made, socket.socket(socket.AF_UNIX) as listener:
             (made / "wurstlinen").mkdir(mode=0o700)
-            lock = place.path_of(made / "wurstlinen", LINE).with_suffix(".lock")
+            lock = Path(place.path_of(str(made / "wurstlinen"), LINE)).with_suffix(".lock")
             lock.symlink_to(made / "elsewhere")
             done = command(made, "serve", "--line", LINE)
             self.assertEqual((done.returncode, done.stderr),
@@ -477,7 +481,7 @@ class Ends(LongTestCase):
     def test_no_server_takes_a_socket_on_which_somebody_listens(self) -> None:
         with folder() as made, socket.socket(socket.AF_UNIX) as listener:
             (made / "wurstlinen").mkdir(mode=0o700)
-            path = str(place.path_of(made / "wurstlinen", LINE))
+            path = place.path_of(str(made / "wurstlinen"), LINE)
             listener.bind(path)
             listener.listen()
             done = command(made, "serve", "--line", LINE)
@@ -489,7 +493,7 @@ class Ends(LongTestCase):
     def test_a_socket_of_systemd(self) -> None:
         with folder() as made, socket.socket(socket.AF_UNIX) as listener:
             (made / "wurstlinen").mkdir(mode=0o700)
-            path = str(place.path_of(made / "wurstlinen", LINE))
+            path = place.path_of(str(made / "wurstlinen"), LINE)
             listener.bind(path)
             listener.listen()
             with Program(path, None) as program:

@@ -18,9 +18,9 @@ from common import TestCase, folder, needs_library
 from moments import held
 from servers import HELLO, SECONDS, Here, Program, here, runtime
 from test_serve import GET, LABEL, Gate, five
-from wurstlinen import Completion, LogFull, Status
+from wurstlinen import Completion, LogFull, Request, Status, Uid
 from wurstlinen.shared import journal, listening, peer, place, server, worker
-from wurstlinen.shared.lane import Lane
+from wurstlinen.shared.lane import Call, Lane
 from wurstlinen.shared.listening import Place
 from wurstlinen.shared.place import BadPlace
 
@@ -168,8 +168,8 @@ class Hostile(TestCase):
                 return self.outcomes.pop(0)
         foreign: Any = Foreign()
         lane = Lane(foreign)
-        lane.submit(foreign)
-        self.assertEqual([each.number for each in lane.collected()], [3])
+        lane.submit(Call(lane, 9, Request(Uid(0x1234, 1), 0x0082)))
+        self.assertEqual([each.number for each in lane.collected()], [9])
 
     def test_a_line_without_an_end(self) -> None:
         with self.served() as (made, good), Program(made.place.path) as bad:
@@ -313,9 +313,16 @@ class Places(TestCase):
             with mock.patch.dict(os.environ, LISTEN_PID=str(os.getpid()), LISTEN_FDS=count):
                 self.assertEqual(list(listening.activated()), [])
 
+    def test_modes_whatever_the_umask_is(self) -> None:
+        before = os.umask(0o377)
+        try:
+            self.test_modes()
+        finally:
+            os.umask(before)
+
     def test_names(self) -> None:
         def name_of(line: str) -> str:
-            return place.path_of(Path("/run"), line).name
+            return Path(place.path_of("/run", line)).name
         self.assertEqual(name_of("enttec:/dev/ttyUSB0"), "dev-ttyUSB0.socket")
         # As `systemd-escape --path` has it.
         self.assertEqual(name_of("enttec:/dev/a-b/ü"), "dev-a\\x2db-\\xc3\\xbc.socket")
@@ -330,7 +337,11 @@ class Places(TestCase):
         finally:
             os.chdir(before)
         self.assertNotEqual(elsewhere, name_of("exec:sh far_end"))
-        self.assertRegex(name_of(f"enttec:/{'x' * 100}"), r"^enttec-[0-9a-f]{16}\.socket$")
+        self.assertEqual(name_of("text:/a-b,/c"), "text@-a\\x2db\\x2c-c.socket")
+        # `printf %s LONG | sha256sum`, where LONG is what comes after the kind.
+        for line, wanted in ((f"enttec:/{'x' * 100}", "enttec@e50e7828cbafcbee.socket"),
+                             (f"rig:/{'x' * 100}", "rig@e50e7828cbafcbee.socket")):
+            self.assertEqual(name_of(line), wanted)
 
     def test_an_adapter_keeps_its_name(self) -> None:
         with folder() as made, mock.patch.object(place, "BY_ID", str(made / "by-id")):
@@ -346,15 +357,15 @@ class Places(TestCase):
             self.assertEqual([place.canonical(line) for line in (device, link, other)], [device, link, link])
 
     def test_without_a_runtime_folder(self) -> None:
-        with folder() as made, mock.patch.object(place, "TEMPORARY_FOLDER", made):
+        with folder() as made, mock.patch.object(place, "TEMPORARY_FOLDER", str(made)):
             for runtime_folder in ("", "relative", "/nowhere", str(made / "file")):
                 with mock.patch.dict(os.environ, {"XDG_RUNTIME_DIR": runtime_folder}):
-                    self.assertEqual(place.own_folder(), made / f"wurstlinen-{os.geteuid()}")
+                    self.assertEqual(place.own_folder(), str(made / f"wurstlinen-{os.geteuid()}"))
             open_to_all = made / "open"
             open_to_all.mkdir()
             open_to_all.chmod(0o777)
             with mock.patch.dict(os.environ, {"XDG_RUNTIME_DIR": str(open_to_all)}):
-                self.assertEqual(place.own_folder().parent, made)
+                self.assertEqual(os.path.dirname(place.own_folder()), str(made))
                 found = Place("rig:/it")
                 self.assertEqual(stat.S_IMODE(os.lstat(found.path.parent).st_mode), 0o700)
                 found.close()
@@ -371,6 +382,7 @@ class Places(TestCase):
             made_by = [(lambda: target.symlink_to(other), "isn't used: it is no folder"),
                        (lambda: target.write_text(""), "isn't used: it is no folder"),
                        (lambda: (target.mkdir(), target.chmod(0o750)), own),
+                       (lambda: (target.mkdir(), target.chmod(0o500)), own),
                        *([(make_anothers, own)] if os.geteuid() == 0 else [])]
             for make, text in made_by:
                 make()
@@ -383,7 +395,7 @@ class Places(TestCase):
     def test_what_is_in_the_place_of_the_socket(self) -> None:
         with runtime() as made:
             (made / "wurstlinen").mkdir(mode=0o700)
-            path = place.path_of(made / "wurstlinen", "rig:/it")
+            path = Path(place.path_of(str(made / "wurstlinen"), "rig:/it"))
             for make, text in ((lambda: path.symlink_to("/elsewhere"), "it is a link"),
                                (lambda: path.write_text("kept"), "it is no socket"), (path.mkdir, "it is no socket")):
                 make()
@@ -471,8 +483,8 @@ class Places(TestCase):
     def test_a_group(self) -> None:
         with folder() as made:
             made.chmod(0o755)
-            with mock.patch.object(place, "SYSTEM_FOLDER", made / "wurstlinen"), \
-                    mock.patch.object(listening, "SYSTEM_FOLDER", made / "wurstlinen"), runtime():
+            with mock.patch.object(place, "SYSTEM_FOLDER", str(made / "wurstlinen")), \
+                    mock.patch.object(listening, "SYSTEM_FOLDER", str(made / "wurstlinen")), runtime():
                 found = Place("rig:/it", "nogroup")
                 modes = [(stat.S_IMODE(each.st_mode), each.st_gid)
                          for each in map(os.lstat, (found.path.parent, found.path))]
@@ -485,3 +497,6 @@ class Places(TestCase):
                 self.assertRaisesRegex(BadPlace, "others may write to it", place.connected, "rig:/it")
                 found.close()
                 self.assertRaisesRegex(BadPlace, "there is no group none", Place, "rig:/it", "none")
+                found.path.parent.chmod(0o750)
+                text = f"{found.path.parent} isn't used: it isn't the group daemon's, with mode 0750"
+                self.assertRaisesRegex(BadPlace, text, Place, "rig:/it", "daemon")

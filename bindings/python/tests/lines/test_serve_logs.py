@@ -2,13 +2,16 @@
 from __future__ import annotations
 
 import json
+import os
+import threading
+import time
 from typing import List
 from unittest import mock
 
 from common import LongTestCase, folder, needs_library
-from servers import Program, command, serve
+from servers import SECONDS, Program, command, serve
 from test_serve import FIVE, GET
-from wurstlinen.shared.log_file import LogFile
+from wurstlinen.shared.log_file import LogFile, LogWriter
 
 LINE = f"rig:{FIVE}"
 
@@ -81,3 +84,45 @@ class Logs(LongTestCase):
             self.assertEqual(len(said), 2, said)
             self.assertTrue(said[0].endswith("the log goes on when it can be written again"), said)
             self.assertTrue(said[1].endswith("the log goes on after 3 lost lines"), said)
+
+    def test_a_disk_that_hangs_stops_nobody(self) -> None:
+        with folder() as made:
+            os.mkfifo(made / "log")
+            # Nobody reads, so a write waits as soon as the FIFO is full.
+            held = os.open(made / "log", os.O_RDWR | os.O_NONBLOCK)
+            with serve(made, "--line", LINE, "--log", str(made / "log")) as server, Program(server.socket) as program:
+                for _ in range(300):
+                    program.ask(GET)
+                    program.next("data")
+                began = time.monotonic()
+                server.terminate()
+                self.assertEqual(server.wait(SECONDS), 0)
+                self.assertLess(time.monotonic() - began, 20.0)
+            # It is as full as the size of a line allows.
+            self.assertGreater(len(os.read(held, 1 << 20)), 50_000)
+            os.close(held)
+
+    def test_what_a_disk_that_hangs_loses_is_reported(self) -> None:
+        with folder() as made:
+            said: List[str] = []
+            file, goes_on, has_begun = LogFile(str(made / "log"), said.append), threading.Event(), threading.Event()
+            write = file._write
+
+            def hanging(data: bytes) -> None:
+                has_begun.set()
+                goes_on.wait(SECONDS)
+                write(data)
+            with mock.patch.object(file, "_write", hanging):
+                log = LogWriter(file, 20)
+                log.add([b"first\n"])
+                has_begun.wait(SECONDS)
+                for _ in range(3):
+                    log.add([b"123456789\n"])
+                goes_on.set()
+                while log._waiting:
+                    time.sleep(0.01)
+                log.add([b"last\n"])
+                log.end(SECONDS)
+            self.assertEqual((made / "log").read_bytes(), b"first\n123456789\nlast\n")
+            self.assertEqual(said, [f"{made / 'log'}: the disk hangs; the log goes on when it can be written again",
+                                    f"{made / 'log'}: the log goes on after 2 lost lines"])

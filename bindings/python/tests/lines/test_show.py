@@ -229,7 +229,7 @@ class OtherStandards(TestCase):
             self.assertEqual(naming.known_or_raw(0x1234, 0x0900), more)
 
     def test_without_them(self) -> None:
-        with mock.patch.object(naming.ola, "standard_parameters", side_effect=FileNotFoundError):
+        with mock.patch("wurstlinen.parameters.ola.standard_parameters", side_effect=FileNotFoundError):
             self.assertIs(naming.standard.__wrapped__(), STANDARD)
 
     def test_ours_come_first(self) -> None:

@@ -20,7 +20,8 @@ from wurstlinen.front.watched import WatchedLine
 from wurstlinen.lines import open_line
 from wurstlinen.lines.keys import SceneFault
 from wurstlinen.lines.numbers import CommandClass, Pid, ResponseType
-from wurstlinen.lines.packets import Packet, uid_text
+from wurstlinen.lines.packets import Packet
+from wurstlinen.lines.uids import uid_text
 
 DEVICE, OTHER, SOURCE = 0x123400000001, 0x123400000002, 0x7FF000000001
 GET = Packet(DEVICE, SOURCE, 0, 1, 0, 0, CommandClass.GET, Pid.DEVICE_LABEL)

@@ -10,7 +10,7 @@ from dataclasses import dataclass
 from typing import Dict, List, Mapping, Optional, Sequence, Tuple
 
 from .. import Uid
-from ..lines.packets import is_broadcast, parse_uid
+from ..lines.uids import is_broadcast, parse_uid
 from ..parameters import STANDARD, Parameter, WordFault, encode
 from ..parameters.words import hint
 from .files import file_of

@@ -3,7 +3,6 @@ from __future__ import annotations
 
 import contextlib
 import json
-from pathlib import Path
 from typing import Callable, Dict, Iterator, Optional, Sequence
 
 from .. import DEFAULT_BUDGET, Uid
@@ -62,7 +61,7 @@ def sink_of(name: Optional[str]) -> Iterator[Optional[Sink]]:
         yield write
 
 
-def explained(program: Path, lines: Sequence[str], uids: Sequence[Uid]) -> Dict[Uid, str]:
+def explained(program: str, lines: Sequence[str], uids: Sequence[Uid]) -> Dict[Uid, str]:
     """What the proved program says of devices that were on the line, by a discovery's log. Raises OSError."""
     import subprocess
     import tempfile

@@ -1,11 +1,11 @@
 """Frames and their replies, decoded."""
 from __future__ import annotations
 
-from dataclasses import dataclass, replace
-from typing import Any, Dict, Iterator, Optional, Tuple
+from typing import Any, Dict, Iterator, NamedTuple, Optional, Tuple
 
 from ..lines.numbers import CommandClass, Pid, ResponseType
-from ..lines.packets import Packet, decode_branch_reply, decode_packet, is_branch_frame, uid_text
+from ..lines.packets import Packet, decode_branch_reply, decode_packet, is_branch_frame
+from ..lines.uids import uid_text
 from ..parameters import STANDARD, Misfit, decode
 from ..parameters.decoding import lines_of, values_of
 from ..parameters.names import NACK_REASONS
@@ -21,8 +21,7 @@ LINE_FAILED = "the line failed"
 BYTES_IN_ROW = 32
 
 
-@dataclass(frozen=True)
-class Reply:
+class Reply(NamedTuple):
     """What came after a frame, None for a line that failed, and the response that it is. A last part has all data."""
 
     data: Optional[bytes]
@@ -49,7 +48,7 @@ class Parts:
         if response.port_or_type == ResponseType.ACK_OVERFLOW:
             self._of, self._data, self._count = of, before + response.data, count + 1
         elif response.port_or_type == ResponseType.ACK and count:
-            return Reply(reply, replace(response, data=before + response.data), count + 1)
+            return Reply(reply, response._replace(data=before + response.data), count + 1)
         return Reply(reply, response)
 
 

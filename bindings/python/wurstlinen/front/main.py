@@ -6,6 +6,8 @@ device refused it, and 130 after an interrupt.
 from __future__ import annotations
 
 import argparse
+import contextlib
+import functools
 import importlib
 import os
 import sys
@@ -23,14 +25,31 @@ RAW_COMMANDS = ("get", "set")
 # How frames are shown. A value of its own would take a word that follows the option.
 AS_TEXT, AS_BYTES = "text", "hex"
 FRAMES_AS_BYTES, HIDDEN_FRAMES = "--frames=hex", "--frames-as-bytes"
+DEFAULT_COLUMNS = 80
 Runner = Callable[[argparse.Namespace, Output], int]
+
+
+class Formatter(argparse.HelpFormatter):
+    """Formats help. argparse makes one for each argument, and would load `shutil` to find the same width."""
+
+    def __init__(self, prog: str) -> None:
+        super().__init__(prog, width=columns() - 2)
+
+
+@functools.lru_cache(maxsize=None)
+def columns() -> int:
+    """The width of the terminal, as `shutil.get_terminal_size` finds it."""
+    text = os.environ.get("COLUMNS", "")
+    with contextlib.suppress(AttributeError, ValueError, OSError):
+        return int(text) if text.isdigit() and int(text) else os.get_terminal_size(sys.__stdout__.fileno()).columns
+    return DEFAULT_COLUMNS
 
 
 class Parser(argparse.ArgumentParser):
     """A parser that says what is wrong on one line."""
 
     def __init__(self, **keys: Any) -> None:
-        super().__init__(allow_abbrev=False, **keys)
+        super().__init__(allow_abbrev=False, formatter_class=Formatter, **keys)
 
     def parse_args(self, args: Any = None, namespace: Any = None) -> Any:
         """The arguments. Raises Failure."""
@@ -127,7 +146,8 @@ def parser(words: Sequence[str] = ()) -> Parser:
 def parser_of(named: Mapping[str, Callable[[Any, str], None]], words: Sequence[str], **keys: Any) -> Parser:
     """A parser of commands. If the words begin with one, the others aren't made, which would take their time."""
     whole = Parser(**keys)
-    made = whole.add_subparsers(dest="command", required=True, metavar="COMMAND", parser_class=Parser)
+    # With its name, no usage is made for it.
+    made = whole.add_subparsers(dest="command", required=True, metavar="COMMAND", parser_class=Parser, prog=whole.prog)
     for name in words[:1] if words and words[0] in named else named:
         named[name](made, name)
     return whole

@@ -2,13 +2,16 @@
 from __future__ import annotations
 
 import functools
-from typing import Mapping
+from typing import TYPE_CHECKING, Mapping
 
-from ..parameters import STANDARD, Parameter, Table, WordFault, ola
+from ..parameters import STANDARD, Parameter, Table, WordFault
 from ..parameters.fields import Bytes, Message, SubDevices
 from ..parameters.names import NACK_REASONS
 from ..parameters.words import is_name, is_only_a_name, name_of
 from .output import BAD_ARGUMENTS, Failure
+
+if TYPE_CHECKING:
+    from ..parameters import ola
 
 FIRST_MANUFACTURERS_PID = 0x8000
 LAST_MANUFACTURERS_PID = 0xFFDF
@@ -23,6 +26,8 @@ def is_manufacturers(pid: int) -> bool:
 @functools.lru_cache(maxsize=None)
 def manufacturers() -> Mapping[int, ola.Manufacturer]:
     """The manufacturers of OLA's files; none if OLA isn't installed, or its files can't be read."""
+    # Most commands need none of them.
+    from ..parameters import ola
     try:
         return ola.manufacturers()
     except (OSError, ola.FileFault):
@@ -32,6 +37,7 @@ def manufacturers() -> Mapping[int, ola.Manufacturer]:
 @functools.lru_cache(maxsize=None)
 def standard() -> Table:
     """The parameters of the standards: of those that aren't known here, what OLA's files have."""
+    from ..parameters import ola
     try:
         found = ola.standard_parameters()
     except (OSError, ola.FileFault):

@@ -96,11 +96,14 @@ class Output:
         with contextlib.suppress(OSError):
             print(text, end="", file=self._errors, flush=True)
 
-    def remark(self, line: str) -> None:
+    def remark(self, line: str, is_result: bool = False) -> None:
         """A line of another program's, from another thread."""
         with self._lock:
             self.end_progress()
-            self._remark(line)
+            if is_result:
+                print(line, end="", file=self._out, flush=True)
+            else:
+                self._remark(line)
 
     def failure(self, failure: Failure) -> None:
         """Why something failed."""

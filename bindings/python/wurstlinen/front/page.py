@@ -12,7 +12,7 @@ import pkgutil
 from collections import Counter
 from typing import Any, BinaryIO, Dict, List, Sequence, Set
 
-from ..lines.packets import uid_text
+from ..lines.uids import uid_text
 from .page_details import PIECE, packed
 from .page_findings import Finding, findings_in, verdict_of
 from .page_log import Log, read_log

@@ -11,7 +11,7 @@ from collections import defaultdict
 from dataclasses import dataclass
 from typing import Dict, Iterable, List, Optional, Sequence
 
-from ..lines.packets import parse_uid
+from ..lines.uids import parse_uid
 from .page_log import Run
 
 # The first line of a run.

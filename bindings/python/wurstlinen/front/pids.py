@@ -12,7 +12,9 @@ from ..parameters.words import name_of
 from .naming import standard
 from .output import BAD_ARGUMENTS, DONE, Failure, Output
 
-PLAIN_TYPES = {Flag: "yes or no", UidField: "a UID", Ipv4: "an IPv4 address", Mac: "a hardware address"}
+PLAIN_TYPES: Dict[type, str] = {
+    Flag: "yes or no", UidField: "a UID", Ipv4: "an IPv4 address", Mac: "a hardware address",
+}
 
 
 def run_pids(chosen: argparse.Namespace, output: Output) -> int:

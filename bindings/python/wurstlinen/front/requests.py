@@ -3,12 +3,10 @@ from __future__ import annotations
 
 import argparse
 import sys
-from dataclasses import dataclass
-from typing import Callable, List, Sequence
+from typing import Callable, List, NamedTuple, Sequence
 
 from .. import Uid
-from ..lines.numbers import Pid
-from ..lines.packets import is_broadcast, uid_text
+from ..lines.uids import is_broadcast, uid_text
 from ..parameters import STANDARD, Parameter, Reading, WordFault, decode, encode
 from ..parameters.encoding import word_counts
 from ..parameters.words import is_only_a_name
@@ -20,10 +18,10 @@ from .work import Work, open_work
 ON = b"\x01"
 OFF = b"\x00"
 PID_DIGITS = 4
+IDENTIFY_DEVICE = 0x1000
 
 
-@dataclass(frozen=True)
-class Asked:
+class Asked(NamedTuple):
     """A parameter as the arguments name it, with its values."""
 
     pid: int
@@ -129,7 +127,8 @@ def run_set(chosen: argparse.Namespace, output: Output) -> int:
 
 def check(asked: Asked, sub_device: int, is_set: bool) -> None:
     """Raises Failure if the values of a parameter of the standards can't be right."""
-    known = standard().numbered(asked.pid)
+    # What the tables here don't have takes long to find.
+    known = STANDARD.numbered(asked.pid) or standard().numbered(asked.pid)
     if known is not None:
         data_of(known, asked.values, sub_device, is_set)
 
@@ -166,7 +165,7 @@ def run_identify(chosen: argparse.Namespace, output: Output) -> int:
 
 def identify(work: Work, uid: Uid, state: bytes) -> None:
     """Switches a device's identification on or off."""
-    work.ask(uid, Pid.IDENTIFY_DEVICE, state, is_set=True)
+    work.ask(uid, IDENTIFY_DEVICE, state, is_set=True)
 
 
 def identify_each(work: Work, output: Output) -> int:

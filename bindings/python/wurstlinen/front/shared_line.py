@@ -1,14 +1,16 @@
 """A line that a server has, as far as it reports its exchanges."""
 from __future__ import annotations
 
-from typing import Any, Callable, Dict, List, Optional, Set, Tuple
+from typing import TYPE_CHECKING, Any, Callable, Dict, List, Optional, Set, Tuple
 
 from ..line import LineFailed
 from ..shared.client import SharedQueue
 from ..shared.words import FRAMES
-from .discovery_log import DiscoveryLog
 from .output import Output
 from .watched import Watched
+
+if TYPE_CHECKING:
+    from .discovery_log import DiscoveryLog
 
 
 class SharedLine(Watched):
@@ -16,6 +18,8 @@ class SharedLine(Watched):
 
     While a discovery is awaited, the runs of other programs are seen too, and forgotten when the next one begins.
     """
+
+    later = "is only sent if it was its turn"
 
     def __init__(self, queue: SharedQueue, output: Output, shown: Optional[str]) -> None:
         super().__init__(output, shown)

@@ -1,15 +1,15 @@
 """A line that counts and shows what goes over it."""
 from __future__ import annotations
 
-from typing import Callable, Optional, Set
+from typing import TYPE_CHECKING, Callable, Optional, Set
 
 from ..line import Line, LineFailed
-from ..lines.numbers import Pid
-from ..lines.packets import BRANCH_SEPARATOR, ENCODED_BYTES, decode_branch_reply, decode_packet, is_answer
-from .discovery_log import DiscoveryLog
-from .frames import Parts, bytes_of, exchange_text
 from .main import AS_BYTES
 from .output import Output
+
+if TYPE_CHECKING:
+    from .discovery_log import DiscoveryLog
+    from .frames import Parts
 
 
 class Watched:
@@ -17,12 +17,14 @@ class Watched:
 
     # What is said of a discovery that ended well.
     ending = "discovery without a fault"
+    # What becomes of a request for which nobody waits any longer.
+    later = "may still be sent"
 
     def __init__(self, output: Output, shown: Optional[str]) -> None:
         self._output = output
         # How frames are shown, as the option --frames has it; None if they aren't.
         self._shown = shown
-        self._parts = Parts()
+        self._parts: Optional[Parts] = None
         self.frames = 0
         self.failure: Optional[LineFailed] = None
         # The log of a discovery that runs, if somebody wants it.
@@ -62,6 +64,9 @@ class Watched:
 
     def _note(self, found: Set[int], frame: bytes, reply: bytes) -> None:
         """What a discovery's frame and reply say of devices."""
+        # Most commands don't search.
+        from ..lines.numbers import Pid
+        from ..lines.packets import BRANCH_SEPARATOR, ENCODED_BYTES, decode_branch_reply, decode_packet, is_answer
         command = decode_packet(frame)
         if command is not None and command.is_branch:
             self.spelled = decode_branch_reply(reply)
@@ -80,6 +85,9 @@ class Watched:
     def _show(self, number: int, frame: bytes, reply: Optional[bytes]) -> None:
         if self._shown is None:
             return
+        # Most commands show no frames.
+        from .frames import Parts, bytes_of, exchange_text
+        self._parts = self._parts or Parts()
         self._output.frame(exchange_text(number, frame, self._parts.joined(frame, reply)))
         for line in bytes_of(frame, reply) if self._shown == AS_BYTES else ():
             self._output.frame(line)

@@ -9,28 +9,29 @@ from functools import partial
 from typing import TYPE_CHECKING, Iterator, Optional, Set, Tuple, Union, cast
 
 from .. import (
-    AckType, Asker, Client, Completion, Controller, Device, Discovery, Fault, Incomplete, Kind, Request,
-    RequestClass, ResponseClass, RunFaultKind, Search, Status, Uid, Unserved,
+    AckType, Completion, Device, Discovery, Fault, Kind, Request, RequestClass, ResponseClass, RunFaultKind, Search,
+    Status, Uid, commands,
 )
-from .. import commands
+from .._ask import Asker, Incomplete, Unserved
 from ..commands import RUN_FAULTS, source_of
 from ..line import LineFailed
 from ..lines import OpenLine, open_line
-from ..lines.numbers import Pid
 from ..lines.waiting import when_free
 from ..parameters import Misfit, Parameter, Reading, decode, described
-from .discovery_log import DiscoveryLog, Sink
 from .naming import is_manufacturers, known_or_raw, nack_of, raw_parameter, table_of
 from .opening import failures_of_lines, served
 from .output import BAD_ARGUMENTS, FAILED, LINE_FAILED, LINE_VARIABLE, REFUSED, Failure, Output
 from .watched import Watched, WatchedLine
 
 if TYPE_CHECKING:
+    from .._queue import Client
     from ..olad.client import OlaClient
     from ..shared.client import SharedClient
+    from .discovery_log import Sink
 
 # More than one command has outstanding.
 PLACES = 4
+PARAMETER_DESCRIPTION = 0x0051
 GLANCE_SECONDS = 0.01
 
 
@@ -78,7 +79,7 @@ class Work:
     def _unserved(self, what: str) -> Failure:
         """Why the server hasn't done something in time."""
         reason = self.line.absence or "the line has too much to do"
-        return Failure(FAILED, f"the {what} has no result so far, and may still be sent: {reason}", reason="unserved")
+        return Failure(FAILED, f"the {what} has no result so far, and {self.line.later}: {reason}", reason="unserved")
 
     def _acknowledged(self, uid: Uid, completion: Completion) -> Completion:
         """A completion that is an acknowledgement. Raises Failure for any other."""
@@ -124,7 +125,7 @@ class Work:
         if parameter is not None or not is_manufacturers(pid) or uid.is_broadcast:
             return parameter or raw_parameter(pid)
         try:
-            found = described(self.ask(uid, Pid.PARAMETER_DESCRIPTION, pid.to_bytes(2, "big")).data)
+            found = described(self.ask(uid, PARAMETER_DESCRIPTION, pid.to_bytes(2, "big")).data)
             return found if found.number == pid else raw_parameter(pid)
         except Misfit:
             return raw_parameter(pid)
@@ -145,6 +146,8 @@ class Work:
 
     def search(self, sink: Optional[Sink] = None) -> Discovery:
         """The end of a full discovery. Raises Failure if a server doesn't begin it in time."""
+        # Most commands don't search.
+        from .discovery_log import DiscoveryLog
         self.line.begin(None if sink is None else partial(DiscoveryLog, self._source, sink))
         try:
             self._client.discover(Kind.FULL)
@@ -184,6 +187,8 @@ def open_work(chosen: argparse.Namespace, output: Output) -> Iterator[Work]:
         with shared, failures_of_server():
             yield shared_work(shared, output, chosen.frames, vars(chosen).get("log"), chosen.wait)
     elif line is not None:
+        # Who uses a server's queue doesn't load the library.
+        from .._queue import Controller
         with line:
             watched = WatchedLine(line, output, chosen.frames)
             source = Uid.from_number(source_of(chosen, line))

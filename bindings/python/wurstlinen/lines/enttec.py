@@ -7,15 +7,16 @@ from __future__ import annotations
 
 import time
 from collections import deque
-from pathlib import Path
 from typing import Deque, Optional, Tuple
 
 from .._turns import Turns
 from ..line import MOST_REPLY_BYTES, LineFailed
 from .base import OpenLine
 from .ends import BranchEnd, EarlyEnds, Ends, seconds_on_wire
+from .locks import Folder
 from .messages import LENGTHS_FROM_ADAPTER, Label, Message, MessageReader
-from .packets import START_CODE, is_answer, is_branch_frame, is_broadcast_frame, is_whole_packet, uid_text
+from .packets import START_CODE, is_answer, is_branch_frame, is_broadcast_frame, is_whole_packet
+from .uids import uid_text
 from .terminal import LOCK_FOLDER, Terminal
 
 # How long an exchange may take, and the answer to a question about the adapter itself.
@@ -65,7 +66,7 @@ class EnttecPro(OpenLine):
     # The last exchange was answered, and has had no end so far: what its end would show something about.
     _open_ends: Optional[Ends]
 
-    def __init__(self, path: str, lock_folder: Path = LOCK_FOLDER, answer_seconds: float = ANSWER_SECONDS) -> None:
+    def __init__(self, path: str, lock_folder: Folder = LOCK_FOLDER, answer_seconds: float = ANSWER_SECONDS) -> None:
         self.path = path
         self.serial = 0
         # None if the adapter doesn't say.

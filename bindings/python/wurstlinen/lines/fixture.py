@@ -2,13 +2,14 @@
 from __future__ import annotations
 
 from collections import deque
-from dataclasses import dataclass, replace
+from dataclasses import dataclass
 from typing import Deque, Dict, Optional, Tuple
 
 from .numbers import (
     MOST_DATA_BYTES, MOST_QUEUED_MESSAGES, ROOT_DEVICE, CommandClass, NackReason, Pid, ResponseType, StatusType,
 )
-from .packets import Packet, encode_branch_reply, is_broadcast
+from .packets import Packet, encode_branch_reply
+from .uids import is_broadcast
 from .parameters import Parameters, Refused
 from .scene import DeviceKeys, Lie
 
@@ -85,7 +86,7 @@ class Fixture:
         if response is None or is_broadcast(command.destination):
             return b""
         ready = sum(queued.ready <= now for queued in self._queue)
-        return replace(response, message_count=ready).encode()
+        return response._replace(message_count=ready).encode()
 
     def _own_branch_reply(self) -> bytes:
         spelled = self._keys.fixture.spells
@@ -185,8 +186,8 @@ class Fixture:
         if is_queue and status != StatusType.GET_LAST_MESSAGE:
             self._last_message = self._next_message(now)
         if not is_queue or self._last_message is None:
-            return replace(command.answer(self.uid, ResponseType.ACK, b""), pid=Pid.STATUS_MESSAGES)
-        return replace(self._last_message, destination=command.source, transaction=command.transaction)
+            return command.answer(self.uid, ResponseType.ACK, b"")._replace(pid=Pid.STATUS_MESSAGES)
+        return self._last_message._replace(destination=command.source, transaction=command.transaction)
 
     def _next_message(self, now: float) -> Optional[Packet]:
         """Takes the oldest message that is ready out of the queue."""

@@ -3,7 +3,7 @@ from __future__ import annotations
 
 from typing import Any, Callable, Dict, Optional, Sequence, Tuple, TypeVar, Union
 
-from .packets import is_broadcast, parse_uid
+from .uids import is_broadcast, parse_uid
 
 Value = TypeVar("Value")
 Other = TypeVar("Other")

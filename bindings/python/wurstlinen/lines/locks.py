@@ -5,22 +5,24 @@ programs, and two processes that find the same stale lock can't both remove it.
 """
 from __future__ import annotations
 
+import contextlib
 import errno
 import fcntl
 import io
 import os
 import re
 import stat
-from pathlib import Path
-from typing import List, Optional
+from typing import List, Optional, Union
 
 from ..line import LineBusy, LineFailed
 
+# Where lock files are.
+Folder = Union[str, "os.PathLike[str]"]
 # The number of the owner's process, ten characters wide, and a newline.
 LOCK_FORMAT = "{:10d}\n"
 MODE_OF_LOCK = 0o644
 MOST_LOCK_BYTES = 32
-PROCESS = re.compile(rb"\s*0*([1-9][0-9]*)\s*")
+PROCESS = rb"\s*0*([1-9][0-9]*)\s*"
 # A lock that is in the way may be stale, and another one may have come when it is removed.
 TRIES = 3
 
@@ -28,14 +30,14 @@ TRIES = 3
 class LockFile:
     """The lock file at a path, for the device that its name stands for."""
 
-    def __init__(self, path: Path, device: str) -> None:
+    def __init__(self, path: str, device: str) -> None:
         self._path = path
         self._device = device
         self._process = os.getpid()
         # It is closed by itself if an exception leaves it behind.
         self._file: Optional[io.FileIO] = None
         # Names beside the lock's own, for as long as there is a file of that name.
-        self._asides: List[Path] = []
+        self._asides: List[str] = []
 
     def take(self) -> None:
         """Makes the file, or replaces a stale one; `LineFailed` if the device is used, or if that can't be known."""
@@ -60,13 +62,13 @@ class LockFile:
             return
         try:
             if self._process == os.getpid() and self._is_at_path(os.fstat(self._file.fileno())):
-                self._path.unlink()
+                os.unlink(self._path)
         except OSError:
             pass
         # Not before: after an interrupt another call goes on.
         self._file.close()
 
-    def _write(self, own: Path) -> None:
+    def _write(self, own: str) -> None:
         flags = os.O_WRONLY | os.O_CREAT | os.O_EXCL | os.O_CLOEXEC
         self._file = io.FileIO(own, "wb", opener=lambda path, _: os.open(path, flags, MODE_OF_LOCK))
         # Other users have to read it, whatever the umask is.
@@ -76,7 +78,7 @@ class LockFile:
         if os.write(self._file.fileno(), text) != len(text):
             raise OSError(errno.ENOSPC, os.strerror(errno.ENOSPC))
 
-    def _link(self, own: Path) -> None:
+    def _link(self, own: str) -> None:
         for _ in range(TRIES):
             try:
                 os.link(own, self._path)
@@ -110,7 +112,7 @@ class LockFile:
         text = b""
         if stat.S_ISREG(os.fstat(descriptor).st_mode):
             text = os.read(descriptor, MOST_LOCK_BYTES + 1)
-        match = PROCESS.fullmatch(text)
+        match = re.fullmatch(PROCESS, text)
         if match is None or len(text) > MOST_LOCK_BYTES:
             raise self._unclear()
         return int(match[1])
@@ -136,9 +138,10 @@ class LockFile:
         except FileNotFoundError:
             return False
 
-    def _aside(self) -> Path:
+    def _aside(self) -> str:
         """A name that nobody else uses."""
-        aside = self._path.with_name(f".{self._path.name}.{self._process}.{os.urandom(8).hex()}")
+        folder, name = os.path.split(self._path)
+        aside = os.path.join(folder, f".{name}.{self._process}.{os.urandom(8).hex()}")
         self._asides.append(aside)
         return aside
 
@@ -147,8 +150,9 @@ class LockFile:
         for aside in tuple(self._asides):
             self._drop(aside)
 
-    def _drop(self, aside: Path) -> None:
-        aside.unlink(missing_ok=True)
+    def _drop(self, aside: str) -> None:
+        with contextlib.suppress(FileNotFoundError):
+            os.unlink(aside)
         self._asides.remove(aside)
 
     def _being_opened(self) -> LineFailed:
@@ -188,17 +192,18 @@ def _named(process: int) -> str:
 def name_of(process: int) -> str:
     """What a process calls itself; nothing if the system doesn't say it."""
     try:
-        name = Path(f"/proc/{process}/comm").read_text(encoding="utf-8", errors="replace").strip()
+        with open(f"/proc/{process}/comm", encoding="utf-8", errors="replace") as file:
+            name = file.read().strip()
     except OSError:
         return ""
     return name if name.isprintable() else ""
 
 
-def holder_of(path: Path) -> str:
+def holder_of(path: str) -> str:
     """What the process calls itself that a lock file names; nothing if that isn't known."""
     try:
         with open(path, "rb") as file:
-            found = PROCESS.fullmatch(file.read(MOST_LOCK_BYTES))
+            found = re.fullmatch(PROCESS, file.read(MOST_LOCK_BYTES))
     except OSError:
         return ""
     return "" if found is None else name_of(int(found[1]))

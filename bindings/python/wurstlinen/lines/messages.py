@@ -4,9 +4,8 @@ A message is 7e, a label, the length of its data (low byte first), the data and 
 """
 from __future__ import annotations
 
-from dataclasses import dataclass
 from enum import IntEnum
-from typing import List, Mapping, Optional, Sequence
+from typing import List, Mapping, NamedTuple, Optional, Sequence
 
 START = 0x7E
 END = 0xE7
@@ -41,8 +40,7 @@ LENGTHS_FROM_ADAPTER: Mapping[int, Sequence[int]] = {
 }
 
 
-@dataclass(frozen=True)
-class Message:
+class Message(NamedTuple):
     """A label and its data."""
 
     label: int

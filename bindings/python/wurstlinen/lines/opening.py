@@ -6,7 +6,6 @@ import stat
 from typing import List, Optional
 
 from .base import OpenLine
-from .keys import SceneFault
 
 FORMS = "enttec:DEVICE, text:FRAMES[,REPLIES], exec:COMMAND or rig:FILE"
 
@@ -33,6 +32,7 @@ def open_line(text: str, seconds: Optional[float] = None) -> OpenLine:
         from .enttec import EnttecPro
         return EnttecPro(rest)
     if kind == "rig":
+        from .keys import SceneFault
         from .rig import Rig
         try:
             return Rig(rest)

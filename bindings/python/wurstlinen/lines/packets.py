@@ -1,11 +1,10 @@
 """E1.20's packets and branch replies as bytes, written only for rigs and lines, without any proved code."""
 from __future__ import annotations
 
-import re
-from dataclasses import dataclass
-from typing import Optional
+from typing import NamedTuple, Optional
 
 from .numbers import CommandClass, Pid, ResponseType
+from .uids import ALL_DEVICES, is_broadcast
 
 START_CODE = 0xCC
 SUB_START_CODE = 0x01
@@ -17,15 +16,8 @@ BRANCH_SEPARATOR = 0xAA
 MOST_PREAMBLE_BYTES = 7
 ENCODED_BYTES = 16
 
-ALL_DEVICES = 0xFFFFFFFFFFFF
-BROADCAST_DEVICE = 0xFFFFFFFF
-LAST_DEVICE = ALL_DEVICES - 1
 
-UID_TEXT = re.compile(r"([0-9A-Fa-f]{4}):([0-9A-Fa-f]{8})")
-
-
-@dataclass(frozen=True)
-class Packet:
+class Packet(NamedTuple):
     """A command or a response. UIDs are numbers: the manufacturer times 2^32, plus the device."""
 
     destination: int
@@ -116,29 +108,11 @@ def decode_branch_reply(data: bytes) -> Optional[int]:
     return int.from_bytes(_halved(encoded[:12]), "big")
 
 
-def is_broadcast(uid: int) -> bool:
-    """Whether a UID addresses all devices, or all of a manufacturer."""
-    return uid & BROADCAST_DEVICE == BROADCAST_DEVICE
-
-
 def addresses(destination: int, uid: int) -> bool:
     """Whether a packet with this destination is for the device `uid`."""
     if is_broadcast(destination):
         return destination == ALL_DEVICES or destination >> 32 == uid >> 32
     return destination == uid
-
-
-def uid_text(uid: int) -> str:
-    """A UID as text, such as 7a70:00000001."""
-    return f"{uid >> 32:04x}:{uid & BROADCAST_DEVICE:08x}"
-
-
-def parse_uid(text: str) -> int:
-    """The number of a UID as text; a `ValueError` for any other text."""
-    match = UID_TEXT.fullmatch(text)
-    if match is None:
-        raise ValueError(f"'{text}' isn't a UID, such as 7a70:00000001")
-    return int(match[1], 16) << 32 | int(match[2], 16)
 
 
 def _doubled(data: bytes) -> bytes:

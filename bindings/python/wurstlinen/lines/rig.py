@@ -13,7 +13,8 @@ from typing import Callable, List, Sequence, Union
 from ..line import MOST_REPLY_BYTES, LineFailed
 from .base import OpenLine
 from .fixture import Fixture
-from .packets import MOST_PREAMBLE_BYTES, Packet, addresses, decode_packet, encode_branch_reply, is_broadcast
+from .packets import MOST_PREAMBLE_BYTES, Packet, addresses, decode_packet, encode_branch_reply
+from .uids import is_broadcast
 from .scene import Collide, Scene, read_scene
 
 BRANCH_DATA_BYTES = 12

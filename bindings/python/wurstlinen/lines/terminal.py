@@ -8,14 +8,13 @@ import os
 import select
 import termios
 import weakref
-from pathlib import Path
 from typing import Optional
 
 from ..line import LineBusy, LineFailed
 from .alarm import Alarm, Ended
-from .locks import LockFile
+from .locks import Folder, LockFile
 
-LOCK_FOLDER = Path("/var/lock")
+LOCK_FOLDER = "/var/lock"
 READ_BYTES = 4096
 
 
@@ -27,7 +26,7 @@ class Terminal:
     devices themselves. A terminal that nobody uses any more is closed.
     """
 
-    def __init__(self, path: str, lock_folder: Path = LOCK_FOLDER) -> None:
+    def __init__(self, path: str, lock_folder: Folder = LOCK_FOLDER) -> None:
         self._alarm = Alarm()
         self._device = _Device(path, lock_folder)
         weakref.finalize(self, self._device.close)
@@ -105,9 +104,9 @@ class Terminal:
 class _Device:
     """What a terminal holds until it is closed."""
 
-    def __init__(self, path: str, lock_folder: Path) -> None:
+    def __init__(self, path: str, lock_folder: Folder) -> None:
         self._path = path
-        self._lock = LockFile(lock_folder / f"LCK..{os.path.basename(os.path.realpath(path))}", path)
+        self._lock = LockFile(os.path.join(lock_folder, f"LCK..{os.path.basename(os.path.realpath(path))}"), path)
         self._process = os.getpid()
         self._is_exclusive = False
         # It is closed by itself if an exception leaves it behind.

@@ -10,10 +10,9 @@ from collections import deque
 from types import TracebackType
 from typing import Callable, Deque, List, Optional, Tuple, Type, Union, cast
 
-from .._queue import Outcome, kind_of
 from .._types import (
-    AckType, Completion, Device, Discovery, Kind, OutcomeKind, ReplyHead, Request, RequestClass, ResponseClass,
-    RunFault, RunFaultKind, Status, Uid,
+    AckType, Completion, Device, Discovery, Kind, Outcome, OutcomeKind, ReplyHead, Request, RequestClass,
+    ResponseClass, RunFault, RunFaultKind, Status, Uid, kind_of,
 )
 from .._turns import Turns
 from ..line import LineFailed

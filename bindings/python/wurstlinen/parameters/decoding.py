@@ -1,17 +1,17 @@
 """Reads parameter data."""
 from __future__ import annotations
 
-import ipaddress
-from dataclasses import dataclass
-from decimal import Decimal
-from typing import Any, Dict, List, Optional, Tuple, Union
+from typing import TYPE_CHECKING, Any, Dict, List, NamedTuple, Optional, Tuple, Union
 
 from .fields import Bytes, Field, Fields, Flag, Group, Ipv4, Mac, Message, Number, Parameter, Text, UidField
 from .table import STANDARD
 
+if TYPE_CHECKING:
+    from decimal import Decimal
+
 # A number, a Decimal if its field has a power of ten; a label or another text; whether a flag is set; a list of a
 # group's values.
-Value = Union[int, Decimal, str, bool, List[Any]]
+Value = Union[int, "Decimal", str, bool, List[Any]]
 Values = Dict[str, Value]
 FLAG_NAMES = {False: "no", True: "yes"}
 UID_BYTES = 6
@@ -25,8 +25,7 @@ class Misfit(ValueError):
     """Why data doesn't fit the fields."""
 
 
-@dataclass(frozen=True)
-class Reading:
+class Reading(NamedTuple):
     """What data says."""
 
     data: bytes
@@ -97,7 +96,7 @@ def value_of(field: Field, reader: Reader, before: Values) -> Value:
         text = reader.take(UID_BYTES, field.name).hex()
         return f"{text[:4]}:{text[4:]}"
     if isinstance(field, Ipv4):
-        return str(ipaddress.IPv4Address(reader.take(IPV4_BYTES, field.name)))
+        return ".".join(map(str, reader.take(IPV4_BYTES, field.name)))
     if isinstance(field, Mac):
         return reader.take(MAC_BYTES, field.name).hex(":")
     if isinstance(field, Group):
@@ -117,7 +116,14 @@ def number_value(field: Number, data: bytes, is_labelled: bool) -> Value:
         return field.labels[number]
     if field.is_pid:
         return STANDARD.name(number)
-    return Decimal(number).scaleb(field.power) if field.power else number
+    return decimal_of(number, field.power) if field.power else number
+
+
+def decimal_of(number: Union[int, str], power: int) -> Decimal:
+    """A number times ten to this power."""
+    # Few parameters need it, and it takes a while to load.
+    from decimal import Decimal
+    return Decimal(number).scaleb(power)
 
 
 def text_value(data: bytes) -> str:
@@ -180,11 +186,11 @@ def value_text(field: Field, value: Value) -> str:
         return "; ".join(element_text(field, each) for each in group_elements(value)) or "none"
     if isinstance(value, bool):
         return FLAG_NAMES[value]
-    if isinstance(value, Decimal):
-        value = format(value.normalize(), "f")
-    elif isinstance(value, str):
+    if isinstance(value, str):
         return value
-    return f"{value} {field.unit}" if isinstance(field, Number) and field.unit else str(value)
+    assert not isinstance(value, list)
+    text = str(value) if isinstance(value, int) else format(value.normalize(), "f")
+    return f"{text} {field.unit}" if isinstance(field, Number) and field.unit else text
 
 
 def fields_text(message: Message) -> str:

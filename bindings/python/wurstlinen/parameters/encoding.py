@@ -1,24 +1,26 @@
 """Writes parameter data, from words as people type them or from values."""
 from __future__ import annotations
 
-import ipaddress
 import re
-from decimal import Decimal
-from typing import List, Mapping, Optional, Pattern, Sequence, Tuple, Union
+from typing import TYPE_CHECKING, List, Mapping, Optional, Sequence, Tuple, Union
 
-from .decoding import fields_text
+from .decoding import decimal_of, fields_text
 from .fields import MOST_DATA_BYTES, Bytes, Field, Fields, Flag, Group, Ipv4, Mac, Number, Parameter, Text, UidField
 from .table import STANDARD
 from .words import WordFault, hint, name_of, whole
 
-Word = Union[str, int, bool, Decimal]
+if TYPE_CHECKING:
+    from decimal import Decimal
+
+Word = Union[str, int, bool, "Decimal"]
 FLAGS = {"yes": 1, "no": 0, "on": 1, "off": 0, "true": 1, "false": 0, "1": 1, "0": 0}
-UID = re.compile(r"[0-9a-fA-F]{4}:[0-9a-fA-F]{8}")
-MAC = re.compile(r"[0-9a-fA-F]{2}(:[0-9a-fA-F]{2}){5}")
-FRACTION = re.compile(r"-?(0|[1-9][0-9]*)(\.[0-9]+)?")
-HEX_BYTES = re.compile(r"0[xX]([0-9a-fA-F]{2})*")
+# Patterns, which are compiled when they are first used.
+UID = r"[0-9a-fA-F]{4}:[0-9a-fA-F]{8}"
+MAC = r"[0-9a-fA-F]{2}(:[0-9a-fA-F]{2}){5}"
+FRACTION = r"-?(0|[1-9][0-9]*)(\.[0-9]+)?"
+HEX_BYTES = r"0[xX]([0-9a-fA-F]{2})*"
 # An escape, or any other character.
-CHARACTER = re.compile(r"\\x([0-9a-fA-F]{2})|\\(\\)|([ -\[\]-~])|(.)", re.DOTALL)
+CHARACTER = r"(?s)\\x([0-9a-fA-F]{2})|\\(\\)|([ -\[\]-~])|(.)"
 
 
 def encode(parameter: Parameter, is_set: bool, words: Sequence[Word]) -> bytes:
@@ -47,6 +49,9 @@ def word_of(value: Word) -> str:
     """A value as a word."""
     if isinstance(value, bool):
         return "yes" if value else "no"
+    if isinstance(value, (str, int)):
+        return str(value)
+    from decimal import Decimal
     return format(value, "f") if isinstance(value, Decimal) else str(value)
 
 
@@ -111,20 +116,22 @@ def value_data(field: Field, word: str) -> bytes:
     if isinstance(field, Text):
         return sized(field, text_data(word), "characters")
     assert isinstance(field, Bytes)
-    if not HEX_BYTES.fullmatch(word):
+    if not re.fullmatch(HEX_BYTES, word):
         raise WordFault(f"'{word}' isn't 0x and hexadecimal bytes")
     return sized(field, bytes.fromhex(word[2:]), "bytes")
 
 
-def matched(pattern: Pattern[str], word: str, what: str) -> bytes:
+def matched(pattern: str, word: str, what: str) -> bytes:
     """The bytes that a word of this pattern spells."""
-    if not pattern.fullmatch(word):
+    if not re.fullmatch(pattern, word):
         raise WordFault(f"'{word}' isn't {what}")
     return bytes.fromhex(word.replace(":", ""))
 
 
 def ipv4_data(word: str) -> bytes:
     """An IPv4 address."""
+    # Few parameters have one.
+    import ipaddress
     try:
         return ipaddress.IPv4Address(word).packed
     except ValueError:
@@ -159,11 +166,11 @@ def spelled(field: Number, word: str, by_label: Mapping[str, int]) -> int:
 
 def scaled(field: Number, word: str) -> int:
     """The number of a word in the field's unit, which may have decimals."""
-    if not FRACTION.fullmatch(word):
+    if not re.fullmatch(FRACTION, word):
         raise WordFault(f"'{word}' isn't a decimal number{unit_text(field)}")
-    number = Decimal(word).scaleb(-field.power)
+    number = decimal_of(word, -field.power)
     if number != number.to_integral_value():
-        raise WordFault(f"{word} isn't a multiple of {format(Decimal(1).scaleb(field.power), 'f')}")
+        raise WordFault(f"{word} isn't a multiple of {format(decimal_of(1, field.power), 'f')}")
     return int(number)
 
 
@@ -181,7 +188,7 @@ def valid_text(field: Number) -> str:
 
 def range_text(field: Number, least: int, most: int) -> str:
     """A range in the field's unit."""
-    first, last = (format(Decimal(each).scaleb(field.power), "f") for each in (least, most))
+    first, last = (format(decimal_of(each, field.power), "f") for each in (least, most))
     return f"from {first} to {last}" + (f" {field.unit}" if field.unit else "")
 
 
@@ -196,7 +203,7 @@ def sized(field: Union[Text, Bytes], data: bytes, what: str) -> bytes:
 def text_data(word: str) -> bytes:
     """A text as ASCII. \\x and two digits is any byte, and two backslashes are one."""
     data = bytearray()
-    for match in CHARACTER.finditer(word):
+    for match in re.finditer(CHARACTER, word):
         code, backslash, plain, other = match.groups()
         if other == "\\":
             raise WordFault("a backslash is written \\\\, and any other byte \\x and two hexadecimal digits")

@@ -1,9 +1,7 @@
 """The types of which parameters consist: fields, commands with their responses, and parameters."""
-from __future__ import annotations
-
 import enum
-from dataclasses import dataclass, field
-from typing import Mapping, Optional, Tuple, Union
+from types import MappingProxyType
+from typing import Mapping, NamedTuple, Optional, Tuple, Union
 
 MOST_DATA_BYTES = 231
 # A response in parts.
@@ -13,10 +11,10 @@ ROOT_DEVICE = 0
 MOST_SUB_DEVICES = 512
 ALL_SUB_DEVICES = 0xFFFF
 Range = Tuple[int, int]
+NO_LABELS: Mapping[int, str] = MappingProxyType({})
 
 
-@dataclass(frozen=True)
-class Number:
+class Number(NamedTuple):
     """A whole number, its high byte first.
 
     If it has ranges or labels, no other number is valid. The number times ten to `power` is its value in `unit`.
@@ -26,7 +24,7 @@ class Number:
     size: int
     is_signed: bool = False
     ranges: Tuple[Range, ...] = ()
-    labels: Mapping[int, str] = field(default_factory=dict)
+    labels: Mapping[int, str] = NO_LABELS
     power: int = 0
     unit: str = ""
     # Whether it is the number of a parameter.
@@ -50,36 +48,31 @@ class Number:
         return number in self.labels or any(least <= number <= most for least, most in self.valid)
 
 
-@dataclass(frozen=True)
-class Flag:
+class Flag(NamedTuple):
     """A byte that is 0 or 1."""
 
     name: str
 
 
-@dataclass(frozen=True)
-class UidField:
+class UidField(NamedTuple):
     """A UID."""
 
     name: str
 
 
-@dataclass(frozen=True)
-class Ipv4:
+class Ipv4(NamedTuple):
     """An IPv4 address."""
 
     name: str
 
 
-@dataclass(frozen=True)
-class Mac:
+class Mac(NamedTuple):
     """A hardware address of 48 bits."""
 
     name: str
 
 
-@dataclass(frozen=True)
-class Text:
+class Text(NamedTuple):
     """A text of ASCII characters, whose number is in this range."""
 
     name: str
@@ -87,8 +80,7 @@ class Text:
     most: int = MOST_TEXT_BYTES
 
 
-@dataclass(frozen=True)
-class Bytes:
+class Bytes(NamedTuple):
     """Bytes whose meaning isn't known here."""
 
     name: str
@@ -96,12 +88,11 @@ class Bytes:
     most: int = MOST_DATA_BYTES
 
 
-@dataclass(frozen=True)
-class Group:
+class Group(NamedTuple):
     """Fields that are repeated to the end of the data; any number of times, if `most` is None."""
 
     name: str
-    fields: Tuple[Field, ...]
+    fields: Tuple["Field", ...]
     least: int = 0
     most: Optional[int] = None
 
@@ -128,8 +119,7 @@ class SubDevices(enum.Enum):
         return self is not SubDevices.ROOT and sub_device <= MOST_SUB_DEVICES
 
 
-@dataclass(frozen=True)
-class Message:
+class Message(NamedTuple):
     """The data of a command, and of its response."""
 
     request: Fields
@@ -137,8 +127,7 @@ class Message:
     sub_devices: SubDevices
 
 
-@dataclass(frozen=True)
-class Parameter:
+class Parameter(NamedTuple):
     """A parameter, and the commands that it has."""
 
     name: str

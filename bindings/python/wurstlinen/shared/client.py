@@ -8,13 +8,13 @@ from typing import Callable, Deque, Iterable, Optional, Set, Tuple, Type, Union,
 
 from .._ask import DEFAULT_WAIT, Answer, Asker, Kept
 from .._faults import OtherOutcome
-from .._queue import Outcome, kind_of
 from .._types import (
-    Completion, Device, Discovery, Kind, OutcomeKind, Request, RequestClass, Uid, data_of, pid_of, uid_of,
+    Completion, Device, Discovery, Kind, Outcome, OutcomeKind, Request, RequestClass, Uid, data_of, kind_of, pid_of,
+    uid_of,
 )
 from ..line import Line, LineFailed
 from .connection import Connection, NotServed, dict_of
-from .words import Keys, completion_of, devices_of, discovery_of, keys_of_request
+from .words import Keys, completion_of, devices_of, discovery_of, keys_of_request, uid_in
 
 KIND_WORDS = {Kind.FULL: "full", Kind.INCREMENTAL: "incremental"}
 SLICE_SECONDS = 0.1
@@ -39,7 +39,7 @@ class SharedQueue:
         # What the server calls its line, the controller's UID, and how many requests may be outstanding.
         self.name = str(hello["line"])
         with self.connection.protocol():
-            self.source = Uid.parse(hello["source"])
+            self.source = uid_in(hello["source"])
         self.process = int(hello["process"])
         self.holder = f"process {self.process} ({self.source})"
         self.depth = int(hello["depth"])
@@ -163,7 +163,7 @@ class SharedClient:
         self.close()
 
     def close(self) -> None:
-        """Ends the connection. What is outstanding is still done, as soon as it can be, and nobody hears of it."""
+        """Ends the connection. What is outstanding, and wasn't sent so far, isn't sent."""
         self.queue.connection.close()
 
     def submit(self, request: Request) -> int:

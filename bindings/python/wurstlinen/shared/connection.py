@@ -82,7 +82,7 @@ class Connection:
             raise LineBusy(str(fault), f"the server of {self._line}") from None
 
     def close(self) -> None:
-        """Ends the connection. What is outstanding is still done. A call of another thread fails."""
+        """Ends the connection. A call of another thread fails."""
         # Who waits for the server would go on to wait.
         with contextlib.suppress(OSError):
             self._socket.shutdown(socket.SHUT_RDWR)

@@ -7,6 +7,7 @@ import grp
 import os
 import re
 import socket
+import stat
 from pathlib import Path
 from typing import FrozenSet, Iterator, Optional
 
@@ -23,18 +24,29 @@ MOST_NUMBER_BYTES = 32
 FIRST_PASSED = 3
 
 
-def made_folder(group: Optional[int]) -> Path:
+def made_folder(group: Optional[int]) -> str:
     """The folder for the socket of a server. Raises BadPlace and OSError."""
     folder = own_folder() if group is None else SYSTEM_FOLDER
     try:
         os.mkdir(folder, OWN_MODE)
         if group is not None:
             os.chown(folder, -1, group)
-            os.chmod(folder, GROUP_MODE)
+        # Whatever the umask is.
+        os.chmod(folder, OWN_MODE if group is None else GROUP_MODE)
     except FileExistsError:
         pass
     check_folder(folder)
+    if group is not None:
+        check_group(folder, group)
     return folder
+
+
+def check_group(folder: str, group: int) -> None:
+    """Raises BadPlace if a folder that is there keeps a group out."""
+    found = os.lstat(folder)
+    can_enter = found.st_gid == group and found.st_mode & stat.S_IXGRP
+    if not can_enter and not found.st_mode & stat.S_IXOTH:
+        raise BadPlace(f"{folder} isn't used: it isn't the group {grp.getgrgid(group).gr_name}'s, with mode 0750")
 
 
 def group_number(name: str) -> int:
@@ -77,7 +89,7 @@ class Place:
     def __init__(self, line: str, group: Optional[str] = None) -> None:
         self._line = line
         self._group = None if group is None else group_number(group)
-        self.path = path_of(made_folder(self._group), line)
+        self.path = Path(path_of(made_folder(self._group), line))
         if len(os.fsencode(self.path)) > MOST_PATH_BYTES:
             raise BadPlace(f"{self.path} is longer than the {MOST_PATH_BYTES} bytes that a socket's name may have")
         self._lock = _locked(self.path.with_suffix(".lock"), line)
@@ -92,7 +104,7 @@ class Place:
     def _make_room(self) -> None:
         """Removes the socket of a server that has died. Raises BadPlace for one that somebody listens on."""
         try:
-            check_socket(self.path)
+            check_socket(str(self.path))
             # A server that systemd has started has no lock, and systemd has none.
             if is_listened_on(self.path):
                 raise BadPlace(f"{self._line} is served already: another program listens on {self.path}")

@@ -3,10 +3,13 @@ from __future__ import annotations
 
 import io
 import os
-from typing import Callable, Optional, Sequence
+import threading
+from typing import Callable, List, Optional, Sequence
 
 MOST_BYTES = 100 * 1024 * 1024
 PRIVATE_MODE = 0o600
+# So much waits for a disk that hangs.
+MOST_WAITING_BYTES = 16 * 1024 * 1024
 
 
 class LogFile:
@@ -20,7 +23,8 @@ class LogFile:
         self._report = report
         self._most_bytes = most_bytes
         self._file: Optional[io.FileIO] = None
-        self._lost = 0
+        # How many lines are lost since the last that was written.
+        self.lost = 0
 
     def open(self) -> None:
         """Opens it. Raises OSError."""
@@ -35,13 +39,17 @@ class LogFile:
             self._write(b"".join(lines))
         except OSError as fault:
             self.close()
-            if not self._lost:
-                self._report(f"{self._name}: {fault.strerror}; the log goes on when it can be written again")
-            self._lost += len(lines)
+            if not self.lost:
+                self.warn(str(fault.strerror))
+            self.lost += len(lines)
             return
-        if self._lost:
-            self._report(f"{self._name}: the log goes on after {self._lost} lost lines")
-            self._lost = 0
+        if self.lost:
+            self._report(f"{self._name}: the log goes on after {self.lost} lost lines")
+            self.lost = 0
+
+    def warn(self, reason: str) -> None:
+        """Reports why lines are lost from now on."""
+        self._report(f"{self._name}: {reason}; the log goes on when it can be written again")
 
     def _write(self, data: bytes) -> None:
         self.open()
@@ -80,3 +88,52 @@ class LogFile:
         if self._file is not None:
             self._file.close()
             self._file = None
+
+
+class LogWriter:
+    """Writes lines to a log's file in a thread of its own, since a disk may hang. What it doesn't take then is lost."""
+
+    def __init__(self, file: LogFile, most_waiting: int = MOST_WAITING_BYTES) -> None:
+        self._file = file
+        self._most_waiting = most_waiting
+        self._lines: List[bytes] = []
+        # How many bytes these have, and those that are being written.
+        self._waiting = 0
+        self._missed = 0
+        self._is_over = False
+        self._changed = threading.Condition()
+        self._thread = threading.Thread(target=self._run, name="log", daemon=True)
+        self._thread.start()
+
+    def add(self, lines: Sequence[bytes]) -> None:
+        """Has lines written: all of them, or none. It waits for nothing."""
+        size = sum(map(len, lines))
+        with self._changed:
+            if self._missed or self._waiting + size > self._most_waiting:
+                if not self._missed:
+                    self._file.warn("the disk hangs")
+                self._missed += len(lines)
+                return
+            self._lines += lines
+            self._waiting += size
+            self._changed.notify()
+
+    def end(self, seconds: float) -> None:
+        """Writes what is left, but waits only so long."""
+        with self._changed:
+            self._is_over = True
+            self._changed.notify()
+        self._thread.join(seconds)
+
+    def _run(self) -> None:
+        while True:
+            with self._changed:
+                self._changed.wait_for(lambda: self._lines or self._is_over)
+                lines, self._lines = self._lines, []
+            if not lines:
+                return self._file.close()
+            self._file.add(lines)
+            with self._changed:
+                self._waiting -= sum(map(len, lines))
+                self._file.lost += self._missed
+                self._missed = 0

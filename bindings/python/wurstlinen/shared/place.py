@@ -6,10 +6,8 @@ a group shares has it in /run/wurstlinen.
 from __future__ import annotations
 
 import os
-import re
 import stat
 import time
-from pathlib import Path
 from typing import TYPE_CHECKING, FrozenSet, Optional
 
 from ..line import LineFailed
@@ -21,16 +19,18 @@ if TYPE_CHECKING:
 FOLDER = "wurstlinen"
 RUNTIME_VARIABLE = "XDG_RUNTIME_DIR"
 # Only root makes folders there.
-SYSTEM_FOLDER = Path("/run") / FOLDER
-TEMPORARY_FOLDER = Path("/tmp")
+SYSTEM_FOLDER = f"/run/{FOLDER}"
+TEMPORARY_FOLDER = "/tmp"
 # Where udev links names to the devices that have them.
 BY_ID = "/dev/serial/by-id"
 # A socket's address has so many bytes, and a zero.
 MOST_PATH_BYTES = 107
 OWN_MODE = 0o700
-OTHERS = 0o077
+MODE_BITS = 0o777
 WRITERS = 0o022
 DIGITS = 16
+# What systemd leaves as it is, besides letters and digits.
+PLAIN = b":_."
 ROOT = 0
 SECONDS_TO_CONNECT = 5.0
 AGAIN_SECONDS = 0.01
@@ -61,37 +61,47 @@ def stable_name(device: str) -> str:
     return next((link for link in links if os.path.realpath(link) == real), real)
 
 
-def path_of(folder: Path, line: str) -> Path:
-    """The socket of a line: as systemd escapes a device's path, if there is room for that, or else a checksum."""
+def path_of(folder: str, line: str) -> str:
+    """The socket of a line. bindings/python/SERVER.md has the rule for its name."""
     kind, _, rest = canonical(line).partition(":")
-    if kind == "enttec":
-        words = (re.sub(rb"[^A-Za-z0-9:_.]", lambda byte: b"\\x%02x" % ord(byte[0]), part)
-                 for part in os.fsencode(rest).strip(b"/").split(b"/"))
-        path = folder / f"{os.fsdecode(b'-'.join(words))}.socket"
-        if len(os.fsencode(path)) <= MOST_PATH_BYTES:
-            return path
     if kind == "exec":
         # What a command does depends on its folder.
         here = os.stat(".")
         rest = f"{here.st_dev}:{here.st_ino}:{rest}"
-    # The usual line needs no checksum.
-    import hashlib
-    return folder / f"{kind}-{hashlib.sha256(os.fsencode(rest)).hexdigest()[:DIGITS]}.socket"
+    name = escaped(rest.strip("/")) if kind == "enttec" else f"{kind}@{escaped(rest)}"
+    path = os.path.join(folder, f"{name}.socket")
+    if len(os.fsencode(path)) > MOST_PATH_BYTES:
+        # Few lines need a checksum.
+        import hashlib
+        path = os.path.join(folder, f"{kind}@{hashlib.sha256(os.fsencode(rest)).hexdigest()[:DIGITS]}.socket")
+    return path
 
 
-def own_folder() -> Path:
+def escaped(text: str) -> str:
+    """A text as `systemd-escape` writes it."""
+    return "".join(escaped_byte(byte) for byte in os.fsencode(text))
+
+
+def escaped_byte(byte: int) -> str:
+    """The same of a byte."""
+    if byte in PLAIN or (chr(byte).isascii() and chr(byte).isalnum()):
+        return chr(byte)
+    return "-" if byte == ord("/") else f"\\x{byte:02x}"
+
+
+def own_folder() -> str:
     """The user's folder for sockets."""
     runtime = os.environ.get(RUNTIME_VARIABLE, "")
     try:
         found = os.stat(runtime)
         if os.path.isabs(runtime) and found.st_uid == os.geteuid() and not found.st_mode & WRITERS:
-            return Path(runtime) / FOLDER
+            return os.path.join(runtime, FOLDER)
     except (OSError, ValueError):
         pass
-    return TEMPORARY_FOLDER / f"{FOLDER}-{os.geteuid()}"
+    return os.path.join(TEMPORARY_FOLDER, f"{FOLDER}-{os.geteuid()}")
 
 
-def check_folder(folder: Path) -> FrozenSet[int]:
+def check_folder(folder: str) -> FrozenSet[int]:
     """The users whose servers may be in a folder that is there. Raises BadPlace and OSError."""
     found = os.lstat(folder)
     if not stat.S_ISDIR(found.st_mode):
@@ -100,12 +110,12 @@ def check_folder(folder: Path) -> FrozenSet[int]:
         if found.st_mode & WRITERS:
             raise BadPlace(f"{folder} isn't used: others may write to it")
         return frozenset((os.geteuid(), ROOT, found.st_uid))
-    if found.st_uid != os.geteuid() or found.st_mode & OTHERS:
+    if found.st_uid != os.geteuid() or found.st_mode & MODE_BITS != OWN_MODE:
         raise BadPlace(f"{folder} isn't used: it isn't this user's own, with mode 0700")
     return frozenset((os.geteuid(), ROOT))
 
 
-def check_socket(path: Path) -> None:
+def check_socket(path: str) -> None:
     """Raises BadPlace if something else than a socket is there, and OSError if nothing is."""
     mode = os.lstat(path).st_mode
     if not stat.S_ISSOCK(mode):
@@ -131,7 +141,7 @@ def connected(line: str) -> Optional[socket.socket]:
     return None
 
 
-def _connected(path: Path, users: FrozenSet[int]) -> socket.socket:
+def _connected(path: str, users: FrozenSet[int]) -> socket.socket:
     # A command without a server doesn't load it.
     import socket
     found = socket.socket(socket.AF_UNIX)
@@ -145,13 +155,13 @@ def _connected(path: Path, users: FrozenSet[int]) -> socket.socket:
         raise
 
 
-def _connect(connection: socket.socket, path: Path) -> None:
+def _connect(connection: socket.socket, path: str) -> None:
     """Connects, as soon as the server has accepted those that came before."""
     until = time.monotonic() + SECONDS_TO_CONNECT
     connection.setblocking(False)
     while True:
         try:
-            connection.connect(str(path))
+            connection.connect(path)
             return
         except BlockingIOError:
             if time.monotonic() >= until:

@@ -8,10 +8,12 @@ import selectors
 import socket
 import time
 from dataclasses import dataclass
-from typing import Callable, Dict, FrozenSet, Iterable, List, Optional, Union
+from typing import Callable, Dict, FrozenSet, Iterable, List, Optional, Tuple, Union
 
-from .. import MOST_CLIENTS, Fault, LogFull, RunFaultKind, Session, Status
-from .lane import DEPTH, PLACES, Lane, Outcome
+from .. import MOST_CLIENTS, Closed, Fault, Kind, LogFull, Request, RunFaultKind, Session, Status
+from .._types import Outcome
+from .backlog import DEPTH, Backlog
+from .lane import PLACES, Lane
 from .listening import Passed, Place
 from .peer import READ_BYTES, Peer, id_of
 from .place import user_of
@@ -55,6 +57,7 @@ class Server:
         self._session = session
         self._facts = facts
         self._lanes = [Lane(session.join(PLACES)) for _ in range(MOST_CLIENTS)]
+        self._backlog = Backlog(self._lanes)
         self._peers: List[Peer] = []
         self._selector = selectors.DefaultSelector()
         self._waking, self._waker = socket.socketpair()
@@ -125,6 +128,7 @@ class Server:
             if peer.asks:
                 self._answer(peer, peer.held.popleft())
         self._hand_out()
+        self._hand_on()
         self._housekeep()
 
     def _listen(self) -> None:
@@ -219,18 +223,18 @@ class Server:
 
     def submit(self, peer: Peer, keys: Keys) -> Keys:
         """A GET or a SET."""
-        assert peer.lane is not None
-        number = peer.lane.submit(request_in(keys))
-        self.worker.wake()
-        return {"request": number}
+        return {"request": self._accepted(peer, request_in(keys))}
 
     def discover(self, peer: Peer, keys: Keys) -> Keys:
         """A discovery."""
-        assert peer.lane is not None
         check_keys(keys, ("kind",))
-        number = peer.lane.discover(KINDS[choice_in(keys, "kind", KINDS, "full")])
-        self.worker.wake()
-        return {"discovery": number}
+        return {"discovery": self._accepted(peer, KINDS[choice_in(keys, "kind", KINDS, "full")])}
+
+    def _accepted(self, peer: Peer, what: Union[Request, Kind]) -> int:
+        if self._is_ending or self._session.is_closed():
+            raise Closed()
+        assert peer.lane is not None
+        return self._backlog.accept(peer.lane, what)
 
     def devices(self, peer: Peer, keys: Keys) -> Keys:
         """The devices of the last run without a fault."""
@@ -288,26 +292,41 @@ class Server:
         clients = sum(lane.owner is not None for lane in self._lanes)
         keys: Keys = {"line": self._facts.line, "there": self.worker.is_line_there,
                       "paused": self._session.is_paused(), "clients": clients,
-                      "outstanding": sum(lane.outstanding for lane in self._lanes)}
+                      "outstanding": self._backlog.outstanding}
         return keys if keys["there"] else {**keys, "reason": self.worker.absence}
 
     def _hand_out(self) -> None:
         """Sends results and events to those who want them, and clients of the queue to those who wait for one."""
         # The frames of these results are among the events already, and the results of this run among these.
-        run = self._session.devices_run()
+        run, numbers = self._session.devices_run(), self._backlog.numbers()
         results = [(lane, outcome) for lane in self._lanes for outcome in lane.collected()]
         while self.worker.events:
             event = self.worker.events.popleft()
+            if "request" in event:
+                event["request"] = numbers[event["request"]]
             self._tell(event, FRAMES if event["event"] == "frame" else None)
-        for lane, outcome in results:
-            if lane.owner is not None:
-                lane.owner.say(self._result(outcome))
+        self._say_results(results)
         if run != self._devices_run:
             self._devices_run = run
             self._tell({"event": "devices", "run": run}, DEVICES)
         for peer in self._peers:
             if peer.hello is not None:
                 self._welcome(peer)
+
+    def _hand_on(self) -> None:
+        """Gives the queue what it can do now. Else it stays here, where it can be dropped with its program."""
+        if self._is_ending or self._session.is_paused() or self.worker.is_waiting:
+            return
+        # Without room in the log or memory, a later turn does it.
+        with contextlib.suppress(Fault):
+            for _ in self._backlog.hand_on():
+                self.worker.wake()
+
+    def _say_results(self, results: Iterable[Tuple[Lane, Outcome]]) -> None:
+        """Sends results to the programs that still want them."""
+        for lane, outcome in results:
+            if lane.owner is not None:
+                lane.owner.say(self._result(outcome))
 
     def _result(self, outcome: Outcome) -> Keys:
         """How a call ended; with the reason if the line failed."""
@@ -340,6 +359,8 @@ class Server:
         for peer in over:
             self._peers.remove(peer)
             self._watch(peer, 0)
+            if peer.lane is not None:
+                self._backlog.drop(peer.lane)
             peer.close()
         if over:
             self._left_at = now
@@ -368,10 +389,11 @@ class Server:
         self._place.leave()
         self._session.close()
         until = time.monotonic() + ENDING_SECONDS
-        while any(lane.outstanding for lane in self._lanes) and time.monotonic() < until and not self.worker.fault:
+        while any(lane.in_queue for lane in self._lanes) and time.monotonic() < until and not self.worker.fault:
             self._turn(until - time.monotonic())
         self.worker.end()
         self._hand_out()
+        self._say_results(self._backlog.fail())
         for peer in self._peers:
             peer.leave(BadRequest(self._end_reason, "Closed"))
         until = time.monotonic() + ENDING_SECONDS

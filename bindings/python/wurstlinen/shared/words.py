@@ -12,6 +12,7 @@ from .. import (
     MOST_PARAMETER_BYTES, AckType, Completion, Device, Discovery, Kind, ReplyHead, Request, RequestClass,
     ResponseClass, RunFault, RunFaultKind, Status, Uid,
 )
+from ..lines.uids import UID_TEXT, parse_uid
 
 VERSION = 1
 MOST_LINE_BYTES = 4096
@@ -27,9 +28,8 @@ CLASSES_OF_RESPONSES = {name: number for number, name in RESPONSE_CLASSES.items(
 KINDS = {"full": Kind.FULL, "incremental": Kind.INCREMENTAL}
 # What a client can subscribe to.
 DEVICES, FRAMES = "devices", "frames"
-UID = re.compile("[0-9a-fA-F]{4}:[0-9a-fA-F]{8}")
-PID = re.compile("[0-9a-fA-F]{4}")
-HEX = re.compile("(?:[0-9a-fA-F]{2})*")
+PID = "[0-9a-fA-F]{4}"
+HEX = "(?:[0-9a-fA-F]{2})*"
 
 
 class BadRequest(Exception):
@@ -82,10 +82,10 @@ def number_in(keys: Keys, key: str, most: int, absent: Optional[int] = None) -> 
     return int(value)
 
 
-def text_in(keys: Keys, key: str, form: "re.Pattern[str]", what: str, absent: Optional[str] = None) -> str:
+def text_in(keys: Keys, key: str, form: str, what: str, absent: Optional[str] = None) -> str:
     """A text of a request. Raises BadRequest."""
     value = keys.get(key, absent)
-    if not isinstance(value, str) or not form.fullmatch(value):
+    if not isinstance(value, str) or not re.fullmatch(form, value):
         raise BadRequest(f"{key} isn't {what}")
     return value
 
@@ -98,15 +98,20 @@ def choice_in(keys: Keys, key: str, choices: Iterable[str], absent: Optional[str
     return str(value)
 
 
+def uid_in(text: str) -> Uid:
+    """The UID that a text spells, without the C library. Raises ValueError."""
+    return Uid.from_number(parse_uid(text))
+
+
 def request_in(keys: Keys) -> Request:
     """The request of a `get` or a `set`. Raises BadRequest."""
     check_keys(keys, ("uid", "pid", "data", "sub"))
-    uid = text_in(keys, "uid", UID, "a UID such as 1234:00000001")
+    uid = text_in(keys, "uid", UID_TEXT, "a UID such as 1234:00000001")
     pid = text_in(keys, "pid", PID, "four hexadecimal digits")
     data = text_in(keys, "data", HEX, "bytes in hexadecimal", "")
     if len(data) > 2 * MOST_PARAMETER_BYTES:
         raise BadRequest(f"data has more than {MOST_PARAMETER_BYTES} bytes")
-    return Request(Uid.parse(uid), int(pid, 16), bytes.fromhex(data), number_in(keys, "sub", 0xFFFF, 0),
+    return Request(uid_in(uid), int(pid, 16), bytes.fromhex(data), number_in(keys, "sub", 0xFFFF, 0),
                    REQUEST_CLASSES[keys["do"]])
 
 
@@ -145,7 +150,7 @@ def keys_of_device(device: Device) -> Keys:
 def device_of(keys: Mapping[str, str]) -> Device:
     """The same, read by a client."""
     binding = keys.get("binding")
-    return Device(Uid.parse(keys["uid"]), int(keys["control"], 16), None if binding is None else Uid.parse(binding))
+    return Device(uid_in(keys["uid"]), int(keys["control"], 16), None if binding is None else uid_in(binding))
 
 
 def keys_of_discovery(found: Discovery) -> Keys:
@@ -162,7 +167,7 @@ def discovery_of(keys: Keys) -> Discovery:
     fault = None
     if keys["fault"]:
         uid = keys.get("uid")
-        fault = RunFault(RunFaultKind(keys["fault"]), None if uid is None else Uid.parse(uid))
+        fault = RunFault(RunFaultKind(keys["fault"]), None if uid is None else uid_in(uid))
     return Discovery(keys["discovery"], keys["run"], fault, devices_of(keys))
 
 

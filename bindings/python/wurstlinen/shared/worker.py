@@ -10,7 +10,7 @@ from .. import LineFailed, LogFull, Session
 from ..entries import Entry
 from ..lines import OpenLine
 from .journal import CAPACITY, Exchange, Journal, entry_keys, entry_line
-from .log_file import LogFile
+from .log_file import LogWriter
 
 # How often it is looked whether an adapter is still there, or there again.
 LOOK_SECONDS = 0.5
@@ -33,7 +33,7 @@ class Worker:
     """
 
     def __init__(self, session: Session, line: OpenLine, open_line: Callable[[], OpenLine],
-                 notify: Callable[[], None], log: Optional[LogFile] = None) -> None:
+                 notify: Callable[[], None], log: Optional[LogWriter] = None) -> None:
         self._session = session
         self._line = line
         self._open_line = open_line
@@ -63,6 +63,11 @@ class Worker:
     def is_line_there(self) -> bool:
         """Whether the line can be used."""
         return self._gone_since is None
+
+    @property
+    def is_waiting(self) -> bool:
+        """Whether the adapter is gone, and requests wait for it."""
+        return self._gone_since is not None and time.monotonic() < self._gone_since + GRACE_SECONDS
 
     def start(self) -> None:
         """Begins."""
@@ -96,7 +101,7 @@ class Worker:
 
     def _exchange(self) -> bool:
         """Makes one exchange. False: there is nothing to send, or the adapter is awaited."""
-        if self._gone_since is not None and time.monotonic() < self._gone_since + GRACE_SECONDS:
+        if self.is_waiting:
             return False
         try:
             frame = self._session.take()

@@ -15,7 +15,7 @@ from typing import TYPE_CHECKING, List, Optional, Sequence, Tuple, Union
 from ..front.output import BAD_ARGUMENTS, DONE, FAILED, LINE_VARIABLE, Failure, Output
 from ..line import LineFailed
 from ..lines.enttec import DMXKING, EnttecPro
-from ..lines.locks import holder_of
+from ..lines.locks import Folder, holder_of
 from ..lines.terminal import LOCK_FOLDER
 from ..shared import place
 
@@ -118,7 +118,7 @@ def word(path: Path) -> str:
         return ""
 
 
-def look_at(device: Path, lock_folder: Path = LOCK_FOLDER) -> Adapter:
+def look_at(device: Path, lock_folder: Folder = LOCK_FOLDER) -> Adapter:
     """Asks a chip which adapter it is in."""
     if not os.access(device, os.R_OK | os.W_OK):
         return Adapter(device, fault=no_permission(device))
@@ -188,9 +188,9 @@ def choose(devices: List[Path]) -> str:
     return line_of_olad(devices[0]) or lines[0]
 
 
-def line_of_olad(device: Path, lock_folder: Path = LOCK_FOLDER) -> Optional[str]:
+def line_of_olad(device: Path, lock_folder: Folder = LOCK_FOLDER) -> Optional[str]:
     """The only universe of olad, if that has this device."""
-    if holder_of(lock_folder / f"LCK..{device.resolve().name}") != OLAD:
+    if holder_of(os.path.join(lock_folder, f"LCK..{device.resolve().name}")) != OLAD:
         return None
     lines = [each.line for each in universes() if each.fault is None]
     return lines[0] if len(lines) == 1 else None

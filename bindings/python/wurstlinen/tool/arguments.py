@@ -42,13 +42,15 @@ def add_encode(made: Any, name: str) -> None:
 def add_discover(made: Any, name: str) -> None:
     """The arguments of discover."""
     command = add_proved(made, name, "find the devices on a line, or on the simulated line of a scene file",
-                         "discover --line enttec:/dev/ttyUSB0 --quick")
+                         "discover --line enttec:/dev/ttyUSB0")
     command.add_argument("file", nargs="?", metavar="FILE", help="a scene file")
     add_line(command)
     command.add_argument("--source", metavar="UID", help="the controller's UID")
     command.add_argument("--known", metavar="UID", help="a device that --incremental mutes first")
     command.add_argument("--incremental", action="store_true", help="keep known devices that answer")
-    command.add_argument("--quick", action="store_true", help="sweep before searching")
+    command.add_argument("--quick", action="store_true", help=f"sweep before searching, as on {FORMS}")
+    command.add_argument("--steady", action="store_true", help="search without a sweep, as in a scene file")
+    add_json(command)
     command.add_argument("--budget", metavar="N", help="the most frames to send")
     command.add_argument("--log", metavar="LOG", help="a file for the exchanges, which is replaced")
 
@@ -59,7 +61,13 @@ def add_run(made: Any, name: str) -> None:
     command.add_argument("file", metavar="FILE", help="a session file")
     add_line(command)
     command.add_argument("--port", choices=("locked", "rings"), help="how the clients share the session")
+    add_json(command)
     command.add_argument("--log", metavar="LOG", help="a file for the log, which is replaced")
+
+
+def add_json(command: Parser) -> None:
+    """How results are printed."""
+    command.add_argument("--json", action="store_true", help="print one JSON object a line")
 
 
 def add_explain(made: Any, name: str) -> None:

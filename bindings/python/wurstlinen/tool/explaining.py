@@ -7,7 +7,6 @@ from __future__ import annotations
 import os
 import subprocess
 import sys
-from pathlib import Path
 from typing import BinaryIO, List, Optional, Sequence, Tuple
 
 from ..front.files import file_of
@@ -39,7 +38,7 @@ class NoOutput(Exception):
         self.fault = fault
 
 
-def explain(program: Path, words: Sequence[str], page: str, files: Sequence[str]) -> int:
+def explain(program: str, words: Sequence[str], page: str, files: Sequence[str]) -> int:
     """Runs the program with these words, of which `files` are its files, the log first. Raises Failure and OSError."""
     check(page, files)
     try:
@@ -68,7 +67,7 @@ def check(page: str, files: Sequence[str]) -> None:
             raise Failure(BAD_ARGUMENTS, f"{name} is no file on a disk, and --page has to read it twice", reason="file")
 
 
-def explained(program: Path, words: Sequence[str]) -> Tuple[int, List[str]]:
+def explained(program: str, words: Sequence[str]) -> Tuple[int, List[str]]:
     """The program's status, and what it prints about a log, which is printed here too. Raises NoPage and NoOutput."""
     lines: List[str] = []
     try:

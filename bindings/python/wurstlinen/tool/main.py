@@ -5,7 +5,6 @@ import argparse
 import os
 import signal
 import sys
-from pathlib import Path
 from types import FrameType
 from typing import TYPE_CHECKING, Iterator, List, Optional, Sequence, Tuple, Union
 
@@ -35,6 +34,8 @@ VALUED = (WAIT_LINE, "--line", "--replies", "--source", "--known", "--budget", "
           "--page")
 FRAMES = "--frames"
 PAGE = "--page"
+JSON = "--json"
+STEADY, QUICK = "--steady", "--quick"
 # The most bytes of the first record of a log that are read.
 MOST_RECORD = 4096
 # What the program answers to wrong words.
@@ -124,36 +125,61 @@ def run_proved(words: List[str]) -> int:
         note_other_log(words)
     if words[0] == "explain" and place_of(words, PAGE) is not None:
         return run_explain(program, words)
+    is_json = words[0] in ("discover", "run") and place_of(words, JSON) is not None
+    words = without(words, JSON) if is_json else words
     line = option(words, "--line")
     if words[0] == "discover" and place_of(words, "--line") is None and not has_file(words):
         line = line_of_discovery()
     elif words[0] == "discover" and line and not serving.is_served(line) and not is_stream(words):
         line = line if line.startswith(OLA) else line_of_device(line)
     elif words[0] not in ("discover", "run") or not serving.is_served(line):
-        return become(program, words)
+        return run_alone(program, words, is_json)
     assert line is not None
     waits, frames = wait_line_of(words), frames_of(words)
     words = without(without(without(words, "--line"), FRAMES), WAIT_LINE)
     if words[0] == "discover":
         with failures_of_lines():
-            client = served(line, None, Output(False))
+            client = served(line, None, Output(is_json))
         if client is not None:
-            return discover_shared(client, words, frames)
-    return serving.serve(program, words, line, frames, waits)
+            return discover_shared(client, words, frames, is_json)
+        words = searched(words)
+    return serving.serve(program, words, line, frames, waits, is_json)
 
 
-def discover_shared(client: Union[SharedClient, OlaClient], words: Sequence[str], frames: Optional[str]) -> int:
-    """A discovery by who has a line, printed as the proved program prints it. Raises Failure."""
+def run_alone(program: str, words: List[str], is_json: bool) -> int:
+    """A command that needs no line of this process. What it prints is its own, unless JSON is wanted."""
+    if words[0] == "discover" and place_of(words, STEADY) is not None:
+        words = searched(words)
+    if not is_json:
+        return become(program, words)
+    from .reporting import translated
+    return translated(program, words, Output(True))
+
+
+def searched(words: List[str]) -> List[str]:
+    """The words of a discovery as the program has them, which searches steadily without more. Raises Failure."""
+    is_steady, is_quick = (place_of(words, name) is not None for name in (STEADY, QUICK))
+    if is_steady and is_quick:
+        print(WRONG_WORDS, flush=True)
+        raise Failure(BAD_ARGUMENTS, f"{STEADY} and {QUICK} exclude each other", reason="arguments")
+    if is_steady:
+        return without(words, STEADY)
+    return words if is_quick else [words[0], QUICK, *words[1:]]
+
+
+def discover_shared(client: Union[SharedClient, OlaClient], words: Sequence[str], frames: Optional[str],
+                    is_json: bool) -> int:
+    """A discovery by who has a line. Raises Failure."""
     from .shared_discovery import discover
     with client:
         source = str(client.queue.source)
-        known = {"--quick": None, "--log": None, "--source": source}
+        known = {QUICK: None, "--log": None, "--source": source}
         for at, name in parts(words):
             if name not in known or known[name] not in (None, (option(words, name) or "").lower()):
                 print(WRONG_WORDS, flush=True)
                 raise Failure(BAD_ARGUMENTS, f"{client.queue.holder} has this line, and searches it in its own way: "
                                              f"leave out {words[at]}", reason="arguments")
-        return discover(client, option(words, "--log"), frames)
+        return discover(client, option(words, "--log"), frames, Output(is_json))
 
 
 def wait_line_of(words: Sequence[str]) -> float:
@@ -187,7 +213,7 @@ def is_other_log(name: str) -> bool:
         return False
 
 
-def run_explain(program: Path, words: List[str]) -> int:
+def run_explain(program: str, words: List[str]) -> int:
     """Explains a log, and writes a page about it. Raises Failure."""
     page = option(words, PAGE)
     if not page:
@@ -246,7 +272,7 @@ def run_program() -> int:
     return no_program("rdm_port") if program is None else become(program, sys.argv[1:])
 
 
-def become(program: Path, words: Sequence[str]) -> int:
+def become(program: str, words: Sequence[str]) -> int:
     """Runs the proved program in the place of this process."""
     for number in IGNORED:
         signal.signal(number, signal.SIG_DFL)

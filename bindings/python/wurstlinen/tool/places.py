@@ -3,45 +3,36 @@ from __future__ import annotations
 
 import os
 import re
-from pathlib import Path
 from typing import Dict, Optional
 
 PROGRAM_VARIABLE = "WURSTLINEN_PROGRAM"
 LIBRARY_VARIABLE = "WURSTLINEN_LIBRARY"
-PACKAGE = Path(__file__).resolve().parent.parent
-# The package is in PREFIX/lib/python3/site-packages/wurstlinen, or in one file with all of it.
+PACKAGE = os.path.dirname(os.path.dirname(os.path.realpath(__file__)))
+# The package is in PREFIX/lib/python3/site-packages, or with the program in PREFIX/libexec/wurstlinen/python. Both are
+# so deep below PREFIX, and a wheel has the program inside.
+PREFIX = os.path.normpath(os.path.join(PACKAGE, "../../../.."))
 PROGRAM_BELOW_PREFIX = "libexec/wurstlinen/wurstlinen"
-PROGRAM_BESIDE_FILE = "rdm_port"
-# A wheel has it inside.
 PROGRAM_IN_PACKAGE = "rdm_port"
-LIBRARY_BESIDE_FILE = "../lib/libwurstlinen.so.0"
+FOLDER_WITH_PROGRAM = "libexec/wurstlinen/python"
+LIBRARY_BELOW_PREFIX = "lib/libwurstlinen.so.0"
 UNKNOWN = "unknown"
 # The status without the program, as of a shell that doesn't find a command.
 NO_PROGRAM = 127
 
 
-def one_file() -> Optional[Path]:
-    """The file that the package is in, if it is in one."""
-    return PACKAGE.parent if PACKAGE.parent.is_file() else None
-
-
-def program() -> Optional[Path]:
+def program() -> Optional[str]:
     """The proved program: where the environment says, or else where it is installed with the package."""
-    named, file = os.environ.get(PROGRAM_VARIABLE), one_file()
-    if named:
-        places = [Path(named)]
-    elif file is not None:
-        places = [file.with_name(PROGRAM_BESIDE_FILE)]
-    else:
-        places = [PACKAGE / PROGRAM_IN_PACKAGE, PACKAGE.joinpath("../../../..", PROGRAM_BELOW_PREFIX)]
-    return next((place for place in places if place.is_file()), None)
+    named = os.environ.get(PROGRAM_VARIABLE)
+    places = [named] if named else [os.path.join(PACKAGE, PROGRAM_IN_PACKAGE),
+                                    os.path.join(PREFIX, PROGRAM_BELOW_PREFIX)]
+    return next((place for place in places if os.path.isfile(place)), None)
 
 
 def name_library() -> None:
-    """Says where the C library is, if the package is in one file, and so has no folder."""
-    file = one_file()
-    if file is not None and not os.environ.get(LIBRARY_VARIABLE):
-        os.environ[LIBRARY_VARIABLE] = os.path.normpath(file.parent / LIBRARY_BESIDE_FILE)
+    """Says where the C library is, if the package is beside the program."""
+    is_beside = os.path.dirname(PACKAGE) == os.path.join(PREFIX, FOLDER_WITH_PROGRAM)
+    if is_beside and not os.environ.get(LIBRARY_VARIABLE):
+        os.environ[LIBRARY_VARIABLE] = os.path.join(PREFIX, LIBRARY_BELOW_PREFIX)
 
 
 def version_line() -> str:
@@ -70,23 +61,24 @@ def proof() -> Dict[str, str]:
 
 def repository() -> Dict[str, str]:
     """The same of a repository that the package is in; what isn't there isn't known."""
-    root = PACKAGE.parent.parent.parent
-    found = {"version": _text(root / "VERSION"), "kit of the program": _text(root / "out/wurstlinen.kit")}
+    root = os.path.dirname(os.path.dirname(os.path.dirname(PACKAGE)))
+    found = {"version": _text(f"{root}/VERSION"), "kit of the program": _text(f"{root}/out/wurstlinen.kit")}
     if found["version"]:
         found["commit"] = _commit(root)
     return {key: value for key, value in found.items() if value}
 
 
-def _text(path: Path) -> str:
+def _text(path: str) -> str:
     try:
-        return path.read_text(encoding="utf-8").strip()
+        with open(path, encoding="utf-8") as file:
+            return file.read().strip()
     except OSError:
         return ""
 
 
-def _commit(root: Path) -> str:
+def _commit(root: str) -> str:
     import subprocess
-    command = ["git", "-C", str(root), "rev-parse", "HEAD"]
+    command = ["git", "-C", root, "rev-parse", "HEAD"]
     try:
         done = subprocess.run(command, check=False, stdout=subprocess.PIPE, stderr=subprocess.DEVNULL, text=True)
     except OSError:

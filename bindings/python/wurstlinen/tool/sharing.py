@@ -15,7 +15,7 @@ from ..front.output import DONE, FAILED, Failure, Output
 from ..lines import OpenLine, open_line
 from ..shared.journal import CAPACITY, entry_line, opening_keys
 from ..shared.listening import Passed, Place, activated
-from ..shared.log_file import LogFile
+from ..shared.log_file import LogFile, LogWriter
 from ..shared.peer import refuse_waiting
 from ..shared.place import BadPlace, canonical
 from ..shared.server import Facts, Server
@@ -26,6 +26,8 @@ from ..shared.worker import Worker
 SEARCH = Search.QUICK
 # How long an exchange of a far end may take.
 FAR_END_SECONDS = 5.0
+# How long the end of the log may take.
+LOG_SECONDS = 2.0
 
 
 def run_serve(chosen: argparse.Namespace, output: Output) -> int:
@@ -84,17 +86,21 @@ def serve(chosen: argparse.Namespace, output: Output, line: OpenLine, place: Uni
             server.run(worker)
         except Exception as fault:  # A line may raise anything.
             raise Failure(FAILED, f"{name} has ended the server: {fault!r}", reason="line") from None
+        finally:
+            if log is not None:
+                log.end(LOG_SECONDS)
 
 
-def logged(name: str, source: Uid) -> LogFile:
+def logged(name: str, source: Uid) -> LogWriter:
     """The log's file, with the beginning of a session. Raises Failure."""
     log = LogFile(name, warn)
     try:
         log.open()
     except OSError as fault:
         raise Failure(FAILED, f"{name}: {fault.strerror}", reason="file") from None
-    log.add([entry_line(opening_keys(source, SEARCH))])
-    return log
+    writer = LogWriter(log)
+    writer.add([entry_line(opening_keys(source, SEARCH))])
+    return writer
 
 
 def warn(text: str) -> None:
