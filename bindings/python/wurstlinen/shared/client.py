@@ -4,7 +4,7 @@ from __future__ import annotations
 import time
 from collections import deque
 from types import TracebackType
-from typing import Callable, Deque, Iterable, Optional, Set, Tuple, Type, Union, cast
+from typing import Callable, Deque, Iterable, List, Optional, Set, Tuple, Type, Union, cast
 
 from .._ask import DEFAULT_WAIT, Answer, Asker, Kept
 from .._faults import OtherOutcome
@@ -40,6 +40,8 @@ class SharedQueue:
         self.name = str(hello["line"])
         self.source = Uid.parse(hello["source"])
         self.process = int(hello["process"])
+        # The number of the client that it lends to this one.
+        self.number = int(hello.get("client", -1))
         self.holder = f"process {self.process} ({self.source})"
         self.depth = int(hello["depth"])
         self._is_paused = bool(hello["paused"])
@@ -129,6 +131,10 @@ class SharedQueue:
     def status(self) -> Keys:
         """How things are at the server."""
         return self.connection.ask({"do": "status"})
+
+    def clients(self) -> List[Keys]:
+        """The programs that use the server, with what they have outstanding."""
+        return list(self.connection.ask({"do": "clients"})["clients"])
 
     def is_idle(self) -> bool:
         """Whether nothing of this client is outstanding or uncollected."""

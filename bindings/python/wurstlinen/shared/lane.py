@@ -25,6 +25,11 @@ class Lane:
         self._discoveries: Set[int] = set()
 
     @property
+    def number(self) -> int:
+        """The number of the client."""
+        return self._client.number
+
+    @property
     def outstanding(self) -> int:
         """How many of its requests and discoveries haven't ended."""
         return len(self._requests) + len(self._discoveries)
