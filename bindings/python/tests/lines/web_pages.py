@@ -2,13 +2,13 @@
 from __future__ import annotations
 
 import contextlib
+import functools
 import http.client
 import json
 import threading
 import time
-from functools import partial
 from pathlib import Path
-from typing import Any, Dict, Iterator, List, Optional, Set, Tuple
+from typing import Any, Callable, Dict, Iterator, List, Optional, Set, Tuple
 
 import servers
 from browser import Page, browser
@@ -24,7 +24,9 @@ LEFT, RIGHT, BACK, HOUSE, SECOND = ("1234:00000001", "1234:00000002", "454e:0a00
                                     "9abc:00000003")
 FIVE = json.loads((servers.PACKAGE.parent / "examples/five_fixtures.json").read_text(encoding="utf-8"))
 PHONE, DESK = (390, 844), (1400, 900)
+SIZES = (PHONE, DESK)
 SECONDS = 30.0
+Test = Callable[[Any, Tuple[int, int]], None]
 
 
 class Moody(Rig):
@@ -36,7 +38,7 @@ class Moody(Rig):
         self.delay = 0.0
         self._all_stay = False
         for fixture in self.fixtures:
-            fixture.is_present = partial(self.is_there, fixture.uid)  # type: ignore[method-assign]
+            fixture.is_present = functools.partial(self.is_there, fixture.uid)  # type: ignore[method-assign]
 
     def exchange(self, frame: bytes) -> bytes:
         """A reply, after a while."""
@@ -261,3 +263,31 @@ def row(uid: str) -> str:
 def folder_of_downloads(page: Page, place: Path) -> None:
     """Has files that are saved put there."""
     page.call("Page.setDownloadBehavior", behavior="allow", downloadPath=str(place))
+
+
+@contextlib.contextmanager
+def opened(size: Tuple[int, int], view: str = "fixtures", looking: bool = False) -> Iterator[Tuple[Window, Web, Moody]]:
+    """A browser at a view of the five fixtures' page.
+
+    At the end no script has failed, and nothing came from elsewhere.
+    """
+    with five() as (web, rig):
+        address = web.address.replace(web.tokens.using, web.tokens.looking) if looking else web.address
+        with window(address, size) as seen:
+            seen.open(view)
+            yield seen, web, rig
+            assert not seen.page.errors, seen.page.errors
+            own = f"http://127.0.0.1:{web.port}/"
+            strange = [each for each in seen.page.requests if not each.startswith((own, "data:,", "blob:"))]
+            assert not strange, strange
+
+
+def at_each_size(test: Test) -> Callable[[Any], None]:
+    """Makes a test for each size."""
+    @functools.wraps(test)
+    def made(self: Any) -> None:
+        """Makes it."""
+        for size in SIZES:
+            with self.subTest(size=size):
+                test(self, size)
+    return made
