@@ -95,6 +95,7 @@ class Fixtures(LongTestCase):
                                                in parts.items() if name.startswith("fixture/")) == 1)
             seen.button("Identify next")
             events.until(lambda parts: not parts[f"fixture/{BACK}"]["identifies"])
+            seen.until(f"document.querySelector(\"{row(BACK)} .identify\").ariaChecked === 'false'")
             seen.click(f"{row(BACK)} .identify")
             events.until(lambda parts: parts[f"fixture/{BACK}"]["identifies"])
             seen.until(f"document.querySelector(\"{row(BACK)} .identify\").getAttribute('aria-checked') === 'true'")

@@ -102,6 +102,31 @@ class Always(LongTestCase):
                 finally:
                     again.end()
 
+    @at_each_size
+    def test_fixtures_that_are_slow_refuse_or_vanish(self, size: Tuple[int, int]) -> None:
+        others = [{"uid": "4444:00000001", "rig": {"label": "Sulky", "nack": "0004"}},
+                  {"uid": "4444:00000002", "rig": {"label": "Sleepy", "timer": 10, "address": 50}}]
+        with opened(size, devices=others) as (seen, web, rig):
+            seen.until(f"document.querySelector(\"{row('4444:00000001')} .note\")?.textContent.includes('refuses')")
+            seen.until(f"document.querySelector(\"{row('4444:00000002')} .label\")?.value === 'Sleepy'")
+            # A slow one is awaited, and meanwhile the others can be used.
+            seen.click(f"{row('4444:00000002')} .label")
+            seen.type("Awake")
+            seen.key("Enter")
+            seen.until(f"document.querySelector(\"{row('4444:00000002')} .label\").classList.contains('busy')")
+            seen.click(f"{row(BACK)} .identify")
+            seen.until(f"document.querySelector(\"{row(BACK)} .identify\").ariaChecked === 'true'")
+            seen.until(f"document.querySelector(\"{row('4444:00000002')} .label\").ariaLabel === 'Label of Awake'")
+            rig.gone.add(int(LEFT.replace(":", ""), 16))
+            seen.click(f"{row(LEFT)} .label")
+            seen.type("Gone")
+            seen.key("Enter")
+            seen.until("document.querySelector('.message')?.textContent.includes('no answer')")
+            seen.until(f"document.querySelector(\"{row(LEFT)} .note\").textContent.includes('no answer')")
+            self.assertEqual(seen.value(f"{row(LEFT)} .label"), "Front left")
+            rig.is_plugged_in = False
+            seen.until("document.querySelector('#status').textContent.startsWith(\"The adapter isn't there\")")
+
     def test_only_looking(self) -> None:
         with opened(DESK, looking=True) as (seen, _, rig):
             seen.until(f"document.querySelector(\"{row(LEFT)} .label\")?.value === 'Front left'")
@@ -158,10 +183,13 @@ class Always(LongTestCase):
                             self.assertEqual(seen.page.value(rule), [])
 
     def test_rules_can_be_broken(self) -> None:
-        bad = ("<button>Ok</button><button></button><p style='color: #bbb'>x</p><h4>x</h4><i id=view></i><a tabindex=3>x"
-               "</a><input><div style='width: 3000px'>x</div><button style='height: 9px; min-height: 0'>y</button>")
+        bad = ("<button>Ok</button><button></button><p class=pale>x</p><h4>x</h4><i id=view></i><a tabindex=3>x</a>"
+               "<input class=pale><div class=wide>x</div><button class=low>y</button>")
+        styles = (".pale { color: #bbb !important; }", ".wide { width: 3000px; }",
+                  ".low { min-height: 0; height: 9px; }")
         with opened(DESK, "line") as (seen, _, _rig):
-            seen.page.value("document.styleSheets[0].insertRule('input { color: #bbb !important; }')")
+            for style in styles:
+                seen.page.value(f"document.styleSheets[0].insertRule({json.dumps(style)}, 0)")
             seen.page.value(f"document.querySelector('main').innerHTML = {json.dumps(bad)}")
             seen.page.value("document.querySelectorAll('[role]').forEach((each) => each.removeAttribute('role'))")
             seen.page.value("document.querySelector('h1').remove(), document.title = ''")

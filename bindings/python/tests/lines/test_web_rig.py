@@ -9,10 +9,12 @@ import time
 import unittest
 from pathlib import Path
 from typing import Any
+from urllib.request import urlopen
 
 import servers
 from common import TestCase, needs_library
 from web_pages import BACK, FIVE, HOUSE, LEFT, RIGHT, SECOND, Events, five
+from wurstlinen.web import running
 
 ALL = [LEFT, RIGHT, BACK, HOUSE, SECOND]
 
@@ -183,6 +185,17 @@ class Worse(TestCase):
             self.assertEqual(web.call("pause", on=False), {"paused": False})
             events.until(lambda parts: not parts["line"]["paused"])
 
+    def test_an_adapter_that_is_unplugged(self) -> None:
+        with five() as (web, rig), web.follow() as events:
+            rig.is_plugged_in = False
+            parts = events.until(lambda parts: parts.get("line", {}).get("there") is False)
+            self.assertEqual((parts["line"]["served"], parts["line"]["reason"]), (True, "the adapter is gone"))
+            answer = web.call("identify", uid=LEFT, on=True)
+            self.assertIn("no adapter is plugged in", answer["error"])
+            rig.is_plugged_in = True
+            events.until(lambda parts: parts["line"]["there"])
+            self.assertEqual(web.call("identify", uid=LEFT, on=True), {})
+
     def test_other_programs_are_shown(self) -> None:
         with five() as (web, _), web.follow() as events, \
                 servers.Program(servers.place.path_of(servers.place.own_folder(), "rig:/it"),
@@ -258,6 +271,24 @@ class TheCommand(TestCase):
                 self.assertEqual(token_of(self.said(again)), token_of(keys))
                 new = self.started(place, "--line", f"rig:{rig}", "--new-tokens")
                 self.assertNotEqual(token_of(self.said(new)), token_of(keys))
+
+    def test_on_the_network(self) -> None:
+        with servers.runtime() as place:
+            rig = place / "rig.json"
+            rig.write_text(json.dumps(FIVE), encoding="utf-8")
+            for words, is_open in (((), False), (("--allow-network",), True)):
+                keys = self.said(self.started(place, "--line", f"rig:{rig}", *words))
+                port = int(keys["addresses"][0].partition("/#")[0].rpartition(":")[2])
+                for host in running.addresses():
+                    with self.subTest(host=host, words=words):
+                        is_named = any(f"http://{host}:{port}/" in each for each in keys["addresses"])
+                        self.assertEqual(is_named, is_open or host[:4] == "127.")
+                        if is_open:
+                            with urlopen(f"http://{host}:{port}/", timeout=servers.SECONDS) as page:
+                                self.assertIn(b"app.js", page.read())
+                        elif host[:4] != "127.":
+                            with self.assertRaises(OSError):
+                                urlopen(f"http://{host}:{port}/", timeout=servers.SECONDS)
 
     def test_faults(self) -> None:
         with servers.runtime() as place:

@@ -13,6 +13,7 @@ from typing import Any, Callable, Dict, Iterator, List, Optional, Set, Tuple
 import servers
 from browser import Page, browser
 from common import random_scene, scene
+from wurstlinen import LineFailed
 from wurstlinen.lines import OpenLine
 from wurstlinen.lines.rig import Rig
 from wurstlinen.lines.scene import Scene
@@ -25,7 +26,7 @@ LEFT, RIGHT, BACK, HOUSE, SECOND = ("1234:00000001", "1234:00000002", "454e:0a00
 FIVE = json.loads((servers.PACKAGE.parent / "examples/five_fixtures.json").read_text(encoding="utf-8"))
 PHONE, DESK = (390, 844), (1400, 900)
 SIZES = (PHONE, DESK)
-SECONDS = 30.0
+SECONDS = 60.0
 Test = Callable[[Any, Tuple[int, int]], None]
 
 
@@ -36,18 +37,30 @@ class Moody(Rig):
         super().__init__(made)
         self.gone: Set[int] = set()
         self.delay = 0.0
+        self.is_plugged_in = True
         self._all_stay = False
         for fixture in self.fixtures:
-            fixture.is_present = functools.partial(self.is_there, fixture.uid)  # type: ignore[method-assign]
+            fixture.is_present = functools.partial(self.is_present, fixture.uid)  # type: ignore[method-assign]
 
     def exchange(self, frame: bytes) -> bytes:
         """A reply, after a while."""
         time.sleep(self.delay)
         return super().exchange(frame)
 
-    def is_there(self, uid: int, exchange: int) -> bool:
+    def is_present(self, uid: int, exchange: int) -> bool:
         """Whether a fixture is on the line."""
         return uid not in self.gone
+
+    @property
+    def is_there(self) -> bool:
+        """Whether the adapter is."""
+        return self.is_plugged_in
+
+    def opened(self) -> OpenLine:
+        """The line, if the adapter is there. Raises LineFailed."""
+        if not self.is_plugged_in:
+            raise LineFailed("no adapter is plugged in")
+        return self
 
 
 class Web:
@@ -142,9 +155,9 @@ class Events:
 
 
 @contextlib.contextmanager
-def web_on(rig: OpenLine, name: str = "rig:/it") -> Iterator[Web]:
+def web_on(rig: Moody, name: str = "rig:/it") -> Iterator[Web]:
     """The page of a line, for the duration of a `with`."""
-    with servers.here(lambda: rig, name=name):
+    with servers.here(rig.opened, name=name):
         web = Web(name)
         try:
             yield web
@@ -266,12 +279,13 @@ def folder_of_downloads(page: Page, place: Path) -> None:
 
 
 @contextlib.contextmanager
-def opened(size: Tuple[int, int], view: str = "fixtures", looking: bool = False) -> Iterator[Tuple[Window, Web, Moody]]:
+def opened(size: Tuple[int, int], view: str = "fixtures", looking: bool = False, **others: Any
+           ) -> Iterator[Tuple[Window, Web, Moody]]:
     """A browser at a view of the five fixtures' page.
 
     At the end no script has failed, and nothing came from elsewhere.
     """
-    with five() as (web, rig):
+    with five(**others) as (web, rig):
         address = web.address.replace(web.tokens.using, web.tokens.looking) if looking else web.address
         with window(address, size) as seen:
             seen.open(view)

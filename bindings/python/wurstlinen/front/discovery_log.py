@@ -4,7 +4,7 @@ from __future__ import annotations
 import contextlib
 import json
 from pathlib import Path
-from typing import Callable, Dict, Iterator, Optional, Sequence
+from typing import Callable, Dict, Iterator, List, Optional, Sequence, Tuple
 
 from .. import DEFAULT_BUDGET, Uid
 from ..lines.numbers import Pid
@@ -64,6 +64,12 @@ def sink_of(name: Optional[str]) -> Iterator[Optional[Sink]]:
 
 def explained(program: Path, lines: Sequence[str], uids: Sequence[Uid]) -> Dict[Uid, str]:
     """What the proved program says of devices that were on the line, by a discovery's log. Raises OSError."""
+    said = dict(line.split(" ", 1) for line in explanation(program, lines, uids)[1] if " " in line)
+    return {uid: said[str(uid)] for uid in uids if str(uid) in said}
+
+
+def explanation(program: Path, lines: Sequence[str], uids: Sequence[Uid]) -> Tuple[int, List[str]]:
+    """The proved program's status, and all lines that it prints about that. Raises OSError."""
     import subprocess
     import tempfile
     with tempfile.NamedTemporaryFile("w", prefix="wurstlinen.", suffix=".log") as log:
@@ -72,5 +78,4 @@ def explained(program: Path, lines: Sequence[str], uids: Sequence[Uid]) -> Dict[
         words = [word for uid in uids for word in ("--present", str(uid))]
         done = subprocess.run(["wurstlinen", "explain", log.name, *words], executable=program, check=False,
                               stdout=subprocess.PIPE, stderr=subprocess.DEVNULL, encoding="utf-8", errors="replace")
-    said = dict(line.split(" ", 1) for line in done.stdout.splitlines() if " " in line)
-    return {uid: said[str(uid)] for uid in uids if str(uid) in said}
+    return done.returncode, done.stdout.splitlines()

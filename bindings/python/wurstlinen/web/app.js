@@ -65,6 +65,13 @@ function statusText() {
     return [now.paused ? `${now.name} · paused: nothing is sent` : `${now.name}${mode}`, now.paused];
 }
 
+function drawUndo() {
+    const last = parts.get("undo");
+    get("undo").disabled = !mayUse() || !last;
+    get("undo").title = last ? last.text : "nothing was changed";
+    setText(get("undo"), last ? `Undo (${last.count})` : "Undo");
+}
+
 function route() {
     const [, name = "fixtures", uid = ""] = location.hash.slice(1).split("/");
     return { name: views[name] ? name : "fixtures", uid: decodeURIComponent(uid) };
@@ -75,7 +82,7 @@ function draw() {
     const [text, isBad] = statusText();
     setText(get("status"), text);
     get("status").className = isBad ? "bad" : "";
-    document.body.classList.toggle("looks", !mayUse());
+    drawUndo();
     if (shown !== `${name}/${uid}`) {
         const isFirst = shown === "";
         shown = `${name}/${uid}`;
@@ -105,6 +112,7 @@ export function redraw() {
 }
 
 addEventListener("hashchange", () => (location.hash.slice(1).split("/")[0] === token ? draw() : location.reload()));
+get("undo").addEventListener("click", () => act("undo", {}, "Taken back."));
 // A page in the background draws nothing until it is seen.
 onChange(redraw);
 draw();

@@ -2,6 +2,7 @@
 from __future__ import annotations
 
 import threading
+import time
 from typing import Any, Dict, Iterator, Mapping, Optional, Set
 
 # How long changes are gathered, and after how long without one a page is told that all is well.
@@ -71,7 +72,7 @@ class Board:
             if not self._changed.wait_for(lambda: follower.changed or self._has_ended, BEAT_SECONDS):
                 return None
         # What belongs together comes together.
-        threading.Event().wait(GATHERING_SECONDS)
+        time.sleep(GATHERING_SECONDS)
         with self._changed:
             changed, follower.changed = follower.changed, set()
             return {name: self._parts.get(name) for name in changed}

@@ -38,9 +38,11 @@ function fill(section, items) {
     const texts = items.map(([uid, text]) => `${uid}\n${text}`).join("\n\n");
     if (section.list.dataset.texts !== texts) {
         section.list.dataset.texts = texts;
-        section.list.replaceChildren(...items.map(([uid, text]) => make("li", {},
-            uid ? make("a", { href: addressOf("fixture", uid) }, nameOf(parts.get(`fixture/${uid}`)) || uid) : "",
-            uid ? ` (${uid}) ${text}` : text)));
+        section.list.replaceChildren(...items.map(([uid, text]) => {
+            const found = parts.get(`fixture/${uid}`);
+            const name = found ? [make("a", { href: addressOf("fixture", uid) }, nameOf(found)), ` (${uid})`] : [uid];
+            return make("li", {}, ...name, ` ${text}`);
+        }));
     }
 }
 
@@ -63,9 +65,12 @@ export function update() {
     setText(result, resultText(last));
     result.classList.toggle("bad", Boolean(last?.fault));
     const gone = partsOf("fixture/").filter((found) => found.missing);
-    const isGone = new Set(gone.map((found) => found.uid));
-    fill(bad, (last?.devices ?? []).filter((each) => !isGone.has(each.uid)).map((each) => [each.uid, each.text]));
-    fill(missing, gone.map((found) => [found.uid, found.missing]));
+    // The file that is loaded may have others.
+    const isHere = (each) => parts.has(`fixture/${each.uid}`);
+    const said = last?.devices ?? [], never = said.filter((each) => !isHere(each));
+    fill(bad, said.filter((each) => isHere(each) && !parts.get(`fixture/${each.uid}`).missing)
+        .map((each) => [each.uid, each.text]));
+    fill(missing, [...gone.map((found) => [found.uid, found.missing]), ...never.map((each) => [each.uid, each.text])]);
     fill(others, (last?.others ?? []).map((text) => ["", text]));
     const address = last?.picture ? `/picture/${last.picture}` : "";
     if (frame.dataset.address !== address) {

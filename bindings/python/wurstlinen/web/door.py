@@ -195,9 +195,13 @@ class Door(socketserver.TCPServer):
             self._forget(request)
 
     def _serve(self, request: socket.socket, address: Any) -> None:
-        with contextlib.suppress(OSError, ValueError):
+        try:
             self.finish_request(request, address)
-        self._forget(request)
+        except (OSError, ValueError):
+            # The connection has ended.
+            pass
+        finally:
+            self._forget(request)
 
     def _forget(self, request: socket.socket) -> None:
         with self._changing:

@@ -3,20 +3,18 @@ from __future__ import annotations
 
 import io
 import secrets
-import subprocess
-import tempfile
 from dataclasses import dataclass, field
-from pathlib import Path
 from typing import Any, Dict, List, Optional, Sequence, Tuple
 
 from .. import Uid
+from ..front.discovery_log import explanation
 from ..front.page import page_of
+from ..front.page_log import NoLog
 from ..tool.places import program
 
 # What it says of a device that did all as it should.
 GOOD = "was found, and followed the rules"
 FOLLOWED, BROKEN = 0, 3
-MOST_SECONDS = 20.0
 
 
 @dataclass
@@ -39,9 +37,11 @@ def findings_of(log: Sequence[str], expected: Sequence[Uid]) -> Tuple[Findings, 
     if place is None:
         return Findings(others=["why a fixture is missing can't be said: the proved program isn't installed"]), ""
     try:
-        lines, is_broken = explained(place, log, expected)
-    except (OSError, subprocess.SubprocessError) as fault:
+        status, lines = explanation(place, log, expected)
+    except OSError as fault:
         return Findings(others=[f"why a fixture is missing can't be said: {fault}"]), ""
+    if status not in (FOLLOWED, BROKEN):
+        return Findings(others=[f"why a fixture is missing can't be said: {' '.join(lines)}"]), ""
     known = {str(uid): uid for uid in expected}
     found = Findings(picture=secrets.token_urlsafe(16))
     for line in lines[1:]:
@@ -50,18 +50,8 @@ def findings_of(log: Sequence[str], expected: Sequence[Uid]) -> Tuple[Findings, 
             found.of_devices[known.get(uid) or Uid.parse(uid)] = text
         else:
             found.others.append(line)
-    return found, page_of("the page's last discovery", io.BytesIO("".join(log).encode()), lines, is_broken)
-
-
-def explained(place: Path, log: Sequence[str], expected: Sequence[Uid]) -> Tuple[List[str], bool]:
-    """The lines that the program prints, and whether a rule was broken. Raises OSError and SubprocessError."""
-    with tempfile.NamedTemporaryFile("w", prefix="wurstlinen.", suffix=".log") as file:
-        file.writelines(log)
-        file.flush()
-        words = [word for uid in expected for word in ("--present", str(uid))]
-        done = subprocess.run(["wurstlinen", "explain", file.name, *words], executable=place, check=False,
-                              stdout=subprocess.PIPE, stderr=subprocess.DEVNULL, encoding="utf-8", errors="replace",
-                              timeout=MOST_SECONDS)
-    if done.returncode not in (FOLLOWED, BROKEN):
-        raise OSError(done.stdout.strip() or f"the proved program ended with status {done.returncode}")
-    return done.stdout.splitlines(), done.returncode == BROKEN
+    try:
+        return found, page_of("the page's last discovery", io.BytesIO("".join(log).encode()), lines, status == BROKEN)
+    except NoLog:
+        found.picture = None
+        return found, ""

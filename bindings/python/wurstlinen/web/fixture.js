@@ -107,6 +107,7 @@ export function update(uid) {
     const isFixed = !mayUse() || !found.address || Boolean(found.missing);
     document.querySelectorAll(".nudge").forEach((each) => (each.disabled = isFixed));
     again.hidden = !mayUse();
+    setText(again, parts.get(`details/${uid}`)?.is_over === false ? "Reading …" : "Read all again");
     showDetails(uid, parts.get(`details/${uid}`));
 }
 

@@ -7,9 +7,12 @@ import { mayUse, parts, partsOf } from "/server.js";
 
 const COLUMNS = { label: "Label", address: "Address", slots: "Slots", personality: "Personality", model: "Model",
     uid: "UID" };
+const MOST_NOTES = 2;
 const chosen = { filter: "", column: "address", isDown: false };
 const rows = new Map();
-let body, count, heads, undo, walker;
+let body, count, heads, walker;
+// The fixture to which this page's walk has come, which the page's program may not have shown so far.
+let walked = null;
 
 export function nameOf(found) {
     return found?.label || found?.model || found?.uid || "";
@@ -36,9 +39,10 @@ export function slotsOf(found) {
     return found.first === found.last ? `${found.first}` : `${found.first}–${found.last}`;
 }
 
+// What isn't known comes last.
 function keyOf(found) {
-    const value = found[chosen.column];
-    return typeof value === "number" ? value : (value ?? "").toLowerCase();
+    const value = found[chosen.column] ?? "";
+    return value === "" ? "\uffff" : String(value).toLowerCase();
 }
 
 // In the order in which they are shown.
@@ -66,7 +70,7 @@ export function editor(uid, column) {
         }
         input.classList.add("busy");
         input.setAttribute("aria-busy", "true");
-        await act("change", { uid, column, value: input.value.trim() });
+        await act("change", { uid, column, value: column === "label" ? input.value : input.value.trim() });
         input.classList.remove("busy");
         input.removeAttribute("aria-busy");
         input.value = known();
@@ -104,8 +108,10 @@ export function editor(uid, column) {
 // The switch by which a fixture shows itself.
 export function identifier(uid) {
     const element = make("button", { type: "button", role: "switch", class: "identify", onclick: async () => {
+        const on = element.getAttribute("aria-checked") !== "true";
+        walked = on ? uid : null;
         element.classList.add("busy");
-        await act("identify", { uid, on: element.getAttribute("aria-checked") !== "true" });
+        await act("identify", { uid, on });
         element.classList.remove("busy");
     } });
     const update = (found) => {
@@ -126,17 +132,16 @@ export async function walk(from, step) {
     if (!next && !from) {
         return null;
     }
-    const isDone = await act("identify", keys);
-    if (isDone && !next) {
+    walked = next?.uid ?? null;
+    if (await act("identify", keys) && !next) {
         say("That was the last one.");
     }
-    return next?.uid ?? null;
+    return walked;
 }
 
 async function walkInTable() {
-    const now = ordered().filter((found) => found.identifies);
-    const uid = await walk(now.length ? now[now.length - 1].uid : null, 1);
-    rows.get(uid)?.element.scrollIntoView({ block: "center" });
+    const now = ordered().filter((found) => found.identifies).pop();
+    rows.get(await walk(walked ?? now?.uid ?? null, 1))?.element.scrollIntoView({ block: "center" });
 }
 
 function makeRow(uid) {
@@ -157,7 +162,9 @@ function makeRow(uid) {
         setText(texts.slots, slotsOf(found));
         setText(texts.model, [found.manufacturer, found.model].filter(Boolean).join(" "));
         setText(texts.uid, found.uid);
-        setText(note, found.is_read || found.missing ? notesOf(found).join("; ") : "is being asked …");
+        const notes = notesOf(found), more = notes.length - MOST_NOTES;
+        const short = `${notes.slice(0, MOST_NOTES).join("; ")}${more > 0 ? `; and ${more} more` : ""}`;
+        setText(note, found.is_read || found.missing ? short : "is being asked …");
         setText(remark, remarksOf(found).join("; "));
         forget.hidden = !found.missing || !mayUse();
         link.setAttribute("aria-label", `All about ${nameOf(found)}`);
@@ -182,7 +189,6 @@ export function open() {
             redraw();
         } });
     walker = button("Identify next", walkInTable, { class: "main" });
-    undo = button("Undo", () => act("undo", {}, "Taken back."));
     count = make("p", { class: "count", role: "status" });
     const sorting = make("select", { class: "narrow", "aria-label": "Sort by", onchange: () => sortBy(sorting.value) },
         ...Object.entries(COLUMNS).map(([column, title]) => make("option",
@@ -192,7 +198,7 @@ export function open() {
     body = make("tbody");
     const head = (title) => make("th", { scope: "col" }, title);
     return [make("h2", { class: "hidden" }, "Fixtures"),
-        make("div", { class: "tools" }, walker, undo, filter, sorting, count),
+        make("div", { class: "tools" }, walker, filter, sorting, count),
         make("table", { class: "rig" }, make("thead", {}, make("tr", {}, head("Identify"), ...Object.values(heads),
             head("Note"), head("More"))), body), ...filePanel()];
 }
@@ -209,10 +215,6 @@ export function update() {
         const order = chosen.isDown ? "descending" : "ascending";
         head.setAttribute("aria-sort", chosen.column === column ? order : "none");
     }
-    const last = parts.get("undo");
-    undo.disabled = !mayUse() || !last;
-    undo.title = last ? last.text : "nothing was changed";
-    setText(undo, last ? `Undo (${last.count})` : "Undo");
     walker.disabled = !mayUse() || !total;
     updateFile();
 }

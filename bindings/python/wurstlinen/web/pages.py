@@ -5,6 +5,7 @@ browsers keep no cookie. It is in the part of the address behind the #, which br
 """
 from __future__ import annotations
 
+import contextlib
 import json
 import pkgutil
 import socket
@@ -177,7 +178,9 @@ class Pages:
             return
         if devices is not None:
             self.rig.adopt(devices, None, reads_all=False)
-        else:
+            return
+        # Somebody may have begun one at the same time.
+        with contextlib.suppress(Failure):
             self.discoveries.begin()
 
 

@@ -191,17 +191,21 @@ class Rig:
         """Has a device show itself, or not; if only that one, the others stop. Raises Failure."""
         entry = self.entry(uid)
         with self.lock:
-            others = [each for each in self.entries.values() if is_only and each.identifies and each is not entry]
+            others = [each for each in self.entries.values()
+                      if is_only and each.identifies and not each.missing and each is not entry]
         ends = [self.hands.do(str(each.device.uid), partial(self._identify, each, False)) for each in others]
         for end in (self.hands.do(str(uid), partial(self._identify, entry, is_on)), *ends):
             end.result()
 
     def _identify(self, entry: Entry, is_on: bool, work: Work) -> None:
-        identify(work, entry.device.uid, ON if is_on else OFF)
-        entry.identifies = identifies_of(work, entry.fixture)
-        if entry.identifies is None:
-            entry.identifies = is_on
-        self.show(entry)
+        # What it does isn't known until it has said so.
+        entry.identifies = None
+        try:
+            identify(work, entry.device.uid, ON if is_on else OFF)
+            found = identifies_of(work, entry.fixture)
+            entry.identifies = is_on if found is None else found
+        finally:
+            self.show(entry)
 
     def planned(self, uid: Uid, column: str, value: str) -> Optional[Change]:
         """A change of a device; None if it has that value. Raises Failure."""

@@ -1,6 +1,7 @@
 """What happens on the line, whoever does it: programs, requests and their results, discoveries, pauses."""
 from __future__ import annotations
 
+import sys
 import threading
 import time
 from typing import Any, Callable, Dict, Optional, Sequence, Set, Tuple
@@ -76,6 +77,9 @@ class Watcher:
                 self._watch(self._client)
             except (Fault, LineFailed) as fault:
                 self._gone(str(fault))
+            except Exception as fault:  # Whatever it is, the page goes on with another connection.
+                print(f"wurstlinen: the page has a fault: {fault!r}", file=sys.stderr, flush=True)
+                self._gone("the page has a fault")
             self._has_ended.wait(LOOK_SECONDS / 4)
 
     def _gone(self, reason: str) -> None:
