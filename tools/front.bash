@@ -5,7 +5,7 @@
 front_folder="$own/library"
 # With these words, the command in Python needs no library.
 without_library=(adapters bridge completion doctor patch pids rig trace)
-with_library=(apply check fixtures get identify save serve set show)
+with_library=(apply check fixtures get identify save serve set show web)
 
 is_of_front() {
     [[ " ${without_library[*]} ${with_library[*]} " = *" $1 "* ]]

@@ -69,8 +69,24 @@ class Protocol(TestCase):
     def test_hello(self) -> None:
         with here(five) as made, Program(made.place.path, {**HELLO, "id": 5, "name": "console"}) as program:
             self.assertEqual(program.hello, {
-                "id": 5, "version": 1, "source": SOURCE, "process": os.getpid(), "depth": 16, "line": "rig:/it",
-                "there": True, "paused": False, "clients": 1, "outstanding": 0})
+                "id": 5, "version": 1, "source": SOURCE, "process": os.getpid(), "depth": 16, "client": 0,
+                "line": "rig:/it", "there": True, "paused": False, "clients": 1, "outstanding": 0})
+
+    def test_clients(self) -> None:
+        with here(five) as made, Program(made.place.path) as first, \
+                Program(made.place.path, {**HELLO, "name": "console"}) as second:
+            second.ask({"do": "pause"})
+            first.say(GET)
+            first.next("request")
+            own = {"process": os.getpid()}
+            second.say({"do": "clients"})
+            self.assertEqual(second.next("clients"), {"clients": [
+                {"client": 0, "outstanding": 1, "name": "", **own, "paused": False},
+                {"client": 1, "outstanding": 0, "name": "console", **own, "paused": True}]})
+            first.close()
+            while len(found := second.ask({"do": "clients"})["clients"][0]) > 2:
+                self.assertEqual(found["client"], 0)
+            self.assertEqual(found, {"client": 0, "outstanding": 1})
 
     def test_a_get_and_a_set(self) -> None:
         with here(five) as made, Program(made.place.path) as program:
@@ -145,7 +161,7 @@ class Protocol(TestCase):
             program.ask({"do": "subscribe", "to": ["frames"]})
             other.ask(GET)
             frame = program.read()
-            self.assertEqual((frame["event"], frame["request"]), ("frame", 0))
+            self.assertEqual((frame["event"], frame["request"], frame["client"]), ("frame", 0, 1))
             command, reply = decode_packet(bytes.fromhex(frame["frame"])), decode_packet(bytes.fromhex(frame["reply"]))
             self.assertEqual((uid_text(command.destination), command.pid, reply.data.hex()), (LEFT, 0x82, LABEL))
             self.assertEqual(other.read()["data"], LABEL)

@@ -121,8 +121,8 @@ class Applied:
         self.status = failure.status
 
 
-def make(work: Work, change: Change) -> None:
-    """Makes a change, and reads it back. Raises Failure."""
+def make(work: Work, change: Change) -> str:
+    """Makes a change, and returns what is read back. Raises Failure."""
     parameter = COLUMNS[change.column]
     try:
         work.ask(change.uid, parameter.number, encode(parameter, True, [change.after]), is_set=True)
@@ -134,3 +134,4 @@ def make(work: Work, change: Change) -> None:
     if differs(change.column, found, change.after):
         raise Failure(FAILED, f"{change.uid} accepted {change.after}, but has {found}", uid=str(change.uid),
                       reason="read_back")
+    return found

@@ -229,6 +229,11 @@ def read(name: str, output: Output) -> RigFile:
         data = standard_input() if name == STANDARD_STREAM else bytes_of(name)
     except OSError as fault:
         raise wrong(f"{name}: {fault.strerror}") from None
+    return rig_file(name, data, output)
+
+
+def rig_file(name: str, data: bytes, output: Output) -> RigFile:
+    """The devices of a file with these bytes. Raises Failure."""
     if len(data) > MOST_BYTES:
         raise wrong(f"{name} is longer than {MOST_BYTES} bytes")
     try:

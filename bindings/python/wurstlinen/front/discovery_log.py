@@ -3,12 +3,15 @@ from __future__ import annotations
 
 import contextlib
 import json
-from typing import Callable, Dict, Iterator, Optional, Sequence
+from typing import TYPE_CHECKING, Callable, Dict, Iterator, List, Optional, Sequence, Tuple
 
 from .. import DEFAULT_BUDGET, Uid
 from ..lines.numbers import Pid
 from ..lines.packets import decode_packet
 from .output import FAILED, Failure
+
+if TYPE_CHECKING:
+    from pathlib import Path
 
 # What takes a line of a log, with its end.
 Sink = Callable[[str], None]
@@ -63,6 +66,12 @@ def sink_of(name: Optional[str]) -> Iterator[Optional[Sink]]:
 
 def explained(program: str, lines: Sequence[str], uids: Sequence[Uid]) -> Dict[Uid, str]:
     """What the proved program says of devices that were on the line, by a discovery's log. Raises OSError."""
+    said = dict(line.split(" ", 1) for line in explanation(program, lines, uids)[1] if " " in line)
+    return {uid: said[str(uid)] for uid in uids if str(uid) in said}
+
+
+def explanation(program: Path, lines: Sequence[str], uids: Sequence[Uid]) -> Tuple[int, List[str]]:
+    """The proved program's status, and all lines that it prints about that. Raises OSError."""
     import subprocess
     import tempfile
     with tempfile.NamedTemporaryFile("w", prefix="wurstlinen.", suffix=".log") as log:
@@ -71,5 +80,4 @@ def explained(program: str, lines: Sequence[str], uids: Sequence[Uid]) -> Dict[U
         words = [word for uid in uids for word in ("--present", str(uid))]
         done = subprocess.run(["wurstlinen", "explain", log.name, *words], executable=program, check=False,
                               stdout=subprocess.PIPE, stderr=subprocess.DEVNULL, encoding="utf-8", errors="replace")
-    said = dict(line.split(" ", 1) for line in done.stdout.splitlines() if " " in line)
-    return {uid: said[str(uid)] for uid in uids if str(uid) in said}
+    return done.returncode, done.stdout.splitlines()

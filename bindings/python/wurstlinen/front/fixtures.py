@@ -20,6 +20,7 @@ UNKNOWN_PID = "unknown_pid"
 MOST_SILENCES = 2
 ADDRESS_FIELD = "dmx_start_address"
 FOOTPRINT_FIELD = "dmx_footprint"
+SLOW = "answers slowly"
 REASONS = {"timeout": "no answer", "late": "no answer in time"}
 
 
@@ -131,7 +132,7 @@ def look_at(work: Work, device: Device) -> Fixture:
     """Asks a device for what people look for."""
     fixture = Fixture(device.uid, root=device.binding or device.uid)
     if fixture.root != fixture.uid:
-        fixture.notes.append(f"part of {fixture.root}")
+        fixture.notes.append(part_of(fixture))
     if fixture.uid.number in work.line.talkative:
         fixture.notes.append("sends too much in discovery")
     fixture.info = values_of(work, fixture, "device_info")
@@ -141,8 +142,13 @@ def look_at(work: Work, device: Device) -> Fixture:
     fixture.personality = personality_of(work, fixture)
     check(fixture)
     if fixture.uid in work.slow:
-        fixture.notes.append("answers slowly")
+        fixture.notes.append(SLOW)
     return fixture
+
+
+def part_of(fixture: Fixture) -> str:
+    """What is noted of a part of another device."""
+    return f"part of {fixture.root}"
 
 
 def values_of(work: Work, fixture: Fixture, name: str, data: bytes = b"") -> Optional[Values]:

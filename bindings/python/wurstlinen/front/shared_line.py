@@ -65,6 +65,10 @@ class SharedLine(Watched):
             for frame, reply in self._exchanges:
                 log.add(frame, reply)
 
+    def leave(self) -> None:
+        """The exchanges don't matter from now on."""
+        self._queue.subscribe([])
+
     def _take(self, keys: Dict[str, Any]) -> None:
         """An exchange. Others' requests don't matter here."""
         run = keys.get("run")

@@ -32,6 +32,10 @@ class Backlog:
         """How many requests and discoveries haven't ended."""
         return len(self._held) + sum(lane.in_queue for lane in self._lanes)
 
+    def outstanding_of(self, lane: Lane) -> int:
+        """How many of a program's requests and discoveries haven't ended."""
+        return sum(call.lane is lane for call in self._held) + lane.in_queue
+
     def accept(self, lane: Lane, what: Union[Request, Kind]) -> int:
         """Accepts a call, and returns its number. Raises Full."""
         kind = Call(lane, 0, what).kind

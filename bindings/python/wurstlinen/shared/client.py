@@ -4,7 +4,7 @@ from __future__ import annotations
 import time
 from collections import deque
 from types import TracebackType
-from typing import Callable, Deque, Iterable, Optional, Set, Tuple, Type, Union, cast
+from typing import Callable, Deque, Iterable, List, Optional, Set, Tuple, Type, Union, cast
 
 from .._ask import DEFAULT_WAIT, Answer, Asker, Kept
 from .._faults import OtherOutcome
@@ -41,6 +41,8 @@ class SharedQueue:
         with self.connection.protocol():
             self.source = uid_in(hello["source"])
         self.process = int(hello["process"])
+        # The number of the client that it lends to this one.
+        self.number = int(hello.get("client", -1))
         self.holder = f"process {self.process} ({self.source})"
         self.depth = int(hello["depth"])
         self._is_paused = bool(hello["paused"])
@@ -130,6 +132,10 @@ class SharedQueue:
     def status(self) -> Keys:
         """How things are at the server."""
         return self.connection.ask({"do": "status"}, dict_of)
+
+    def clients(self) -> List[Keys]:
+        """The programs that use the server, with what they have outstanding."""
+        return self.connection.ask({"do": "clients"}, lambda keys: [dict_of(each) for each in keys["clients"]])
 
     def is_idle(self) -> bool:
         """Whether nothing of this client is outstanding or uncollected."""

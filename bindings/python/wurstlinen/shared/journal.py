@@ -122,12 +122,19 @@ class Exchange:
 
     def __init__(self) -> None:
         self._sent: Optional[Send] = None
+        # Whose requests these are that haven't ended.
+        self._clients: Dict[int, int] = {}
 
     def keys(self, entry: Entry) -> Optional[Dict[str, Any]]:
         """What a subscriber of frames gets, once the reply of a frame has come."""
         if isinstance(entry, Send):
             self._sent = entry
+        elif isinstance(entry, Accept):
+            self._clients[entry.number] = entry.client
+        elif isinstance(entry, Finish):
+            self._clients.pop(entry.number, None)
         if not isinstance(entry, Came) or self._sent is None:
             return None
         sent, self._sent = self._sent, None
-        return {"event": "frame", **_send(sent), **_came(entry)}
+        client = None if sent.number is None else self._clients.get(sent.number)
+        return {"event": "frame", **_send(sent), **({} if client is None else {"client": client}), **_came(entry)}

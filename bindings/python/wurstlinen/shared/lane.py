@@ -36,6 +36,11 @@ class Lane:
         self._numbers: Dict[OutcomeKind, Dict[int, int]] = {kind: {} for kind in OutcomeKind}
 
     @property
+    def number(self) -> int:
+        """The number of the client."""
+        return self._client.number
+
+    @property
     def in_queue(self) -> int:
         """How many of its requests and discoveries the queue has."""
         return sum(map(len, self._numbers.values()))

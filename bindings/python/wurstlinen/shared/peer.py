@@ -8,6 +8,7 @@ from collections import deque
 from typing import Deque, List, Optional, Set
 
 from .lane import Lane
+from .place import peer_of
 from .words import MOST_ID, MOST_LINE_BYTES, BadRequest, Keys, Lines, is_number, line_of
 
 READ_BYTES = 4096
@@ -36,6 +37,9 @@ class Peer:
         # The events of its connection that the server waits for.
         self.watched = 0
         self.subscribed: Set[str] = set()
+        # What it calls itself, and its process.
+        self.name = ""
+        self.process = peer_of(connection)[0]
         self.has_paused = False
         self.is_over = False
         # Nothing more is read from it, and it is over when it has read what waits for it.

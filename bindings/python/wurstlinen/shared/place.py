@@ -8,7 +8,7 @@ from __future__ import annotations
 import os
 import stat
 import time
-from typing import TYPE_CHECKING, FrozenSet, Optional
+from typing import TYPE_CHECKING, FrozenSet, Optional, Tuple
 
 from ..line import LineFailed
 from ..lines.opening import is_device
@@ -171,7 +171,13 @@ def _connect(connection: socket.socket, path: str) -> None:
 
 def user_of(connection: socket.socket) -> int:
     """The number of the user whose program is at the other end."""
+    return peer_of(connection)[1]
+
+
+def peer_of(connection: socket.socket) -> Tuple[int, int]:
+    """The numbers of the process at the other end, and of its user."""
     import socket
     import struct
     form = struct.Struct("3i")
-    return int(form.unpack(connection.getsockopt(socket.SOL_SOCKET, socket.SO_PEERCRED, form.size))[1])
+    process, user, _ = form.unpack(connection.getsockopt(socket.SOL_SOCKET, socket.SO_PEERCRED, form.size))
+    return process, user

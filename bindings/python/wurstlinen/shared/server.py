@@ -18,8 +18,8 @@ from .listening import Passed, Place
 from .peer import READ_BYTES, Peer, id_of
 from .place import user_of
 from .words import (
-    DEVICES, FRAMES, KINDS, MOST_ID, VERSION, BadRequest, Keys, check_keys, choice_in, keys_of_device, number_in,
-    object_of, outcome_keys, request_in, shortened,
+    DEVICES, FRAMES, KINDS, MOST_ID, MOST_NAME, VERSION, BadRequest, Keys, check_keys, choice_in, keys_of_device,
+    number_in, object_of, outcome_keys, request_in, shortened,
 )
 from .worker import Worker
 
@@ -208,7 +208,7 @@ class Server:
         if all(lane.owner is not None for lane in self._lanes):
             peer.leave(BadRequest(f"{MOST_CLIENTS} programs use this line", "TooManyClients"), keys)
             return
-        peer.hello = keys
+        peer.hello, peer.name = keys, str(keys.get("name", ""))[:MOST_NAME]
         self._welcome(peer)
 
     def _welcome(self, peer: Peer) -> None:
@@ -217,7 +217,7 @@ class Server:
         if peer.hello is None or free is None or peer.is_leaving:
             return
         answer = {**id_of(peer.hello), "version": VERSION, "source": self._facts.source, "process": os.getpid(),
-                  "depth": DEPTH}
+                  "depth": DEPTH, "client": free.number}
         peer.welcome(free)
         peer.say({**answer, **self._status()})
 
@@ -282,6 +282,12 @@ class Server:
 
     def _set_frames(self) -> None:
         self.worker.shows_frames = any(FRAMES in peer.subscribed for peer in self._peers)
+
+    def clients(self, peer: Peer, keys: Keys) -> Keys:
+        """Who has a client of the queue. One whose program has gone has no process."""
+        check_keys(keys, ())
+        return {"clients": [client_of(lane, self._backlog.outstanding_of(lane)) for lane in self._lanes
+                            if not lane.is_free]}
 
     def status(self, peer: Peer, keys: Keys) -> Keys:
         """How things are."""
@@ -401,6 +407,14 @@ class Server:
             self._turn(until - time.monotonic())
 
 
+def client_of(lane: Lane, outstanding: int) -> Keys:
+    """A client of the queue, and its program."""
+    keys: Keys = {"client": lane.number, "outstanding": outstanding}
+    if lane.owner is None:
+        return keys
+    return {**keys, "name": lane.owner.name, "process": lane.owner.process, "paused": lane.owner.has_paused}
+
+
 def no_lane(peer: Peer) -> BadRequest:
     """Why a connection has no client of the queue in time."""
     if peer.hello is None:
@@ -417,5 +431,6 @@ ANSWERS: Dict[str, Callable[[Server, Peer, Keys], Optional[Keys]]] = {
     "pause": Server.pause,
     "resume": Server.resume,
     "subscribe": Server.subscribe,
+    "clients": Server.clients,
     "status": Server.status,
 }

@@ -192,6 +192,7 @@ class Worker:
         if self._log is None and not self.shows_frames:
             self._journal.skip()
             self._journal.drain()
+            self._exchange_shown = Exchange()
             return []
         entries = [*self._journal.new(), *self._journal.drain()]
         shown = [self._exchange_shown.keys(entry) for entry in entries]

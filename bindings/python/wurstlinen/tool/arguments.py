@@ -10,6 +10,8 @@ from ..front.main import PROGRAM, Parser, add_command, parser_of
 from ..front.output import DONE, Output
 from ..lines.opening import FORMS
 
+DEFAULT_PORT = 8573
+MOST_PORT = 65_535
 DESCRIPTION = "Finds RDM devices, reads and changes what they have, and works on simulated lines."
 
 
@@ -137,6 +139,24 @@ def add_serve(made: Any, name: str) -> None:
     commands.add_wait_line(command)
 
 
+def add_web(made: Any, name: str) -> None:
+    """The arguments of web."""
+    command = add_command(made, name, "show the fixtures as a page for browsers and phones, where they can be set up",
+                          "web --allow-network", "web.running.run_web", needs_line=False)
+    command.add_argument("--line", metavar="LINE", help=f"{FORMS}; WURSTLINEN_LINE if absent")
+    command.add_argument("--port", type=port, default=DEFAULT_PORT, metavar="N",
+                         help=f"the port of the page ({DEFAULT_PORT}); 0 is any that is free")
+    command.add_argument("--allow-network", action="store_true",
+                         help="let other machines in, such as phones; else only this one may use the page")
+    command.add_argument("--new-tokens", action="store_true", help="make new addresses, and close the old ones")
+    commands.add_wait_line(command)
+
+
+def port(text: str) -> int:
+    """An argument that is the number of a port."""
+    return commands.number_to(text, 0, MOST_PORT)
+
+
 def add_rig(made: Any, name: str) -> None:
     """The arguments of rig."""
     commands.add_rig(made)
@@ -160,6 +180,7 @@ COMMANDS: Dict[str, Callable[[Any, str], None]] = {
     "adapters": add_adapters,
     **FRONT_COMMANDS,
     "serve": add_serve,
+    "web": add_web,
     **PROVED,
     **OF_LINES,
     "completion": add_completion,

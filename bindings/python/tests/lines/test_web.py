@@ -1,0 +1,277 @@
+"""The page in chromium, used as a person does, on a desk and on a phone, by mouse and by finger."""
+from __future__ import annotations
+
+import time
+import unittest
+from typing import Tuple
+
+import servers
+from browser import needs_chromium
+from common import LongTestCase, folder, needs_library
+from web_pages import (
+    BACK, DESK, HOUSE, LEFT, PHONE, RIGHT, SECOND, at_each_size, folder_of_downloads, opened, row,
+)
+
+BAD = "<img src=x onerror=top.bad=1>"
+
+
+@needs_chromium
+@needs_library
+class Fixtures(LongTestCase):
+    """The table, the walk, undo and the file."""
+
+    @at_each_size
+    def test_labels_and_addresses_are_edited_in_place(self, size: Tuple[int, int]) -> None:
+        with opened(size) as (seen, web, _), web.follow() as events:
+            seen.until(f"document.querySelector(\"{row(LEFT)} .label\")?.value === 'Front left'")
+            seen.click(f"{row(LEFT)} .label")
+            seen.type(BAD)
+            seen.key("Enter")
+            events.until(lambda parts: parts.get(f"fixture/{LEFT}", {}).get("label") == BAD)
+            seen.click(f"{row(LEFT)} .address")
+            seen.type("20")
+            seen.key("Enter")
+            events.until(lambda parts: parts[f"fixture/{LEFT}"]["address"] == 20)
+            seen.until(f"document.querySelector(\"{row(LEFT)} .slots\").textContent === '20–26'")
+            self.assertEqual(seen.value(f"{row(LEFT)} .label"), BAD)
+            self.assertEqual(seen.page.value("[window.bad ?? 0, document.images.length]"), [0, 0])
+            seen.button("Undo (2)")
+            seen.button("Undo (1)")
+            events.until(lambda parts: parts[f"fixture/{LEFT}"]["label"] == "Front left")
+            seen.until(f"document.querySelector(\"{row(LEFT)} .label\").value === 'Front left'")
+
+    @at_each_size
+    def test_what_overlaps_is_asked_again(self, size: Tuple[int, int]) -> None:
+        with opened(size) as (seen, web, _), web.follow() as events:
+            seen.until(f"document.querySelector(\"{row(RIGHT)} .label\")?.value === 'Front right'")
+            seen.click(f"{row(RIGHT)} .address")
+            seen.type("99")
+            seen.key("Enter")
+            seen.until("document.querySelector('.message')")
+            self.assertIn("99-105 overlaps 454e:0a000017 Back truss 100", seen.texts(".message p")[0])
+            seen.button("Leave it")
+            seen.until(f"document.querySelector(\"{row(RIGHT)} .address\").value === '8'")
+            seen.click(f"{row(RIGHT)} .address")
+            seen.type("99")
+            seen.key("Enter")
+            seen.button("Do it anyway")
+            events.until(lambda parts: parts.get(f"fixture/{RIGHT}", {}).get("address") == 99)
+            seen.until(f"document.querySelector(\"{row(RIGHT)} .note\").textContent.includes('overlaps Back truss')")
+
+    def test_wrong_values_come_back(self) -> None:
+        with opened(DESK) as (seen, _, _rig):
+            seen.until(f"document.querySelector(\"{row(LEFT)} .address\")?.value === '1'")
+            seen.click(f"{row(LEFT)} .address")
+            seen.type("513")
+            seen.key("Tab")
+            seen.until("document.querySelector('.message')")
+            self.assertIn("513 is not from 1 to 512", seen.texts(".message p")[0])
+            seen.until(f"document.querySelector(\"{row(LEFT)} .address\").value === '1'")
+            seen.click(f"{row(LEFT)} .label")
+            seen.type("Anything")
+            seen.key("Escape")
+            self.assertEqual(seen.value(f"{row(LEFT)} .label"), "Front left")
+
+    def test_personality(self) -> None:
+        with opened(DESK) as (seen, web, _), web.follow() as events:
+            chosen = f"{row(RIGHT)} .personality"
+            seen.until(f"document.querySelector(\"{chosen}\")?.options.length === 2")
+            texts = seen.page.value(f"[...document.querySelector(\"{chosen}\").options].map((each) => each.text)")
+            self.assertEqual(texts, ["1 Basic (7)", "2 Extended (14)"])
+            seen.page.value(f"document.querySelector(\"{chosen}\").focus()")
+            seen.key("ArrowDown")
+            seen.key("Enter")
+            events.until(lambda parts: parts.get(f"fixture/{RIGHT}", {}).get("personality") == 2)
+            seen.until(f"document.querySelector(\"{row(RIGHT)} .slots\").textContent === '8–21'")
+
+    @at_each_size
+    def test_the_walk(self, size: Tuple[int, int]) -> None:
+        with opened(size) as (seen, web, rig), web.follow() as events:
+            # By address: both at 1 of the device with parts, then the others.
+            for uid in (LEFT, HOUSE, SECOND, RIGHT, BACK):
+                seen.button("Identify next")
+                events.until(lambda parts, uid=uid: parts.get(f"fixture/{uid}", {}).get("identifies"))
+                events.until(lambda parts: sum(bool(value and value.get("identifies")) for name, value
+                                               in parts.items() if name.startswith("fixture/")) == 1)
+            seen.button("Identify next")
+            events.until(lambda parts: not parts[f"fixture/{BACK}"]["identifies"])
+            seen.until(f"document.querySelector(\"{row(BACK)} .identify\").ariaChecked === 'false'")
+            seen.click(f"{row(BACK)} .identify")
+            events.until(lambda parts: parts[f"fixture/{BACK}"]["identifies"])
+            seen.until(f"document.querySelector(\"{row(BACK)} .identify\").getAttribute('aria-checked') === 'true'")
+
+    @at_each_size
+    def test_filter_and_order(self, size: Tuple[int, int]) -> None:
+        with opened(size) as (seen, _, _rig):
+            seen.until("document.querySelectorAll('.rig tbody tr').length === 5")
+            seen.click("input[type=search]")
+            seen.type("wash front")
+            seen.until("document.querySelectorAll('.rig tbody tr').length === 2")
+            self.assertEqual(seen.texts(".count"), ["2 of 5 fixtures"])
+            seen.type("")
+            seen.page.value("document.activeElement.value = ''; "
+                            "document.activeElement.dispatchEvent(new Event('input'))")
+            labels = "[...document.querySelectorAll('.rig .label')].map((each) => each.value)"
+            if size == DESK:
+                seen.button("Label")
+                seen.until(f"{labels}[1] === 'Back truss'")
+                seen.button("Label")
+                seen.until(f"{labels}[0] === 'House lights'")
+
+    @at_each_size
+    def test_a_file(self, size: Tuple[int, int]) -> None:
+        with folder() as place, opened(size) as (seen, web, _), web.follow() as events:
+            folder_of_downloads(seen.page, place)
+            seen.button("Save as CSV")
+            saved = place / "rig.csv"
+            until = time.monotonic() + 20
+            while not saved.is_file() or not saved.stat().st_size:
+                self.assertLess(time.monotonic(), until)
+            text = saved.read_text(encoding="utf-8")
+            self.assertIn(f"{LEFT},Front left,1,1,Wash 7,7\n", text)
+            text = text.replace("Front left,1,", "Wash 1,20,") + "4444:00000004,Lost,9,1,,\n"
+            saved.write_text(text, encoding="utf-8")
+            found = seen.page.call("DOM.getDocument")["root"]["nodeId"]
+            node = seen.page.call("DOM.querySelector", nodeId=found, selector="#chooser")["nodeId"]
+            seen.page.call("DOM.setFileInputFiles", nodeId=node, files=[str(saved)])
+            seen.until("document.querySelectorAll('.differences li').length === 5")
+            shown = " ".join(seen.texts(".differences li"))
+            self.assertIn("missing: Lost (4444:00000004)", shown)
+            self.assertIn("address 20 -> 1", shown)
+            seen.button("Make the fixtures so …")
+            seen.button("Make them")
+            events.until(lambda parts: parts.get(f"fixture/{LEFT}", {}).get("label") == "Wash 1"
+                         and parts[f"fixture/{LEFT}"]["address"] == 20)
+            seen.until("document.querySelectorAll('.differences li').length === 1")
+            seen.button("Close the file")
+            seen.until("!document.querySelector('.differences li')")
+
+
+@needs_chromium
+@needs_library
+class OtherViews(LongTestCase):
+    """Slots, one fixture, discovery and the line."""
+
+    @at_each_size
+    def test_one_fixture(self, size: Tuple[int, int]) -> None:
+        with opened(size) as (seen, web, _), web.follow() as events:
+            seen.until(f"document.querySelector(\"{row(BACK)} .label\")?.value === 'Back truss'")
+            seen.click(f"{row(BACK)} .more")
+            seen.until("document.querySelector('.sensors')?.textContent === 'Head 41 °C'")
+            self.assertEqual(seen.texts(".name"), ["Back truss"])
+            if size == PHONE:
+                box = seen.page.value("(({width, height, bottom}) => [width, height, bottom])"
+                                      "(document.querySelector('.identify').getBoundingClientRect())")
+                self.assertGreater(box[0], 340)
+                self.assertGreaterEqual(box[1], 88)
+                self.assertLess(box[2], PHONE[1] / 2)
+            seen.click(".identify")
+            events.until(lambda parts: parts.get(f"fixture/{BACK}", {}).get("identifies"))
+            seen.click("[aria-label='Address one higher']")
+            events.until(lambda parts: parts[f"fixture/{BACK}"]["address"] == 101)
+            seen.until("!document.querySelector('.address.busy') && document.querySelector('.address').value === '101'")
+            seen.button("‹ Previous")
+            seen.until("document.querySelector('.name')?.textContent === 'Front right'")
+            events.until(lambda parts: parts[f"fixture/{RIGHT}"]["identifies"]
+                         and not parts[f"fixture/{BACK}"]["identifies"])
+
+    @at_each_size
+    def test_any_parameter(self, size: Tuple[int, int]) -> None:
+        with opened(size, f"fixture/{BACK}") as (seen, _, rig):
+            seen.until("[...document.querySelectorAll('summary')].some((each) => each.textContent === "
+                       "'Change record sensors')")
+            seen.page.value("[...document.querySelectorAll('summary')].find((each) => each.textContent === "
+                            "'Change record sensors').dataset.summary = 1")
+            seen.click("summary[data-summary]")
+            seen.page.value("[...document.querySelectorAll('details[open] input')].at(-1).focus()")
+            seen.type("0")
+            seen.button("Do it: record sensors")
+            seen.button("Really?")
+            seen.until("document.querySelector('.message')?.textContent.includes('record sensors was set')")
+            seen.until("[...document.querySelectorAll('dd')].some((each) => each.textContent.includes('recorded 41'))")
+
+    def test_slots_by_mouse(self) -> None:
+        with opened(DESK, "slots") as (seen, web, _), web.follow() as events:
+            piece = f"button[data-uid='{RIGHT}']"
+            seen.until(f"document.querySelector(\"{piece}\")")
+            self.assertEqual(seen.page.value("[...document.querySelectorAll('button.crowded')].map((each) => "
+                                             "each.dataset.uid)"), [LEFT, HOUSE, SECOND])
+            size = seen.page.value("(() => { const box = document.querySelector('.universe').getBoundingClientRect();"
+                                   " return [box.width / 32, box.height / 16]; })()")
+            seen.drag(piece, 3 * size[0], 2 * size[1])
+            events.until(lambda parts: parts.get(f"fixture/{RIGHT}", {}).get("address") == 8 + 3 + 64)
+
+    def test_slots_by_finger(self) -> None:
+        with opened(PHONE, "slots") as (seen, web, _), web.follow() as events:
+            piece = f"button[data-uid='{RIGHT}']"
+            seen.until(f"document.querySelector(\"{piece}\")")
+            at = seen.page.value(f"""(() => {{ document.querySelector("{piece}").scrollIntoView({{block: "center"}});
+                const box = document.querySelector("{piece}").getBoundingClientRect();
+                const all = document.querySelector('.universe').getBoundingClientRect();
+                return [box.left + 8, box.top + 8, all.width / 16, all.height / 32]; }})()""")
+
+            def touch(kind: str, dx: float = 0, dy: float = 0) -> None:
+                points = [] if kind == "touchEnd" else [{"x": at[0] + dx, "y": at[1] + dy}]
+                seen.page.call("Input.dispatchTouchEvent", type=kind, touchPoints=points)
+
+            # The first touch only selects it.
+            touch("touchStart")
+            touch("touchEnd")
+            seen.until(f"document.activeElement?.dataset.uid === '{RIGHT}'")
+            touch("touchStart")
+            touch("touchMove", at[2], at[3])
+            touch("touchMove", 0, 3 * at[3])
+            touch("touchEnd")
+            events.until(lambda parts: parts.get(f"fixture/{RIGHT}", {}).get("address") == 8 + 48)
+
+    def test_slots_by_keys(self) -> None:
+        with opened(DESK, "slots") as (seen, web, _), web.follow() as events:
+            seen.until(f"document.querySelector(\"button[data-uid='{RIGHT}']\")")
+            seen.page.value(f"document.querySelector(\"button[data-uid='{RIGHT}']\").focus()")
+            for key in ("ArrowDown", "ArrowRight", "ArrowDown", "ArrowLeft", "ArrowLeft"):
+                seen.key(key)
+            self.assertEqual(seen.texts(".hint"), ["Front right: 8–14 → 71–77, free"])
+            seen.key("Escape")
+            self.assertIn("Drag a fixture", seen.texts(".hint")[0])
+            for _ in range(3):
+                seen.key("ArrowDown")
+            seen.key("Enter")
+            events.until(lambda parts: parts.get(f"fixture/{RIGHT}", {}).get("address") == 8 + 96)
+            # It is still the one that keys are for.
+            seen.until(f"document.activeElement?.dataset.uid === '{RIGHT}'")
+
+    @at_each_size
+    def test_discovery(self, size: Tuple[int, int]) -> None:
+        with opened(size, "discovery") as (seen, _, rig):
+            seen.until("document.querySelector('.result').textContent.startsWith('5 fixtures found with')")
+            self.assertIn("nothing else can be on this line if it is honest", seen.texts(".result")[0])
+            rig.gone.add(rig.fixtures[2].uid)
+            rig.delay = 0.02
+            seen.button("Discover")
+            seen.until("/[0-9]+ frames so far, [1-3] fixtures? found: /.test("
+                       "document.querySelector('main').textContent)")
+            rig.delay = 0.0
+            seen.until("document.querySelector('.result').textContent.startsWith('4 fixtures found with')")
+            seen.until("[...document.querySelectorAll('li')].some((each) => "
+                       "each.textContent.includes('Back truss (454e:0a000017)'))")
+            if seen.page.value("!document.querySelector('iframe').hidden"):
+                seen.until("document.querySelector('iframe').src.includes('/picture/')")
+
+    @at_each_size
+    def test_the_line(self, size: Tuple[int, int]) -> None:
+        with opened(size, "line") as (seen, _, _rig), \
+                servers.Program(servers.place.path_of(servers.place.own_folder(), "rig:/it"),
+                                {**servers.HELLO, "name": "console"}) as program:
+            seen.until("document.querySelector('main').textContent.includes('console')")
+            seen.button("Pause")
+            seen.until("document.querySelector('#status').textContent.includes('paused')")
+            program.say({"do": "get", "uid": LEFT, "pid": "0081"})
+            seen.until("document.querySelector('main').textContent.includes('Paused; 1 wait')")
+            seen.button("Go on")
+            program.next("status")
+            seen.until("document.querySelector('tr .command')?.textContent === 'GET 1234:00000001 manufacturer_label'")
+            self.assertEqual(seen.texts("tr .answer")[0], "ACK manufacturer_label Wurstlinen")
+
+
+if __name__ == "__main__":
+    unittest.main()

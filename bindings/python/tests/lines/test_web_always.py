@@ -1,0 +1,208 @@
+"""What holds for all views of the page in chromium: two browsers, ends and restarts, keys alone, rules, and times."""
+from __future__ import annotations
+
+import json
+import time
+import unittest
+from typing import Tuple
+
+import servers
+from browser import needs_chromium
+from common import LongTestCase, needs_library, scene
+from page_rules import RULES
+from web_pages import (
+    BACK, DESK, FIVE, LEFT, PHONE, RIGHT, SECOND, Moody, Web, at_each_size, five, many, opened, row, web_on, window,
+)
+
+
+@needs_chromium
+@needs_library
+class Always(LongTestCase):
+    """What holds for all views: two browsers, a server that ends, keys alone, rules for everybody's eyes, times."""
+
+    def test_two_browsers(self) -> None:
+        with opened(DESK) as (seen, web, _), window(web.address, PHONE) as other:
+            other.open()
+            for each in (seen, other):
+                each.until(f"document.querySelector(\"{row(LEFT)} .label\")?.value === 'Front left'")
+            # What somebody is typing isn't disturbed by the other.
+            other.click(f"{row(LEFT)} .label")
+            other.type("Half a na")
+            seen.click(f"{row(LEFT)} .label")
+            seen.type("Wash 1")
+            began = time.monotonic()
+            seen.key("Enter")
+            for each in (seen, other):
+                each.until(f"document.querySelector(\"{row(LEFT)} .label\").ariaLabel === 'Label of Wash 1'")
+            taken = time.monotonic() - began
+            self.assertEqual(other.value(f"{row(LEFT)} .label"), "Half a na")
+            other.key("Escape")
+            self.assertEqual(other.value(f"{row(LEFT)} .label"), "Wash 1")
+            # On a quiet machine it is 0.2 s; the line takes no time.
+            self.assertLess(taken, 0.2 * self.busy())
+
+    @staticmethod
+    def busy() -> float:
+        """How much longer than on a quiet machine things may take here."""
+        began = time.monotonic()
+        sum(range(1_000_000))
+        return max(1.0, (time.monotonic() - began) / 0.01)
+
+    @at_each_size
+    def test_forty_fixtures_open_at_once(self, size: Tuple[int, int]) -> None:
+        rig = many(40)
+        with web_on(rig) as web, window(web.address, size) as seen:
+            web.wait([str(uid) for uid in map(uid_text_of, rig.fixtures)])
+            began = time.monotonic()
+            seen.page.call("Page.navigate", url=web.address)
+            seen.until("document.querySelectorAll('.rig tbody tr').length === 40")
+            self.assertLess(time.monotonic() - began, 1.0 * self.busy())
+
+    def test_the_server_ends_and_comes_back(self) -> None:
+        rig = Moody(scene(devices=FIVE["devices"]))
+        with servers.here(lambda: rig) as server:
+            web = Web("rig:/it")
+            try:
+                web.wait([LEFT, SECOND])
+                with window(web.address) as seen:
+                    seen.open()
+                    seen.until(f"document.querySelector(\"{row(LEFT)} .label\")?.value === 'Front left'")
+                    server.end()
+                    seen.until("document.querySelector('#status').className === 'bad'")
+                    self.assertIn("No line", seen.texts("#status")[0])
+                    self.assertEqual(seen.value(f"{row(LEFT)} .label"), "Front left")
+                    again = servers.Here(lambda: rig)
+                    try:
+                        seen.until("document.querySelector('#status').className === ''")
+                        seen.click(f"{row(LEFT)} .label")
+                        seen.type("Back again")
+                        seen.key("Enter")
+                        seen.until("document.querySelector('#status').className === ''")
+                        seen.until(f"document.querySelector(\"{row(LEFT)} .label\").ariaLabel === "
+                                   "'Label of Back again'")
+                    finally:
+                        again.end()
+            finally:
+                web.end()
+
+    def test_the_pages_program_ends_and_comes_back(self) -> None:
+        rig = Moody(scene(devices=FIVE["devices"]))
+        with servers.here(lambda: rig):
+            web = Web("rig:/it")
+            web.wait([LEFT])
+            with window(web.address) as seen:
+                seen.open()
+                seen.until(f"document.querySelector(\"{row(LEFT)} .label\")?.value === 'Front left'")
+                web.end()
+                seen.until("document.querySelector('#status').textContent.startsWith('Not connected')")
+                self.assertTrue(seen.page.value(f"document.querySelector(\"{row(LEFT)} .label\").disabled"))
+                again = Web("rig:/it", web.port, web.tokens)
+                try:
+                    seen.until("document.querySelector('#status').className === ''")
+                finally:
+                    again.end()
+
+    @at_each_size
+    def test_fixtures_that_are_slow_refuse_or_vanish(self, size: Tuple[int, int]) -> None:
+        others = [{"uid": "4444:00000001", "rig": {"label": "Sulky", "nack": "0004"}},
+                  {"uid": "4444:00000002", "rig": {"label": "Sleepy", "timer": 10, "address": 50}}]
+        with opened(size, devices=others) as (seen, web, rig):
+            seen.until(f"document.querySelector(\"{row('4444:00000001')} .note\")?.textContent.includes('refuses')")
+            seen.until(f"document.querySelector(\"{row('4444:00000002')} .label\")?.value === 'Sleepy'")
+            # A slow one is awaited, and meanwhile the others can be used.
+            seen.click(f"{row('4444:00000002')} .label")
+            seen.type("Awake")
+            seen.key("Enter")
+            seen.until(f"document.querySelector(\"{row('4444:00000002')} .label\").classList.contains('busy')")
+            seen.click(f"{row(BACK)} .identify")
+            seen.until(f"document.querySelector(\"{row(BACK)} .identify\").ariaChecked === 'true'")
+            seen.until(f"document.querySelector(\"{row('4444:00000002')} .label\").ariaLabel === 'Label of Awake'")
+            rig.gone.add(int(LEFT.replace(":", ""), 16))
+            seen.click(f"{row(LEFT)} .label")
+            seen.type("Gone")
+            seen.key("Enter")
+            seen.until("document.querySelector('.message')?.textContent.includes('no answer')")
+            seen.until(f"document.querySelector(\"{row(LEFT)} .note\").textContent.includes('no answer')")
+            self.assertEqual(seen.value(f"{row(LEFT)} .label"), "Front left")
+            rig.is_plugged_in = False
+            seen.until("document.querySelector('#status').textContent.startsWith(\"The adapter isn't there\")")
+
+    def test_only_looking(self) -> None:
+        with opened(DESK, looking=True) as (seen, _, rig):
+            seen.until(f"document.querySelector(\"{row(LEFT)} .label\")?.value === 'Front left'")
+            self.assertIn("only for looking", seen.texts("#status")[0])
+            before = rig.exchanges
+            for view in ("fixtures", "slots", f"fixture/{LEFT}", "discovery", "line"):
+                seen.page.value(f"location.hash = location.hash.split('/')[0] + '/{view}'")
+                seen.until("document.querySelector('main').children.length")
+                able = seen.page.value("""[...document.querySelectorAll('main :is(button, input, select)')].filter(
+                    (each) => each.checkVisibility() && !each.disabled && !each.dataset.uid
+                    && !each.closest('th, .file') && each.type !== 'search').map((each) => each.innerText)""")
+                self.assertEqual(able, [] if "/" not in view else ["‹ Previous", "Next ›"], view)
+            self.assertEqual(rig.exchanges, before)
+
+    def test_no_token(self) -> None:
+        with five() as (web, _), window(web.address.partition("#")[0]) as seen:
+            seen.page.call("Page.navigate", url=seen.address)
+            seen.until("document.querySelector('#status')?.textContent.includes('no token')")
+        with five() as (web, _), window(web.address.partition("#")[0] + "#wrong") as seen:
+            seen.page.call("Page.navigate", url=seen.address)
+            seen.until("document.querySelector('#status')?.textContent.includes('no valid token')")
+
+    def test_keys_alone_reach_everything(self) -> None:
+        for view in ("fixtures", "slots", f"fixture/{BACK}", "discovery", "line"):
+            with self.subTest(view=view), opened(DESK, view) as (seen, _, _rig):
+                seen.until("document.querySelector('main').children.length")
+                time.sleep(1.0)
+                wanted = seen.page.value("""(() => {
+                    const all = [...document.querySelectorAll("a, button, input, select, summary")]
+                        .filter((each) => each.checkVisibility() && !each.disabled);
+                    all.forEach((each, at) => (each.dataset.number = at)); return all.length; })()""")
+                seen.page.value("document.activeElement.blur()")
+                reached = set()
+                for _ in range(wanted + 3):
+                    seen.key("Tab")
+                    reached.add(seen.page.value("document.activeElement.dataset.number ?? null"))
+                missed = [number for number in range(wanted) if str(number) not in reached]
+                missing = seen.page.value(f"{json.dumps(missed)}.map((at) => "
+                                          "document.querySelector(`[data-number='${at}']`)?.outerHTML)")
+                self.assertEqual(missing, [])
+
+    @at_each_size
+    def test_rules_for_all_eyes_and_hands(self, size: Tuple[int, int]) -> None:
+        with opened(size) as (seen, web, _):
+            web.call("identify", uid=RIGHT, on=True)
+            for view in ("fixtures", "slots", f"fixture/{BACK}", "discovery", "line"):
+                seen.page.value(f"location.hash = location.hash.split('/')[0] + '/{view}'")
+                time.sleep(1.0)
+                for scheme in ("light", "dark"):
+                    seen.page.call("Emulation.setEmulatedMedia",
+                                   features=[{"name": "prefers-color-scheme", "value": scheme}])
+                    for name, rule in RULES.items():
+                        with self.subTest(size=size, scheme=scheme, view=view, rule=name):
+                            self.assertEqual(seen.page.value(rule), [])
+
+    def test_rules_can_be_broken(self) -> None:
+        bad = ("<button>Ok</button><button></button><p class=pale>x</p><h4>x</h4><i id=view></i><a tabindex=3>x</a>"
+               "<input class=pale><div class=wide>x</div><button class=low>y</button>")
+        styles = (".pale { color: #bbb !important; }", ".wide { width: 3000px; }",
+                  ".low { min-height: 0; height: 9px; }")
+        with opened(DESK, "line") as (seen, _, _rig):
+            for style in styles:
+                seen.page.value(f"document.styleSheets[0].insertRule({json.dumps(style)}, 0)")
+            seen.page.value(f"document.querySelector('main').innerHTML = {json.dumps(bad)}")
+            seen.page.value("document.querySelectorAll('[role]').forEach((each) => each.removeAttribute('role'))")
+            seen.page.value("document.querySelector('h1').remove(), document.title = ''")
+            for name, rule in RULES.items():
+                with self.subTest(rule=name):
+                    self.assertNotEqual(seen.page.value(rule), [])
+
+
+def uid_text_of(fixture: object) -> str:
+    """The UID of a rig's fixture."""
+    from wurstlinen.lines.packets import uid_text
+    return uid_text(fixture.uid)  # type: ignore[attr-defined]
+
+
+if __name__ == "__main__":
+    unittest.main()

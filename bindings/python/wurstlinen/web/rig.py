@@ -1,0 +1,341 @@
+"""The fixtures as the page knows them: what they have said, what the last discovery said, and changes with undo."""
+from __future__ import annotations
+
+import threading
+from dataclasses import dataclass, field, replace
+from functools import partial
+from typing import Any, Dict, List, Mapping, Optional, Sequence, Tuple
+
+from .. import Device, Uid
+from ..front.applying import make
+from ..front.csv_files import COLUMNS, LABEL, Change, differs
+from ..front.fixtures import (
+    ADDRESS_FIELD, FOOTPRINT_FIELD, SLOW, Fixture, keys_of, look_at, part_of, values_of,
+)
+from ..front.guarding import ADDRESS, PERSONALITY, Problem, named, problems_of
+from ..front.output import BAD_ARGUMENTS, FAILED, REFUSED, Failure
+from ..front.requests import OFF, ON, identify
+from ..front.work import Work
+from ..parameters import STANDARD, WordFault, encode
+from ..parameters.words import whole
+from .board import Board
+from .hands import Hands
+
+IDENTIFY = STANDARD.named("identify_device")
+MOST_UNDOS = 100
+# The page says this in another place, for all that overlap.
+END_NOTE = "its slots end after"
+# A model: its maker, its number, and its software's.
+Model = Tuple[int, object, object]
+
+
+@dataclass
+class Entry:
+    """A device, and what is known of it."""
+
+    device: Device
+    fixture: Fixture
+    # Whether it has been asked so far.
+    is_read: bool = False
+    identifies: Optional[bool] = None
+    # Why it isn't there; nothing if the last discovery found it.
+    missing: str = ""
+
+    @property
+    def model(self) -> Model:
+        """What devices have in common that have the same personalities."""
+        info = self.fixture.info or {}
+        return self.device.uid.manufacturer, info.get("device_model_id"), info.get("software_version_id")
+
+
+@dataclass
+class Plan:
+    """Changes that are to be made, what would be wrong after them, and what was made of them."""
+
+    changes: List[Change]
+    problems: List[str] = field(default_factory=list)
+    made: int = 0
+    failures: List[str] = field(default_factory=list)
+
+    def keys(self) -> Dict[str, Any]:
+        """The same for a page."""
+        return {"changes": [change.text for change in self.changes], "problems": self.problems, "made": self.made,
+                "failures": self.failures}
+
+
+class Rig:
+    """All fixtures. Threads call it."""
+
+    def __init__(self, board: Board, hands: Hands) -> None:
+        self._board = board
+        self.hands = hands
+        self.lock = threading.RLock()
+        self.entries: Dict[Uid, Entry] = {}
+        self._personalities: Dict[Model, List[Dict[str, Any]]] = {}
+        self._undos: List[Change] = []
+        # What is told that something about fixtures has changed.
+        self.changed = threading.Event()
+
+    def fixtures(self) -> List[Fixture]:
+        """Those that the last discovery found, as far as they were asked."""
+        with self.lock:
+            return [entry.fixture for _, entry in sorted(self.entries.items()) if not entry.missing]
+
+    def entry(self, uid: Uid) -> Entry:
+        """A device that the page knows. Raises Failure."""
+        with self.lock:
+            if uid not in self.entries:
+                raise Failure(BAD_ARGUMENTS, f"{uid} isn't among the fixtures", reason="uid")
+            return self.entries[uid]
+
+    def show(self, entry: Entry) -> None:
+        """Has pages show a device."""
+        with self.lock:
+            fixture = entry.fixture
+            keys = keys_of(fixture)
+            keys["notes"] = [note for note in fixture.notes
+                             if note not in (SLOW, part_of(fixture)) and not note.startswith(END_NOTE)]
+            personalities = self._personalities.get(entry.model, [])
+            number = fixture.number("current_personality")
+            keys.update(first=(fixture.slots or (None,))[0], last=(fixture.slots or (None,))[-1],
+                        root=str(fixture.root), identifies=entry.identifies, is_read=entry.is_read,
+                        missing=entry.missing, is_slow=SLOW in fixture.notes,
+                        personalities=personalities, is_gone=fixture.is_gone,
+                        sensors=fixture.number("sensor_count"), personality_count=fixture.number("personality_count"))
+            if fixture.personality is None:
+                keys["personality_name"] = next((each["name"] for each in personalities if each["number"] == number),
+                                                None)
+        self._board.put(f"fixture/{fixture.uid}", keys)
+        self.changed.set()
+
+    def adopt(self, devices: Sequence[Device], fault: Optional[str], reads_all: bool) -> None:
+        """These devices are on the line, and with a fault perhaps more."""
+        found = {device.uid for device in devices}
+        why = "the last discovery didn't find it" if fault is None else f"the last discovery ended early: {fault}"
+        with self.lock:
+            gone = [entry for uid, entry in self.entries.items() if uid not in found and entry.missing != why]
+            for entry in gone:
+                entry.missing = why
+            known = self.entries
+            asked = [device for device in devices if reads_all or device.uid not in known
+                     or known[device.uid].missing or known[device.uid].fixture.is_gone]
+        for entry in gone:
+            self.show(entry)
+        for device in asked:
+            self.read(device)
+
+    def read(self, device: Device, is_urgent: bool = False) -> "Any":
+        """Has a device asked for all that the table has."""
+        with self.lock:
+            entry = self.entries.get(device.uid)
+            if entry is None:
+                entry = Entry(device, Fixture(device.uid, root=device.binding or device.uid))
+                self.entries[device.uid] = entry
+            entry.missing = ""
+            entry.device = device
+        self.show(entry)
+        return self.hands.do(str(device.uid), partial(self._read, entry), is_urgent)
+
+    def read_again(self, uid: Uid) -> None:
+        """Has a device asked again, since another program may have changed it; all devices for a broadcast UID."""
+        with self.lock:
+            entries = list(self.entries.values()) if uid.is_broadcast else list(filter(None, [self.entries.get(uid)]))
+        for entry in entries:
+            self.hands.do(str(entry.device.uid), partial(self._read, entry), is_urgent=not uid.is_broadcast)
+
+    def forget(self, uid: Uid) -> None:
+        """Takes a device away that isn't there. Raises Failure."""
+        if not self.entry(uid).missing:
+            raise Failure(BAD_ARGUMENTS, f"{uid} is there, and isn't forgotten", reason="uid")
+        with self.lock:
+            del self.entries[uid]
+        self._board.put(f"fixture/{uid}", None)
+        self.changed.set()
+
+    def _read(self, entry: Entry, work: Work) -> None:
+        """Asks a device."""
+        fixture = look_at(work, entry.device)
+        identifies = entry.identifies
+        if not fixture.is_gone:
+            identifies = identifies_of(work, fixture)
+        with self.lock:
+            # What it has said before is better than nothing.
+            if fixture.is_gone and entry.fixture.info is not None:
+                fixture = replace(entry.fixture, notes=fixture.notes, is_gone=True)
+            entry.fixture, entry.is_read, entry.identifies = fixture, True, identifies
+            lacks = (fixture.number("personality_count") or 0) > 1 and entry.model not in self._personalities
+            if lacks:
+                self._personalities[entry.model] = []
+        self.show(entry)
+        if lacks and not fixture.is_gone:
+            self.hands.do(str(fixture.uid), partial(self._read_personalities, entry), is_urgent=False)
+
+    def _read_personalities(self, entry: Entry, work: Work) -> None:
+        """Asks a device for what all of its model have."""
+        found = []
+        asked = Fixture(entry.device.uid)
+        for number in range(1, (entry.fixture.number("personality_count") or 0) + 1):
+            values = values_of(work, asked, "dmx_personality_description", bytes([number]))
+            if values is not None:
+                found.append({"number": number, "name": str(values["description"]), "slots": values["slots_required"]})
+        with self.lock:
+            if asked.is_gone:
+                del self._personalities[entry.model]
+                return
+            self._personalities[entry.model] = found
+            alike = [each for each in self.entries.values() if each.model == entry.model]
+        for each in alike:
+            self.show(each)
+
+    def identify(self, uid: Uid, is_on: bool, is_only: bool) -> None:
+        """Has a device show itself, or not; if only that one, the others stop. Raises Failure."""
+        entry = self.entry(uid)
+        with self.lock:
+            others = [each for each in self.entries.values()
+                      if is_only and each.identifies and not each.missing and each is not entry]
+        ends = [self.hands.do(str(each.device.uid), partial(self._identify, each, False)) for each in others]
+        for end in (self.hands.do(str(uid), partial(self._identify, entry, is_on)), *ends):
+            end.result()
+
+    def _identify(self, entry: Entry, is_on: bool, work: Work) -> None:
+        # What it does isn't known until it has said so.
+        entry.identifies = None
+        try:
+            identify(work, entry.device.uid, ON if is_on else OFF)
+            found = identifies_of(work, entry.fixture)
+            entry.identifies = is_on if found is None else found
+        finally:
+            self.show(entry)
+
+    def planned(self, uid: Uid, column: str, value: str) -> Optional[Change]:
+        """A change of a device; None if it has that value. Raises Failure."""
+        if column not in COLUMNS:
+            raise Failure(BAD_ARGUMENTS, f"there is no column {column}", reason="column")
+        entry = self.entry(uid)
+        try:
+            encode(COLUMNS[column], True, [value])
+        except WordFault as fault:
+            raise Failure(BAD_ARGUMENTS, str(fault), reason="value") from None
+        before = value_in(entry.fixture, column)
+        if before is not None and not differs(column, before, value):
+            return None
+        return Change(uid, column, before or "", value)
+
+    def change(self, changes: Sequence[Change], is_forced: bool, is_undo: bool = False) -> Plan:
+        """Makes changes, those of a device in their order, unless slots would overlap or end after the last one."""
+        plan = Plan(list(changes))
+        found = self.problems_after(changes)
+        plan.problems = [f"after this, {named(each.fixture)} {each.slots_text}" for each in found]
+        if plan.problems and not is_forced:
+            return plan
+        for change, end in [(each, self.hands.do(str(each.uid), partial(self._make, each, is_undo)))
+                            for each in changes]:
+            try:
+                end.result()
+                plan.made += 1
+            except Failure as failure:
+                plan.failures.append(f"{change.column}: {failure}")
+        return plan
+
+    def _make(self, change: Change, is_undo: bool, work: Work) -> None:
+        """Makes a change, and reads it back. Raises Failure."""
+        entry = self.entry(change.uid)
+        try:
+            found = make(work, change)
+        except Failure as failure:
+            if not failure.is_of_line and failure.status != REFUSED:
+                # What it has now isn't known.
+                self._read(entry, work)
+            raise
+        self._take(entry, change, found, work)
+        # What wasn't known can't be set again.
+        if not is_undo and (change.before or change.column == LABEL):
+            self._remember(change)
+
+    def _take(self, entry: Entry, change: Change, found: str, work: Work) -> None:
+        """Notes what was read back. Another personality has other slots, and perhaps another address."""
+        fixture = entry.fixture
+        if change.column == PERSONALITY or (change.column == ADDRESS and fixture.info is None):
+            self._read(entry, work)
+            return
+        with self.lock:
+            if change.column == LABEL:
+                fixture.label = found
+            elif fixture.info is not None:
+                fixture.info = {**fixture.info, ADDRESS_FIELD: whole(found)}
+        self.show(entry)
+
+    def problems_after(self, changes: Sequence[Change]) -> List[Problem]:
+        """What would be wrong with the slots of devices that are moved, as `apply` sees it."""
+        moved = {change.uid: change for change in changes if change.column in (ADDRESS, PERSONALITY)}
+        if not moved:
+            return []
+        after = []
+        for fixture in self.fixtures():
+            info = dict(fixture.info or {})
+            for change in (each for each in changes if each.uid == fixture.uid and fixture.info is not None):
+                info.update(self._info_after(fixture.uid, change))
+            after.append(replace(fixture, info=info or None))
+        return [each for each in problems_of(after) if any(uid in moved for uid in each.devices)]
+
+    def _info_after(self, uid: Uid, change: Change) -> Mapping[str, Any]:
+        """What a change makes of a device's DEVICE_INFO. A personality that isn't known has no slots."""
+        if change.column == ADDRESS:
+            return {ADDRESS_FIELD: whole(change.after)}
+        if change.column != PERSONALITY:
+            return {}
+        known = self._personalities.get(self.entry(uid).model, [])
+        slots = next((each["slots"] for each in known if each["number"] == whole(change.after)), 0)
+        return {FOOTPRINT_FIELD: slots}
+
+    def _remember(self, change: Change) -> None:
+        with self.lock:
+            self._undos = [*self._undos, change][-MOST_UNDOS:]
+        self._show_undo()
+
+    def _show_undo(self) -> None:
+        with self.lock:
+            last = self._undos[-1] if self._undos else None
+            self._board.put("undo", None if last is None else {"text": last.text, "count": len(self._undos)})
+
+    def undo(self) -> Plan:
+        """Takes the last change back, to what was there before, whatever overlaps then.
+
+        Raises Failure if somebody has changed it since.
+        """
+        with self.lock:
+            if not self._undos:
+                raise Failure(BAD_ARGUMENTS, "there is no change to take back", reason="undo")
+            last = self._undos[-1]
+            now = value_in(self.entry(last.uid).fixture, last.column)
+            if now is not None and differs(last.column, now, last.after):
+                self._undos.pop()
+                self._show_undo()
+                raise Failure(FAILED, f"{last.uid} has {last.column} {now} by now, so it isn't taken back",
+                              reason="undo")
+        plan = self.change([Change(last.uid, last.column, last.after, last.before)], is_forced=True, is_undo=True)
+        if plan.made:
+            with self.lock:
+                self._undos = [each for each in self._undos if each is not last]
+            self._show_undo()
+        return plan
+
+
+def identifies_of(work: Work, fixture: Fixture) -> Optional[bool]:
+    """Whether a device shows itself; None if it doesn't say."""
+    try:
+        values = work.read(fixture.uid, IDENTIFY).values or {}
+    except Failure as failure:
+        if failure.is_of_line:
+            raise
+        return None
+    found = next(iter(values.values()), None)
+    return found if isinstance(found, bool) else None
+
+
+def value_in(fixture: Fixture, column: str) -> Optional[str]:
+    """What a device has in a column; None if it isn't known."""
+    if column == LABEL:
+        return fixture.label
+    number = fixture.number(ADDRESS_FIELD if column == ADDRESS else "current_personality")
+    return None if number is None else str(number)

@@ -1,0 +1,182 @@
+"""What happens on the line, whoever does it: programs, requests and their results, discoveries, pauses."""
+from __future__ import annotations
+
+import sys
+import threading
+import time
+from typing import Any, Callable, Dict, Optional, Sequence, Set, Tuple
+
+from .. import Device, Fault
+from ..front.frames import Parts, answer_text, command_of
+from ..front.watched import Watched
+from ..line import LineFailed
+from ..lines.numbers import CommandClass, ResponseType
+from ..lines.packets import Packet, decode_packet, is_answer, uid_text
+from ..shared.client import SharedClient
+from ..shared.connection import Refused
+from ..shared.words import FRAMES, Keys
+from .board import Board
+from .hands import END_SECONDS, Silent
+
+MOST_REQUESTS = 100
+# How often it is asked who is connected, and tried to reach a server again.
+LOOK_SECONDS = 1.0
+# How often a page hears of a discovery's progress.
+PROGRESS_SECONDS = 0.1
+# A page shows no more of a long answer.
+MOST_TEXT = 300
+
+
+class Watcher:
+    """Watches the server of the line by a connection of its own, and puts what it sees on the board.
+
+    `connect` makes a client. `on_set` is told which device another program has changed, and `on_devices` what a run has
+    found; None at first, if the server has had no run yet.
+    """
+
+    def __init__(self, board: Board, connect: Callable[[], SharedClient]) -> None:
+        self._board = board
+        self._connect = connect
+        self._client: Optional[SharedClient] = None
+        self._has_ended = threading.Event()
+        self._thread = threading.Thread(target=self._run, name="watcher", daemon=True)
+        self._requests: Dict[int, Dict[str, Any]] = {}
+        self._numbers = 0
+        self._parts = Parts()
+        self._run_number = 0
+        self._progress = Watched(Silent(), None)
+        self._next_progress = 0.0
+        self._last_frame = 0.0
+        self.own: Callable[[], Set[int]] = set
+        self.on_set: Callable[[int], None] = lambda uid: None
+        self.on_devices: Callable[[Optional[Sequence[Device]]], None] = lambda devices: None
+        # The last run whose devices were told.
+        self._told_run: Optional[int] = None
+
+    def start(self) -> None:
+        """Begins."""
+        self._thread.start()
+
+    def end(self) -> None:
+        """Ends the connection."""
+        self._has_ended.set()
+        if self._client is not None:
+            self._client.close()
+        self._thread.join(END_SECONDS)
+
+    def client(self) -> SharedClient:
+        """The client by which an operator pauses the queue. Raises LineFailed."""
+        if self._client is None:
+            raise LineFailed("the server of the line has ended")
+        return self._client
+
+    def _run(self) -> None:
+        while not self._has_ended.is_set():
+            try:
+                self._client = self._connect()
+                self._watch(self._client)
+            except (Fault, LineFailed) as fault:
+                self._gone(str(fault))
+            except Exception as fault:  # Whatever it is, the page goes on with another connection.
+                print(f"wurstlinen: the page has a fault: {fault!r}", file=sys.stderr, flush=True)
+                self._gone("the page has a fault")
+            self._has_ended.wait(LOOK_SECONDS / 4)
+
+    def _gone(self, reason: str) -> None:
+        """There is no server now."""
+        if self._client is not None:
+            self._client.close()
+            self._client = None
+        self._board.put("line", {"served": False, "there": False, "paused": False, "reason": reason})
+        self._board.put_all("client/", {})
+
+    def _watch(self, client: SharedClient) -> None:
+        """Watches until the connection ends. Raises LineFailed."""
+        queue = client.queue
+        self._requests.clear()
+        self._told_run = None
+        queue.on_frame = self._take
+        queue.subscribe([FRAMES])
+        next_look = 0.0
+        while not self._has_ended.is_set():
+            if time.monotonic() >= next_look:
+                self._look(client)
+                next_look = time.monotonic() + LOOK_SECONDS
+            self._tell_line(client)
+            queue.connection.receive(LOOK_SECONDS / 4)
+            self._tell_progress()
+
+    def _tell_line(self, client: SharedClient) -> None:
+        queue = client.queue
+        self._board.put("line", {"served": True, "there": queue.is_there, "reason": queue.reason, "name": queue.name,
+                                 "paused": queue.is_paused(), "source": str(queue.source), "process": queue.process})
+
+    def _look(self, client: SharedClient) -> None:
+        """Asks which devices are known, and who is connected."""
+        run = client.queue.devices_run()
+        if run != self._told_run:
+            self._told_run = run
+            self.on_devices(client.queue.devices() if run else None)
+        try:
+            clients = client.queue.clients()
+        except Refused:
+            # An older server doesn't say.
+            return
+        own = {*self.own(), client.queue.number}
+        for each in clients:
+            each["is_page"] = each["client"] in own
+        self._board.put_all("client/", {str(each["client"]): each for each in clients})
+
+    def _take(self, keys: Keys) -> None:
+        """An exchange."""
+        frame = bytes.fromhex(keys["frame"])
+        reply = None if "failed" in keys else bytes.fromhex(keys["reply"])
+        if "run" in keys:
+            self._take_run(int(keys["run"]), frame, reply)
+        else:
+            self._take_request(keys, frame, reply)
+
+    def _take_run(self, run: int, frame: bytes, reply: Optional[bytes]) -> None:
+        if run != self._run_number:
+            self._run_number = run
+            self._progress = Watched(Silent(), None)
+            self._progress.found = set()
+        self._progress.saw(frame, reply)
+        self._last_frame = time.monotonic()
+        self._tell_progress()
+
+    def _tell_progress(self) -> None:
+        """Shows how far a run is; not each frame, since there are many."""
+        if not self._run_number or time.monotonic() < self._next_progress:
+            return
+        self._next_progress = time.monotonic() + PROGRESS_SECONDS
+        found = sorted(self._progress.found or ())
+        self._board.put("progress", {"run": self._run_number, "frames": self._progress.frames,
+                                     "found": list(map(uid_text, found)),
+                                     "is_over": time.monotonic() > self._last_frame + LOOK_SECONDS})
+
+    def _take_request(self, keys: Keys, frame: bytes, reply: Optional[bytes]) -> None:
+        """Shows a request with what came last for it."""
+        number, command = int(keys["request"]), decode_packet(frame)
+        known = self._requests.get(number)
+        if known is None:
+            known = self._requests[number] = {"at": self._numbers, "number": number, "frames": 0}
+            self._numbers += 1
+        while len(self._requests) > MOST_REQUESTS:
+            del self._requests[next(iter(self._requests))]
+        text, is_good = outcome_of(frame, command, reply, self._parts)
+        known.update(client=keys.get("client"), command=command_of(frame)[:MOST_TEXT], answer=text[:MOST_TEXT],
+                     is_good=is_good, frames=known["frames"] + 1)
+        self._board.put(f"request/{known['at'] % MOST_REQUESTS}", dict(known))
+        is_others = keys.get("client") not in self.own()
+        if is_others and command is not None and command.command_class == CommandClass.SET and is_good:
+            self.on_set(command.destination)
+
+
+def outcome_of(frame: bytes, command: Optional[Packet], reply: Optional[bytes], parts: Parts) -> Tuple[str, bool]:
+    """What came after a request's frame, and whether it is what was wanted."""
+    joined = parts.joined(frame, reply)
+    response = joined.response
+    is_good = (response is not None and command is not None and is_answer(reply or b"", frame)
+               and response.port_or_type != ResponseType.NACK_REASON)
+    return answer_text(frame, joined), is_good
