@@ -3,15 +3,12 @@ from __future__ import annotations
 
 import contextlib
 import json
-from typing import TYPE_CHECKING, Callable, Dict, Iterator, List, Optional, Sequence, Tuple
+from typing import Callable, Dict, Iterator, List, Optional, Sequence, Tuple
 
 from .. import DEFAULT_BUDGET, Uid
 from ..lines.numbers import Pid
 from ..lines.packets import decode_packet
 from .output import FAILED, Failure
-
-if TYPE_CHECKING:
-    from pathlib import Path
 
 # What takes a line of a log, with its end.
 Sink = Callable[[str], None]
@@ -66,11 +63,11 @@ def sink_of(name: Optional[str]) -> Iterator[Optional[Sink]]:
 
 def explained(program: str, lines: Sequence[str], uids: Sequence[Uid]) -> Dict[Uid, str]:
     """What the proved program says of devices that were on the line, by a discovery's log. Raises OSError."""
-    said = dict(line.split(" ", 1) for line in explanation(program, lines, uids)[1] if " " in line)
-    return {uid: said[str(uid)] for uid in uids if str(uid) in said}
+    said = {uid: text for uid, _, text in (line.partition(" ") for line in explanation(program, lines, uids)[1])}
+    return {uid: said[str(uid)] for uid in uids if said.get(str(uid))}
 
 
-def explanation(program: Path, lines: Sequence[str], uids: Sequence[Uid]) -> Tuple[int, List[str]]:
+def explanation(program: str, lines: Sequence[str], uids: Sequence[Uid]) -> Tuple[int, List[str]]:
     """The proved program's status, and all lines that it prints about that. Raises OSError."""
     import subprocess
     import tempfile

@@ -39,7 +39,7 @@ def made() -> Tokens:
 
 def kept(line: str, wants_new: bool) -> Tokens:
     """The tokens of a line's page, in a file of the user's own. Raises BadPlace and OSError."""
-    path = made_folder(None) / f"web-{hashlib.sha256(os.fsencode(line)).hexdigest()[:TOKEN_BYTES]}.json"
+    path = os.path.join(made_folder(None), f"web-{hashlib.sha256(os.fsencode(line)).hexdigest()[:TOKEN_BYTES]}.json")
     if not wants_new:
         with contextlib.suppress(OSError, ValueError, KeyError, TypeError), open(path, "rb") as file:
             keys = json.loads(file.read(MOST_BYTES))
@@ -49,7 +49,7 @@ def kept(line: str, wants_new: bool) -> Tokens:
     new = made()
     mask = os.umask(0o077)
     try:
-        with file_of(str(path)) as written:
+        with file_of(path) as written:
             written.write(json.dumps(vars(new)))
     finally:
         os.umask(mask)

@@ -11,7 +11,8 @@ from ..front.frames import Parts, answer_text, command_of
 from ..front.watched import Watched
 from ..line import LineFailed
 from ..lines.numbers import CommandClass, ResponseType
-from ..lines.packets import Packet, decode_packet, is_answer, uid_text
+from ..lines.packets import Packet, decode_packet, is_answer
+from ..lines.uids import uid_text
 from ..shared.client import SharedClient
 from ..shared.connection import Refused
 from ..shared.words import FRAMES, Keys
