@@ -234,15 +234,20 @@ def quick_runs() -> Iterator[Case]:
         yield shows(f"a quick run that goes on: {answers}", QUICK + discovery(f"3 unmute; {answers}"),
                     f"discovery: full, quick, {count} exchanges, 0 devices; its certificate is incomplete, "
                     f"or the log ends within the run\n{UNCOVERED}{GARBLED}", 3)
-    for answers, count in (("8 alone spare > noise", 11), ("9 alone spare > noise", 12),
-                           ("4 alone spare > noise; mute spare > noise; 4 alone spare > noise", 12)):
+    for answers, count in (("8 alone spare > noise", 11), ("9 alone spare > noise", 12)):
         yield shows(f"a quick run that ends: {answers}", QUICK + discovery(f"3 unmute; {answers}"),
                     f"discovery: full, quick, {count} exchanges, fault 1 1234:00000008, 0 devices; "
                     f"its certificate is incomplete\n{UNCOVERED}{GARBLED}", 3)
-    yield shows("a quick run that ends with five mutes", QUICK + discovery("3 unmute; 8 alone spare > spare; 5 mute spare"),
+    between = "4 alone spare > noise; mute spare > noise; 4 alone spare > noise"
+    yield shows("a quick run that ends, with a mute between bad answers", QUICK + discovery(f"3 unmute; {between}"),
+                "discovery: full, quick, 12 exchanges, fault 1 1234:00000008, 0 devices; its certificate is incomplete\n"
+                "exchange 7 mutes a UID that neither acknowledged nor was muted five times in a row: "
+                f"perhaps no device has it\n{UNCOVERED}exchange 7 mutes a UID that no earlier branch had read\n{GARBLED}", 3)
+    mutes_after = "8 alone spare > spare; 5 mute spare"
+    yield shows("a quick run that ends with five mutes", QUICK + discovery(f"3 unmute; {mutes_after}"),
                 "discovery: full, quick, 16 exchanges, fault 1 1234:00000008, 0 devices; its certificate is incomplete\n"
                 f"{UNCOVERED}{IGNORES}", 3)
-    yield shows("a quick run that goes on after five mutes", QUICK + discovery("3 unmute; 7 alone spare > spare; 5 mute spare"),
+    yield shows("a quick run that goes on after five mutes", QUICK + discovery(f"3 unmute; {mutes_after.replace('8', '7')}"),
                 "discovery: full, quick, 15 exchanges, 0 devices; its certificate is incomplete, "
                 f"or the log ends within the run\n{UNCOVERED}{IGNORES}", 3)
 
