@@ -106,6 +106,63 @@ def lines(sent: List[bytes], rest: bytes, size: int) -> None:
         assert reader.read() is None
 
 
+@given(some.binary(max_size=200) | some.text("uid,;\t\"\n\rab0:\ufeff", max_size=80).map(lambda text: text.encode()))
+def any_sheet(data: bytes) -> None:
+    """A table has a cell for each title in each row, or there is a reason."""
+    try:
+        sheet = sheet_of(data)
+    except NoSheet as why:
+        assert str(why)
+        return
+    assert all(len(row) == len(sheet.titles) for row in sheet.rows)
+    assert len(sheet.lines) == len(sheet.rows)
+
+
+# A row without anything isn't read, and the first cell says where the table begins.
+cells = some.text(some.characters(blacklist_categories=("Cs", "Cc")), max_size=8)
+
+
+@given(some.lists(some.tuples(cells, cells), max_size=5), some.sampled_from((",", ";", "\t")))
+def written_sheets(rows: List[Tuple[str, str]], delimiter: str) -> None:
+    """What is written is read."""
+    written = [["x", *row] for row in rows]
+    read = sheet_of(Sheet(["uid", "label", "note"], written, delimiter=delimiter).text().encode())
+    assert (read.titles, read.rows, read.delimiter) == (["uid", "label", "note"], written, delimiter)
+
+
+@given(values)
+def any_scene(value: Any) -> None:
+    """A value is a scene, or there is a reason."""
+    try:
+        parse_scene(value)
+    except SceneFault as why:
+        assert str(why)
+
+
+@given(some.binary(max_size=60) | values.map(lambda value: json.dumps(value).encode()))
+def any_scene_file(data: bytes) -> None:
+    """So are bytes."""
+    with tempfile.NamedTemporaryFile() as file:
+        file.write(data)
+        file.flush()
+        try:
+            read_scene(file.name)
+        except SceneFault as why:
+            assert str(why)
+
+
+@given(some.lists(log_lines | some.text(max_size=20), max_size=8))
+def any_log(text: List[str]) -> None:
+    """A log is read, or the number of a line that can't be."""
+    data = "\n".join(text).encode("utf-8", "surrogatepass")
+    try:
+        read_log(io.BytesIO(data), RUNS)
+    except OtherLog:
+        pass
+    except NoLog as why:
+        assert 1 <= int(str(why).split()[1]) <= data.count(b"\n") + 1
+
+
 @given(some.binary(max_size=200) | documents)
 def any_findings(text: bytes) -> None:
     """The program's JSON is read, or it is none."""
