@@ -1,5 +1,5 @@
 //! What JSON has of a run before the sentence of its first finding.
-ghost use Rattle.std.specs.Prelude.{◌≡◌, ◌++◌, OnOk, Some, codes, decimal, map};
+ghost use Rattle.std.specs.Prelude.{◌≡◌, ◌++◌, OnOk, Some, codes, decimal, length, map};
 ghost use Rattle.rdm_wire.specs.UidText.{uid_text};
 ghost use Rattle.rdm_findings.specs.RunJson.{number_part, kind_part, search_part, first_part, end_name, end_part};
 ghost use Rattle.rdm_findings.specs.RunJson.{exchange_letter, known_parts, outcome_parts, heard_part, run_start};
@@ -156,11 +156,19 @@ fn write_end_name(text: &mut Vec<u8>, fault: Option<AgentFault>) -> Result<(), A
 {
     match fault {
         None => write(text, "no fault\""),
-        Some(AgentFault::Corrupt(uid)) => write_corrupt(text, uid),
-        Some(AgentFault::TooMany) => write(text, "too many devices\""),
-        Some(AgentFault::Exhausted) => write(text, "budget used up\""),
-        Some(AgentFault::LineFailed) => write(text, "line failed\""),
-        Some(AgentFault::Aborted) => write(text, "aborted\""),
+        Some(fault) => write_fault_name(text, fault),
+    }
+}
+
+fn write_fault_name(text: &mut Vec<u8>, fault: AgentFault) -> Result<(), AllocError>
+    ensures { OnOk result (text.new.items ≡ text.old.items ++ end_name (Some fault)) }
+{
+    match fault {
+        AgentFault::Corrupt(uid) => write_corrupt(text, uid),
+        AgentFault::TooMany => write(text, "too many devices\""),
+        AgentFault::Exhausted => write(text, "budget used up\""),
+        AgentFault::LineFailed => write(text, "line failed\""),
+        AgentFault::Aborted => write(text, "aborted\""),
     }
 }
 
