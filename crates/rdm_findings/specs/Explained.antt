@@ -129,12 +129,16 @@ bytes_text form head xs f =
     stray_finding form head.start f.due.items (decides_stray head f.certificate) xs (stray_of f)
     ++ garbled_finding form head.start xs f.garbled
 
+-- the findings about the run, its certificate and its silence
+abbrev pub run_text : Form → RunHead → List Exchange → Findings → List ℕ
+run_text form head xs f =
+    head_finding form head f.reported xs f.certificate f.names ++ run_gaps form head.start f.certificate f.names
+    ++ quiet_text form head xs f.certificate
+
 -- Their text: a finding a line, or an object of JSON that has what is known of the run, and its findings
 abbrev pub findings_text : Form → RunHead → List Exchange → Findings → List ℕ
 findings_text form head xs f =
-    head_finding form head f.reported xs f.certificate f.names ++ run_gaps form head.start f.certificate f.names
-    ++ quiet_text form head xs f.certificate ++ devices_text form (facts_of head xs f) f
-    ++ bytes_text form head xs f ++ run_end form
+    run_text form head xs f ++ (devices_text form (facts_of head xs f) f ++ bytes_text form head xs f ++ run_end form)
 
 -- whether any finding is that a rule was broken. A known UID that is gone broke none
 abbrev pub is_broken : RunHead → Findings → Bool

@@ -4,6 +4,8 @@ ghost use Rattle.rdm_findings.specs.DeviceText.{breach_before, breach_after, fol
 ghost use Rattle.rdm_findings.specs.DeviceText.{yet_text, found_text, unbroken_text, see_text, verdict_text};
 ghost use Rattle.rdm_findings.specs.DeviceText.{device_finding, device_exchange, device_judgement, of_device};
 ghost use Rattle.rdm_findings.specs.DeviceText.{unbroken_judgement};
+ghost use Rattle.rdm_findings.specs.Forms.{finding};
+ghost use Rattle.rdm_wire.specs.UidText.{uid_text};
 
 use crate::form::{About, Form, Judgement, begin, end};
 use crate::head::Start;
@@ -46,13 +48,35 @@ fn write_device(
     let was_heard = heard.contains(found.uid);
     let was_acked = acked.contains(found.uid);
     let see = facts.seen_at(found.uid);
-    begin(
+    write_judged(
         text,
         form,
-        &about(facts, found.uid, was_acked, see, found.breach),
-    )?;
-    write_uid(text, found.uid)?;
-    write_verdict(text, facts, was_heard, was_acked, see, found.breach)?;
+        facts,
+        found.uid,
+        was_heard,
+        was_acked,
+        see,
+        found.breach,
+    )
+}
+
+fn write_judged(
+    text: &mut Vec<u8>,
+    form: Form,
+    facts: &RunFacts,
+    uid: Uid,
+    heard: bool,
+    acked: bool,
+    see: Option<u64>,
+    breach: Option<Breach>,
+) -> Result<(), AllocError>
+    ensures { OnOk result (text.new.items ≡ text.old.items
+        ++ finding form (of_device facts.now uid acked see breach)
+        (uid_text uid ++ verdict_text facts.now heard acked see breach)) }
+{
+    begin(text, form, &about(facts, uid, acked, see, breach))?;
+    write_uid(text, uid)?;
+    write_verdict(text, facts, heard, acked, see, breach)?;
     end(text, form)
 }
 

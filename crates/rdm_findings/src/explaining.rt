@@ -5,8 +5,8 @@ ghost use Rattle.rdm_findings.specs.FindingText.{any_broke, stray_finding, unles
 ghost use Rattle.rdm_findings.specs.Ends.{decides_stray};
 ghost use Rattle.rdm_findings.specs.Explained.{first_of, ExplainsNames, Finds, gone_of};
 ghost use Rattle.rdm_findings.specs.Explained.{findings_text, IsExplained, shows_all, is_broken, stray_of, facts_of};
-ghost use Rattle.rdm_findings.specs.Explained.{devices_text, bytes_text};
-ghost use Rattle.rdm_findings.specs.RunJson.{before_run};
+ghost use Rattle.rdm_findings.specs.Explained.{devices_text, bytes_text, run_text};
+ghost use Rattle.rdm_findings.specs.RunJson.{before_run, run_end};
 
 use crate::device_text::write_devices;
 use crate::ending::{decides_stray, is_whole};
@@ -198,6 +198,20 @@ fn write_findings(
     ensures { OnOk result (text.new.items ≡ text.old.items
         ++ findings_text form head.now exchanges.now found.now) }
 {
+    write_run(text, form, head, exchanges, found)?;
+    write_others(text, form, head, exchanges, found)
+}
+
+// Writes the findings about the run, its certificate and its silence.
+fn write_run(
+    text: &mut Vec<u8>,
+    form: Form,
+    head: &RunHead,
+    exchanges: &[Exchange],
+    found: &Findings,
+) -> Result<(), AllocError>
+    ensures { OnOk result (text.new.items ≡ text.old.items ++ run_text form head.now exchanges.now found.now) }
+{
     write_head(
         text,
         form,
@@ -208,7 +222,21 @@ fn write_findings(
         &found.names,
     )?;
     write_run_gaps(text, form, head.start, &found.certificate, &found.names)?;
-    write_quiet(text, form, head, exchanges, &found.certificate)?;
+    write_quiet(text, form, head, exchanges, &found.certificate)
+}
+
+// Writes the findings about devices and bytes.
+fn write_others(
+    text: &mut Vec<u8>,
+    form: Form,
+    head: &RunHead,
+    exchanges: &[Exchange],
+    found: &Findings,
+) -> Result<(), AllocError>
+    ensures { OnOk result (text.new.items ≡ text.old.items
+        ++ (devices_text form (facts_of head.now exchanges.now found.now) found.now
+        ++ bytes_text form head.now exchanges.now found.now ++ run_end form)) }
+{
     write_judged(text, form, &facts_of(head, exchanges, found), found)?;
     write_bytes(text, form, head, exchanges, found)?;
     write_run_end(text, form)

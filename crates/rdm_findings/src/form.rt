@@ -144,8 +144,14 @@ fn write_judgement(text: &mut Vec<u8>, judgement: Judgement) -> Result<(), Alloc
         ++ (codes "{\"judgement\":\"" ++ judgement_name judgement ++ codes "\"")) }
 {
     write(text, "{\"judgement\":\"")?;
-    write(text, judgement_name(judgement))?;
+    write_name(text, judgement)?;
     write(text, "\"")
+}
+
+fn write_name(text: &mut Vec<u8>, judgement: Judgement) -> Result<(), AllocError>
+    ensures { OnOk result (text.new.items ≡ text.old.items ++ judgement_name judgement) }
+{
+    write(text, judgement_name(judgement))
 }
 
 fn write_places(text: &mut Vec<u8>, about: &About) -> Result<(), AllocError>

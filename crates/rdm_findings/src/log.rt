@@ -271,14 +271,18 @@ fn write_no_run_start(text: &mut Vec<u8>, form: Form) -> Result<(), AllocError>
 {
     match form {
         Form::Lines => Ok(()),
-        Form::Json => {
-            write(
-                text,
-                "{\"exchanges\":0,\"devices\":0,\"heard\":\"\",\"findings\":[",
-            )?;
-            write_start(text, &About::run(Judgement::NoRun))
-        }
+        Form::Json => write_no_run_object(text),
     }
+}
+
+const NO_RUN: &str = "{\"exchanges\":0,\"devices\":0,\"heard\":\"\",\"findings\":[";
+
+fn write_no_run_object(text: &mut Vec<u8>) -> Result<(), AllocError>
+    ensures { OnOk result (text.new.items ≡ text.old.items ++ no_run_start Form.Json) }
+{
+    let about = About::run(Judgement::NoRun);
+    write(text, NO_RUN)?;
+    write_start(text, &about)
 }
 
 fn write_unjudged(text: &mut Vec<u8>, form: Form, present: &[Uid]) -> Result<(), AllocError>
