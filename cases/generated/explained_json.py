@@ -21,7 +21,8 @@ def cases() -> Iterator[Case]:
         expected = case.expected
         if expected.status in STATUSES and expected.out is not None:
             commands = tuple((*command, b"--json") for command in case.commands)
-            yield replace(case, commands=commands, expected=replace(expected, out=None, form=partial(says, expected.out)))
+            says_it = replace(expected, out=None, form=partial(says, expected.out))
+            yield replace(case, commands=commands, expected=says_it)
 
 
 def says(lines: bytes, text: bytes, status: int) -> bool:

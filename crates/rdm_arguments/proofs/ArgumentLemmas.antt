@@ -47,7 +47,8 @@ uid_given uid (x ∷ xs) is h = simp (no_hyphen (x == 45) h) (refl, ap Some (sym
 
 -- without options it is all that is given
 log_given : (job : ExplainJob) (text : Text) → job.log.now ≡ text → job.present.items ≡ [] → job.rig ≡ None
-    → job.json ≡ false → is_plain text ≡ true → IsGiven (subcommand_of commands (codes "explain" ∷ text ∷ [])) (Explain job)
+    → job.json ≡ false → is_plain text ≡ true
+    → IsGiven (subcommand_of commands (codes "explain" ∷ text ∷ [])) (Explain job)
 unfolding clap_on_literals
 log_given job [] is none no_rig no_json h = (
   refl,

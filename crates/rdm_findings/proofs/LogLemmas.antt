@@ -105,8 +105,8 @@ any_ended true false run = refl
 any_ended false h run = refl
 
 -- the lines so far were read, and their runs that ended were explained
-pub record IsSoFar (form : Form) (present passing : List ℕ) (left now held writes : Option (List ℕ)) (reading : ReadState)
-    (any broken : Bool) (many : ℕ) : Type 0 where
+pub record IsSoFar (form : Form) (present passing : List ℕ) (left now held writes : Option (List ℕ))
+    (reading : ReadState) (any broken : Bool) (many : ℕ) : Type 0 where
   pub lines : List LogLine
   pub text : List ℕ
   pub consumed : Consumes left now (lines_text lines)
@@ -122,8 +122,8 @@ pub more_consumed : (left now later : Option (List ℕ)) (so_far bytes : List �
 more_consumed left now later so_far bytes before more = Consumes-trans left now later so_far bytes before more
 
 -- nothing more was read
-pub nothing_more : (form : Form) (present passing : List ℕ) (left now later held writes : Option (List ℕ)) (reading : ReadState)
-    (any broken : Bool) (many : ℕ) (bytes : List ℕ)
+pub nothing_more : (form : Form) (present passing : List ℕ) (left now later held writes : Option (List ℕ))
+    (reading : ReadState) (any broken : Bool) (many : ℕ) (bytes : List ℕ)
     → IsSoFar form present passing left now held writes reading any broken many → Consumes now later bytes
     → bytes ≡ []
     → IsSoFar form present passing left later held writes reading any broken many

@@ -191,7 +191,8 @@ abbrev pub start_gaps : Form → RunFinding → List ℕ
 start_gaps form f =
     exchange_gap form judged.Gap f.missing_unmute (codes " should be one of the three unmutes that begin a run")
     ++ exchange_gap form judged.Failure f.failure failed_text
-    ++ uid_gap form f.misreported (codes " acknowledged a mute, but isn't reported: a run reports at most 1,024 devices")
+    ++ uid_gap form f.misreported
+    (codes " acknowledged a mute, but isn't reported: a run reports at most 1,024 devices")
 
 -- the parts about mutes, UIDs that weren't ruled out, and what is reported of a device
 abbrev pub end_gaps : Form → RunFinding → List ℕ

@@ -1,5 +1,5 @@
--- How a finding is printed: its sentence alone on a line, or in an object of JSON with what it is about. No sentence has
--- a character that JSON escapes.
+-- How a finding is printed: its sentence alone on a line, or in an object of JSON with what it is about. No sentence
+-- has a character that JSON escapes.
 use Rattle.std.specs.Prelude.{ℕ, List, [], ◌++◌, Option, Some, None, codes, decimal}
 use Rattle.rdm_wire.specs.UidText.{uid_text}
 use Rattle.rdm_findings.specs.declared.form.About.{About}

@@ -16,7 +16,8 @@ use rdm_explain::{Breach, DeviceFinding, Rule};
 use rdm_wire::Uid;
 use std::alloc::AllocError;
 
-/// Writes a finding about each listed device. The sets have the UIDs that were heard, and those that acknowledged a mute.
+/// Writes a finding about each listed device. The sets have the UIDs that were heard, and those that acknowledged a
+/// mute.
 pub(crate) fn write_devices(
     text: &mut Vec<u8>,
     form: Form,

@@ -265,8 +265,8 @@ fn write_first_stray(
     found: &Findings,
 ) -> Result<(), AllocError>
     ensures { OnOk result (text.new.items ≡ text.old.items
-        ++ stray_finding form head.now.start found.now.due.items (decides_stray head.now found.now.certificate) exchanges.now
-        (stray_of found.now)) }
+        ++ stray_finding form head.now.start found.now.due.items (decides_stray head.now found.now.certificate)
+        exchanges.now (stray_of found.now)) }
 {
     let decided = decides_stray(head, &found.certificate);
     write_stray(

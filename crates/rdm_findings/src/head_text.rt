@@ -4,7 +4,8 @@ ghost use Rattle.rdm_reports.specs.Report.{fault_text};
 ghost use Rattle.rdm_findings.specs.FindingText.{name_text, kind_text, search_text, what_text, end_text, outcome_text};
 ghost use Rattle.rdm_findings.specs.FindingText.{sound_text, gap_text, begun_text, certificate_text, decides_gaps};
 ghost use Rattle.rdm_findings.specs.Ends.{end_of};
-ghost use Rattle.rdm_findings.specs.FindingText.{head_text, head_finding, head_sentence, because_text, cause_text, count_text};
+ghost use Rattle.rdm_findings.specs.FindingText.{head_text, head_finding, head_sentence, because_text, cause_text};
+ghost use Rattle.rdm_findings.specs.FindingText.{count_text};
 ghost use Rattle.rdm_findings.specs.FindingText.{sound_judgement, begun_judgement, run_judgement};
 ghost use Rattle.rdm_findings.specs.Forms.{after_sentence};
 

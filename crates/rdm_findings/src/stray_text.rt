@@ -14,8 +14,8 @@ use rdm_explain::{Asked, Exchange};
 use rdm_wire::Uid;
 use std::alloc::AllocError;
 
-/// Writes the finding about a stray exchange, if there is one. `listed` also has the devices that come or leave. `decided`
-/// says that the bytes show that a rule was broken.
+/// Writes the finding about a stray exchange, if there is one. `listed` also has the devices that come or leave.
+/// `decided` says that the bytes show that a rule was broken.
 pub(crate) fn write_stray(
     text: &mut Vec<u8>,
     form: Form,

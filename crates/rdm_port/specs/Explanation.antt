@@ -77,9 +77,9 @@ pub record IsExplanation (form : Form) (present passing : List ℕ) (known : Opt
   pub prints : text ≡ document_start form passing ++ findings ++ document_end form broken
   pub ends : status ≡ explain_status broken
 
--- The text has the findings about the runs that ended in the first lines of a log, or about all runs of these lines, and
--- then a fault: the file or memory, or the line after these, counted from 1, which isn't a log's; that is tested and not
--- proved. The log has these lines and then other bytes, if its bytes are known
+-- The text has the findings about the runs that ended in the first lines of a log, or about all runs of these lines,
+-- and then a fault: the file or memory, or the line after these, counted from 1, which isn't a log's; that is tested
+-- and not proved. The log has these lines and then other bytes, if its bytes are known
 pub record IsPartExplanation (form : Form) (present passing : List ℕ) (known : Option (List ℕ)) (text : List ℕ)
     (status : ℕ) : Type 0 where
   pub lines : List LogLine

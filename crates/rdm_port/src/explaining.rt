@@ -31,9 +31,10 @@ use serde_json::Value;
 use std::alloc::{AllocError, Global};
 use std::io::{BufReader, Read, Write};
 
-/// Prints what a log shows: the findings about its runs, each when it has ended, and then a fault, if it isn't explained
-/// to its end. Returns the status, and the reason for a fault. Err: nothing was printed. The rig is the scene file with
-/// devices that were present, if the arguments name one. The progress receives what people should know about it.
+/// Prints what a log shows: the findings about its runs, each when it has ended, and then a fault, if it isn't
+/// explained to its end. Returns the status, and the reason for a fault. Err: nothing was printed. The rig is the scene
+/// file with devices that were present, if the arguments name one. The progress receives what people should know about
+/// it.
 pub fn print_explanation<'a, R: Read, S: Read, W: Write, P: Progress>(
     alloc: Global,
     job: &ExplainJob<'a>,
@@ -182,7 +183,8 @@ fn push_others(uids: &mut Vec<Uid>, given: &UidSet, others: &[Uid]) -> Result<()
     Ok(())
 }
 
-// Prints what the log in the reader's file shows, which is the one at the path. The start is what precedes the first run.
+// Prints what the log in the reader's file shows, which is the one at the path. The start is what precedes the first
+// run.
 fn print_log<'a, R: Read, W: Write>(
     alloc: Global,
     form: Form,

@@ -147,8 +147,8 @@ fn explanation_of<'a>(
     }
 }
 
-// Prints what a log shows, or the line of a fault. It is printed while the log is read, so that memory doesn't grow with
-// what it shows.
+// Prints what a log shows, or the line of a fault. It is printed while the log is read, so that memory doesn't grow
+// with what it shows.
 fn print_explained<'a, R: Read, S: Read, W: Write, P: Progress>(
     alloc: Global,
     job: &ExplainJob<'a>,

@@ -98,6 +98,11 @@ def heard_in(frame: str, entry: Dict[str, Any]) -> str:
     return {Came.SILENCE: "s", Came.ONE: "o", Came.ACKNOWLEDGED: "a", Came.FAILED: "f"}.get(came, "n")
 
 
+def finding(judgement: str, sentence: str, **about: Any) -> Dict[str, Any]:
+    """A finding, as the program prints it."""
+    return {"judgement": judgement, "sentence": sentence, **about}
+
+
 def document(runs: Sequence[Dict[str, Any]], **members: Any) -> bytes:
     """What the program prints as JSON of these runs."""
     return (json.dumps({"passing": [], "runs": list(runs), "broken": False, **members}) + "\n").encode()

@@ -21,7 +21,8 @@ from unittest import mock
 
 from common import PACKAGE, ROOT, TestCase, folder, scene
 from page_logs import (
-    DISCOVERY_OPENING, FEW_CLIENTS, HEAD, SOURCE, discovered, document, exchange_line, found_in, session_of,
+    DISCOVERY_OPENING, FEW_CLIENTS, HEAD, SOURCE, discovered, document, exchange_line, finding, found_in,
+    session_of,
 )
 from wurstlinen.front import page, page_findings, page_frames, page_log
 from wurstlinen.front.frames import Parts, answer_text, command_of
@@ -32,6 +33,7 @@ from wurstlinen.lines.packets import ALL_DEVICES, Packet, decode_packet, encode_
 from wurstlinen.tool import explaining
 
 LOGS = ROOT / "cases/logs.txt"
+UNDECIDED = "It isn't decided whether the discovery is complete."
 RUNS = [page_findings.Run("discovery", 0, "s" * 9, page_findings.Outcome.COMPLETE, 0)]
 COMMAND = [sys.executable, "-m", "wurstlinen.tool"]
 LEFT, RIGHT, SILENT = "1234:00000001", "1234:00000002", "1234:00000009"
@@ -83,12 +85,8 @@ def details_in(text: str) -> List[List[Optional[str]]]:
 def page_text(log: str, *findings: Dict[str, Any], name: str = "log", counts: Sequence[int] = (), **found: Any) -> str:
     """The page of a log, whose runs have so many exchanges; the last one has these findings."""
     text = json.loads(found_in(log, *counts, findings=findings))
-    return page.page_of(name, io.BytesIO(log.encode()), page_findings.findings_in(json.dumps({**text, **found}).encode()))
-
-
-def finding(judgement: str, sentence: str, **about: Any) -> Dict[str, Any]:
-    """A finding, as the program prints it."""
-    return {"judgement": judgement, "sentence": sentence, **about}
+    read = page_findings.findings_in(json.dumps({**text, **found}).encode())
+    return page.page_of(name, io.BytesIO(log.encode()), read)
 
 
 class Frames(TestCase):
@@ -204,7 +202,7 @@ class Logs(TestCase):
         text = page_text(log, name="a log", broken=True)
         head = head_in(text)
         self.assertEqual((head["name"], head["count"], head["verdict"], head["rows"], head["clients"]),
-                         ("a log", 3, ["A rule was broken.", "It isn't decided whether the discovery is complete."], [LEFT], []))
+                         ("a log", 3, ["A rule was broken.", UNDECIDED], [LEFT], []))
         self.assertEqual(head["runs"], [{"name": "discovery", "first": 0, "count": 3}])
         found = columns_in(text, head)
         uid = parse_uid(LEFT)
@@ -273,7 +271,8 @@ class Logs(TestCase):
         ack = mute.answer(parse_uid(LEFT), ResponseType.ACK, b"\0\0").encode()
         spelled = encode_branch_reply(parse_uid(LEFT))
         for frame, reply, heard, came in (
-                (branch, spelled, "n", Came.COLLISION), (branch, spelled, "o", Came.ONE), (branch, b"", "f", Came.FAILED),
+                (branch, spelled, "n", Came.COLLISION), (branch, spelled, "o", Came.ONE),
+                (branch, b"", "f", Came.FAILED),
                 (mute.encode(), ack, "n", Came.OTHER_RESPONSE), (mute.encode(), ack, "a", Came.ACKNOWLEDGED),
                 (mute.encode(), b"\xff", "n", Came.DAMAGED), (mute.encode(), b"\xff", "a", Came.ACKNOWLEDGED),
                 (mute.encode(), b"", "s", Came.SILENCE)):
@@ -322,63 +321,10 @@ class Logs(TestCase):
         self.assertEqual((len(rows), SILENT in rows, rows), (10, True, sorted(rows)))
 
 
-class Findings(TestCase):
-    """What is taken from the program's JSON."""
+class Html(TestCase):
+    """The page as a file that needs nothing else, and runs no script but its own."""
 
-    @staticmethod
-    def run_with(judgement: str, *findings: Dict[str, Any], **members: Any) -> Dict[str, Any]:
-        """A run of three exchanges."""
-        return {"exchanges": 3, "devices": 1, "heard": "sss", "findings": [finding(judgement, "head"), *findings],
-                **members}
-
-    def test_places_and_devices(self) -> None:
-        found = page_findings.findings_in(document([
-            self.run_with("complete", finding("broke", "silent", uid=LEFT, exchange=2), run=7, first=0),
-            self.run_with("undecided", finding("garbled", "bytes", uid=RIGHT, exchange=41), first=40),
-            self.run_with("incomplete", finding("gap", "gap", uid="0000:00000000"), finding("gap", "late", exchange=3)),
-        ], passing=[finding("passing", "passes", uid=SILENT)]))
-        self.assertEqual([(each.text, each.is_head, None if each.uid is None else uid_text(each.uid), each.place)
-                          for each in found.all], [
-            ("passes", False, SILENT, None), ("head", True, None, None), ("silent", False, LEFT, 2),
-            ("head", True, None, None), ("bytes", False, RIGHT, 4), ("head", True, None, None),
-            ("gap", False, "0000:00000000", None), ("late", False, None, 9)])
-        self.assertEqual([(run.name, run.place, run.heard) for run in found.runs],
-                         [("run 7", 0, "sss"), ("discovery", 3, "sss"), ("discovery", 6, "sss")])
-        self.assertEqual(list(found.lines()), ["passes", "head", "silent", "head", "bytes", "head", "gap", "late"])
-
-    def test_the_headline_is_that_of_the_worst_run(self) -> None:
-        complete, incomplete, cut = map(self.run_with, ("complete", "incomplete", "undecided"))
-        corrupt = self.run_with("incomplete", end="corrupt", uid=LEFT)
-        line_failed = self.run_with("incomplete", finding("failure", "exchange 1 failed", exchange=1))
-        none = {**self.run_with("no run"), "exchanges": 0, "heard": ""}
-        unbroken, undecided = "No broken rule was seen.", "It isn't decided whether the discovery is complete."
-        honest = "nothing else can be on this line if it is honest."
-        for runs, wanted in (
-                ([none], "No discovery."), ([], "No discovery."),
-                ([complete], f"1 fixture found; {honest}"), ([{**complete, "devices": 5}], f"5 fixtures found; {honest}"),
-                ([{**complete, "devices": 0, "end": "no fault"}], f"No fixture found; {honest}"),
-                ([complete, {**complete, "devices": 2}], f"The last of 2 discoveries: 2 fixtures found; {honest}"),
-                ([corrupt], "The discovery failed."), ([line_failed], "The discovery failed."),
-                *(([{**incomplete, "end": end}], "The discovery failed.")
-                  for end in ("too many devices", "budget used up", "line failed", "aborted")),
-                ([incomplete], "The discovery is incomplete."), ([cut], undecided),
-                ([complete, incomplete, corrupt, cut, corrupt], "2 of 5 discoveries failed."),
-                ([complete, incomplete, cut], "1 of 3 discoveries are incomplete."),
-                ([cut, complete], "It isn't decided whether 1 of 2 discoveries are complete.")):
-            self.assertEqual(page_findings.findings_in(document(runs)).verdict(), [wanted, unbroken])
-            said = [] if honest in wanted else [wanted]
-            self.assertEqual(page_findings.findings_in(document(runs, broken=True)).verdict(), ["A rule was broken.", *said])
-
-    def test_a_log_that_is_not_explained_to_its_end(self) -> None:
-        found = page_findings.findings_in(b'{"passing":[],"runs":[],"fault":"line 7"}\n')
-        self.assertEqual((list(found.lines()), found.fault), (["fault: line 7"], "line 7"))
-
-    def test_what_is_no_json_of_the_program(self) -> None:
-        for text in (b"", b"fault: uid\n", b"[]", b"{}", b'{"passing":[],"runs":[{}]}', b'{"passing":5,"runs":[]}', b"\xff",
-                     b'{"passing":[],"runs":[{"exchanges":0,"devices":0,"heard":"","findings":[]}]}', b"[" * 100_000,
-                     b'{"passing":[{"judgement":"passing","sentence":"x","uid":"1"}],"runs":[]}'):
-            with self.assertRaises(page_findings.NoFindings):
-                page_findings.findings_in(text)
+    SCRIPT = "</script><script>alert(1)</script><img src=x onerror=alert(1)>&amp;'\"\u2028"
 
     def test_each_finding_is_shown(self) -> None:
         text = page_text(exchange_line(0, "unmute", b"\xcc", b""), finding("who knows", "who knows?"),
@@ -388,11 +334,6 @@ class Findings(TestCase):
         self.assertEqual([each["place"] for each in head["findings"]], [None, None, 0])
         self.assertEqual(head["rows"], [SILENT])
 
-
-class Html(TestCase):
-    """The page as a file that needs nothing else, and runs no script but its own."""
-
-    SCRIPT = "</script><script>alert(1)</script><img src=x onerror=alert(1)>&amp;'\"\u2028"
 
     def test_texts_are_no_script(self) -> None:
         text = page_text(exchange_line(0, "unmute", b"\xcc", b""), finding("gap", self.SCRIPT), name=self.SCRIPT)

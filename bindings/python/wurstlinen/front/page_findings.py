@@ -55,7 +55,7 @@ class Finding:
 
 @dataclass(frozen=True)
 class Run:
-    """A run: its name, the place of its first exchange among those of all runs, and a letter for what each one heard."""
+    """A run: its name, the place of its first exchange among those of all runs, and a letter for what each heard."""
 
     name: str
     place: int

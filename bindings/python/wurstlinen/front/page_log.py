@@ -80,8 +80,8 @@ class Log:
         return len(self.columns.asked)
 
 
-# A frame that waits for its answer: what it is for, its text as the log has it, its clients' bits, and whether it is one
-# of a run.
+# A frame that waits for its answer: what it is for, its text as the log has it, its clients' bits, and whether it is a
+# run's.
 Sent = Tuple[str, str, int, bool]
 
 
@@ -224,7 +224,7 @@ class Reader:
         return run.heard[at - run.place]
 
     def _add(self, name: str, frame: str, clients: int, entry: Dict[str, Any], heard: Optional[str]) -> None:
-        """The next exchange, whose answer an entry has. The program read the answer as this letter, if it is a run's."""
+        """The next exchange, whose answer an entry has, and which the program read as this letter, if it is a run's."""
         reply = None if "failed" in entry else bytes.fromhex(entry["reply"])
         sent = bytes.fromhex(frame)
         command = command_in(sent)

@@ -9,8 +9,8 @@ use Rattle.rdm_findings.specs.declared.line.LogLine.{LogLine}
 use Rattle.rdm_findings.specs.declared.log.LogFault.{LogFault}
 use Rattle.rdm_findings.specs.declared.log.LogFault.TheVariants.{Line}
 
--- The findings about the runs that ended in the first lines of a log with these bytes, or about all runs of these lines,
--- were written; not to their end, if the writer failed
+-- The findings about the runs that ended in the first lines of a log with these bytes, or about all runs of these
+-- lines, were written; not to their end, if the writer failed
 pub record WritesPart (form : Form) (present passing : List ℕ) (known old new : Option (List ℕ)) (fault : LogFault)
     : Type 0 where
   pub lines : List LogLine
