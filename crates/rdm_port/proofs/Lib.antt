@@ -1,3 +1,4 @@
+mod ExplanationLemmas
 mod LineLemmas
 mod LoggedLemmas
 mod RunLemmas
