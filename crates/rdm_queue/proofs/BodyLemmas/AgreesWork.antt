@@ -247,7 +247,7 @@ removed_rest {X} lists c n = by_client (cases_eq n c) (cases_lt c (length lists)
 
     by_client : (n ≡ c) ⊎ (n ≡ c → ⊥) → (c < length lists) ⊎ (length lists ≤ c)
         → get_or (set lists c (drop 1 (get_or lists c []))) n []
-    ≡ (if n == c then drop 1 (get_or lists n []) else get_or lists n [])
+        ≡ (if n == c then drop 1 (get_or lists n []) else get_or lists n [])
     by_client (inl same) (inl within) =
         rw (eq-eqb n c same, same) (get_or-set_same lists c (drop 1 (get_or lists c [])) [] within)
     by_client (inl same) (inr past) =
