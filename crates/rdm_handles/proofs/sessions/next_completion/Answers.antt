@@ -19,7 +19,7 @@ returns-clause-collected c done =
     (request_outcome (c.in-Some-Request.field-0-0, c.in-Some-Request.done.now)) =
     subst (λ (x : Oldest). IsOldest o h c.args.client (outcome_shown x)) c.in-Some-Request.field-0-is
     c.in-Some-Request.ensures.outcome in
-    let needs : c.len-needed.result ≡ length c.in-Some.done.bytes.items = c.len-needed.ensures
+    let needs : c.len.result ≡ length c.in-Some.done.bytes.items = c.len.ensures
     ∙ (c.in-Some-Request.done.now.bytes.ok.0 ∙ same_length o h c.args.client
     (request_outcome (c.in-Some-Request.field-0-0, c.in-Some-Request.done.now)) outcome shown is) in
     let same : length c.deref.result.now
