@@ -26,8 +26,9 @@ returns-clause-collected c done =
     ≡ length c.in-Some.done.bytes.items = ap (λ bytes. length bytes) c.deref.ensures.value in
     let fits : length c.deref.result.now ≤ length
     c.args.buffer.now = omega (arith, needs, same, c.if-needed-buffer.false) in
-    let len : c.completion_for_c.result.len ≡ c.put_bytes.result = ap (λ form. form.len) c.completion_for_c.ensures
-    ∙ (completion_len c.in-Some.number c.in-Some.done _ ∙ (sym same ∙ sym (c.put_bytes.ensures.all fits))) in (
+    let len : c.completion_for_c.result.len ≡ c.put_bytes.result = completion_len c.in-Some.number
+    c.in-Some.done _ c.completion_for_c.result c.completion_for_c.ensures
+    ∙ (sym same ∙ sym (c.put_bytes.ensures.all fits)) in (
       c.in-Some.number,
       c.in-Some.done,
       own_flag c.in-Some.number c.in-Some.done _ c.completion_for_c.result c.completion_for_c.ensures,
