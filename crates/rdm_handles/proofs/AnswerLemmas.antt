@@ -30,9 +30,10 @@ form_len : (number len status : ℕ) (head : Option ReplyHead) → (form_with_he
 form_len number len status None = refl
 form_len number len status (Some head) = refl
 
-pub completion_len : (number : ℕ) (done : Completion) (flag : Bool)
-    → (form_of_completion number done flag).len ≡ length done.bytes.items
-completion_len number done flag = form_len number (length done.bytes.items) (number_of_status done.status) done.reply
+pub completion_len : (number : ℕ) (done : Completion) (flag : Bool) (form : CompletionForC)
+    → form ≡ form_of_completion number done flag → form.len ≡ length done.bytes.items
+completion_len number done flag form is =
+    ap (λ f. f.len) is ∙ form_len number (length done.bytes.items) (number_of_status done.status) done.reply
 
 -- it has its own flag
 pub own_flag : (number : ℕ) (done : Completion) (flag : Bool) (form : CompletionForC)

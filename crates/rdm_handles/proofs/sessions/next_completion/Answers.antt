@@ -19,15 +19,16 @@ returns-clause-collected c done =
     (request_outcome (c.in-Some-Request.field-0-0, c.in-Some-Request.done.now)) =
     subst (λ (x : Oldest). IsOldest o h c.args.client (outcome_shown x)) c.in-Some-Request.field-0-is
     c.in-Some-Request.ensures.outcome in
-    let needs : c.len-needed.result ≡ length c.in-Some.done.bytes.items = c.len-needed.ensures
+    let needs : c.len.result ≡ length c.in-Some.done.bytes.items = c.len.ensures
     ∙ (c.in-Some-Request.done.now.bytes.ok.0 ∙ same_length o h c.args.client
     (request_outcome (c.in-Some-Request.field-0-0, c.in-Some-Request.done.now)) outcome shown is) in
     let same : length c.deref.result.now
     ≡ length c.in-Some.done.bytes.items = ap (λ bytes. length bytes) c.deref.ensures.value in
     let fits : length c.deref.result.now ≤ length
     c.args.buffer.now = omega (arith, needs, same, c.if-needed-buffer.false) in
-    let len : c.completion_for_c.result.len ≡ c.put_bytes.result = ap (λ form. form.len) c.completion_for_c.ensures
-    ∙ (completion_len c.in-Some.number c.in-Some.done _ ∙ (sym same ∙ sym (c.put_bytes.ensures.all fits))) in (
+    let len : c.completion_for_c.result.len ≡ c.put_bytes.result = completion_len c.in-Some.number
+    c.in-Some.done _ c.completion_for_c.result c.completion_for_c.ensures
+    ∙ (sym same ∙ sym (c.put_bytes.ensures.all fits)) in (
       c.in-Some.number,
       c.in-Some.done,
       own_flag c.in-Some.number c.in-Some.done _ c.completion_for_c.result c.completion_for_c.ensures,
