@@ -197,6 +197,39 @@ static void repeats_what_was_lost() {
     CHECK(second.completion.data == lamp && second.queued.empty());
 }
 
+static void repeats_a_lost_report() {
+    TestTime time;
+    const Said report{WURST_ACK, status, {0, 0, 4, 0, 0x21, 0, 5, 0, 0}};
+    Device line{{timer(label, 1), silence, report, {WURST_ACK, label, lamp}, empty}};
+    const auto answer = ask(line, time);
+    CHECK(answer.completion.data == lamp && answer.queued.size() == 1 && answer.queued[0].data == report.data);
+    CHECK(line.asked[2].second == Data{1});
+}
+
+// The program's own time: a real wait of a tenth of a second.
+static void sleeps() {
+    Device slow{{timer(label, 1), {WURST_ACK, label, lamp}, empty}};
+    wurst::Controller queue(source);
+    auto exchange = [&slow](const wurst::Frame &frame) { return slow.exchange(frame); };
+    const auto began = std::chrono::steady_clock::now();
+    const auto answer = wurst::ask(queue, queue.join(1), exchange, {device.number(), WURST_GET, 0, label});
+    CHECK(answer.completion.data == lamp && std::chrono::steady_clock::now() - began >= milliseconds(100));
+}
+
+static void hands_over_a_discovery() {
+    Device line{{{WURST_ACK, label, lamp}}};
+    wurst::Controller queue(source);
+    const auto client = queue.join(1);
+    queue.discover(client);
+    auto exchange = [&line](const wurst::Frame &frame) {
+        return frame.data()[20] == 0x10 ? std::optional<Data>(std::in_place) : line.exchange(frame);
+    };
+    const auto answer = wurst::ask(queue, client, exchange, {device.number(), WURST_GET, 0, label});
+    CHECK(answer.completion.data == lamp && answer.earlier.size() == 1);
+    const auto &found = std::get<wurst::Discovery>(answer.earlier[0]);
+    CHECK(found.number() == 0 && found.fault() == WURST_NO_FAULT && found.devices.empty());
+}
+
 static void fails() {
     TestTime time;
     Device line{{timer(label, 1)}};
@@ -461,6 +494,9 @@ int main() {
     knows_whose_sensor_it_is();
     is_bounded();
     repeats_what_was_lost();
+    repeats_a_lost_report();
+    sleeps();
+    hands_over_a_discovery();
     fails();
     keeps_what_was_collected();
     hands_over_what_was_collected();

@@ -227,6 +227,26 @@ static void runs_an_agent(void) {
     wurst_agent_dispose(&agent);
 }
 
+/* What the archive needs, and heap.c has. */
+struct block {
+    bool is_there;
+    uint8_t *at;
+};
+struct block rattle_alloc(size_t size, size_t align);
+struct block rattle_realloc(uint8_t *at, size_t kept, size_t size, size_t align);
+void rattle_dealloc(uint8_t *at);
+
+static void grows_and_shrinks_blocks(void) {
+    struct block block = rattle_alloc(0, 8);
+    CHECK(block.is_there);
+    memcpy(block.at, "12345678", 8);
+    block = rattle_realloc(block.at, 8, 100000, 8);
+    CHECK(block.is_there && memcmp(block.at, "12345678", 8) == 0);
+    block = rattle_realloc(block.at, 0, 0, 16);
+    CHECK(block.is_there && block.at != NULL);
+    rattle_dealloc(block.at);
+}
+
 int main(void) {
     CHECK(wurst_version() == WURST_VERSION);
     CHECK(strcmp(wurst_text(WURST_NOT_TEXT), "the bytes aren't UTF-8") == 0);
@@ -238,5 +258,6 @@ int main(void) {
     reads_commands();
     reads_and_writes_responses();
     runs_an_agent();
+    grows_and_shrinks_blocks();
     return report();
 }

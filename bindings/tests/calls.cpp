@@ -42,6 +42,8 @@ static void views() {
     for (const wurst::Device &each : found) {
         CHECK(each.control == 4 && !each.binding);
     }
+    auto first = found.begin();
+    CHECK((*first++).uid == device && first == found.end());
     CHECK(agent.devices().size() == 1 && agent.fault() == WURST_NO_FAULT);
 
     wurst::Controller queue(source);
@@ -63,7 +65,49 @@ static void views() {
     queue.run(acknowledged);
     const auto ended = queue.next_discovery(client, forms, 0);
     CHECK(ended && ended->fault() == WURST_NO_FAULT && ended->end.run == 1 && ended->devices.empty());
+    CHECK(!queue.next_discovery(client, forms, 0));
     CHECK(queue.devices(forms, 0).empty() && queue.devices_run() == 1);
+}
+
+// A device that is a part of another one says so when it is muted, to an agent and to a queue.
+static void parts_of_devices() {
+    const auto part = [](wurst::Bytes frame) {
+        std::vector<std::uint8_t> reply;
+        if (frame.data[20] == 0x10 && frame.data[22] == 2) {
+            const std::uint8_t data[] = {0, 6, 0x12, 0x34, 0, 0, 0, 1};
+            reply.resize(257);
+            reply.resize(answer(frame.data, 0, data, sizeof data, reply.data()));
+        }
+        return std::optional(std::move(reply));
+    };
+    wurst::Agent agent(source, WURST_INCREMENTAL, {device}, 1000);
+    while (const auto asked = agent.next()) {
+        agent.hear(*part(asked->second));
+    }
+    const auto found = agent.devices();
+    CHECK(found.size() == 1 && found[0].uid == device && found[0].control == 6);
+    CHECK(found[0].binding && *found[0].binding == wurst::Uid(0x1234, 1));
+    CHECK(found[0].form().has_binding && found[0].form().binding == UINT64_C(0x123400000001));
+}
+
+// An answer that is longer than the first buffer loses nothing.
+static void long_answers() {
+    wurst::Controller queue(source);
+    const auto client = queue.join(1);
+    queue.get(client, device, 0x0060);
+    std::vector<std::uint8_t> wanted;
+    for (std::uint8_t length : {231, 231, 10}) {
+        std::vector<std::uint8_t> data(length), reply(257);
+        for (std::uint8_t &byte : data) {
+            byte = static_cast<std::uint8_t>(wanted.size());
+            wanted.push_back(byte);
+        }
+        reply.resize(answer(queue.take()->data(), length == 231 ? 3 : 0, data.data(), length, reply.data()));
+        queue.deliver(reply);
+    }
+    const auto done = queue.next_completion(client);
+    CHECK(done && done->status() == WURST_COMPLETED && done->data == wanted && done->data.size() == 472);
+    CHECK(!queue.next_completion(client));
 }
 
 // Garbage to each branch of a range that has the device, and silence to all else. The last one is that UID alone.
@@ -95,6 +139,10 @@ static void corrupt_ranges() {
     wurst::Agent stopped(source);
     stopped.stop();
     CHECK(stopped.fault() == WURST_ABORTED && !stopped.corrupt());
+    wurst::Agent failed(source);
+    failed.next();
+    failed.fail();
+    CHECK(failed.fault() == WURST_LINE_FAILED && !failed.next());
 }
 
 static void sessions() {
@@ -152,6 +200,7 @@ static void drains() {
 int main() {
     CHECK(wurst::Uid::parse("7a70:00000001") == source && source.text() == "7a70:00000001");
     CHECK(!wurst::Uid::from_number(UINT64_C(1) << 48) && wurst::Uid::all().is_broadcast());
+    CHECK(source.manufacturer() == 0x7a70 && source.device() == 1 && source != device);
     CHECK(fault_of([] { wurst::Uid::parse("7a70"); }) == WURST_UID_LENGTH);
     CHECK(fault_of([] { wurst::Controller queue(wurst::Uid::all()); }) == WURST_BROADCAST_UID);
 
@@ -180,6 +229,8 @@ int main() {
     CHECK(!queue.is_closed());
 
     views();
+    parts_of_devices();
+    long_answers();
     corrupt_ranges();
     sessions();
     keeps_nothing();

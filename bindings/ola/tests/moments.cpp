@@ -5,6 +5,7 @@
 
 #include <ola/Logging.h>
 
+#include <algorithm>
 #include <chrono>
 #include <new>
 #include <thread>
@@ -203,10 +204,7 @@ public:
     void answer_all() { answer(~0U); }
 
     bool has_called_all() const {
-        bool all = true;
-        for (const auto &each : requests_) {
-            all &= each->replies == 1;
-        }
+        bool all = has_replied_to_all();
         for (const auto &each : discoveries_) {
             all &= each->sets == 1;
         }
@@ -228,11 +226,14 @@ public:
         const auto began = std::chrono::steady_clock::now();
         std::thread([this] { queue_.reset(); }).join();
         const auto took = std::chrono::steady_clock::now() - began;
-        bool all = took < std::chrono::seconds(1);
-        for (const auto &each : requests_) {
-            all &= each->replies == 1;
-        }
-        return all;
+        return took < std::chrono::seconds(1) && has_replied_to_all();
+    }
+
+    // Ends the queue. What callbacks throw meanwhile goes nowhere.
+    void end() { act([&] { queue_.reset(); }); }
+
+    bool has_replied_to_all() const {
+        return std::all_of(requests_.begin(), requests_.end(), [](const auto &each) { return each->replies == 1; });
     }
 
     void request(RDMRequest *request) {
@@ -307,6 +308,22 @@ template <typename L> void test_ends_elsewhere() {
     }
 }
 
+// A controller ends, and each of the callbacks that this runs throws: the others run all the same.
+template <typename L> void test_throws_at_its_end() {
+    for (const unsigned int number : {1, 2, 3}) {
+        Day<L> day(When::Later);
+        moment = {};
+        for (int i = 0; i < 3; i++) {
+            day.request(get());
+        }
+        moment = {};
+        moment.throws = number;
+        day.end();
+        CHECK(moment.calls >= number && day.has_replied_to_all());
+        moment = {};
+    }
+}
+
 // Each discovery's callback runs on the thread that asked for it, or never.
 void test_threads_of_discoveries() {
     TargetLower lower;
@@ -327,6 +344,7 @@ template <typename L> void test_layer() {
         test_each<L>(when, &Moment::fails, &Moment::allocations);
     }
     test_ends_elsewhere<L>();
+    test_throws_at_its_end<L>();
 }
 
 } // namespace

@@ -3,6 +3,7 @@ from __future__ import annotations
 
 import json
 import os
+import resource
 import threading
 import time
 from typing import List
@@ -64,6 +65,24 @@ class Logs(LongTestCase):
             log.add([b"3\n"])
             log.close()
             self.assertEqual(((made / "old").read_bytes(), (made / "log").read_bytes()), (b"1\n", b"3\n"))
+
+    def test_a_disk_that_takes_half_a_line(self) -> None:
+        with folder() as made:
+            said: List[str] = []
+            log = LogFile(str(made / "log"), said.append)
+            log.add([b"first\n"])
+            limits = resource.getrlimit(resource.RLIMIT_FSIZE)
+            resource.setrlimit(resource.RLIMIT_FSIZE, (10, limits[1]))
+            try:
+                log.add([b"second\n"])
+            finally:
+                resource.setrlimit(resource.RLIMIT_FSIZE, limits)
+            self.assertEqual((made / "log").read_bytes(), b"first\n")
+            log.add([b"third\n"])
+            log.close()
+            self.assertEqual((made / "log").read_bytes(), b"first\nthird\n")
+            self.assertEqual([text.rpartition("; ")[2] for text in said], [
+                "the log goes on when it can be written again", f"{made / 'log'}: the log goes on after 1 lost lines"])
 
     def test_a_full_disk_is_reported_once_and_loses_no_half_line(self) -> None:
         with folder() as made:

@@ -5,7 +5,6 @@ import contextlib
 import json
 import os
 import select
-import socket
 import sys
 import time
 from collections import deque
@@ -24,6 +23,8 @@ READ_BYTES = 1 << 16
 QUIET_SECONDS = 2.0
 ANSWER_SECONDS = 10.0
 MILLISECONDS = 1000
+# SHUT_RDWR of the module socket, which a command doesn't load.
+BOTH_DIRECTIONS = 2
 # What a server says of itself, and of how things are.
 HELLO = {"line": str, "source": str, "process": int, "depth": int, "paused": bool, "there": bool, "clients": int}
 # What a server says, or does, to which the answer is to try again.
@@ -85,7 +86,7 @@ class Connection:
         """Ends the connection. A call of another thread fails."""
         # Who waits for the server would go on to wait.
         with contextlib.suppress(OSError):
-            self._socket.shutdown(socket.SHUT_RDWR)
+            self._socket.shutdown(BOTH_DIRECTIONS)
         self._socket.close()
 
     @property
