@@ -137,6 +137,8 @@ struct Completion {
 
     std::uint64_t number() const { return head.number; }
     wurst_request_status status() const { return static_cast<wurst_request_status>(head.status); }
+    // Whether its first parts may be missing, since the last GET of it broke off. Then GET it again.
+    bool may_be_incomplete() const { return head.may_be_incomplete; }
 };
 
 struct Discovery {
@@ -190,6 +192,7 @@ struct CompletionView {
     Bytes data;
 
     wurst_request_status status() const { return static_cast<wurst_request_status>(head.status); }
+    bool may_be_incomplete() const { return head.may_be_incomplete; }
 };
 
 struct DiscoveryView {

@@ -1,6 +1,7 @@
 // Asks devices, and waits for those that need time. Such a device answers ACK_TIMER, and queues its answer. E1.20,
 // queued message: the controller waits as long as the device says, and then takes messages until none is left. Here all
-// of that goes through a client of a wurst::Controller or a wurst::Session. For C++17, header only.
+// of that goes through a client of a wurst::Controller or a wurst::Session. A GET whose answer may lack its first parts
+// is made again. For C++17, header only.
 #ifndef WURSTLINEN_ASK_HPP
 #define WURSTLINEN_ASK_HPP
 
@@ -41,16 +42,32 @@ struct Answer {
     bool is_late() const { return completion.head.has_head && completion.head.ack == WURST_ACK_TIMER; }
 };
 
-// The request wasn't sent, because the queue is paused, or a reply is awaited. It is still queued.
-class Unserved : public std::runtime_error {
+// There is no answer.
+class Unanswered : public std::runtime_error {
 public:
-    Unserved(std::vector<Completion> queued_so_far, std::vector<std::variant<Completion, Discovery>> earlier_outcomes)
-        : std::runtime_error("the request wasn't sent: the queue is paused, or a reply is awaited"),
-          queued(std::move(queued_so_far)), earlier(std::move(earlier_outcomes)) {}
+    Unanswered(const char *why, std::vector<Completion> queued_so_far,
+               std::vector<std::variant<Completion, Discovery>> earlier_outcomes)
+        : std::runtime_error(why), queued(std::move(queued_so_far)), earlier(std::move(earlier_outcomes)) {}
 
     // What was collected, as an Answer has it.
     std::vector<Completion> queued;
     std::vector<std::variant<Completion, Discovery>> earlier;
+};
+
+// The request wasn't sent, because the queue is paused, or a reply is awaited. It is still queued.
+class Unserved : public Unanswered {
+public:
+    Unserved(std::vector<Completion> queued_so_far, std::vector<std::variant<Completion, Discovery>> earlier_outcomes)
+        : Unanswered("the request wasn't sent: the queue is paused, or a reply is awaited", std::move(queued_so_far),
+                     std::move(earlier_outcomes)) {}
+};
+
+// A GET was made six times, and each answer may lack its first parts: before each, another GET of the same broke off.
+class Incomplete : public Unanswered {
+public:
+    Incomplete(std::vector<Completion> queued_so_far, std::vector<std::variant<Completion, Discovery>> earlier_outcomes)
+        : Unanswered("no whole answer came: other GETs of the same break off again and again",
+                     std::move(queued_so_far), std::move(earlier_outcomes)) {}
 };
 
 namespace detail {
@@ -70,6 +87,8 @@ constexpr std::chrono::milliseconds tenth = 100ms;
 constexpr int most_messages = 256;
 constexpr int most_losses = 5;
 constexpr int most_exchanges = 1000;
+// How often a GET is made again whose answer may lack its first parts.
+constexpr int most_repeats = 5;
 constexpr std::chrono::milliseconds fetch_time = 5s;
 // What of that may be after the end of the wait.
 constexpr std::chrono::milliseconds last_fetch_time = 2s;
@@ -97,6 +116,11 @@ inline bool is_report(const Completion &message) {
 inline bool is_echoed(const wurst_request &request) {
     return request.command_class == WURST_GET && request.pid < first_manufacturers_pid && request.pid != queued_message
         && request.pid != status_messages && request.pid != status_id_description;
+}
+
+// Whether a device takes what it answers out of its messages. GET_LAST_MESSAGE has it answer the same again.
+inline bool takes_message(const wurst_request &request) {
+    return request.pid == queued_message || request.pid == status_messages;
 }
 
 // Whether a message answers a request, as far as it shows.
@@ -132,9 +156,9 @@ public:
         return ask({target.number(), WURST_SET, sub_device, pid}, data);
     }
 
-    // The answer to a request. Faults of the queue, exceptions of the line and those of the time pass through, and the
-    // next answer has what was collected until then. After an exception of the line the exchange has failed. Throws
-    // Unserved.
+    // The answer to a request, with all its parts. Faults of the queue, exceptions of the line and those of the time
+    // pass through, and the next answer has what was collected until then. After an exception of the line the exchange
+    // has failed. Throws Unserved or Incomplete.
     Answer ask(const wurst_request &request, Bytes data = {}) {
         begin(request, data);
         try {
@@ -150,7 +174,7 @@ private:
     // again. A SET isn't, since it may do something.
     Answer waited(const wurst_request &request, Bytes data) {
         using std::chrono::milliseconds;
-        ended_ = exchanged(request, data);
+        ended_ = whole(request, data);
         auto delay = detail::delay_of(*ended_);
         for (int waits = 1; delay && pause(*delay); waits++) {
             if (auto found = has_queue_ ? fetched() : std::nullopt) {
@@ -158,12 +182,32 @@ private:
             }
             delay = std::max(2 * *delay, detail::tenth);
             if (request.command_class == WURST_GET && (waits % 2 == 0 || !has_queue_)) {
-                ended_ = exchanged(request, data);
+                ended_ = whole(request, data);
                 delay = detail::delay_of(*ended_);
                 delay = delay ? std::optional(std::max<milliseconds>(*delay, detail::tenth)) : std::nullopt;
             }
         }
         return answer(std::move(*ended_));
+    }
+
+    // How a request ends, once its answer can't lack its first parts.
+    Completion whole(const wurst_request &request, Bytes data) {
+        const std::uint8_t last = detail::get_last_message;
+        Completion completion = exchanged(request, data);
+        for (int repeats = 0; completion.may_be_incomplete(); repeats++) {
+            if (repeats == detail::most_repeats) {
+                give_up<Incomplete>();
+            }
+            completion = exchanged(request, detail::takes_message(request) ? Bytes(&last, 1) : data);
+        }
+        return completion;
+    }
+
+    // Throws with all that was collected.
+    template <typename Why> [[noreturn]] void give_up() {
+        keep_found();
+        keep_ended();
+        throw Why(std::exchange(queued_, {}), std::exchange(earlier_, {}));
     }
 
     // Memory for so many more, so that adding them can't fail once they are collected.
@@ -227,8 +271,10 @@ private:
             if (message.status() == WURST_FAILED_TO_SEND) {
                 return message;
             }
-            const bool was_lost = std::exchange(is_lost, !message.head.has_head);
-            losses += is_lost;
+            const bool is_silence = !message.head.has_head;
+            // Of a message that may lack its first parts, all of it is asked for.
+            const bool was_lost = std::exchange(is_lost, is_silence || message.may_be_incomplete());
+            losses += is_silence;
             if (!is_lost && !keep(message, was_lost)) {
                 break;
             }
@@ -336,9 +382,7 @@ private:
             }
             earlier_.push_back(std::move(completion));
         }
-        keep_found();
-        keep_ended();
-        throw Unserved(std::exchange(queued_, {}), std::exchange(earlier_, {}));
+        give_up<Unserved>();
     }
 
     Queue &queue_;

@@ -1,5 +1,6 @@
 // The C++ header that asks devices which need time, with devices that answer by tables.
 #include "tests.h"
+#include <array>
 #include <deque>
 #include <memory>
 #include <vector>
@@ -173,20 +174,21 @@ static void is_bounded() {
 
 static void repeats_what_was_lost() {
     TestTime time;
-    Device lossy{{timer(label, 1), {WURST_ACK, hours, Data(4)}, silence, {WURST_ACK, label, lamp}, empty}};
+    const Said old{WURST_ACK, label, {'o', 'l', 'd'}}, is_lamp{WURST_ACK, label, lamp};
+    // The first repeated message may lack its first parts.
+    Device lossy{{timer(label, 1), {WURST_ACK, hours, Data(4)}, silence, is_lamp, is_lamp, empty}};
     const auto answer = ask(lossy, time);
     CHECK(answer.completion.data == lamp && answer.queued.size() == 1);
-    CHECK(lossy.asked.size() == 5 && lossy.asked[3].second == Data{1} && lossy.asked[4].second == Data{4});
+    CHECK(lossy.asked.size() == 6 && lossy.asked[3].second == Data{1} && lossy.asked[4].second == Data{1});
+    CHECK(lossy.asked[5].second == Data{4});
 
     // It isn't known here whether the repeated message is the lost one or an older one.
-    Device unknown{{timer(label, 1), silence, {WURST_ACK, label, {'o', 'l', 'd'}}, empty, empty,
-                    {WURST_ACK, label, lamp}}};
+    Device unknown{{timer(label, 1), silence, old, old, empty, empty, is_lamp}};
     const auto other = ask(unknown, time);
     CHECK(other.completion.data == lamp && other.queued.size() == 1);
 
     // The command was lost, and the device repeats what came before.
-    Device line{{timer(label, 1), {WURST_ACK, label, {'o', 'l', 'd'}}, empty,
-                 timer(label, 1), silence, {WURST_ACK, label, {'o', 'l', 'd'}}, {WURST_ACK, label, lamp}, empty}};
+    Device line{{timer(label, 1), old, empty, timer(label, 1), silence, old, old, is_lamp, empty}};
     wurst::Controller queue(source);
     auto exchange = [&line](const wurst::Frame &frame) { return line.exchange(frame); };
     wurst::Asker asker(queue, queue.join(1), exchange, milliseconds(10000), time);
@@ -339,6 +341,117 @@ static void fetches_for_two_seconds_at_most() {
     CHECK(*time.at < milliseconds(100000 + 13500));
 }
 
+// A device whose label has these three parts. If a part is lost, it goes on behind it.
+struct InParts {
+    static constexpr std::array<const char *, 3> parts{"front ", "of the ", "stage"};
+    static inline const Data whole{'f', 'r', 'o', 'n', 't', ' ', 'o', 'f', ' ', 't', 'h', 'e', ' ', 's', 't', 'a',
+                                   'g', 'e'};
+    // The exchanges whose replies are lost.
+    std::vector<std::size_t> lost;
+    std::size_t exchanges = 0;
+    std::size_t next = 0;
+
+    std::optional<Data> exchange(const wurst::Frame &frame) {
+        const std::size_t part = std::exchange(next, (next + 1) % parts.size());
+        const std::string text = parts[part];
+        Data reply(257);
+        reply.resize(answer(frame.data(), part + 1 < parts.size() ? WURST_ACK_OVERFLOW : WURST_ACK,
+                            reinterpret_cast<const std::uint8_t *>(text.data()), text.size(), reply.data()));
+        const bool is_lost = std::find(lost.begin(), lost.end(), exchanges) != lost.end();
+        exchanges++;
+        return is_lost ? Data() : reply;
+    }
+};
+
+// Another client's GET loses its first, its second or its last part. An answer after the last one is whole, but that
+// isn't known.
+static void gives_whole_answers() {
+    for (std::size_t lost : {0, 1, 2}) {
+        InParts line{{lost}};
+        wurst::Controller queue(source);
+        auto exchange = [&line](const wurst::Frame &frame) { return line.exchange(frame); };
+        const auto other = queue.join(1), client = queue.join(1);
+        queue.get(other, device, label);
+        TestTime time;
+        wurst::Asker asker(queue, client, exchange, milliseconds(10000), time);
+        const auto answer = asker.get(device, label);
+        CHECK(answer.completion.data == InParts::whole && !answer.completion.may_be_incomplete());
+        CHECK(answer.queued.empty() && answer.earlier.empty() && time.naps->empty());
+        CHECK(queue.next_completion(other)->status() == WURST_TIMEOUT);
+        // What the device still had to give, and all of it.
+        CHECK(line.exchanges == lost + 1 + (lost == 2 ? 3 : 2 - lost) + 3);
+        CHECK(asker.get(device, label).completion.data == InParts::whole);
+    }
+}
+
+// Its own GET loses a part. It says so, and the next one gives all parts.
+static void says_what_broke_off() {
+    InParts line{{1}};
+    wurst::Controller queue(source);
+    auto exchange = [&line](const wurst::Frame &frame) { return line.exchange(frame); };
+    wurst::Asker asker(queue, queue.join(1), exchange, milliseconds(10000), TestTime());
+    CHECK(asker.get(device, label).completion.status() == WURST_TIMEOUT);
+    const auto next = asker.get(device, label);
+    CHECK(next.completion.data == InParts::whole && next.earlier.empty());
+}
+
+// Before each of its GETs, another client's loses the second part.
+static void gives_no_rest() {
+    InParts line{{}};
+    wurst::Controller queue(source);
+    const auto other = queue.join(20), client = queue.join(2);
+    bool is_others = true;
+    auto exchange = [&](const wurst::Frame &frame) {
+        if (is_others && line.next == 1) {
+            line.lost = {line.exchanges};
+            is_others = false;
+        } else if (!is_others && line.next == 2) {
+            // The client gets the last part only. Before it asks again, the other one does.
+            is_others = true;
+            queue.get(other, device, label);
+        }
+        return line.exchange(frame);
+    };
+    queue.get(client, device, hours);
+    queue.run([&line](const wurst::Frame &frame) { return line.exchange(frame); });
+    queue.get(other, device, label);
+    wurst::Asker asker(queue, client, exchange, milliseconds(10000), TestTime());
+    try {
+        asker.get(device, label);
+        CHECK(false);
+    } catch (const wurst::Incomplete &incomplete) {
+        CHECK(incomplete.queued.empty() && incomplete.earlier.size() == 1);
+    }
+    std::size_t broken = 0;
+    while (const auto done = queue.next_completion(other)) {
+        broken += done->status() == WURST_TIMEOUT;
+    }
+    // The last one follows the client's last GET.
+    CHECK(broken == 7);
+}
+
+// A message breaks off. GET_LAST_MESSAGE gets what is left of it, and then all of it.
+static void takes_whole_messages() {
+    TestTime time;
+    Device line{{timer(label, 1), {WURST_ACK_OVERFLOW, label, {'L', 'a'}}, silence, {WURST_ACK, label, {'m', 'p'}},
+                 {WURST_ACK_OVERFLOW, label, {'L', 'a'}}, {WURST_ACK, label, {'m', 'p'}}, empty, empty,
+                 {WURST_ACK, label, lamp}}};
+    const auto answer = ask(line, time);
+    CHECK(answer.completion.data == lamp);
+    CHECK(answer.queued.size() == 1 && answer.queued[0].data == lamp);
+    CHECK(line.asked[3].second == Data{1} && line.asked[4].second == Data{1} && line.asked[6].second == Data{4});
+
+    // The caller asks for a message that another client's GET has broken off: it isn't dropped for the next one.
+    Device other{{silence, {WURST_ACK, label, {'m', 'p'}}, {WURST_ACK, label, lamp}, {WURST_ACK, hours, {}}}};
+    wurst::Controller queue(source);
+    auto exchange = [&other](const wurst::Frame &frame) { return other.exchange(frame); };
+    const auto first = queue.join(1), second = queue.join(1);
+    queue.get(first, device, queued, Data{4});
+    wurst::Asker asker(queue, second, exchange, milliseconds(10000), time);
+    CHECK(asker.get(device, queued, Data{4}).completion.data == lamp);
+    CHECK(other.asked.size() == 3 && other.asked[1].second == Data{4} && other.asked[2].second == Data{1});
+}
+
 int main() {
     needs_no_time();
     waits_as_long_as_it_says();
@@ -354,5 +467,9 @@ int main() {
     keeps_an_answer_before_the_line_fails();
     waits_for_queued_messages();
     fetches_for_two_seconds_at_most();
+    gives_whole_answers();
+    says_what_broke_off();
+    gives_no_rest();
+    takes_whole_messages();
     return report();
 }

@@ -214,7 +214,10 @@ static bool asks() {
     auto exchange = [&says](const wurst::Frame &frame) {
         const Called called;
         const Said said = says.front();
-        says.pop_front();
+        // After an exchange that failed, a GET of the same is made twice.
+        if (says.size() > 1) {
+            says.pop_front();
+        }
         return Reply(reply_to(frame.data(), said));
     };
     wurst::Asker asker(queue, queue.join(4), exchange, milliseconds(10000), TestTime{&at});

@@ -29,7 +29,7 @@ from ._types import (
 from ._wire import (
     decode_response, encode_branch, encode_mute, encode_mute_ack, encode_request, encode_response, encode_unmute,
     read_branch_reply, read_command, read_mute_ack, write_branch_reply)
-from ._ask import Answer, Asker, Unserved
+from ._ask import Answer, Asker, Incomplete, Unanswered, Unserved
 from ._queue import Client, Controller
 from .line import Line, LineBusy, LineFailed
 
@@ -50,17 +50,17 @@ __all__ = [
     "AckType", "AlreadyOpen", "Answer", "Asker", "BadClass", "BadKind", "BadPreamble", "BadRange", "BadResponseType",
     "BadSearch", "BadUid", "BranchReply", "BranchReplyKind", "BroadcastUid", "BufferTooSmall", "Client", "Closed",
     "Command", "CommandKind", "Completion", "Controller", "DEFAULT_BUDGET", "DataTooLong", "Device", "Discovery",
-    "DiscoveryAgent", "Fault", "Full", "HasEnded", "InvalidClass", "InvalidResponseType", "Kind", "LengthMismatch",
-    "LibraryNotFound", "Line", "LineBusy", "LineFailed", "Log", "LogFull", "MOST_CLIENTS", "MOST_DEVICES",
-    "MOST_ENTRIES", "MOST_FRAME_BYTES", "MOST_JOINED_BYTES", "MOST_PARAMETER_BYTES", "MOST_PLACES", "MuteAck",
-    "NoBudget", "NoEntry", "NoPlaces", "NotAsked", "NotEnded", "NotIdle", "NotOpen", "NotServed", "NotText",
+    "DiscoveryAgent", "Fault", "Full", "HasEnded", "Incomplete", "InvalidClass", "InvalidResponseType", "Kind",
+    "LengthMismatch", "LibraryNotFound", "Line", "LineBusy", "LineFailed", "Log", "LogFull", "MOST_CLIENTS",
+    "MOST_DEVICES", "MOST_ENTRIES", "MOST_FRAME_BYTES", "MOST_JOINED_BYTES", "MOST_PARAMETER_BYTES", "MOST_PLACES",
+    "MuteAck", "NoBudget", "NoEntry", "NoPlaces", "NotAsked", "NotEnded", "NotIdle", "NotOpen", "NotServed", "NotText",
     "Operation", "OtherOutcome", "OutOfMemory", "OutcomeKind", "PacketFault", "Page", "ParamLengthMismatch",
     "ReplyHead", "ReplyTooLong", "Request", "RequestClass", "Response", "ResponseClass", "RunFault", "RunFaultKind",
     "Search", "Session", "SharedClient", "Status", "TooManyClients", "TooManyDevices", "TooManyEntries",
-    "TooManyPlaces", "TooShort", "Uid", "UidDigit", "UidFault", "UidLength", "UidSeparator", "UnknownClient",
-    "Unserved", "VersionDiffers", "WrongChecksum", "WrongStart", "WrongSubStart", "connect", "decode_response",
-    "encode_branch", "encode_mute", "encode_mute_ack", "encode_request", "encode_response", "encode_unmute", "entries",
-    "line", "read_branch_reply", "read_command", "read_mute_ack", "write_branch_reply",
+    "TooManyPlaces", "TooShort", "Uid", "UidDigit", "UidFault", "UidLength", "UidSeparator", "Unanswered",
+    "UnknownClient", "Unserved", "VersionDiffers", "WrongChecksum", "WrongStart", "WrongSubStart", "connect",
+    "decode_response", "encode_branch", "encode_mute", "encode_mute_ack", "encode_request", "encode_response",
+    "encode_unmute", "entries", "line", "read_branch_reply", "read_command", "read_mute_ack", "write_branch_reply",
 ]
 
 

@@ -1,13 +1,14 @@
 """Asks devices, and waits for those that need time.
 
 A device that needs time answers ACK_TIMER, and queues its answer. E1.20, queued message: the controller waits as long
-as the device says, and then takes messages until none is left. Here all of that goes through a client of the queue.
+as the device says, and then takes messages until none is left. Here all of that goes through a client of the queue. A
+GET whose answer may lack its first parts is made again.
 """
 from __future__ import annotations
 
 import time
-from dataclasses import dataclass
-from typing import Any, Callable, Dict, List, Optional, Protocol, Tuple, Union
+from dataclasses import dataclass, replace
+from typing import Any, Callable, Dict, List, NoReturn, Optional, Protocol, Tuple, Type, Union
 
 from ._types import (
     AckType, Completion, Discovery, ReplyHead, Request, RequestClass, ResponseClass, Status, Uid, data_of, pid_of,
@@ -33,6 +34,8 @@ GLANCE = 0.01
 MOST_MESSAGES = 256
 MOST_LOSSES = 5
 MOST_EXCHANGES = 1000
+# How often a GET is made again whose answer may lack its first parts.
+MOST_REPEATS = 5
 FETCH_SECONDS = 5.0
 # What of that may be after the end of the wait.
 LAST_FETCH_SECONDS = 2.0
@@ -69,17 +72,34 @@ class AnyClient(Protocol):
         ...
 
 
-class Unserved(Exception):
+class Unanswered(Exception):
+    """There is no answer."""
+
+    WHY = ""
+
+    def __init__(self, queued: Tuple[Completion, ...] = (), earlier: Tuple[Outcome, ...] = ()) -> None:
+        super().__init__(self.WHY)
+        # What was collected, as an Answer has it.
+        self.queued = queued
+        self.earlier = earlier
+
+
+class Unserved(Unanswered):
     """The request has no result in time: the queue is paused, or its line has too much to do. It is still queued.
 
     A server sends it later, even if its client has gone.
     """
 
-    def __init__(self, queued: Tuple[Completion, ...] = (), earlier: Tuple[Outcome, ...] = ()) -> None:
-        super().__init__("the request has no result so far: the queue is paused, or its line has too much to do")
-        # What was collected, as an Answer has it.
-        self.queued = queued
-        self.earlier = earlier
+    WHY = "the request has no result so far: the queue is paused, or its line has too much to do"
+
+
+class Incomplete(Unanswered):
+    """A GET was made six times, and each answer may lack its first parts.
+
+    Before each of them, another GET of the same broke off.
+    """
+
+    WHY = "no whole answer came: other GETs of the same break off again and again"
 
 
 @dataclass(frozen=True)
@@ -176,10 +196,10 @@ class Asker:
         self.kept = Kept()
 
     def ask(self, request: Request) -> Answer:
-        """The answer to a request.
+        """The answer to a request, with all its parts.
 
         Faults of the queue, and exceptions of the line other than LineFailed, pass through, and the next answer has
-        what was collected until then. Raises Unserved, which has it itself.
+        what was collected until then. Raises Unserved or Incomplete, which have it themselves.
         """
         return Asking(self, request).answer()
 
@@ -242,9 +262,21 @@ class Asking:
         return (answer, self._kept.outcomes.clear())[0]  # type: ignore[func-returns-value]
 
     def _asked(self) -> Completion:
-        """How the request itself ends."""
-        self._ends.append(self._exchange(self._request))
-        return self._ends[-1]
+        """How the request itself ends, once its answer can't lack its first parts."""
+        request = self._request
+        for _ in range(1 + MOST_REPEATS):
+            completion = self._exchange(request)
+            if not completion.may_be_incomplete:
+                self._ends.append(completion)
+                return completion
+            self._kept.drop(completion)
+            request = repeated(self._request)
+        self._give_up(Incomplete)
+
+    def _give_up(self, why: Type[Unanswered]) -> NoReturn:
+        """Raises the exception, with all that is kept."""
+        fault = why(self._kept.queued(), self._kept.earlier())
+        raise (fault, self._kept.outcomes.clear())[0]  # type: ignore[func-returns-value]
 
     def _pause(self, delay: float, said: float) -> bool:
         """Waits, but not beyond the deadline. False if there is nothing left to wait or to ask with."""
@@ -276,8 +308,9 @@ class Asking:
             if message.status == Status.FAILED_TO_SEND:
                 return message
             self._keep(message)
-            was_lost, is_lost = is_lost, message.head is None
-            losses += is_lost
+            # Of a message that may lack its first parts, all of it is asked for.
+            was_lost, is_lost = is_lost, message.head is None or message.may_be_incomplete
+            losses += message.head is None
             if not is_lost and not was_lost and self._is_end(message):
                 break
             if not is_lost:
@@ -302,9 +335,10 @@ class Asking:
         return head.pid == STATUS_MESSAGES
 
     def _keep(self, message: Completion) -> None:
-        """Keeps a message as one that is handed out, unless it only says that there is none."""
+        """Keeps a message as one that is handed out, unless it only says that there is none, or may lack parts."""
         head = message.head
-        if head is None or (head.pid in (QUEUED_MESSAGE, STATUS_MESSAGES) and not is_report(message)):
+        is_none = head is not None and head.pid in (QUEUED_MESSAGE, STATUS_MESSAGES) and not is_report(message)
+        if head is None or message.may_be_incomplete or is_none:
             self._kept.drop(message)
         else:
             self._kept.mark(message)
@@ -345,8 +379,7 @@ class Asking:
             if completion is not None:
                 return completion
             if self._asker.clock() >= until:
-                fault = Unserved(self._kept.queued(), self._kept.earlier())
-                raise (fault, self._kept.outcomes.clear())[0]  # type: ignore[func-returns-value]
+                self._give_up(Unserved)
             self._asker.sleep(GLANCE)
 
     def _collected(self, number: int) -> Optional[Completion]:
@@ -355,6 +388,11 @@ class Asking:
             outcome = self._kept.collect(self._asker.client)
             if outcome is None or (isinstance(outcome, Completion) and outcome.number == number):
                 return outcome
+
+
+def repeated(request: Request) -> Request:
+    """A request for the same answer once more, also if the device took it out of its messages."""
+    return replace(request, data=GET_LAST_MESSAGE) if request.pid in (QUEUED_MESSAGE, STATUS_MESSAGES) else request
 
 
 def is_echoed(request: Request) -> bool:

@@ -50,7 +50,8 @@ class CollectingRequest:
             head = None
             if form.has_head:
                 head = ReplyHead(AckType(form.ack), ResponseClass(form.response_class), form.pid, form.sub_device)
-            self._outcome = Completion(form.number, Status(form.status), head, bytes(self._buffer[:form.len]))
+            self._outcome = Completion(form.number, Status(form.status), head, bytes(self._buffer[:form.len]),
+                                       form.may_be_incomplete)
         return self._outcome
 
 

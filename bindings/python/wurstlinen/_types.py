@@ -239,6 +239,8 @@ class Completion:
     status: Status
     head: Optional[ReplyHead]
     data: bytes
+    # Its first parts may be missing, since the last GET of it broke off. Then GET it again.
+    may_be_incomplete: bool = False
 
 
 @dataclass(frozen=True)

@@ -123,7 +123,7 @@ def keys_of_completion(completion: Completion) -> Keys:
     if head is not None:
         keys.update(ack=int(head.ack), response=RESPONSE_CLASSES[head.response_class], pid=f"{head.pid:04x}",
                     sub=head.sub_device, data=completion.data.hex())
-    return keys
+    return {**keys, "may_be_incomplete": True} if completion.may_be_incomplete else keys
 
 
 def completion_of(keys: Keys) -> Completion:
@@ -132,7 +132,8 @@ def completion_of(keys: Keys) -> Completion:
     if "ack" in keys:
         head = ReplyHead(AckType(keys["ack"]), CLASSES_OF_RESPONSES[keys["response"]], int(keys["pid"], 16),
                          keys["sub"])
-    return Completion(keys["request"], Status(keys["status"]), head, bytes.fromhex(keys.get("data", "")))
+    return Completion(keys["request"], Status(keys["status"]), head, bytes.fromhex(keys.get("data", "")),
+                      bool(keys.get("may_be_incomplete", False)))
 
 
 def keys_of_device(device: Device) -> Keys:
