@@ -11,7 +11,7 @@ import json
 import os
 import re
 import sys
-from typing import TYPE_CHECKING, List, Optional, Sequence, TextIO, Tuple, Type, Union
+from typing import TYPE_CHECKING, Callable, List, Optional, Sequence, TextIO, Tuple, Type, Union
 
 from .line import Line, LineFailed
 from .lines import open_line
@@ -224,29 +224,34 @@ def completed(chosen: argparse.Namespace, is_set: bool) -> Tuple[Completion, str
             with client:
                 reasons: List[str] = []
                 client.queue.on_failure = reasons.append
-                request_of(client, chosen, is_set)
-                client.queue.run()
-                return ended(client), "".join(reasons)
+                return asked(client, chosen, is_set, client.queue.run), "".join(reasons)
         except Fault as fault:
             raise LineFailed(str(fault)) from None
     with opened(chosen) as line:
         watched = WatchedLine(line)
         with Controller(Uid.from_number(source_of(chosen, line)), 1) as controller:
-            own = controller.join(1)
-            request_of(own, chosen, is_set)
-            controller.run(watched)
-            return ended(own), str(watched.failure or "")
+            done = asked(controller.join(1), chosen, is_set, lambda: controller.run(watched))
+            return done, str(watched.failure or "")
 
 
-def request_of(client: AnyClient, chosen: argparse.Namespace, is_set: bool) -> None:
-    """Submits the request that the arguments name."""
-    from . import Request, RequestClass, Uid
+def asked(client: AnyClient, chosen: argparse.Namespace, is_set: bool, run: Callable[[], object]) -> Completion:
+    """How the request that the arguments name ends, once its answer can't lack its first parts. Raises LineFailed."""
+    from . import Incomplete, Request, RequestClass, Uid
+    from ._ask import MOST_REPEATS, repeated
     request_class = RequestClass.SET if is_set else RequestClass.GET
-    client.submit(Request(Uid.from_number(chosen.uid), chosen.pid, chosen.data, chosen.sub, request_class))
+    request = Request(Uid.from_number(chosen.uid), chosen.pid, chosen.data, chosen.sub, request_class)
+    for _ in range(1 + MOST_REPEATS):
+        client.submit(request)
+        run()
+        done = ended(client)
+        if not done.may_be_incomplete:
+            return done
+        request = repeated(request)
+    raise LineFailed(Incomplete.WHY)
 
 
 def ended(client: AnyClient) -> Completion:
-    """How that has ended. Raises LineFailed if it hasn't."""
+    """How its request has ended. Raises LineFailed if it hasn't."""
     from . import Completion
     outcome = client.next_outcome()
     if not isinstance(outcome, Completion):

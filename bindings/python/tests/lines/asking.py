@@ -3,10 +3,11 @@ from __future__ import annotations
 
 import time
 from collections import deque
-from typing import Callable, Deque, List, Optional, Tuple
+from dataclasses import replace
+from typing import Callable, Deque, List, Optional, Set, Tuple
 
 from common import SOURCE
-from wurstlinen import AckType, Completion, ReplyHead, Request, ResponseClass, Status, Uid
+from wurstlinen import AckType, Completion, ReplyHead, Request, RequestClass, ResponseClass, Status, Uid
 from wurstlinen.line import Line, LineFailed
 from wurstlinen.lines.numbers import CommandClass, Pid, ResponseType
 from wurstlinen.lines.packets import Packet, decode_packet
@@ -110,6 +111,8 @@ class StandInQueue:
         self._is_paused = False
         self.waiting: Deque[Tuple[int, Request]] = deque()
         self.ended: Deque[Completion] = deque()
+        # The GETs that broke off, by device, sub-device and PID.
+        self.broken: Set[Tuple[Uid, int, int]] = set()
         self.requests = 0
 
     def pause(self) -> None:
@@ -124,8 +127,20 @@ class StandInQueue:
         """Makes the exchanges of all requests."""
         while self.waiting and not self._is_paused:
             number, request = self.waiting.popleft()
-            self.ended.append(self._done(number, request, line))
+            self.ended.append(self._flagged(request, self._done(number, request, line)))
         return 0
+
+    def _flagged(self, request: Request, done: Completion) -> Completion:
+        """Says whether an answer may lack its first parts."""
+        key = request.target, request.sub_device, request.pid
+        if request.request_class == RequestClass.SET or done.status == Status.WAS_BROADCAST:
+            return done
+        if done.head is None:
+            self.broken.add(key)
+        elif done.head.ack == AckType.ACK and key in self.broken:
+            self.broken.remove(key)
+            return replace(done, may_be_incomplete=True)
+        return done
 
     def _done(self, number: int, request: Request, line: Line) -> Completion:
         """How a request ends, without parts."""

@@ -9,8 +9,8 @@ from functools import partial
 from typing import TYPE_CHECKING, Iterator, Optional, Set, Tuple, Union, cast
 
 from .. import (
-    AckType, Asker, Client, Completion, Controller, Device, Discovery, Fault, Kind, Request, RequestClass,
-    ResponseClass, RunFaultKind, Search, Status, Uid, Unserved,
+    AckType, Asker, Client, Completion, Controller, Device, Discovery, Fault, Incomplete, Kind, Request,
+    RequestClass, ResponseClass, RunFaultKind, Search, Status, Uid, Unserved,
 )
 from .. import commands
 from ..commands import RUN_FAULTS, source_of
@@ -66,6 +66,8 @@ class Work:
             answer = self._asker.ask(Request(uid, pid, data, sub_device, request_class))
         except Unserved:
             raise self._unserved("request") from None
+        except Incomplete as fault:
+            raise Failure(FAILED, f"{uid}: {fault}", uid=str(uid), reason="incomplete") from None
         for message in answer.queued:
             self._report(uid, message)
         if answer.is_late:
