@@ -33,9 +33,32 @@ constexpr std::array<RDMStatusCode, 19> STATUSES{
     RDM_SUB_DEVICE_MISMATCH, RDM_SRC_UID_MISMATCH, RDM_DEST_UID_MISMATCH, RDM_COMMAND_CLASS_MISMATCH,
     RDM_INVALID_RESPONSE};
 
+constexpr unsigned int HEADER_BYTES = 24;
 constexpr std::size_t LEAST_RESPONSE_BYTES = 26;
 // More than one device replied to a branch, or the reply can't be read.
 const Bytes COLLISION{0};
+
+bool is_for_core(const RDMRequest &request) {
+    const auto length = static_cast<std::uint8_t>(HEADER_BYTES + request.ParamDataSize());
+    return (request.CommandClass() == RDMCommand::GET_COMMAND || request.CommandClass() == RDMCommand::SET_COMMAND)
+        && request.SubStartCode() == SUB_START_CODE && request.MessageLength() == length
+        && request.MessageCount() == 0 && request.Checksum(0) == 0 && request.Checksum(1) == 1;
+}
+
+wurst_request form_of(const RDMRequest &request) {
+    const auto command_class = request.CommandClass() == RDMCommand::SET_COMMAND ? WURST_SET : WURST_GET;
+    const wurst::Uid target(request.DestinationUID().ManufacturerId(), request.DestinationUID().DeviceId());
+    return {target.number(), command_class, request.SubDevice(), request.ParamId()};
+}
+
+std::unique_ptr<RDMRequest> repeated(const RDMRequest &request) {
+    if (request.ParamId() != PID_QUEUED_MESSAGE && request.ParamId() != PID_STATUS_MESSAGES) {
+        return std::unique_ptr<RDMRequest>(request.Duplicate());
+    }
+    const std::uint8_t last = STATUS_GET_LAST_MESSAGE;
+    return std::make_unique<RDMGetRequest>(request.SourceUID(), request.DestinationUID(), request.TransactionNumber(),
+                                           request.PortId(), request.SubDevice(), request.ParamId(), &last, 1U);
+}
 
 // The raw bytes of the last reply. If a good reply has none, or too few for a response, the response is serialized.
 static Bytes bytes_of(const RDMReply &reply) {
@@ -167,10 +190,24 @@ Heard hear(const RDMReply &reply, const wurst_command &sent) {
 
 RDMStatusCode status_of(std::uint32_t status) { return STATUSES.at(status); }
 
+RDMStatusCode status_of(const wurst::CompletionView &done, RDMStatusCode below, unsigned int replies) {
+    if (done.status() == WURST_TIMEOUT && below == RDM_UNKNOWN_UID) {
+        return RDM_UNKNOWN_UID;
+    }
+    if (done.status() == WURST_TIMEOUT && below == RDM_COMPLETED_OK && replies == 1) {
+        return RDM_COMPLETED_OK;
+    }
+    const bool is_later_source = done.status() == WURST_SOURCE_MISMATCH && replies > 1;
+    // There was no memory for a reply that came.
+    const bool is_lost = done.status() == WURST_FAILED_TO_SEND && below == RDM_INVALID_RESPONSE;
+    const bool is_without_answer = is_later_source || is_lost || done.may_be_incomplete();
+    return is_without_answer ? RDM_INVALID_RESPONSE : status_of(done.head.status);
+}
+
 std::unique_ptr<RDMResponse> response_to(const RDMRequest &request, const wurst::CompletionView &done,
                                          std::uint8_t message_count) {
     const auto &head = done.head;
-    if (done.status() != WURST_COMPLETED || !head.has_head) {
+    if (done.status() != WURST_COMPLETED || !head.has_head || done.may_be_incomplete()) {
         return nullptr;
     }
     const bool is_set = head.response_class == WURST_SET_RESPONSE;

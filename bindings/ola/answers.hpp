@@ -25,6 +25,14 @@ struct Heard {
     std::chrono::steady_clock::duration took{};
 };
 
+// Whether the core can send a request: it takes no DISCOVERY requests, and sets all other fields itself.
+bool is_for_core(const ola::rdm::RDMRequest &request);
+
+wurst_request form_of(const ola::rdm::RDMRequest &request);
+
+// A request for the same answer once more, also if the device took it out of its messages.
+std::unique_ptr<ola::rdm::RDMRequest> repeated(const ola::rdm::RDMRequest &request);
+
 // What a reply means for the frame that was sent. `sent` is the frame as the core wrote it. The layer below has sent
 // its own source UID and transaction number instead, and has compared them only if its status is RDM_COMPLETED_OK.
 Heard hear(const ola::rdm::RDMReply &reply, const wurst_command &sent);
@@ -38,8 +46,12 @@ Heard hear_branch(std::vector<std::uint8_t> bytes);
 // The status that a client gets for the core's status.
 ola::rdm::RDMStatusCode status_of(std::uint32_t status);
 
-// The response to a client's request, with the joined data; null unless the device answered. `message_count` is that of
-// the last reply.
+// The status that OLA's client gets. The core can't know some of them. `below` is the last one of the layer below.
+ola::rdm::RDMStatusCode status_of(const wurst::CompletionView &done, ola::rdm::RDMStatusCode below,
+                                  unsigned int replies);
+
+// The response to a client's request, with the joined data; null unless the device answered, with all parts.
+// `message_count` is that of the last reply.
 std::unique_ptr<ola::rdm::RDMResponse> response_to(const ola::rdm::RDMRequest &request,
                                                    const wurst::CompletionView &done, std::uint8_t message_count);
 } // namespace stand_in

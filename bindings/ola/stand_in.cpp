@@ -8,28 +8,15 @@ using namespace ola::rdm;
 // The controller's UID in the core's frames. E1.20 leaves its manufacturer to prototypes. So no reply to the adapter's
 // or a client's own UID looks like a reply to a frame of the core.
 constexpr wurst::Uid SOURCE{0x7ff0, 0x00000001};
-constexpr unsigned int HEADER_BYTES = 24;
 // So many silences in a row show that a range is empty. A run that hears nothing ends with the last of them.
 constexpr unsigned int SILENT_BRANCHES = 5;
+// How often a GET is made again whose answer may lack its first parts.
+constexpr unsigned int MOST_REPEATS = 5;
 constexpr const char *STOPPED = "the adapter was stopped";
 constexpr const char *DISCOVERY_BY_BRIDGE[] = {
     "the proved discovery, by the adapter's discovery calls and requests",
     "the proved discovery, by the adapter's requests", "the adapter's own discovery, which isn't proved",
     "no discovery"};
-
-// Whether the core can send a request: it takes no DISCOVERY requests, and sets all these fields itself.
-static bool is_for_core(const RDMRequest &request) {
-    const auto length = static_cast<std::uint8_t>(HEADER_BYTES + request.ParamDataSize());
-    return (request.CommandClass() == RDMCommand::GET_COMMAND || request.CommandClass() == RDMCommand::SET_COMMAND)
-        && request.SubStartCode() == SUB_START_CODE && request.MessageLength() == length
-        && request.MessageCount() == 0 && request.Checksum(0) == 0 && request.Checksum(1) == 1;
-}
-
-static wurst_request form_of(const RDMRequest &request) {
-    const auto command_class = request.CommandClass() == RDMCommand::SET_COMMAND ? WURST_SET : WURST_GET;
-    const wurst::Uid target(request.DestinationUID().ManufacturerId(), request.DestinationUID().DeviceId());
-    return {target.number(), command_class, request.SubDevice(), request.ParamId()};
-}
 
 template <typename Devices> std::shared_ptr<const UIDSet> set_of(const Devices &devices) {
     const auto set = std::make_shared<UIDSet>();
@@ -398,21 +385,34 @@ void StandIn::collect() {
     }
 }
 
-// The status that OLA's client gets. The core can't know some of them.
-static RDMStatusCode status_of(const wurst::CompletionView &done, RDMStatusCode below, unsigned int replies) {
-    if (done.status() == WURST_TIMEOUT && below == RDM_UNKNOWN_UID) {
-        return RDM_UNKNOWN_UID;
+// Asks again for an answer that may lack its first parts, behind all that waits. False: that can't be done, or was done
+// often enough.
+bool StandIn::ask_again(const wurst::CompletionView &done) {
+    Request &oldest = requests_.front();
+    if (oldest.repeats == MOST_REPEATS) {
+        tell(name(), Level::Warn, oldest.request->DestinationUID(),
+             " gave no whole answer to a GET, since others of the same break off again and again");
+        return false;
     }
-    if (done.status() == WURST_TIMEOUT && below == RDM_COMPLETED_OK && replies == 1) {
-        return RDM_COMPLETED_OK;
+    Requests again;
+    try {
+        again.push_back({oldest.order, repeated(*oldest.request), oldest.callback, {}});
+        const RDMRequest &request = *again.front().request;
+        core_.submit(client_, form_of(request), {request.ParamData(), request.ParamDataSize()});
+    } catch (const std::exception &) {
+        return false;
     }
-    const bool is_later_source = done.status() == WURST_SOURCE_MISMATCH && replies > 1;
-    // There was no memory for a reply that came.
-    const bool is_lost = done.status() == WURST_FAILED_TO_SEND && below == RDM_INVALID_RESPONSE;
-    return is_later_source || is_lost ? RDM_INVALID_RESPONSE : status_of(done.head.status);
+    again.front().repeats = oldest.repeats + 1;
+    record(controller_, "result", "asked again", "request", oldest.order, "data", done.data);
+    requests_.pop_front();
+    requests_.splice(requests_.end(), again);
+    return true;
 }
 
 void StandIn::finish(const wurst::CompletionView &done) {
+    if (done.may_be_incomplete() && ask_again(done)) {
+        return;
+    }
     const Request request = std::move(requests_.front());
     requests_.pop_front();
     const RDMStatusCode status = status_of(done, request.status, request.replies);

@@ -47,6 +47,8 @@ private:
         unsigned int replies = 0;
         std::uint8_t message_count = 0;
         ola::rdm::RDMStatusCode status = ola::rdm::RDM_COMPLETED_OK;
+        // How often it was made again.
+        unsigned int repeats = 0;
     };
 
     // A discovery's callback, which runs on no other thread than that which asked for it.
@@ -94,6 +96,7 @@ private:
     void proceed(std::function<void()> step);
     void send_held();
     void collect();
+    bool ask_again(const wurst::CompletionView &done);
     void finish(const wurst::CompletionView &done);
     void answer(const wurst::DiscoveryView &done);
     bool repeat(const wurst::DiscoveryView &done);

@@ -1,5 +1,6 @@
 // Requests: answers at different times, parts, pauses, the queue's limit, and what is handed down.
 #include "checks.hpp"
+#include "messages.hpp"
 
 namespace tests {
 namespace {
@@ -116,6 +117,99 @@ void test_parts_that_fail() {
           == RDM_INVALID_RESPONSE);
     CHECK(status_after_part([](const RDMRequest &request) { return uncompared<RDMSetResponse>(request, DEVICE); }, 1)
           == RDM_COMMAND_CLASS_MISMATCH);
+}
+
+// A device whose answer has three parts, one after another, whatever comes in between.
+struct InParts {
+    static inline const Data whole{1, 1, 2, 2, 3, 3};
+    unsigned int requests = 0;
+    unsigned int parts = 0;
+
+    // The next part, unless that is lost.
+    Lower::Reply reply(const RDMRequest &request, bool is_lost) {
+        requests++;
+        parts = parts % 3 + 1;
+        return is_lost ? std::make_unique<RDMReply>(RDM_TIMEOUT)
+                       : part(request, Data(2, static_cast<std::uint8_t>(parts)), parts == 3);
+    }
+};
+
+// A client's GET loses a part. The next client is given all of them, behind what was asked meanwhile.
+void test_rest(unsigned int lost) {
+    Lower lower;
+    lower.when = When::Later;
+    InParts device;
+    lower.answers = [&](const RDMRequest &request) {
+        const bool is_get = request.CommandClass() == RDMCommand::GET_COMMAND;
+        return is_get ? device.reply(request, device.requests == lost) : nullptr;
+    };
+    Client first, second;
+    Queue queue(&lower, 20);
+    queue.SendRDMRequest(get(), first.callback());
+    queue.SendRDMRequest(get(), second.callback());
+    queue.SendRDMRequest(set(), second.callback());
+    lower.answer_all();
+    CHECK(first.got.size() == 1 && first.last() == RDM_TIMEOUT && !first.got[0].response);
+    CHECK(second.got.size() == 2 && second.got[0].response->CommandClass() == RDMCommand::SET_COMMAND_RESPONSE);
+    const Got &got = second.got[1];
+    CHECK(got.status == RDM_COMPLETED_OK && data_of(*got.response) == InParts::whole && got.frames.size() == 3);
+    CHECK(device.requests == lost + 1 + (lost == 2 ? 3 : 2 - lost) + 3);
+    queue.SendRDMRequest(get(), second.callback());
+    lower.answer_all();
+    CHECK(second.got.size() == 3 && data_of(*second.got[2].response) == InParts::whole);
+}
+
+// Before each GET of the second client, the first one's breaks off.
+void test_endless_rests() {
+    forget_messages();
+    Lower lower;
+    lower.when = When::Later;
+    InParts device;
+    Client first, second;
+    Queue queue(&lower, 2);
+    bool is_firsts = true;
+    lower.answers = [&](const RDMRequest &request) {
+        const bool is_lost = is_firsts && device.parts == 1;
+        const bool is_rest = !is_firsts && device.parts == 2;
+        if (is_rest) {
+            queue.SendRDMRequest(get(), first.callback());
+        }
+        is_firsts = is_firsts ? !is_lost : is_rest;
+        return device.reply(request, is_lost);
+    };
+    queue.SendRDMRequest(get(), first.callback());
+    queue.SendRDMRequest(get(), second.callback());
+    lower.answer_all();
+    CHECK(second.got.size() == 1 && second.last() == RDM_INVALID_RESPONSE && !second.got[0].response);
+    // Five times it was asked again, behind the first client's.
+    CHECK(first.got.size() == 7 && first.last() == RDM_TIMEOUT);
+    CHECK(messages_with("gave no whole answer to a GET") == 1);
+    queue.SendRDMRequest(get(), second.callback());
+    lower.answers = nullptr;
+    lower.answer_all();
+    CHECK(second.got.size() == 2 && second.last() == RDM_COMPLETED_OK);
+}
+
+// A message that broke off is asked for once more, and not the one after it.
+void test_rest_of_message() {
+    Lower lower;
+    lower.when = When::Later;
+    std::size_t replies = 0;
+    lower.answers = [&](const RDMRequest &request) {
+        return ++replies == 1 ? std::make_unique<RDMReply>(RDM_TIMEOUT) : part(request, {7}, true);
+    };
+    Client client;
+    Queue queue(&lower, 20);
+    for (int i = 0; i < 2; i++) {
+        queue.SendRDMRequest(get(PID_QUEUED_MESSAGE, DEVICE, 0, {STATUS_ERROR}), client.callback());
+    }
+    lower.answer();
+    lower.answer();
+    queue.Pause();
+    lower.answer();
+    CHECK(client.got.size() == 2 && client.last() == RDM_COMPLETED_OK && lower.sent.size() == 3);
+    CHECK(data_of(*lower.sent[1]) == Data{STATUS_ERROR} && data_of(*lower.sent[2]) == Data{STATUS_GET_LAST_MESSAGE});
+    CHECK(client.got[1].response->TransactionNumber() == CLIENTS_NUMBER);
 }
 
 void test_pauses() {
@@ -245,6 +339,11 @@ void test_requests() {
     test_second_answer();
     test_parts();
     test_parts_that_fail();
+    for (unsigned int lost : {0, 1, 2}) {
+        test_rest(lost);
+    }
+    test_endless_rests();
+    test_rest_of_message();
     test_pauses();
     test_limits();
     test_null_callbacks();
