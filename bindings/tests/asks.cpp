@@ -525,7 +525,6 @@ private:
             CHECK(is_lost ? done.status() == WURST_TIMEOUT : done.data == InParts::whole && !done.may_be_incomplete());
             (is_lost ? sum.broken_asks : sum.whole_asks)++;
         } catch (const wurst::Incomplete &) {
-            // It is counted as neither.
         }
     }
 
@@ -569,15 +568,15 @@ private:
 
 // The argument is the number of trials, whose results are printed then.
 int main(int count, char **arguments) {
-    const unsigned long trials = count > 1 ? std::strtoul(arguments[1], nullptr, 10) : 500;
-    for (unsigned int seed = 0; seed < trials; seed++) {
+    for (unsigned int seed = 0; seed < (count > 1 ? std::strtoul(arguments[1], nullptr, 10) : 500); seed++) {
         Trial trial(seed);
     }
     for (std::size_t i = 0; i < rates.size() && count > 1; i++) {
         const Results &sum = results[i];
-        std::printf("1 in %u lost: %lu whole, %lu rests, %lu flagged without need, %lu broken off; %lu asked: %lu whole, "
-                    "%lu broken off, %lu GETs more\n", rates[i], sum.whole, sum.rests, sum.needless, sum.broken,
-                    sum.asks, sum.whole_asks, sum.broken_asks, sum.added);
+        std::printf("1 in %u lost: %lu whole, %lu rests, %lu whole with a flag, %lu broken off; ", rates[i], sum.whole,
+                    sum.rests, sum.needless, sum.broken);
+        std::printf("%lu asked: %lu whole, %lu broken off, %lu GETs more\n", sum.asks, sum.whole_asks,
+                    sum.broken_asks, sum.added);
     }
     needs_no_time();
     waits_as_long_as_it_says();
