@@ -1,8 +1,12 @@
 // The C++ header that asks devices which need time, with devices that answer by tables.
 #include "tests.h"
 #include <array>
+#include <cstdio>
+#include <cstdlib>
 #include <deque>
 #include <memory>
+#include <random>
+#include <string>
 #include <vector>
 #include <wurstlinen_ask.hpp>
 
@@ -195,39 +199,6 @@ static void repeats_what_was_lost() {
     CHECK(asker.get(device, label).completion.data == Data({'o', 'l', 'd'}));
     const auto second = asker.get(device, label);
     CHECK(second.completion.data == lamp && second.queued.empty());
-}
-
-static void repeats_a_lost_report() {
-    TestTime time;
-    const Said report{WURST_ACK, status, {0, 0, 4, 0, 0x21, 0, 5, 0, 0}};
-    Device line{{timer(label, 1), silence, report, {WURST_ACK, label, lamp}, empty}};
-    const auto answer = ask(line, time);
-    CHECK(answer.completion.data == lamp && answer.queued.size() == 1 && answer.queued[0].data == report.data);
-    CHECK(line.asked[2].second == Data{1});
-}
-
-// The program's own time: a real wait of a tenth of a second.
-static void sleeps() {
-    Device slow{{timer(label, 1), {WURST_ACK, label, lamp}, empty}};
-    wurst::Controller queue(source);
-    auto exchange = [&slow](const wurst::Frame &frame) { return slow.exchange(frame); };
-    const auto began = std::chrono::steady_clock::now();
-    const auto answer = wurst::ask(queue, queue.join(1), exchange, {device.number(), WURST_GET, 0, label});
-    CHECK(answer.completion.data == lamp && std::chrono::steady_clock::now() - began >= milliseconds(100));
-}
-
-static void hands_over_a_discovery() {
-    Device line{{{WURST_ACK, label, lamp}}};
-    wurst::Controller queue(source);
-    const auto client = queue.join(1);
-    queue.discover(client);
-    auto exchange = [&line](const wurst::Frame &frame) {
-        return frame.data()[20] == 0x10 ? std::optional<Data>(std::in_place) : line.exchange(frame);
-    };
-    const auto answer = wurst::ask(queue, client, exchange, {device.number(), WURST_GET, 0, label});
-    CHECK(answer.completion.data == lamp && answer.earlier.size() == 1);
-    const auto &found = std::get<wurst::Discovery>(answer.earlier[0]);
-    CHECK(found.number() == 0 && found.fault() == WURST_NO_FAULT && found.devices.empty());
 }
 
 static void fails() {
@@ -485,7 +456,128 @@ static void takes_whole_messages() {
     CHECK(other.asked.size() == 3 && other.asked[1].second == Data{4} && other.asked[2].second == Data{1});
 }
 
-int main() {
+// One in so many replies is lost. 0: only the first loss, which is at each part in turn.
+static constexpr std::array<unsigned int, 4> rates{0, 50, 10, 3};
+
+// What came of trials with a rate: of the clients that collect answers as they are, and of those that ask.
+struct Results {
+    unsigned long whole = 0, rests = 0, needless = 0, broken = 0;
+    unsigned long asks = 0, whole_asks = 0, broken_asks = 0, added = 0;
+};
+static std::array<Results, rates.size()> results;
+
+// A request at the device: the part that it began with, and whether a reply was lost.
+struct Exchanges {
+    std::size_t begin;
+    bool is_lost = false;
+    bool is_over = false;
+};
+
+// Two to sixteen clients want the same while parts are lost.
+class Trial {
+public:
+    explicit Trial(unsigned int seed)
+        : chance_(seed), rate_(chance_() % rates.size()), first_loss_(seed / 15 % InParts::parts.size()) {
+        const unsigned int clients = 2 + seed % 15;
+        for (unsigned int i = clients / 2; i < clients; i++) {
+            plain_.push_back(queue_.join(40));
+        }
+        submit();
+        for (unsigned int i = 0; i < clients / 2; i++) {
+            asks(queue_.join(1));
+        }
+        queue_.run([this](const wurst::Frame &frame) { return exchange(frame); });
+        collect();
+        results[rate_].added += requests_.size() - submitted_ - clients / 2;
+    }
+
+private:
+    void submit() {
+        queue_.get(plain_[chance_() % plain_.size()], device, label);
+        submitted_++;
+    }
+
+    // Before each exchange a client may ask for the same.
+    std::optional<Data> exchange(const wurst::Frame &frame) {
+        if (submitted_ < 30 && chance_() % 4 == 0) {
+            submit();
+        }
+        if (requests_.empty() || requests_.back().is_over) {
+            requests_.push_back({line_.next});
+        }
+        const bool is_first_loss = line_.next == first_loss_;
+        first_loss_ = is_first_loss ? InParts::parts.size() : first_loss_;
+        const bool is_lost = is_first_loss || (rates[rate_] > 0 && chance_() % rates[rate_] == 0);
+        const auto reply = line_.exchange(frame);
+        requests_.back().is_lost = is_lost;
+        requests_.back().is_over = is_lost || line_.next == 0;
+        return is_lost ? Data() : reply;
+    }
+
+    void asks(std::uint8_t client) {
+        Results &sum = results[rate_];
+        auto exchange = [this](const wurst::Frame &frame) { return this->exchange(frame); };
+        wurst::Asker asker(queue_, client, exchange, milliseconds(10000), TestTime());
+        sum.asks++;
+        try {
+            const auto done = asker.get(device, label).completion;
+            const bool is_lost = requests_[done.number()].is_lost;
+            CHECK(is_lost ? done.status() == WURST_TIMEOUT : done.data == InParts::whole && !done.may_be_incomplete());
+            (is_lost ? sum.broken_asks : sum.whole_asks)++;
+        } catch (const wurst::Incomplete &) {
+        }
+    }
+
+    // Requests were sent in the order of their numbers.
+    void collect() {
+        std::vector<bool> flags;
+        bool is_open = false;
+        for (const Exchanges &each : requests_) {
+            flags.push_back(is_open && !each.is_lost);
+            is_open = each.is_lost;
+        }
+        for (const auto client : plain_) {
+            while (const auto done = queue_.next_completion(client)) {
+                compare(*done, requests_[done->number()], flags[done->number()]);
+            }
+        }
+    }
+
+    // What a client has got, and what the device has sent.
+    void compare(const wurst::Completion &done, const Exchanges &sent, bool flag) {
+        Results &sum = results[rate_];
+        CHECK(done.may_be_incomplete() == flag && (flag || sent.is_lost || sent.begin == 0));
+        std::string data;
+        for (std::size_t part = sent.begin; part < InParts::parts.size() && !sent.is_lost; part++) {
+            data += InParts::parts[part];
+        }
+        CHECK(done.data == Data(data.begin(), data.end()));
+        CHECK(done.status() == (sent.is_lost ? WURST_TIMEOUT : WURST_COMPLETED));
+        (sent.is_lost ? sum.broken : !flag ? sum.whole : sent.begin > 0 ? sum.rests : sum.needless)++;
+    }
+
+    std::mt19937 chance_;
+    std::size_t rate_;
+    std::size_t first_loss_;
+    InParts line_{{}};
+    wurst::Controller queue_{source};
+    std::vector<std::uint8_t> plain_;
+    std::vector<Exchanges> requests_;
+    std::size_t submitted_ = 0;
+};
+
+// The argument is the number of trials, whose results are printed then.
+int main(int count, char **arguments) {
+    for (unsigned int seed = 0; seed < (count > 1 ? std::strtoul(arguments[1], nullptr, 10) : 500); seed++) {
+        Trial trial(seed);
+    }
+    for (std::size_t i = 0; i < rates.size() && count > 1; i++) {
+        const Results &sum = results[i];
+        std::printf("1 in %u lost: %lu whole, %lu rests, %lu whole with a flag, %lu broken off; ", rates[i], sum.whole,
+                    sum.rests, sum.needless, sum.broken);
+        std::printf("%lu asked: %lu whole, %lu broken off, %lu GETs more\n", sum.asks, sum.whole_asks,
+                    sum.broken_asks, sum.added);
+    }
     needs_no_time();
     waits_as_long_as_it_says();
     sends_a_set_once();
@@ -494,9 +586,6 @@ int main() {
     knows_whose_sensor_it_is();
     is_bounded();
     repeats_what_was_lost();
-    repeats_a_lost_report();
-    sleeps();
-    hands_over_a_discovery();
     fails();
     keeps_what_was_collected();
     hands_over_what_was_collected();

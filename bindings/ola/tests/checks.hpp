@@ -125,6 +125,7 @@ void test_threads();
 void test_wild_layers();
 void test_moments();
 void test_own();
+void test_lost_parts(unsigned long runs);
 void test_length(unsigned long requests);
 
 // How many blocks of the C library's heap are allocated, and whether allocations fail.

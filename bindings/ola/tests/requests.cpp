@@ -2,6 +2,10 @@
 #include "checks.hpp"
 #include "messages.hpp"
 
+#include <array>
+#include <deque>
+#include <random>
+
 namespace tests {
 namespace {
 
@@ -348,6 +352,40 @@ void test_requests() {
     test_limits();
     test_null_callbacks();
     test_handed_down();
+}
+
+// Two to sixteen clients ask three times for the same, while parts are lost: the first one at each part in turn, and
+// then one in so many. Each is given all parts, or a fault.
+static void test_lost_parts_of(unsigned int seed) {
+    constexpr std::array<unsigned int, 4> rates{0, 50, 10, 3};
+    std::mt19937 chance(seed);
+    const unsigned int rate = rates[chance() % rates.size()];
+    Lower lower;
+    lower.when = When::Later;
+    InParts device;
+    lower.answers = [&](const RDMRequest &request) {
+        const bool is_first_loss = device.requests == seed / 15 % 3;
+        return device.reply(request, is_first_loss || (rate > 0 && chance() % rate == 0));
+    };
+    std::deque<Client> clients(2 + seed % 15);
+    Queue queue(&lower, 60);
+    for (std::size_t i = 0; i < 3 * clients.size(); i++) {
+        queue.SendRDMRequest(get(), clients[i % clients.size()].callback());
+    }
+    lower.answer_all();
+    for (const Client &client : clients) {
+        CHECK(client.got.size() == 3);
+        for (const Got &got : client.got) {
+            const bool is_fault = got.status == RDM_TIMEOUT || got.status == RDM_INVALID_RESPONSE;
+            CHECK(got.response ? data_of(*got.response) == InParts::whole : is_fault);
+        }
+    }
+}
+
+void test_lost_parts(unsigned long runs) {
+    for (unsigned int seed = 0; seed < runs; seed++) {
+        test_lost_parts_of(seed);
+    }
 }
 
 // This many requests, each sent by the callback of the previous one. Neither the stack nor the heap may grow.

@@ -12,6 +12,7 @@ import itertools
 import json
 import signal
 import sys
+from dataclasses import replace
 from pathlib import Path
 from typing import Dict, List, NoReturn, Sequence, Tuple
 
@@ -70,6 +71,23 @@ def check_parts(checks: Checks, files: Tuple[Path, Path]) -> None:
         refused = daemon.get("1234:00000009", "device_label")
         checks.check("NACK" in refused, f"refusal: {refused}")
         checks.check(daemon.get("1234:00000007", "device_label") == "", "an empty label")
+
+
+def check_rests(checks: Checks, files: Tuple[Path, Path]) -> None:
+    """A tool's GET loses its first, its second or its last part. The next tool is given all parts."""
+    parts = ["Front ", "of the ", "stage"]
+    params = [{"pid": "0082", "parts": [part.encode().hex() for part in parts]}]
+    uid = "1234:00000007"
+    scene = parse_scene({"source": "7ff0:00000001", "devices": [{"uid": uid, "params": params}]})
+    with Daemon(scene, files[1], files[0]) as daemon:
+        checks.check(daemon.discover(True) == [uid], "a fixture that answers in parts")
+        for lost in range(len(parts)):
+            before = daemon.rig.exchanges
+            daemon.rig.scene = replace(scene, losses=frozenset([before + lost]))
+            got = [daemon.get(uid, "device_label") for _ in range(2)]
+            checks.check(got == [NO_REPLY, "".join(parts)], f"part {lost} lost: {got}")
+            exchanges = lost + 1 + (len(parts[lost + 1:]) or len(parts)) + len(parts)
+            checks.check(daemon.rig.exchanges - before == exchanges, f"part {lost} lost: not {exchanges} exchanges")
 
 
 def check_settings(checks: Checks, files: Tuple[Path, Path]) -> None:
@@ -145,7 +163,7 @@ def main(arguments: Sequence[str]) -> int:
     checks = Checks()
     for count, firmware, loss in itertools.product(COUNTS, FIRMWARES, LOSSES):
         check_line(checks, files, count, firmware, loss)
-    for check in (check_parts, check_fault, check_settings, check_search, check_own_discovery):
+    for check in (check_parts, check_rests, check_fault, check_settings, check_search, check_own_discovery):
         check(checks, files)
     print(f"{checks.passed} passed, {checks.failed} failed")
     return 1 if checks.failed else 0

@@ -53,6 +53,7 @@ void rattle_dealloc(unsigned char *at) {
 }
 
 int main(int, char **arguments) {
+    const unsigned long length = std::strtoul(arguments[1], nullptr, 10);
     tests::keep_messages();
     tests::test_settings();
     tests::test_requests();
@@ -66,10 +67,11 @@ int main(int, char **arguments) {
     tests::test_wild_layers();
     tests::test_moments();
     tests::test_own();
+    tests::test_lost_parts(length / 100);
     tests::forget_messages();
     const std::size_t before = tests::heap_bytes();
     CHECK(tests::blocks == 0);
-    tests::test_length(std::strtoul(arguments[1], nullptr, 10));
+    tests::test_length(length);
     CHECK(tests::blocks == 0 && tests::heap_bytes() <= before + 1024);
     std::printf("%u passed, %u failed\n", tests::passed, tests::failed);
     return tests::failed > 0;

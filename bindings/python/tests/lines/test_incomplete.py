@@ -97,6 +97,14 @@ class Asks(TestCase):
             answer = asker.get(DEVICE, LABEL)
             self.assertEqual((answer.completion.data, answer.earlier), (WHOLE, ()))
 
+    def test_a_line_that_loses_every_other_reply(self) -> None:
+        rig = Rig(in_parts(*range(1, 100, 2)))
+        with Controller("7a70:00000100") as queue:
+            asker = Asker(queue.join(1), rig)
+            statuses = {asker.get(DEVICE, LABEL).completion.status for _ in range(10)}
+        # At most two GETs each, with one or two exchanges.
+        self.assertEqual((statuses, rig.exchanges <= 40), ({Status.TIMEOUT}, True))
+
     def test_no_rest_is_given_if_all_break_off(self) -> None:
         line = Breaking()
         with Controller("7a70:00000100") as queue:
