@@ -43,35 +43,9 @@ exec 3> "$3" 4< "$5"
 echo {frame} >&3
 read -r reply <&4
 echo one
-echo "wurstlinen: 12 exchanges after 2 seconds" >&2
-echo "wurstlinen: two" >&2
+printf 'wurstlinen: 12 exchanges after 2 seconds\nwurstlinen: two\n' >&2
 echo three
 exit 5
-"""
-# What the program prints of a discovery with a fault, and of a session.
-FINDING = """#!/bin/sh
-echo "fault 1 4444:00000009"
-echo "frames 9"
-cat >&2 << END
-wurstlinen: a remark
-wurstlinen: a fault in words; found until then:
-1234:00000001
-1234:00000002 0002 1234:00000001
-1234:00000003 0008
-END
-exit 1
-"""
-SERVING = """#!/bin/sh
-cat << END
-client 0 request 0: 0 00 4c61
-client 0 request 1: 0 00 -
-client 12 request 2: 3
-client 1 discovery 0: ok 1234:00000001 9abc:00000002
-client 1 discovery 1: fault 3
-fault: scene
-END
-echo "wurstlinen: it is a test" >&2
-exit 1
 """
 NO_ADAPTER = "wurstlinen: no adapter is plugged in; --line LINE or WURSTLINEN_LINE names another line\n"
 # Unmutes all devices, which none answers: the source is 7ff0:00000001.
@@ -101,13 +75,6 @@ class Place(unittest.TestCase):
         self.addCleanup(place.cleanup)
         self.folder = Path(place.name).resolve()
 
-
-class Commands(Place):
-    def setUp(self) -> None:
-        super().setUp()
-        self.note = self.folder / "note"
-        self.put_program(PROGRAM.format(frame=with_sum(FRAME)))
-
     def put_program(self, text: str) -> None:
         (self.folder / "program").write_text(text)
         (self.folder / "program").chmod(0o755)
@@ -117,7 +84,6 @@ class Commands(Place):
                 "WURSTLINEN_PROGRAM": str(self.folder / "program"), **more}
 
     def call(self, *words: str, **more: str) -> "subprocess.CompletedProcess[str]":
-        """Runs the command."""
         return subprocess.run([sys.executable, "-m", "wurstlinen.tool", *words], env=self.environment(**more),
                               text=True, check=False, capture_output=True, timeout=300, cwd=self.folder, input="",
                               errors="surrogateescape")
@@ -125,6 +91,13 @@ class Commands(Place):
     def expect(self, words: List[str], status: int, out: str, err: str = "", **more: str) -> None:
         done = self.call(*words, **more)
         self.assertEqual((done.returncode, done.stdout, done.stderr), (status, out, err), words)
+
+
+class Commands(Place):
+    def setUp(self) -> None:
+        super().setUp()
+        self.note = self.folder / "note"
+        self.put_program(PROGRAM.format(frame=with_sum(FRAME)))
 
     def test_the_program_gets_its_words_as_they_are(self) -> None:
         self.put_program('#!/bin/sh\nprintf "%s|" "$@"\nexit 4\n')
@@ -135,20 +108,19 @@ class Commands(Place):
             self.expect(words, 4, "".join(f"{word}|" for word in words))
 
     def test_lines_are_served(self) -> None:
-        for words in (["discover", "--line", f"rig:{FIXTURES}", "--source", "7ff0:00000001"],
-                      ["discover", f"--line=rig:{FIXTURES}", "--source=7ff0:00000001"]):
-            done = self.call(*words)
+        for words in (["--line", f"rig:{FIXTURES}", "--source", "7ff0:00000001"],
+                      [f"--line=rig:{FIXTURES}", "--source=7ff0:00000001"]):
+            done = self.call("discover", *words)
             self.assertEqual((done.returncode, done.stderr), (5, ""))
             self.assertRegex(done.stdout, r"^discover --line FD --replies FD --quick --source.7ff0:00000001\n\n$")
         done = self.call("run", "a b", "--log", "c", "--line", f"rig:{FIXTURES}")
         self.assertEqual((done.returncode, done.stdout), (5, "run --line FD --replies FD a b --log c\n\n"))
 
     def test_a_discovery_has_the_lines_own_source(self) -> None:
-        done = self.call("discover", WURSTLINEN_LINE=f"rig:{FIXTURES}")
-        self.assertEqual((done.returncode, done.stderr), (5, ""))
-        self.assertRegex(done.stdout, r"^discover --line FD --replies FD --source 7ff0:00000001 --quick\n")
-        done = self.call("discover", "--steady", WURSTLINEN_LINE=f"rig:{FIXTURES}")
-        self.assertRegex(done.stdout, r"^discover --line FD --replies FD --source 7ff0:00000001\n")
+        for words, more in (([], " --quick"), (["--steady"], "")):
+            done = self.call("discover", *words, WURSTLINEN_LINE=f"rig:{FIXTURES}")
+            self.assertEqual((done.returncode, done.stderr), (5, ""))
+            self.assertRegex(done.stdout, rf"^discover --line FD --replies FD --source 7ff0:00000001{more}\n")
 
     @unittest.skipIf(adapters.chips(), "an adapter is plugged in")
     def test_a_discovery_without_a_line(self) -> None:
@@ -173,41 +145,6 @@ class Commands(Place):
             self.assertNotIn("--frames", done.stdout)
         # These have no line that is served here.
         self.expect(["discover", "x", "--frames"], 4, "discover x --frames\n")
-
-    def test_what_a_discovery_prints(self) -> None:
-        """FORMATS, the program: the control field and the binding UID. E1.20 says what the field's bits mean."""
-        self.put_program(FINDING)
-        words = ["discover", "--line", f"rig:{FIXTURES}"]
-        end = "the discovery ended early: the branch of 4444:00000009 alone was answered, but showed no new device"
-        self.expect(words, 1, "1234:00000001\n1234:00000002  part of 1234:00000001, has sub-devices\n"
-                              f"1234:00000003  behind a proxy\n3 devices, 9 frames; {end}\n", "wurstlinen: a remark\n")
-        done = self.call(*words, "--json")
-        self.assertEqual((done.returncode, done.stderr), (1, ""))
-        self.assertEqual([json.loads(line) for line in done.stdout.splitlines()], [
-            {"uid": "1234:00000001", "control": "0000"},
-            {"uid": "1234:00000002", "control": "0002", "binding": "1234:00000001"},
-            {"uid": "1234:00000003", "control": "0008"},
-            {"devices": 3, "frames": 9, "fault": end.partition(": ")[2]}])
-        # What is printed for a file is the program's own.
-        self.assertIn("fault 1 4444:00000009\n", self.call("discover", "a").stdout)
-        self.assertEqual(self.call("discover", "a", "--json").stdout, done.stdout)
-
-    def test_a_session_as_json(self) -> None:
-        self.put_program(SERVING)
-        wanted = [{"client": 0, "request": 0, "status": 0, "ack": 0, "data": "4c61"},
-                  {"client": 0, "request": 1, "status": 0, "ack": 0, "data": ""},
-                  {"client": 12, "request": 2, "status": 3},
-                  {"client": 1, "discovery": 0, "fault": None, "devices": ["1234:00000001", "9abc:00000002"]},
-                  {"client": 1, "discovery": 1, "fault": "the run has used up its budget of frames"},
-                  {"error": {"text": "it is a test", "reason": "scene"}}]
-        for more in ([], ["--line", f"rig:{FIXTURES}"]):
-            done = self.call("run", "a", "--json", *more)
-            self.assertEqual((done.returncode, done.stderr), (1, ""))
-            self.assertEqual([json.loads(line) for line in done.stdout.splitlines()], wanted)
-
-    def test_quick_and_steady(self) -> None:
-        self.expect(["discover", "--line", f"rig:{FIXTURES}", "--quick", "--steady"], 2, "fault: command line\n",
-                    "wurstlinen: --steady and --quick exclude each other\n")
 
     def test_progress_on_a_terminal(self) -> None:
         self.put_program(TALKING.format(frame=with_sum(FRAME)))

@@ -414,7 +414,7 @@ class Places(TestCase):
             self.assertIsNone(place.connected("rig:/it"))
             second = Place("rig:/it")
             second.listen()
-            with place.connected("rig:/it") as connection:
+            with contextlib.closing(place.connected("rig:/it")) as connection:
                 self.assertEqual(place.user_of(connection), os.geteuid())
             second.close()
 
@@ -439,7 +439,7 @@ class Places(TestCase):
             second.path.with_suffix(".lock").unlink()
             with self.assertRaisesRegex(BadPlace, "rig:/it is served already"):
                 Place("rig:/it")
-            with place.connected("rig:/it"):
+            with contextlib.closing(place.connected("rig:/it")):
                 pass
             second.close()
             self.assertFalse(second.path.exists())
@@ -491,7 +491,7 @@ class Places(TestCase):
                 self.assertEqual(modes, [(0o750, NOBODY), (0o660, NOBODY)])
                 self.assertIsNone(found.users)
                 found.listen()
-                with place.connected("rig:/it"):
+                with contextlib.closing(place.connected("rig:/it")):
                     pass
                 found.path.parent.chmod(0o777)
                 self.assertRaisesRegex(BadPlace, "others may write to it", place.connected, "rig:/it")

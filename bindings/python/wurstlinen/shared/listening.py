@@ -24,7 +24,7 @@ MOST_NUMBER_BYTES = 32
 FIRST_PASSED = 3
 
 
-def made_folder(group: Optional[int]) -> str:
+def made_folder(group: Optional[int]) -> Path:
     """The folder for the socket of a server. Raises BadPlace and OSError."""
     folder = own_folder() if group is None else SYSTEM_FOLDER
     try:
@@ -38,7 +38,7 @@ def made_folder(group: Optional[int]) -> str:
     check_folder(folder)
     if group is not None:
         check_group(folder, group)
-    return folder
+    return Path(folder)
 
 
 def check_group(folder: str, group: int) -> None:
@@ -89,7 +89,7 @@ class Place:
     def __init__(self, line: str, group: Optional[str] = None) -> None:
         self._line = line
         self._group = None if group is None else group_number(group)
-        self.path = Path(path_of(made_folder(self._group), line))
+        self.path = Path(path_of(str(made_folder(self._group)), line))
         if len(os.fsencode(self.path)) > MOST_PATH_BYTES:
             raise BadPlace(f"{self.path} is longer than the {MOST_PATH_BYTES} bytes that a socket's name may have")
         self._lock = _locked(self.path.with_suffix(".lock"), line)

@@ -14,7 +14,7 @@ from ..line import LineFailed
 from ..lines.opening import is_device
 
 if TYPE_CHECKING:
-    import socket
+    import _socket
 
 FOLDER = "wurstlinen"
 RUNTIME_VARIABLE = "XDG_RUNTIME_DIR"
@@ -127,7 +127,7 @@ def may_be_served(line: str) -> bool:
     return any(os.path.lexists(path_of(folder, line)) for folder in (own_folder(), SYSTEM_FOLDER))
 
 
-def connected(line: str) -> Optional[socket.socket]:
+def connected(line: str) -> Optional[_socket.socket]:
     """A connection to the server of a line; None if there is none. Raises BadPlace."""
     for folder in (own_folder(), SYSTEM_FOLDER):
         try:
@@ -141,10 +141,10 @@ def connected(line: str) -> Optional[socket.socket]:
     return None
 
 
-def _connected(path: str, users: FrozenSet[int]) -> socket.socket:
-    # A command without a server doesn't load it.
-    import socket
-    found = socket.socket(socket.AF_UNIX)
+def _connected(path: str, users: FrozenSet[int]) -> _socket.socket:
+    # It does the work of `socket`, which takes longer to load than the rest of the connection: it names all constants.
+    import _socket
+    found = _socket.socket(_socket.AF_UNIX)
     try:
         _connect(found, path)
         if user_of(found) not in users:
@@ -155,7 +155,7 @@ def _connected(path: str, users: FrozenSet[int]) -> socket.socket:
         raise
 
 
-def _connect(connection: socket.socket, path: str) -> None:
+def _connect(connection: _socket.socket, path: str) -> None:
     """Connects, as soon as the server has accepted those that came before."""
     until = time.monotonic() + SECONDS_TO_CONNECT
     connection.setblocking(False)
@@ -169,15 +169,15 @@ def _connect(connection: socket.socket, path: str) -> None:
         time.sleep(AGAIN_SECONDS)
 
 
-def user_of(connection: socket.socket) -> int:
+def user_of(connection: _socket.socket) -> int:
     """The number of the user whose program is at the other end."""
     return peer_of(connection)[1]
 
 
 def peer_of(connection: socket.socket) -> Tuple[int, int]:
     """The numbers of the process at the other end, and of its user."""
-    import socket
+    import _socket
     import struct
     form = struct.Struct("3i")
-    process, user, _ = form.unpack(connection.getsockopt(socket.SOL_SOCKET, socket.SO_PEERCRED, form.size))
+    process, user, _ = form.unpack(connection.getsockopt(_socket.SOL_SOCKET, _socket.SO_PEERCRED, form.size))
     return process, user

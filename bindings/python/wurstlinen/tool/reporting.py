@@ -8,7 +8,7 @@ import os
 import re
 import subprocess
 import sys
-from contextlib import ExitStack
+from contextlib import ExitStack, suppress
 from threading import Thread
 from typing import IO, Any, Callable, Dict, List, NamedTuple, Optional, Sequence
 
@@ -148,7 +148,10 @@ class Report:
 
 def streams() -> Dict[str, int]:
     """The program's streams, as one if both go to the same place."""
-    is_one = os.path.samestat(os.fstat(sys.stdout.fileno()), os.fstat(sys.stderr.fileno()))
+    is_one = False
+    # This process may have been started without one of them.
+    with suppress(OSError):
+        is_one = os.path.samestat(os.fstat(sys.stdout.fileno()), os.fstat(sys.stderr.fileno()))
     return {"stdout": subprocess.PIPE, "stderr": subprocess.STDOUT if is_one else subprocess.PIPE}
 
 
