@@ -12,7 +12,7 @@ from typing import Any
 from urllib.request import urlopen
 
 import servers
-from common import TestCase, needs_library
+from common import LongTestCase, TestCase, needs_library
 from web_pages import BACK, FIVE, HOUSE, LEFT, RIGHT, SECOND, Events, five
 from wurstlinen.web import running
 
@@ -217,7 +217,7 @@ def web_has_program() -> bool:
 
 
 @needs_library
-class TheCommand(TestCase):
+class TheCommand(LongTestCase):
     """The command in a process of its own, and the server that it starts."""
 
     def started(self, place: Path, *words: str) -> "subprocess.Popen[str]":

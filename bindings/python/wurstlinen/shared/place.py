@@ -174,7 +174,7 @@ def user_of(connection: _socket.socket) -> int:
     return peer_of(connection)[1]
 
 
-def peer_of(connection: socket.socket) -> Tuple[int, int]:
+def peer_of(connection: _socket.socket) -> Tuple[int, int]:
     """The numbers of the process at the other end, and of its user."""
     import _socket
     import struct

@@ -43,6 +43,7 @@ class Task:
     key: str
     work: Callable[[Work], Any]
     is_urgent: bool
+    name: str
     end: "Future[Any]" = field(default_factory=Future)
 
 
@@ -82,10 +83,16 @@ class Hands:
         """The numbers of the clients that these are."""
         return {client.queue.number for client in self._clients}
 
-    def do(self, key: str, work: Callable[[Work], Made], is_urgent: bool = True) -> "Future[Made]":
-        """Has something done, and returns what will become of it: what it returns, or Failure."""
-        task = Task(key, work, is_urgent)
+    def do(self, key: str, work: Callable[[Work], Made], is_urgent: bool = True, name: str = "") -> "Future[Made]":
+        """Has something done, and returns what will become of it: what it returns, or Failure.
+
+        With a name, what waits for the key under that name already isn't done once more.
+        """
+        task = Task(key, work, is_urgent, name)
         with self._has_changed:
+            alike = next((each for each in self._waiting if name and (each.key, each.name) == (key, name)), None)
+            if alike is not None:
+                return alike.end
             if is_urgent:
                 # Behind the other urgent ones.
                 at = next((at for at, each in enumerate(self._waiting) if not each.is_urgent), len(self._waiting))
@@ -94,11 +101,6 @@ class Hands:
                 self._waiting.append(task)
             self._has_changed.notify_all()
         return task.end
-
-    def forget(self, keep: Callable[[str], bool]) -> None:
-        """Forgets what waits, isn't urgent, and whose key isn't wanted any more."""
-        with self._has_changed:
-            self._waiting = deque(each for each in self._waiting if each.is_urgent or keep(each.key))
 
     def _next(self) -> Optional[Task]:
         """The next task that can be done; None at the end."""

@@ -2,6 +2,7 @@
 from __future__ import annotations
 
 import threading
+from concurrent.futures import Future
 from dataclasses import dataclass, field, replace
 from functools import partial
 from typing import Any, Dict, List, Mapping, Optional, Sequence, Tuple
@@ -23,6 +24,8 @@ from .hands import Hands
 
 IDENTIFY = STANDARD.named("identify_device")
 MOST_UNDOS = 100
+# What reading a device is called among tasks.
+READ = "read"
 # The page says this in another place, for all that overlap.
 END_NOTE = "its slots end after"
 # A model: its maker, its number, and its software's.
@@ -100,8 +103,7 @@ class Rig:
             keys.update(first=(fixture.slots or (None,))[0], last=(fixture.slots or (None,))[-1],
                         root=str(fixture.root), identifies=entry.identifies, is_read=entry.is_read,
                         missing=entry.missing, is_slow=SLOW in fixture.notes,
-                        personalities=personalities, is_gone=fixture.is_gone,
-                        sensors=fixture.number("sensor_count"), personality_count=fixture.number("personality_count"))
+                        personalities=personalities, is_gone=fixture.is_gone)
             if fixture.personality is None:
                 keys["personality_name"] = next((each["name"] for each in personalities if each["number"] == number),
                                                 None)
@@ -124,7 +126,7 @@ class Rig:
         for device in asked:
             self.read(device)
 
-    def read(self, device: Device, is_urgent: bool = False) -> "Any":
+    def read(self, device: Device, is_urgent: bool = False) -> "Future[None]":
         """Has a device asked for all that the table has."""
         with self.lock:
             entry = self.entries.get(device.uid)
@@ -134,14 +136,22 @@ class Rig:
             entry.missing = ""
             entry.device = device
         self.show(entry)
-        return self.hands.do(str(device.uid), partial(self._read, entry), is_urgent)
+        return self.hands.do(str(device.uid), partial(self._read, entry), is_urgent, READ)
 
     def read_again(self, uid: Uid) -> None:
         """Has a device asked again, since another program may have changed it; all devices for a broadcast UID."""
         with self.lock:
-            entries = list(self.entries.values()) if uid.is_broadcast else list(filter(None, [self.entries.get(uid)]))
-        for entry in entries:
-            self.hands.do(str(entry.device.uid), partial(self._read, entry), is_urgent=not uid.is_broadcast)
+            devices = [entry.device for entry in self.entries.values()
+                       if not entry.missing and (uid.is_broadcast or entry.device.uid == uid)]
+        for device in devices:
+            self.read(device, is_urgent=not uid.is_broadcast)
+
+    def read_rest(self) -> None:
+        """Has those devices asked that couldn't be asked so far."""
+        with self.lock:
+            devices = [entry.device for entry in self.entries.values() if not entry.is_read and not entry.missing]
+        for device in devices:
+            self.read(device)
 
     def forget(self, uid: Uid) -> None:
         """Takes a device away that isn't there. Raises Failure."""

@@ -85,6 +85,7 @@ def serve(door: Door, server: ServerOfLine, tokens: Tokens, first: SharedClient)
     watcher.own = lambda: hands.numbers
     watcher.on_set = lambda uid: rig.read_again(Uid.from_number(uid))
     watcher.on_devices = pages.found
+    watcher.on_there = rig.read_rest
     pages.serve_at(door)
     hands.start()
     pages.plans.start()

@@ -12,7 +12,8 @@ from ..front.watched import Watched
 from ..line import LineFailed
 from ..lines.numbers import CommandClass, ResponseType
 from ..lines.packets import Packet, decode_packet, is_answer
-from ..lines.uids import uid_text
+from ..lines.uids import is_broadcast, uid_text
+from ..parameters import STANDARD
 from ..shared.client import SharedClient
 from ..shared.connection import Refused
 from ..shared.words import FRAMES, Keys
@@ -24,6 +25,9 @@ MOST_REQUESTS = 100
 LOOK_SECONDS = 1.0
 # How often a page hears of a discovery's progress.
 PROGRESS_SECONDS = 0.1
+# The parameters whose SET changes what the table shows.
+SHOWN = {STANDARD.named(name).number for name in ("device_label", "dmx_start_address", "dmx_personality",
+                                                  "identify_device", "factory_defaults", "reset_device")}
 # A page shows no more of a long answer.
 MOST_TEXT = 300
 
@@ -31,8 +35,8 @@ MOST_TEXT = 300
 class Watcher:
     """Watches the server of the line by a connection of its own, and puts what it sees on the board.
 
-    `connect` makes a client. `on_set` is told which device another program has changed, and `on_devices` what a run has
-    found; None at first, if the server has had no run yet.
+    `connect` makes a client. `on_set` is told which device another program has changed, `on_devices` what a run has
+    found; None at first, if the server has had no run yet. `on_there` is told that the adapter is there again.
     """
 
     def __init__(self, board: Board, connect: Callable[[], SharedClient]) -> None:
@@ -51,6 +55,8 @@ class Watcher:
         self.own: Callable[[], Set[int]] = set
         self.on_set: Callable[[int], None] = lambda uid: None
         self.on_devices: Callable[[Optional[Sequence[Device]]], None] = lambda devices: None
+        self.on_there: Callable[[], None] = lambda: None
+        self._was_there = True
         # The last run whose devices were told.
         self._told_run: Optional[int] = None
 
@@ -109,6 +115,9 @@ class Watcher:
 
     def _tell_line(self, client: SharedClient) -> None:
         queue = client.queue
+        if queue.is_there and not self._was_there:
+            self.on_there()
+        self._was_there = queue.is_there
         self._board.put("line", {"served": True, "there": queue.is_there, "reason": queue.reason, "name": queue.name,
                                  "paused": queue.is_paused(), "source": str(queue.source), "process": queue.process})
 
@@ -169,9 +178,10 @@ class Watcher:
         known.update(client=keys.get("client"), command=command_of(frame)[:MOST_TEXT], answer=text[:MOST_TEXT],
                      is_good=is_good, frames=known["frames"] + 1)
         self._board.put(f"request/{known['at'] % MOST_REQUESTS}", dict(known))
-        is_others = keys.get("client") not in self.own()
-        if is_others and command is not None and command.command_class == CommandClass.SET and is_good:
-            self.on_set(command.destination)
+        is_set = command is not None and command.command_class == CommandClass.SET and command.pid in SHOWN
+        if command is not None and is_set and keys.get("client") not in self.own():
+            if is_good or is_broadcast(command.destination):
+                self.on_set(command.destination)
 
 
 def outcome_of(frame: bytes, command: Optional[Packet], reply: Optional[bytes], parts: Parts) -> Tuple[str, bool]:
