@@ -114,7 +114,7 @@ class Fixtures(LongTestCase):
             labels = "[...document.querySelectorAll('.rig .label')].map((each) => each.value)"
             if size == DESK:
                 seen.button("Label")
-                seen.until(f"{labels}[1] === 'Back truss'")
+                seen.until(f"{labels}[0] === 'Back truss'")
                 seen.button("Label")
                 seen.until(f"{labels}[0] === 'House lights'")
 

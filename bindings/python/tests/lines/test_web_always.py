@@ -36,6 +36,12 @@ class Always(LongTestCase):
                 each.until(f"document.querySelector(\"{row(LEFT)} .label\").ariaLabel === 'Label of Wash 1'")
             taken = time.monotonic() - began
             self.assertEqual(other.value(f"{row(LEFT)} .label"), "Half a na")
+            # Nor does its row go elsewhere, as long as it is typed in.
+            other.page.value("document.querySelector('select.narrow').value = 'label'; "
+                             "document.querySelector('select.narrow').dispatchEvent(new Event('change'))")
+            time.sleep(0.5)
+            self.assertEqual(other.value(f"{row(LEFT)} .label"), "Half a na")
+            self.assertEqual(other.page.value("document.activeElement.value"), "Half a na")
             other.key("Escape")
             self.assertEqual(other.value(f"{row(LEFT)} .label"), "Wash 1")
             # On a quiet machine it is 0.2 s; the line takes no time.

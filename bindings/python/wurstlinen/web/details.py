@@ -32,6 +32,12 @@ class Asked(Shown):
         # By the titles of their rows.
         self.forms: Dict[str, Dict[str, Any]] = {}
         self._values: Dict[int, Dict[str, Any]] = {}
+        self._parameters: Dict[int, Optional[Parameter]] = {}
+
+    def _described(self, pid: int) -> Optional[Parameter]:
+        if pid not in self._parameters:
+            self._parameters[pid] = super()._described(pid)
+        return self._parameters[pid]
 
     def _ask(self, parameter: Parameter, data: bytes = b"") -> Tuple[Optional[Reading], List[str]]:
         reading, lines = super()._ask(parameter, data)

@@ -26,8 +26,10 @@ export function button(text, onclick, attributes = {}) {
     return make("button", { type: "button", onclick, ...attributes }, text);
 }
 
-// Puts the elements of a list in this order; one for each key, which `makeOne` makes when it is first seen.
+// Puts the elements of a list in this order; one for each key, which `makeOne` makes when it is first seen. While
+// somebody types in one of them, the order stays: a browser takes the focus from what is moved.
 export function keep(list, kept, keys, makeOne) {
+    const isHeld = list.contains(document.activeElement) && document.activeElement.matches("input, select");
     for (const key of [...kept.keys()].filter((each) => !keys.includes(each))) {
         kept.get(key).element.remove();
         kept.delete(key);
@@ -37,7 +39,7 @@ export function keep(list, kept, keys, makeOne) {
             kept.set(key, makeOne(key));
         }
         const element = kept.get(key).element;
-        if (list.children[at] !== element) {
+        if (!element.isConnected || (!isHeld && list.children[at] !== element)) {
             list.insertBefore(element, list.children[at] ?? null);
         }
     });

@@ -39,10 +39,8 @@ export function slotsOf(found) {
     return found.first === found.last ? `${found.first}` : `${found.first}–${found.last}`;
 }
 
-// What isn't known comes last.
 function keyOf(found) {
-    const value = found[chosen.column] ?? "";
-    return value === "" ? "\uffff" : String(value).toLowerCase();
+    return String(found[chosen.column] ?? "").toLowerCase();
 }
 
 // In the order in which they are shown.
@@ -54,8 +52,10 @@ export function ordered() {
         return words.every((word) => text.includes(word));
     });
     const compare = new Intl.Collator("en", { numeric: chosen.column !== "uid" }).compare;
-    wanted.sort((one, other) => compare(keyOf(one), keyOf(other)) || (one.uid < other.uid ? -1 : 1));
-    return chosen.isDown ? wanted.reverse() : wanted;
+    const sign = chosen.isDown ? -1 : 1;
+    // What isn't known comes last.
+    return wanted.sort((one, other) => (keyOf(one) === "") - (keyOf(other) === "")
+        || sign * compare(keyOf(one), keyOf(other)) || (one.uid < other.uid ? -1 : 1));
 }
 
 // An input for a value in the table. What is typed is sent, read back, and shown; what was refused comes back.
@@ -195,7 +195,7 @@ export function open() {
             { value: column, selected: column === chosen.column }, `by ${title}`)));
     heads = Object.fromEntries(Object.entries(COLUMNS).map(([column, title]) => [column,
         make("th", { scope: "col" }, button(title, () => sortBy(column)))]));
-    body = make("tbody");
+    body = make("tbody", { onfocusout: redraw });
     const head = (title) => make("th", { scope: "col" }, title);
     return [make("h2", { class: "hidden" }, "Fixtures"),
         make("div", { class: "tools" }, walker, filter, sorting, count),

@@ -101,7 +101,7 @@ class Watcher:
         """Watches until the connection ends. Raises LineFailed."""
         queue = client.queue
         self._requests.clear()
-        self._told_run = None
+        self._told_run, self._run_number = None, 0
         queue.on_frame = self._take
         queue.subscribe([FRAMES])
         next_look = 0.0
