@@ -1,3 +1,2 @@
 mod LogLemmas
-mod StopLemmas
 mod TextLemmas

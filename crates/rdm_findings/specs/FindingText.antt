@@ -12,7 +12,7 @@ use Rattle.rdm_agent.specs.declared.search.Search.{Search}
 use Rattle.rdm_agent.specs.declared.search.Search.TheVariants.{Steady, Quick}
 use Rattle.rdm_agent.specs.declared.fault.AgentFault.{AgentFault}
 use Rattle.rdm_agent.specs.declared.fault.AgentFault.TheVariants.{Exhausted, Aborted}
-use Rattle.rdm_reports.specs.Report.{fault_text}
+use Rattle.rdm_reports.specs.Report.{line_of, fault_text}
 use Rattle.rdm_explain.specs.declared.certificate.RunFinding.{RunFinding}
 use Rattle.rdm_explain.specs.declared.certificate.KnownFinding.{KnownFinding}
 use Rattle.rdm_explain.specs.declared.exchange.Asked.{Asked}
@@ -27,13 +27,7 @@ use Rattle.rdm_findings.specs.declared.head.Start.{Start}
 use Rattle.rdm_findings.specs.declared.head.Start.TheVariants.{At, Later, Unknown}
 use Rattle.rdm_findings.specs.declared.stray_bytes.Sign.{Sign}
 use Rattle.rdm_findings.specs.declared.stray_bytes.Sign.TheVariants as signs
-use Rattle.rdm_findings.specs.declared.form.About.{About}
-use Rattle.rdm_findings.specs.declared.form.Form.{Form}
-use Rattle.rdm_findings.specs.declared.form.Judgement.{Judgement}
-use Rattle.rdm_findings.specs.declared.form.Judgement.TheVariants as judged
 use Rattle.rdm_findings.specs.Ends.{is_complete, is_known_complete, is_over, is_lost, end_of, decides_stray}
-use Rattle.rdm_findings.specs.Forms.{finding, after_sentence, of_run, of_exchange, of_uid}
-use Rattle.rdm_findings.specs.RunJson.{run_start}
 use Rattle.rdm_findings.specs.Starts.{has_start, number_at}
 use Rattle.rdm_findings.specs.StrayBytes.{sign_of}
 
@@ -41,13 +35,13 @@ use Rattle.rdm_findings.specs.StrayBytes.{sign_of}
 abbrev pub exchange_name : ℕ → List ℕ
 exchange_name at = codes "exchange " ++ decimal at
 
--- a finding about an exchange
-abbrev pub exchange_finding : Form → Judgement → ℕ → List ℕ → List ℕ
-exchange_finding form judgement at text = finding form (of_exchange judgement at) (exchange_name at ++ text)
+-- a line about an exchange
+abbrev pub exchange_line : ℕ → List ℕ → List ℕ
+exchange_line at text = exchange_name at ++ line_of text
 
--- a finding about a UID
-abbrev pub uid_finding : Form → Judgement → ℕ → List ℕ → List ℕ
-uid_finding form judgement u text = finding form (of_uid judgement u) (uid_text u ++ text)
+-- a line about a UID
+abbrev pub uid_line : ℕ → List ℕ → List ℕ
+uid_line u text = uid_text u ++ line_of text
 
 -- the run's name: its number in its session; a discovery has none
 abbrev pub name_text : Option ℕ → List ℕ
@@ -121,20 +115,6 @@ certificate_text head decided f names = elim head.start [
       codes "; its certificate can't be decided, since the log may begin within the run; exchanges count from there"
 ]
 
--- whether the certificate is complete, by the findings about the parts that depend on the known UIDs
-abbrev pub sound_judgement : Option KnownFinding → Judgement
-sound_judgement (Some names) = if is_known_complete names then judged.Complete else judged.Incomplete
-sound_judgement None = judged.Undecided
-
--- whether it is complete, if the log has the run's beginning
-abbrev pub begun_judgement : Bool → RunFinding → Option KnownFinding → Judgement
-begun_judgement decided f names =
-    if is_complete f then sound_judgement names else (if decided then judged.Incomplete else judged.Undecided)
-
--- whether it is complete, if that can be decided
-abbrev pub run_judgement : RunHead → Bool → RunFinding → Option KnownFinding → Judgement
-run_judgement head decided f names = if has_start head.start then begun_judgement decided f names else judged.Undecided
-
 -- the run's name, its kind, and how it searched
 abbrev pub what_text : RunHead → List ℕ
 what_text head = name_text head.number ++ codes ": " ++ (kind_text head.kind ++ search_text head.search)
@@ -153,91 +133,82 @@ head_text head ending exchanges devices =
 abbrev pub decides_gaps : RunHead → List Device → List Exchange → RunFinding → Option KnownFinding → Bool
 decides_gaps head reported xs f names = is_over head reported xs f || is_lost xs f names
 
--- what a run's first finding says
-abbrev pub head_sentence : RunHead → List Device → List Exchange → RunFinding → Option KnownFinding → List ℕ
-head_sentence head reported xs f names =
-    head_text head (end_of head reported xs f) (length xs) (length reported)
+-- the first line of a run
+abbrev pub head_line : RunHead → List Device → List Exchange → RunFinding → Option KnownFinding → List ℕ
+head_line head reported xs f names =
+    line_of (head_text head (end_of head reported xs f) (length xs) (length reported)
     ++ (certificate_text head (decides_gaps head reported xs f names) f names
-    ++ because_text head (end_of head reported xs f) f)
-
--- the first finding of a run
-abbrev pub head_finding : Form → RunHead → List Device → List Exchange → RunFinding → Option KnownFinding → List ℕ
-head_finding form head reported xs f names =
-    run_start form head (end_of head reported xs f) (length reported) xs
-    (of_run (run_judgement head (decides_gaps head reported xs f names) f names))
-    ++ (head_sentence head reported xs f names ++ after_sentence form)
+    ++ because_text head (end_of head reported xs f) f))
 
 -- a part of the certificate that fails at an exchange
-abbrev pub exchange_gap : Form → Judgement → Option ℕ → List ℕ → List ℕ
-exchange_gap form judgement None text = []
-exchange_gap form judgement (Some at) text = exchange_finding form judgement at text
+abbrev pub exchange_gap : Option ℕ → List ℕ → List ℕ
+exchange_gap None text = []
+exchange_gap (Some at) text = exchange_line at text
 
 -- a part of the certificate that fails for a UID
-abbrev pub uid_gap : Form → Option ℕ → List ℕ → List ℕ
-uid_gap form None text = []
-uid_gap form (Some u) text = uid_finding form judged.Gap u text
+abbrev pub uid_gap : Option ℕ → List ℕ → List ℕ
+uid_gap None text = []
+uid_gap (Some u) text = uid_line u text
 
 -- a part of the certificate that fails for a device
-abbrev pub device_gap : Form → Option Device → List ℕ → List ℕ
-device_gap form None text = []
-device_gap form (Some d) text = uid_finding form judged.Gap d.uid text
+abbrev pub device_gap : Option Device → List ℕ → List ℕ
+device_gap None text = []
+device_gap (Some d) text = uid_line d.uid text
 
 -- an exchange that failed
 abbrev pub failed_text : List ℕ
 failed_text = codes " failed: check the adapter and the cable"
 
 -- the parts about the unmutes, failed exchanges and the reported devices
-abbrev pub start_gaps : Form → RunFinding → List ℕ
-start_gaps form f =
-    exchange_gap form judged.Gap f.missing_unmute (codes " should be one of the three unmutes that begin a run")
-    ++ exchange_gap form judged.Failure f.failure failed_text
-    ++ uid_gap form f.misreported
-    (codes " acknowledged a mute, but isn't reported: a run reports at most 1,024 devices")
+abbrev pub start_gaps : RunFinding → List ℕ
+start_gaps f =
+    exchange_gap f.missing_unmute (codes " should be one of the three unmutes that begin a run")
+    ++ exchange_gap f.failure failed_text
+    ++ uid_gap f.misreported (codes " acknowledged a mute, but isn't reported: a run reports at most 1,024 devices")
 
 -- the parts about mutes, UIDs that weren't ruled out, and what is reported of a device
-abbrev pub end_gaps : Form → RunFinding → List ℕ
-end_gaps form f =
-    exchange_gap form judged.Gap f.untried
+abbrev pub end_gaps : RunFinding → List ℕ
+end_gaps f =
+    exchange_gap f.untried
     (codes " mutes a UID that neither acknowledged nor was muted five times in a row: perhaps no device has it")
-    ++ uid_gap form f.uncovered
+    ++ uid_gap f.uncovered
     (codes " is the first UID that wasn't ruled out: it needs five silences in a row of a range that holds it")
-    ++ device_gap form f.other_data (codes " isn't reported as in its first acknowledgement")
+    ++ device_gap f.other_data (codes " isn't reported as in its first acknowledgement")
 
 -- the parts of the certificate that fail
-abbrev pub gaps_text : Form → RunFinding → List ℕ
-gaps_text form f = start_gaps form f ++ end_gaps form f
+abbrev pub gaps_text : RunFinding → List ℕ
+gaps_text f = start_gaps f ++ end_gaps f
 
 -- the parts about known UIDs that fail
-abbrev pub names_gaps : Form → KnownFinding → List ℕ
-names_gaps form f =
-    uid_gap form f.not_muted_first (codes " is known, but wasn't muted before the first branch")
-    ++ exchange_gap form judged.Gap f.unread (codes " mutes a UID that no earlier branch had read")
+abbrev pub names_gaps : KnownFinding → List ℕ
+names_gaps f =
+    uid_gap f.not_muted_first (codes " is known, but wasn't muted before the first branch")
+    ++ exchange_gap f.unread (codes " mutes a UID that no earlier branch had read")
 
 -- the parts that depend on the known UIDs
-abbrev pub known_gaps : Form → Option KnownFinding → List ℕ
-known_gaps form None = []
-known_gaps form (Some f) = names_gaps form f
+abbrev pub known_gaps : Option KnownFinding → List ℕ
+known_gaps None = []
+known_gaps (Some f) = names_gaps f
 
 -- whether no byte came
 abbrev pub hears_nothing : Exchange → Bool
 hears_nothing e = is_silent (heard_of e.heard)
 
 -- a run that found all devices, but heard none
-abbrev pub quiet_text : Form → RunHead → List Exchange → RunFinding → List ℕ
-quiet_text form head xs f =
+abbrev pub quiet_text : RunHead → List Exchange → RunFinding → List ℕ
+quiet_text head xs f =
     if decides_stray head f && list_all hears_nothing xs then
-    finding form (of_run judged.Quiet) (codes "no byte came in the whole run: check the adapter and the first cable")
-    else []
+    line_of (codes "no byte came in the whole run: check the adapter and the first cable") else []
 
 -- the first exchange that failed, by its number in the run
-abbrev pub failure_gap : Form → Start → Option ℕ → List ℕ
-failure_gap form start None = []
-failure_gap form start (Some at) = exchange_finding form judged.Failure (number_at start at) failed_text
+abbrev pub failure_gap : Start → Option ℕ → List ℕ
+failure_gap start None = []
+failure_gap start (Some at) = exchange_line (number_at start at) failed_text
 
 -- the parts of the certificate that fail. If the log may begin within the run, only a failure is decided
-abbrev pub run_gaps : Form → Start → RunFinding → Option KnownFinding → List ℕ
-run_gaps form start f names =
-    if has_start start then gaps_text form f ++ known_gaps form names else failure_gap form start f.failure
+abbrev pub run_gaps : Start → RunFinding → Option KnownFinding → List ℕ
+run_gaps start f names =
+    if has_start start then gaps_text f ++ known_gaps names else failure_gap start f.failure
 
 -- a range, from which bytes came
 abbrev pub range_text : ℕ → ℕ → List ℕ
@@ -275,33 +246,16 @@ advice_text false signs.Unread = codes "; they may be those of a device that the
 abbrev pub stray_text : Bool → Asked → Sign → List ℕ
 stray_text decided asked sign = place_text asked ++ sign_text sign ++ advice_text decided sign
 
--- whether stray bytes show that a rule was broken
-abbrev pub stray_judgement : Bool → Judgement
-stray_judgement decided = if decided then judged.Stray else judged.Unexplained
+-- the line of a stray exchange with this number. `us` are the devices that are listed, or come or leave
+abbrev pub stray_found : ℕ → List ℕ → Bool → Option Exchange → List ℕ
+stray_found number us decided None = []
+stray_found number us decided (Some e) =
+    line_of (exchange_name number ++ stray_text decided e.asked (sign_of us e.asked e.heard))
 
--- the UID that bytes read as
-abbrev pub sign_uid : Sign → Option ℕ
-sign_uid (signs.Listed u) = Some u
-sign_uid (signs.Other u) = Some u
-sign_uid signs.Unread = None
-
--- what a stray exchange with this number is about
-abbrev pub of_stray : Bool → ℕ → Sign → About
-of_stray decided number sign =
-    record { judgement = stray_judgement decided; uid = sign_uid sign; exchange = Some number }
-
--- the finding about a stray exchange with this number. `us` are the devices that are listed, or come or leave
-abbrev pub stray_found : Form → ℕ → List ℕ → Bool → Option Exchange → List ℕ
-stray_found form number us decided None = []
-stray_found form number us decided (Some e) =
-    finding form (of_stray decided number (sign_of us e.asked e.heard))
-    (exchange_name number ++ stray_text decided e.asked (sign_of us e.asked e.heard))
-
--- the finding about the first stray exchange, if there is one
-abbrev pub stray_finding : Form → Start → List ℕ → Bool → List Exchange → Option ℕ → List ℕ
-stray_finding form start us decided xs None = []
-stray_finding form start us decided xs (Some at) =
-    stray_found form (number_at start at) us decided (slice_get xs at)
+-- the line of the first stray exchange, if there is one
+abbrev pub stray_line : Start → List ℕ → Bool → List Exchange → Option ℕ → List ℕ
+stray_line start us decided xs None = []
+stray_line start us decided xs (Some at) = stray_found (number_at start at) us decided (slice_get xs at)
 
 -- the first stray exchange, unless it is also the first that no device explains
 abbrev pub unless_garbled : Option ℕ → Option ℕ → Option ℕ
@@ -343,26 +297,15 @@ garbled_text (Mute u) heard =
     codes ": bytes came after a mute of " ++ uid_text u ++ (codes " that don't acknowledge it" ++ each_text)
 garbled_text _ heard = []
 
--- the UID that was asked alone
-abbrev pub asked_uid : Asked → Option ℕ
-asked_uid (Branch lo hi) = Some lo
-asked_uid (Mute u) = Some u
-asked_uid _ = None
+-- the line of such an exchange with this number
+abbrev pub garbled_found : ℕ → Option Exchange → List ℕ
+garbled_found number None = []
+garbled_found number (Some e) = line_of (exchange_name number ++ garbled_text e.asked e.heard)
 
--- what such an exchange with this number is about
-abbrev pub of_garbled : ℕ → Asked → About
-of_garbled number asked = record { judgement = judged.Garbled; uid = asked_uid asked; exchange = Some number }
-
--- the finding about such an exchange with this number
-abbrev pub garbled_found : Form → ℕ → Option Exchange → List ℕ
-garbled_found form number None = []
-garbled_found form number (Some e) =
-    finding form (of_garbled number e.asked) (exchange_name number ++ garbled_text e.asked e.heard)
-
--- the finding about the first such exchange, if there is one
-abbrev pub garbled_finding : Form → Start → List Exchange → Option ℕ → List ℕ
-garbled_finding form start xs None = []
-garbled_finding form start xs (Some at) = garbled_found form (number_at start at) (slice_get xs at)
+-- the line of the first such exchange, if there is one
+abbrev pub garbled_line : Start → List Exchange → Option ℕ → List ℕ
+garbled_line start xs None = []
+garbled_line start xs (Some at) = garbled_found (number_at start at) (slice_get xs at)
 
 -- whether a device broke a rule
 abbrev pub any_broke : List DeviceFinding → Bool

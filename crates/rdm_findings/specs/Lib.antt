@@ -4,13 +4,9 @@ pub mod Asked
 pub mod Ends
 pub mod HeardUids
 pub mod StrayBytes
-pub mod Forms
-pub mod RunJson
 pub mod FindingText
 pub mod Mentions
 pub mod DeviceText
 pub mod Explained
 pub mod Runs
 pub mod Logs
-pub mod Document
-pub mod body

@@ -1,80 +1,47 @@
 //! What is printed about bytes that no honest line allows, whichever devices are on it.
-ghost use Rattle.std.specs.Prelude.{◌≡◌, ◌++◌, OnOk, codes};
+ghost use Rattle.std.specs.Prelude.{◌≡◌, ◌++◌, ◌∷◌, [], OnOk, codes};
 ghost use Rattle.rdm_wire.specs.UidText.{uid_text};
+ghost use Rattle.rdm_reports.specs.Report.{line_of};
 ghost use Rattle.rdm_findings.specs.FindingText.{exchange_name, each_text, reply_text, garbled_text, garbled_found};
 ghost use Rattle.rdm_findings.specs.FindingText.{same_text, own_text, other_bytes};
-ghost use Rattle.rdm_findings.specs.FindingText.{garbled_finding, asked_uid, of_garbled};
-ghost use Rattle.rdm_findings.specs.Forms.{finding};
+ghost use Rattle.rdm_findings.specs.FindingText.{garbled_line};
 
-use crate::form::{About, Form, Judgement, begin, end};
 use crate::head::Start;
 use crate::writing::{write, write_exchange, write_uid};
 use rdm_explain::{Asked, Exchange, Heard};
 use rdm_wire::Uid;
 use std::alloc::AllocError;
 
-/// Writes the finding about the first exchange with such bytes, if there is one.
+/// Writes the line of the first exchange with such bytes, if there is one.
 pub(crate) fn write_garbled(
     text: &mut Vec<u8>,
-    form: Form,
     start: Start,
     exchanges: &[Exchange],
     garbled: Option<usize>,
 ) -> Result<(), AllocError>
-    ensures { OnOk result (text.new.items ≡ text.old.items ++ garbled_finding form start exchanges.now garbled) }
+    ensures { OnOk result (text.new.items ≡ text.old.items ++ garbled_line start exchanges.now garbled) }
 {
     let Some(at) = garbled else {
         return Ok(());
     };
     match exchanges.get(at) {
-        Some(exchange) => {
-            write_found(
-                text,
-                form,
-                start.number(at),
-                &exchange.asked,
-                &exchange.heard,
-            )
-        }
+        Some(exchange) => write_line(text, start.number(at), &exchange.asked, &exchange.heard),
         None => Ok(()),
     }
 }
 
-fn write_found(
+fn write_line(
     text: &mut Vec<u8>,
-    form: Form,
     number: u64,
     asked: &Asked,
     heard: &Heard,
 ) -> Result<(), AllocError>
     ensures { OnOk result (text.new.items ≡ text.old.items
-        ++ finding form (of_garbled number asked.now) (exchange_name number ++ garbled_text asked.now heard.now)) }
+        ++ line_of (exchange_name number ++ garbled_text asked.now heard.now)) }
 {
-    begin(text, form, &about(number, asked))?;
     write_exchange(text, number)?;
     write_reason(text, asked, heard)?;
-    end(text, form)
-}
-
-fn about(number: u64, asked: &Asked) -> About
-    ensures { result ≡ of_garbled number asked.now }
-{
-    About {
-        judgement: Judgement::Garbled,
-        uid: asked_uid(asked),
-        exchange: Some(number),
-    }
-}
-
-// The UID that was asked alone.
-fn asked_uid(asked: &Asked) -> Option<Uid>
-    ensures { result ≡ asked_uid asked.now }
-{
-    match asked {
-        Asked::Branch { lo, .. } => Some(*lo),
-        Asked::Mute(uid) => Some(*uid),
-        _ => None,
-    }
+    text.extend_from_slice(b"\n")
 }
 
 fn write_reason(text: &mut Vec<u8>, asked: &Asked, heard: &Heard) -> Result<(), AllocError>

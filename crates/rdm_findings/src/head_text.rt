@@ -1,28 +1,22 @@
-//! The first finding of a run.
-ghost use Rattle.std.specs.Prelude.{◌≡◌, ◌++◌, Some, OnOk, codes};
+//! The first line of a run.
+ghost use Rattle.std.specs.Prelude.{◌≡◌, ◌++◌, ◌∷◌, [], Some, OnOk, codes};
 ghost use Rattle.rdm_reports.specs.Report.{fault_text};
 ghost use Rattle.rdm_findings.specs.FindingText.{name_text, kind_text, search_text, what_text, end_text, outcome_text};
 ghost use Rattle.rdm_findings.specs.FindingText.{sound_text, gap_text, begun_text, certificate_text, decides_gaps};
 ghost use Rattle.rdm_findings.specs.Ends.{end_of};
-ghost use Rattle.rdm_findings.specs.FindingText.{head_text, head_finding, head_sentence, because_text, cause_text};
-ghost use Rattle.rdm_findings.specs.FindingText.{count_text};
-ghost use Rattle.rdm_findings.specs.FindingText.{sound_judgement, begun_judgement, run_judgement};
-ghost use Rattle.rdm_findings.specs.Forms.{after_sentence};
+ghost use Rattle.rdm_findings.specs.FindingText.{head_text, head_line, because_text, cause_text, count_text};
 
 use crate::ending::{end_of, is_complete, is_known_complete, is_lost, is_over};
-use crate::form::{About, Form, Judgement, end};
 use crate::head::{RunHead, Start};
-use crate::run_json::write_run_start;
 use crate::writing::{write, write_count, write_number, write_uid};
 use rdm_agent::{AgentFault, Kind, Search};
 use rdm_explain::{Exchange, KnownFinding, RunFinding};
 use rdm_wire::DeviceSet;
 use std::alloc::AllocError;
 
-/// Writes the first finding of a run. In JSON the run's members precede it.
+/// Writes the first line of a run.
 pub(crate) fn write_head(
     text: &mut Vec<u8>,
-    form: Form,
     head: &RunHead,
     reported: &DeviceSet,
     exchanges: &[Exchange],
@@ -30,79 +24,12 @@ pub(crate) fn write_head(
     names: &Option<KnownFinding>,
 ) -> Result<(), AllocError>
     ensures { OnOk result (text.new.items ≡ text.old.items
-        ++ head_finding form head.now reported.now exchanges.now certificate.now names.now) }
-{
-    let ending = end_of(head, reported, exchanges, certificate);
-    let decided = decides_gaps(head, reported, exchanges, certificate, names);
-    let about = About::run(run_judgement(head, decided, certificate, names));
-    write_run_start(text, form, head, ending, reported.len(), exchanges, &about)?;
-    write_sentence(text, head, reported, exchanges, certificate, names)?;
-    end(text, form)
-}
-
-fn write_sentence(
-    text: &mut Vec<u8>,
-    head: &RunHead,
-    reported: &DeviceSet,
-    exchanges: &[Exchange],
-    certificate: &RunFinding,
-    names: &Option<KnownFinding>,
-) -> Result<(), AllocError>
-    ensures { OnOk result (text.new.items ≡ text.old.items
-        ++ head_sentence head.now reported.now exchanges.now certificate.now names.now) }
+        ++ head_line head.now reported.now exchanges.now certificate.now names.now) }
 {
     let ending = end_of(head, reported, exchanges, certificate);
     write_run(text, head, ending, exchanges.len(), reported.len())?;
-    write_certificate(text, head, reported, exchanges, certificate, names)
-}
-
-// Whether the certificate is complete, if that can be decided.
-fn run_judgement(
-    head: &RunHead,
-    decided: bool,
-    certificate: &RunFinding,
-    names: &Option<KnownFinding>,
-) -> Judgement
-    ensures { result ≡ run_judgement head.now decided certificate.now names.now }
-{
-    if head.start.is_first() {
-        begun_judgement(decided, certificate, names)
-    } else {
-        Judgement::Undecided
-    }
-}
-
-// The same, if the log has the run's beginning.
-fn begun_judgement(
-    decided: bool,
-    certificate: &RunFinding,
-    names: &Option<KnownFinding>,
-) -> Judgement
-    ensures { result ≡ begun_judgement decided certificate.now names.now }
-{
-    if is_complete(certificate) {
-        sound_judgement(names)
-    } else if decided {
-        Judgement::Incomplete
-    } else {
-        Judgement::Undecided
-    }
-}
-
-// The same, if no part fails but those that depend on the known UIDs.
-fn sound_judgement(names: &Option<KnownFinding>) -> Judgement
-    ensures { result ≡ sound_judgement names.now }
-{
-    match names {
-        Some(names) => {
-            if is_known_complete(names) {
-                Judgement::Complete
-            } else {
-                Judgement::Incomplete
-            }
-        }
-        None => Judgement::Undecided,
-    }
+    write_certificate(text, head, reported, exchanges, certificate, names)?;
+    text.extend_from_slice(b"\n")
 }
 
 // The certificate, and why it is incomplete.

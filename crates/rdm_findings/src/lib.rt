@@ -4,12 +4,10 @@
 
 mod asks;
 mod device_text;
-mod document;
 mod ending;
 mod entry;
 mod explaining;
 mod fields;
-mod form;
 mod gap_text;
 mod garbled_text;
 mod gone_text;
@@ -23,14 +21,11 @@ mod log;
 mod mention;
 mod opening;
 mod reading;
-mod run_json;
 mod stray_bytes;
 mod stray_text;
 mod writing;
 
-pub use document::{document_end, document_start, document_stop, memory_stop};
 pub use explaining::{Explained, explain};
-pub use form::Form;
 pub use head::{RunHead, Start};
 pub use line::{DiscoveryOpening, LogLine, SessionOpening, read_line};
 pub use log::{LogFault, explain_log};

@@ -1,12 +1,10 @@
 //! What is printed about stray bytes.
-ghost use Rattle.std.specs.Prelude.{◌≡◌, ◌++◌, OnOk, codes};
+ghost use Rattle.std.specs.Prelude.{◌≡◌, ◌++◌, ◌∷◌, [], OnOk, codes};
 ghost use Rattle.rdm_wire.specs.UidText.{uid_text};
+ghost use Rattle.rdm_reports.specs.Report.{line_of};
 ghost use Rattle.rdm_findings.specs.FindingText.{exchange_name, range_text, mute_text, place_text, sign_text};
-ghost use Rattle.rdm_findings.specs.FindingText.{advice_text, stray_text, stray_found, stray_finding};
-ghost use Rattle.rdm_findings.specs.FindingText.{stray_judgement, sign_uid, of_stray};
-ghost use Rattle.rdm_findings.specs.Forms.{finding};
+ghost use Rattle.rdm_findings.specs.FindingText.{advice_text, stray_text, stray_found, stray_line};
 
-use crate::form::{About, Form, Judgement, begin, end};
 use crate::head::Start;
 use crate::stray_bytes::{Sign, sign_of};
 use crate::writing::{write, write_exchange, write_uid};
@@ -14,11 +12,10 @@ use rdm_explain::{Asked, Exchange};
 use rdm_wire::Uid;
 use std::alloc::AllocError;
 
-/// Writes the finding about a stray exchange, if there is one. `listed` also has the devices that come or leave.
-/// `decided` says that the bytes show that a rule was broken.
+/// Writes the line of a stray exchange, if there is one. `listed` also has the devices that come or leave. `decided`
+/// says that the bytes show that a rule was broken.
 pub(crate) fn write_stray(
     text: &mut Vec<u8>,
-    form: Form,
     start: Start,
     listed: &[Uid],
     decided: bool,
@@ -26,7 +23,7 @@ pub(crate) fn write_stray(
     stray: Option<usize>,
 ) -> Result<(), AllocError>
     ensures { OnOk result (text.new.items ≡ text.old.items
-        ++ stray_finding form start listed.now decided exchanges.now stray) }
+        ++ stray_line start listed.now decided exchanges.now stray) }
 {
     let Some(at) = stray else {
         return Ok(());
@@ -34,64 +31,25 @@ pub(crate) fn write_stray(
     match exchanges.get(at) {
         Some(exchange) => {
             let sign = sign_of(listed, exchange);
-            write_found(
-                text,
-                form,
-                start.number(at),
-                decided,
-                &exchange.asked,
-                &sign,
-            )
+            write_stray_line(text, start.number(at), decided, &exchange.asked, &sign)
         }
         None => Ok(()),
     }
 }
 
-fn write_found(
+fn write_stray_line(
     text: &mut Vec<u8>,
-    form: Form,
     number: u64,
     decided: bool,
     asked: &Asked,
     sign: &Sign,
 ) -> Result<(), AllocError>
     ensures { OnOk result (text.new.items ≡ text.old.items
-        ++ finding form (of_stray decided number sign.now)
-        (exchange_name number ++ stray_text decided asked.now sign.now)) }
+        ++ line_of (exchange_name number ++ stray_text decided asked.now sign.now)) }
 {
-    begin(text, form, &about(decided, number, sign))?;
     write_exchange(text, number)?;
     write_reason(text, decided, asked, sign)?;
-    end(text, form)
-}
-
-fn about(decided: bool, number: u64, sign: &Sign) -> About
-    ensures { result ≡ of_stray decided number sign.now }
-{
-    About {
-        judgement: stray_judgement(decided),
-        uid: sign_uid(sign),
-        exchange: Some(number),
-    }
-}
-
-fn stray_judgement(decided: bool) -> Judgement
-    ensures { result ≡ stray_judgement decided }
-{
-    if decided {
-        Judgement::Stray
-    } else {
-        Judgement::Unexplained
-    }
-}
-
-fn sign_uid(sign: &Sign) -> Option<Uid>
-    ensures { result ≡ sign_uid sign.now }
-{
-    match sign {
-        Sign::Listed(uid) | Sign::Other(uid) => Some(*uid),
-        Sign::Unread => None,
-    }
+    text.extend_from_slice(b"\n")
 }
 
 // After what the bytes came, what they read as, and what to do about it.

@@ -1,4 +1,3 @@
-mod ExplanationLemmas
 mod LineLemmas
 mod LoggedLemmas
 mod RunLemmas

@@ -2,5 +2,3 @@
 pub mod Texts
 pub mod Logged
 pub mod Faults
-pub mod Parts
-pub mod Explained

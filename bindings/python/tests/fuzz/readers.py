@@ -26,8 +26,7 @@ from hypothesis import strategies as some
 sys.dont_write_bytecode = True
 ROOT = Path(__file__).resolve().parents[4]
 sys.path.insert(0, str(ROOT / "bindings/python"))
-from wurstlinen.front.page_findings import NoFindings, Outcome, Run, findings_in  # noqa: E402
-from wurstlinen.front.page_log import NoLog, OtherLog, read_log  # noqa: E402
+from wurstlinen.front.page_log import NoLog, read_log  # noqa: E402
 from wurstlinen.front.sheets import NoSheet, Sheet, sheet_of  # noqa: E402
 from wurstlinen.lines.keys import SceneFault  # noqa: E402
 from wurstlinen.lines.messages import LENGTHS_FROM_ADAPTER, START, Message, MessageReader  # noqa: E402
@@ -51,14 +50,6 @@ entries = some.sampled_from(
 names = some.sampled_from(
     "entry number operation frame reply source budget search discover known client clients request run fault".split())
 log_lines = some.dictionaries(names, values | entries, max_size=8).map(json.dumps)
-# Runs that a log may have, and what the program may print of one.
-RUNS = [Run("discovery", 0, "sfaon", Outcome.COMPLETE, 1)]
-members = some.sampled_from(
-    "passing runs broken fault exchanges first run kind search end uid devices heard findings judgement sentence "
-    "exchange".split())
-found_values = some.recursive(values, lambda inner: some.dictionaries(members, inner, max_size=8) | some.lists(inner))
-documents = some.fixed_dictionaries({"passing": found_values, "runs": some.lists(found_values)}).map(
-    lambda found: json.dumps(found).encode())
 
 
 def pieces_of(data: bytes, cuts: Sequence[int]) -> List[bytes]:
@@ -156,25 +147,13 @@ def any_log(text: List[str]) -> None:
     """A log is read, or the number of a line that can't be."""
     data = "\n".join(text).encode("utf-8", "surrogatepass")
     try:
-        read_log(io.BytesIO(data), RUNS)
-    except OtherLog:
-        pass
+        read_log(io.BytesIO(data))
     except NoLog as why:
         assert 1 <= int(str(why).split()[1]) <= data.count(b"\n") + 1
 
 
-@given(some.binary(max_size=200) | documents)
-def any_findings(text: bytes) -> None:
-    """The program's JSON is read, or it is none."""
-    try:
-        findings_in(text)
-    except NoFindings as why:
-        assert str(why)
-
-
 READERS: Tuple[Callable[[], None], ...] = (
-    whole_messages, any_messages, lines, any_sheet, written_sheets, any_scene, any_scene_file, any_log,
-    any_findings)
+    whole_messages, any_messages, lines, any_sheet, written_sheets, any_scene, any_scene_file, any_log)
 
 
 def fuzz(number: int, seconds: float, first: int) -> Tuple[bool, str]:

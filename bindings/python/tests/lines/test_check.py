@@ -11,7 +11,6 @@ from unittest import mock
 from common import PACKAGE, folder, needs_library
 from fronts import LEFT, SLOW, OneRig, called
 from wurstlinen.front import discovery_log
-from wurstlinen.front.page_findings import Outcome, Run
 from wurstlinen.front.page_log import read_log
 from wurstlinen.lines.numbers import ResponseType
 
@@ -155,8 +154,7 @@ class Logs(OneRig):
             self.assertEqual([bytes.fromhex(each["frame"]) for each in exchanges], self.frames[:10])
             self.assertEqual((list(exchanges[3]), list(exchanges[9])), (["number", "operation", "frame", "reply"],
                                                                         ["number", "operation", "frame", "failed"]))
-            run = Run("discovery", 0, "s" * 9 + "f", Outcome.FAILED, 0)
-            self.assertEqual(len(read_log(io.BytesIO(log.read_bytes()), [run])), 10)
+            self.assertEqual(len(read_log(io.BytesIO(log.read_bytes()))), 10)
             self.assertEqual(called("trace", str(log))[0], 0)
 
     def test_an_interrupted_discovery_has_a_log(self) -> None:

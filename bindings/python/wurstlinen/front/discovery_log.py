@@ -3,7 +3,7 @@ from __future__ import annotations
 
 import contextlib
 import json
-from typing import Callable, Dict, Iterator, Optional, Sequence, Tuple
+from typing import Callable, Dict, Iterator, List, Optional, Sequence, Tuple
 
 from .. import DEFAULT_BUDGET, Uid
 from ..lines.numbers import Pid
@@ -63,19 +63,18 @@ def sink_of(name: Optional[str]) -> Iterator[Optional[Sink]]:
 
 def explained(program: str, lines: Sequence[str], uids: Sequence[Uid]) -> Dict[Uid, str]:
     """What the proved program says of devices that were on the line, by a discovery's log. Raises OSError."""
-    printed = explanation(program, lines, uids)[1].decode(errors="replace").splitlines()
-    said = {uid: text for uid, _, text in (line.partition(" ") for line in printed)}
+    said = {uid: text for uid, _, text in (line.partition(" ") for line in explanation(program, lines, uids)[1])}
     return {uid: said[str(uid)] for uid in uids if said.get(str(uid))}
 
 
-def explanation(program: str, lines: Sequence[str], uids: Sequence[Uid], *options: str) -> Tuple[int, bytes]:
-    """The proved program's status, and all that it prints about that. Raises OSError."""
+def explanation(program: str, lines: Sequence[str], uids: Sequence[Uid]) -> Tuple[int, List[str]]:
+    """The proved program's status, and all lines that it prints about that. Raises OSError."""
     import subprocess
     import tempfile
     with tempfile.NamedTemporaryFile("w", prefix="wurstlinen.", suffix=".log") as log:
         log.writelines(lines)
         log.flush()
         words = [word for uid in uids for word in ("--present", str(uid))]
-        done = subprocess.run(["wurstlinen", "explain", log.name, *options, *words], executable=program, check=False,
-                              stdout=subprocess.PIPE, stderr=subprocess.DEVNULL)
-    return done.returncode, done.stdout
+        done = subprocess.run(["wurstlinen", "explain", log.name, *words], executable=program, check=False,
+                              stdout=subprocess.PIPE, stderr=subprocess.DEVNULL, encoding="utf-8", errors="replace")
+    return done.returncode, done.stdout.splitlines()

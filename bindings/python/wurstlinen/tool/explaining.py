@@ -7,19 +7,17 @@ from __future__ import annotations
 import os
 import subprocess
 import sys
-from typing import BinaryIO, Optional, Sequence, Tuple
+from typing import BinaryIO, List, Optional, Sequence, Tuple
 
 from ..front.files import file_of
 from ..front.output import BAD_ARGUMENTS, FAILED, Failure, Output
 from ..front.page import page_of
-from ..front.page_findings import Findings, NoFindings, findings_in
-from ..front.page_log import NoLog, OtherLog
+from ..front.page_log import NoLog
 from . import serving
 from .places import NO_PROGRAM
 
 FOLLOWED = 0
 BROKEN = 3
-JSON = "--json"
 # Where a file is, how long it is, and when it was changed.
 State = Tuple[int, int, int, int, int]
 
@@ -46,8 +44,8 @@ def explain(program: str, words: Sequence[str], page: str, files: Sequence[str])
     try:
         with file_of(page) as made:
             before = state_of(files[0]) if files else None
-            status, findings = explained(program, words)
-            made.write(drawn(files[0], before, findings))
+            status, lines = explained(program, words)
+            made.write(drawn(files[0], before, lines, status == BROKEN))
     except NoPage as end:
         return end.status
     except NoOutput as end:
@@ -69,58 +67,47 @@ def check(page: str, files: Sequence[str]) -> None:
             raise Failure(BAD_ARGUMENTS, f"{name} is no file on a disk, and --page has to read it twice", reason="file")
 
 
-def explained(program: str, words: Sequence[str]) -> Tuple[int, Findings]:
-    """The program's status, and what it finds in a log, which is printed here too. Raises NoPage and NoOutput."""
-    status, printed = called(program, words)
+def explained(program: str, words: Sequence[str]) -> Tuple[int, List[str]]:
+    """The program's status, and what it prints about a log, which is printed here too. Raises NoPage and NoOutput."""
+    lines: List[str] = []
     try:
-        findings = findings_in(printed)
-    except NoFindings:
-        # A fault before the log is read, and after arguments that the program doesn't take.
-        show(printed)
-        raise NoPage(status if status not in (FOLLOWED, BROKEN) else FAILED) from None
-    show(printed if JSON in words else "".join(f"{line}\n" for line in findings.lines()).encode())
-    if status not in (FOLLOWED, BROKEN):
-        raise NoPage(status)
-    return status, findings
-
-
-def called(program: str, words: Sequence[str]) -> Tuple[int, bytes]:
-    """The program's status, and what it prints as JSON. Raises NoPage."""
-    wanted = words if JSON in words else [*words[:1], JSON, *words[1:]]
-    try:
-        child = subprocess.Popen(["wurstlinen", *wanted], executable=program, stdout=subprocess.PIPE)
+        child = subprocess.Popen(["wurstlinen", *words], executable=program, stdout=subprocess.PIPE)
     except OSError as fault:
         Output(False).note(f"{program}: {fault.strerror}")
         raise NoPage(NO_PROGRAM) from None
     try:
         assert child.stdout is not None
-        with child.stdout as output:
-            printed = output.read()
+        with child.stdout as printed:
+            for line in printed:
+                show(line)
+                lines.append(line.decode(errors="replace").rstrip("\n"))
         status = child.wait()
     finally:
         serving.end(child)
     if status < 0:
         Output(False).note(f"the program was ended by signal {-status}")
         raise NoPage(128 - status)
-    return status, printed
+    if status not in (FOLLOWED, BROKEN):
+        raise NoPage(status)
+    return status, lines
 
 
-def show(text: bytes) -> None:
-    """Prints a text. Raises NoOutput."""
+def show(line: bytes) -> None:
+    """Prints a line of the program's. Raises NoOutput."""
     try:
-        sys.stdout.buffer.write(text)
+        sys.stdout.buffer.write(line)
         sys.stdout.buffer.flush()
     except OSError as fault:
         raise NoOutput(fault) from None
 
 
-def drawn(name: str, before: Optional[State], findings: Findings) -> str:
+def drawn(name: str, before: Optional[State], lines: Sequence[str], is_broken: bool) -> str:
     """The page of a log that is still as it was. Raises Failure."""
     try:
         with open(name, "rb") as file:
-            text = page_of(name, file, findings)
+            text = page_of(name, file, lines, is_broken)
             is_same = before == state_in(file) == state_of(name)
-    except (NoLog, OtherLog) as fault:
+    except NoLog as fault:
         raise Failure(FAILED, f"{name}: {fault}, so no page is written", reason="file") from None
     except OSError as fault:
         raise Failure(FAILED, f"{name}: {fault.strerror}, so no page is written", reason="file") from None

@@ -7,16 +7,14 @@ from dataclasses import dataclass, field
 from typing import Any, Dict, List, Optional, Sequence, Tuple
 
 from .. import Uid
-from ..front import page_findings
 from ..front.discovery_log import explanation
 from ..front.page import page_of
-from ..front.page_findings import NoFindings, findings_in
-from ..front.page_log import NoLog, OtherLog
+from ..front.page_log import NoLog
 from ..tool.places import program
 
-# The judgement on a device that did all as it should.
-GOOD = "found"
-UNSAID = "why a fixture is missing can't be said: {}"
+# What it says of a device that did all as it should.
+GOOD = "was found, and followed the rules"
+FOLLOWED, BROKEN = 0, 3
 
 
 @dataclass
@@ -26,22 +24,10 @@ class Findings:
     of_devices: Dict[Uid, str] = field(default_factory=dict)
     others: List[str] = field(default_factory=list)
     picture: Optional[str] = None
-    # Those that did all as they should.
-    good: List[Uid] = field(default_factory=list)
-
-    def add(self, finding: page_findings.Finding) -> None:
-        """One more, which isn't about the run itself."""
-        if finding.uid is None:
-            self.others.append(finding.text)
-            return
-        uid = Uid.from_number(finding.uid)
-        self.of_devices[uid] = finding.text.partition(" ")[2]
-        if finding.judgement == GOOD:
-            self.good.append(uid)
 
     def keys(self) -> Dict[str, Any]:
         """The same for a page, without the devices that did all as they should."""
-        bad = [{"uid": str(uid), "text": text} for uid, text in self.of_devices.items() if uid not in self.good]
+        bad = [{"uid": str(uid), "text": text} for uid, text in self.of_devices.items() if text != GOOD]
         return {"devices": bad, "others": self.others, "picture": self.picture}
 
 
@@ -49,19 +35,23 @@ def findings_of(log: Sequence[str], expected: Sequence[Uid]) -> Tuple[Findings, 
     """What is found in a discovery's log about devices that should be on the line, and the page with the picture."""
     place = program()
     if place is None:
-        return Findings(others=[UNSAID.format("the proved program isn't installed")]), ""
+        return Findings(others=["why a fixture is missing can't be said: the proved program isn't installed"]), ""
     try:
-        said = findings_in(explanation(place, log, expected, "--json")[1])
-    except (OSError, NoFindings) as fault:
-        return Findings(others=[UNSAID.format(fault)]), ""
-    if said.fault is not None:
-        return Findings(others=[UNSAID.format(said.fault)]), ""
+        status, lines = explanation(place, log, expected)
+    except OSError as fault:
+        return Findings(others=[f"why a fixture is missing can't be said: {fault}"]), ""
+    if status not in (FOLLOWED, BROKEN):
+        return Findings(others=[f"why a fixture is missing can't be said: {' '.join(lines)}"]), ""
+    known = {str(uid): uid for uid in expected}
     found = Findings(picture=secrets.token_urlsafe(16))
-    for finding in said.all:
-        if not finding.is_head:
-            found.add(finding)
+    for line in lines[1:]:
+        uid, _, text = line.partition(" ")
+        if uid in known or text == GOOD:
+            found.of_devices[known.get(uid) or Uid.parse(uid)] = text
+        else:
+            found.others.append(line)
     try:
-        return found, page_of("the page's last discovery", io.BytesIO("".join(log).encode()), said)
-    except (NoLog, OtherLog):
+        return found, page_of("the page's last discovery", io.BytesIO("".join(log).encode()), lines, status == BROKEN)
+    except NoLog:
         found.picture = None
         return found, ""

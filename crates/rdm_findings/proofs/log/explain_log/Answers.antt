@@ -16,11 +16,9 @@ returns-then-is_empty-clause-explained g c =
       | then-broken w ↦ either_broke was breaks c.if-broken.result w.if-broken.true w.result-is
       | else-broken w ↦ other_broke was breaks c.if-broken.result w.if-broken.false w.result-is
     ] in
-    log_end c.args.form
-    c.args.present.now c.args.passing.now _ _ _ _ _ c.lines.reading c.lines.any was breaks c.if-broken.result
+    log_end c.args.present.now c.args.passing.now _ _ _ _ _ c.lines.reading c.lines.any was breaks c.if-broken.result
     c.lines.number
-    (nothing_more c.args.form
-    c.args.present.now c.args.passing.now _ _ _ _ _ c.lines.reading c.lines.any was c.lines.number
+    (nothing_more c.args.present.now c.args.passing.now _ _ _ _ _ c.lines.reading c.lines.any was c.lines.number
     c.read_next.new.text.items c.lines.invariant c.in_ok-read_next.ensures.text none)
     either c.in_ok-breaks.ensures.explained
 
@@ -37,8 +35,7 @@ lines-preserved g c =
       | then-any w ↦ either_broke c.lines.any ends c.if-any.any w.if-any.true w.any-is
       | else-any w ↦ other_broke c.lines.any ends c.if-any.any w.if-any.false w.any-is
     ] in
-    line_more c.args.form
-    c.args.present.now c.args.passing.now _ _ _ _ _ _ c.lines.reading c.take_line.new.reading c.lines.any
+    line_more c.args.present.now c.args.passing.now _ _ _ _ _ _ c.lines.reading c.take_line.new.reading c.lines.any
     c.if-any.any was breaks c.if-broken-2.broken c.lines.number c.in_ok-line.line c.read_next.new.text.items
     c.lines.invariant c.in_ok-read_next.ensures.text (c.in_ok-line.ensures.line ∙ c.deref.ensures.value)
     c.in_ok-take_line.ensures.taken (rw c.ends_run-ends.ensures at some) either c.in_ok-breaks-2.ensures.explained

@@ -8,8 +8,7 @@ pub returns-in-Ok-write_all-clause-explained : goal.returns-in-Ok-write_all-clau
 returns-in-Ok-write_all-clause-explained g c =
     let has : c.args.reading.now.has_run ≡ true = grind (arith, common_steps) in (
       c.in-Ok.explained.text.items,
-      run_explained c.args.form c.args.any
-          c.args.present.now c.args.passing.now c.args.reading.now c.exchanges.result.now c.head.result.now
+      run_explained c.args.present.now c.args.passing.now c.args.reading.now c.exchanges.result.now c.head.result.now
           _ _ _ has c.exchanges.ensures c.head.ensures c.known.ensures c.in-Ok.ensures,
       subst (λ t. Appends (g.W.Write.contents c.args.writer.now) (g.W.Write.contents c.write_all.new.writer) t)
           c.deref.ensures.value c.in-Ok-write_all.ensures.all,
