@@ -153,7 +153,8 @@ first_fault (Some fault) second = Some fault
 -- the fault with which a run ended, if its exchanges show it: what the last reply shows comes before the budget
 abbrev pub shown_fault : RunHead → List Device → List Exchange → RunFinding → Option AgentFault
 shown_fault head reported xs f =
-    first_fault (as_corrupt (corrupt_end head.search reported xs f)) (first_fault (as_too_many f) (as_exhausted head xs f))
+    first_fault (as_corrupt (corrupt_end head.search reported xs f))
+    (first_fault (as_too_many f) (as_exhausted head xs f))
 
 -- an end with this fault
 abbrev pub with_fault : Option AgentFault → Option (Option AgentFault)
