@@ -13,6 +13,24 @@ from .runs import LIAR, answer, ask, discovery, mutes, opening, refuses, session
 # A discovery that finds one device.
 FINDS = "3 unmute; all > found; mute found > ack; 5 all"
 FULL = opening("full")
+QUICK = FULL.replace("steady", "quick")
+UNCOVERED = """\
+0000:00000000 is the first UID that wasn't ruled out: it needs five silences in a row of a range that holds it
+"""
+UNTRIED = """\
+exchange 7 mutes a UID that neither acknowledged nor was muted five times in a row: perhaps no device has it
+"""
+UNREAD = "exchange 7 mutes a UID that no earlier branch had read\n"
+# How a quick run goes on, and how it ends.
+GOES_ON = "0 devices; its certificate is incomplete, or the log ends within the run\n"
+ENDS = "fault 1 1234:00000008, 0 devices; its certificate is incomplete\n"
+GARBLED = """\
+exchange 3: bytes came from 1234:00000008 alone that aren't its text; \
+a rule was broken, by it, another device or noise: try each device alone on the line
+"""
+IGNORES = """\
+1234:00000008 answered alone and then acknowledged no mute: it left, or broke a rule; try it alone on the line
+"""
 
 FOUND = """\
 discovery: full, steady, 10 exchanges, 1 device; its certificate is complete
@@ -205,8 +223,31 @@ def cases() -> Iterator[Case]:
     yield from parts()
     yield from sequences()
     yield from sessions()
+    yield from quick_runs()
     for line in BAD:
         yield refuses(f"after a session: {line!r}", NEW + KINDS + line, (NEW + KINDS).count("\n") + 1)
+
+
+def quick_runs() -> Iterator[Case]:
+    """Bad answers of one UID alone, of which a quick run needs eight in a row to end.
+
+    Mutes that aren't acknowledged may come between them, but no silence.
+    """
+    for answers, count in (("alone spare > noise", 4), ("7 alone spare > noise", 10),
+                           ("4 alone spare > noise; alone spare; 4 alone spare > noise", 12),
+                           ("4 alone spare > noise; all > noise; 4 alone spare > noise", 12)):
+        yield shows(f"a quick run that goes on: {answers}", QUICK + discovery(f"3 unmute; {answers}"),
+                    f"discovery: full, quick, {count} exchanges, {GOES_ON}{UNCOVERED}{GARBLED}", 3)
+    for answers, count in (("8 alone spare > noise", 11), ("9 alone spare > noise", 12)):
+        yield shows(f"a quick run that ends: {answers}", QUICK + discovery(f"3 unmute; {answers}"),
+                    f"discovery: full, quick, {count} exchanges, {ENDS}{UNCOVERED}{GARBLED}", 3)
+    between = "4 alone spare > noise; mute spare > noise; 4 alone spare > noise"
+    yield shows("a quick run that ends, with a mute between bad answers", QUICK + discovery(f"3 unmute; {between}"),
+                f"discovery: full, quick, 12 exchanges, {ENDS}{UNTRIED}{UNCOVERED}{UNREAD}{GARBLED}", 3)
+    for name, answers, said in (("goes on", 7, f"15 exchanges, {GOES_ON}"), ("ends", 8, f"16 exchanges, {ENDS}")):
+        run = discovery(f"3 unmute; {answers} alone spare > spare; 5 mute spare")
+        yield shows(f"a quick run that {name} after five mutes", QUICK + run,
+                    f"discovery: full, quick, {said}{UNCOVERED}{IGNORES}", 3)
 
 
 def parts() -> Iterator[Case]:

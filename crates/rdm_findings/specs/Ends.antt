@@ -6,9 +6,13 @@ use Rattle.rdm_wire.specs.Honest.{is_acked}
 use Rattle.rdm_wire.specs.Uid.{has, is_broadcast}
 use Rattle.rdm_wire.specs.Devices.{uids_of}
 use Rattle.rdm_wire.specs.declared.device.Device.{Device}
+use Rattle.rdm_agent.specs.Cause.{answers_in_a_row}
 use Rattle.rdm_agent.specs.Run.{is_branch}
 use Rattle.rdm_agent.specs.declared.fault.AgentFault.{AgentFault}
 use Rattle.rdm_agent.specs.declared.fault.AgentFault.TheVariants.{Corrupt, TooMany, Exhausted}
+use Rattle.rdm_agent.specs.declared.limits.TheConstants.{BAD_ANSWERS}
+use Rattle.rdm_agent.specs.declared.search.Search.{Search}
+use Rattle.rdm_agent.specs.declared.search.Search.TheVariants.{Steady, Quick}
 use Rattle.rdm_explain.specs.declared.certificate.RunFinding.{RunFinding}
 use Rattle.rdm_explain.specs.declared.certificate.KnownFinding.{KnownFinding}
 use Rattle.rdm_explain.specs.declared.exchange.Asked.{Asked}
@@ -104,10 +108,23 @@ never_muted found xs = if_never_muted (last_of 5 xs) (new_alone_in found (from_e
 abbrev pub corrupt_uid : List ℕ → List Exchange → Option ℕ
 corrupt_uid found xs = first_uid (wrong_alone_in found (from_end 1 xs)) (never_muted found xs)
 
--- the same, if the run begins by its three unmutes, and no exchange failed
-abbrev pub corrupt_end : List Device → List Exchange → RunFinding → Option ℕ
-corrupt_end reported xs f =
-    if is_some f.missing_unmute || is_some f.failure then None else corrupt_uid (uids_of reported) xs
+-- Whether a run that searches like this ends as Corrupt once its exchanges show that of this UID: a quick one does so
+-- only after eight bad answers of it alone in a row
+abbrev pub are_enough : Option Search → ℕ → List Exchange → Bool
+are_enough (Some Quick) u xs = nat_le BAD_ANSWERS (answers_in_a_row u (seen_all xs))
+are_enough (Some Steady) u xs = true
+are_enough None u xs = true
+
+-- the UID, if they are enough
+abbrev pub if_enough : Option Search → List Exchange → Option ℕ → Option ℕ
+if_enough search xs None = None
+if_enough search xs (Some u) = if are_enough search u xs then Some u else None
+
+-- the UID with which such a run ended as Corrupt, if it begins by its three unmutes, and no exchange failed
+abbrev pub corrupt_end : Option Search → List Device → List Exchange → RunFinding → Option ℕ
+corrupt_end search reported xs f =
+    if is_some f.missing_unmute || is_some f.failure then None
+    else if_enough search xs (corrupt_uid (uids_of reported) xs)
 
 -- the end as Corrupt with this UID
 abbrev pub as_corrupt : Option ℕ → Option AgentFault
@@ -136,7 +153,8 @@ first_fault (Some fault) second = Some fault
 -- the fault with which a run ended, if its exchanges show it: what the last reply shows comes before the budget
 abbrev pub shown_fault : RunHead → List Device → List Exchange → RunFinding → Option AgentFault
 shown_fault head reported xs f =
-    first_fault (as_corrupt (corrupt_end reported xs f)) (first_fault (as_too_many f) (as_exhausted head xs f))
+    first_fault (as_corrupt (corrupt_end head.search reported xs f))
+    (first_fault (as_too_many f) (as_exhausted head xs f))
 
 -- an end with this fault
 abbrev pub with_fault : Option AgentFault → Option (Option AgentFault)

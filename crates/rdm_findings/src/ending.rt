@@ -1,18 +1,21 @@
 //! Whether the log of a run shows that the run is over, how it ended, and whether it found each device.
-ghost use Rattle.std.specs.Prelude.{◌≡◌, ℕ, Some, None, if◌then◌else◌};
+ghost use Rattle.std.specs.Prelude.{◌≡◌, ℕ, ◌+◌, ◌<◌, ◌≤◌, ◌^◌, Some, None, if◌then◌else◌};
 ghost use Rattle.rdm_wire.specs.Devices.{uids_of};
-ghost use Rattle.rdm_explain.specs.Exchanges.{seen_of};
+ghost use Rattle.rdm_wire.specs.Noisy.{has_bytes as has_bytes_seen};
+ghost use Rattle.rdm_explain.specs.Exchanges.{heard_of, seen_all, seen_of};
+ghost use Rattle.rdm_agent.specs.Cause.{answered_again, answers_in_a_row};
 ghost use Rattle.rdm_agent.specs.Run.{is_branch};
 ghost use Rattle.std.specs.List.{list_all};
 ghost use Rattle.rdm_findings.specs.Ends.{is_complete, is_known_complete, shows_new, new_alone, wrong_alone};
 ghost use Rattle.rdm_findings.specs.Ends.{new_alone_in, wrong_alone_in, from_end, last_of, is_lost_mute};
 ghost use Rattle.rdm_findings.specs.Ends.{lacks_acknowledgement, never_muted, corrupt_uid, corrupt_end};
 ghost use Rattle.rdm_findings.specs.Ends.{as_too_many, is_spent, as_exhausted, first_fault, shown_fault, with_fault};
+ghost use Rattle.rdm_findings.specs.Ends.{are_enough, if_enough};
 ghost use Rattle.rdm_findings.specs.Ends.{shown_end, end_of, shows_end, is_over, is_whole, decides_stray, has_bytes};
 ghost use Rattle.rdm_findings.specs.Ends.{is_own, lacks_unmute, has_branch, loses_names, is_lost};
 
 use crate::head::RunHead;
-use rdm_agent::AgentFault;
+use rdm_agent::{AgentFault, BAD_ANSWERS, Search};
 use rdm_explain::{Asked, Exchange, Heard, KnownFinding, RunFinding};
 use rdm_wire::{DeviceSet, Uid};
 
@@ -85,7 +88,7 @@ fn shown_fault(
 ) -> Option<AgentFault>
     ensures { result ≡ shown_fault head.now reported.now exchanges.now found.now }
 {
-    match corrupt_end(reported, exchanges, found) {
+    match corrupt_end(head.search, reported, exchanges, found) {
         Some(uid) => Some(AgentFault::Corrupt(uid)),
         None => shown_limit(head, exchanges, found),
     }
@@ -215,13 +218,68 @@ fn is_branch(exchange: &Exchange) -> bool
 }
 
 // The UID with which the run ended as Corrupt, if its exchanges show that, and these are the devices that it found.
-fn corrupt_end(reported: &DeviceSet, exchanges: &[Exchange], found: &RunFinding) -> Option<Uid>
-    ensures { result ≡ corrupt_end reported.now exchanges.now found.now }
+fn corrupt_end(
+    search: Option<Search>,
+    reported: &DeviceSet,
+    exchanges: &[Exchange],
+    found: &RunFinding,
+) -> Option<Uid>
+    ensures { result ≡ corrupt_end search reported.now exchanges.now found.now }
 {
     if found.missing_unmute.is_some() || found.failure.is_some() {
         None
     } else {
-        corrupt_uid(reported, exchanges)
+        if_enough(search, exchanges, corrupt_uid(reported, exchanges))
+    }
+}
+
+// The UID, if a run that searches like this ends as Corrupt once its exchanges show that of it.
+fn if_enough(search: Option<Search>, exchanges: &[Exchange], uid: Option<Uid>) -> Option<Uid>
+    ensures { result ≡ if_enough search exchanges.now uid }
+{
+    match uid {
+        Some(uid) => uid_if(are_enough(search, uid, exchanges), uid),
+        None => None,
+    }
+}
+
+// Whether these are enough: a quick run ends only after eight bad answers of a UID alone in a row.
+fn are_enough(search: Option<Search>, uid: Uid, exchanges: &[Exchange]) -> bool
+    ensures { result ≡ are_enough search uid exchanges.now }
+{
+    match search {
+        Some(Search::Quick) => BAD_ANSWERS as usize <= answers_in_a_row(uid, exchanges),
+        Some(Search::Steady) | None => true,
+    }
+}
+
+// How often in a row the branch of this UID alone was answered by bytes, at the end.
+fn answers_in_a_row(uid: Uid, exchanges: &[Exchange]) -> usize
+    ensures { result ≡ answers_in_a_row uid (seen_all exchanges.now) }
+{
+    let mut times = 0;
+    for exchange in exchanges {
+        times = answered_again(uid, times, exchange);
+    }
+    times
+}
+
+// How often it was, if it was so often before this exchange.
+fn answered_again(uid: Uid, times: usize, exchange: &Exchange) -> usize
+    requires { times < 2 ^ 63 }
+    ensures times { result ≡ answered_again uid times (seen_of exchange.now).asked (seen_of exchange.now).heard }
+    ensures bound { result ≤ times + 1 }
+{
+    match exchange.asked {
+        Asked::Branch { lo, hi } => {
+            if has_bytes(&exchange.heard) && (lo == uid && hi == uid) {
+                times + 1
+            } else {
+                0
+            }
+        }
+        Asked::Mute(_) => { if exchange.heard.is_acked() { 0 } else { times } }
+        Asked::Unmute | Asked::Other => 0,
     }
 }
 
@@ -350,7 +408,8 @@ fn is_own(uid: Uid, heard: &Heard) -> bool
 
 // Whether bytes came.
 fn has_bytes(heard: &Heard) -> bool
-    ensures { result ≡ has_bytes heard.now }
+    ensures own { result ≡ has_bytes heard.now }
+    ensures seen { result ≡ has_bytes_seen (heard_of heard.now) }
 {
     match heard {
         Heard::Failed | Heard::Silent => false,
