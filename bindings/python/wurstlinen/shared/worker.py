@@ -67,7 +67,9 @@ class Worker:
     @property
     def is_waiting(self) -> bool:
         """Whether the adapter is gone, and requests wait for it."""
-        return self._gone_since is not None and time.monotonic() < self._gone_since + GRACE_SECONDS
+        # Its own thread may find the adapter at any time.
+        since = self._gone_since
+        return since is not None and time.monotonic() < since + GRACE_SECONDS
 
     def start(self) -> None:
         """Begins."""

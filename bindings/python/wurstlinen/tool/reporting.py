@@ -26,7 +26,7 @@ OTHER_FAULT = re.compile("fault: (.*)")
 FOUND = re.compile("wurstlinen: .*; (?:found until then:|no device was found until then)")
 REQUEST = re.compile("client ([0-9]+) request ([0-9]+): ([0-9]+)(?: ([0-9a-f]{2}) (-|[0-9a-f]+))?")
 DISCOVERY = re.compile("client ([0-9]+) discovery ([0-9]+): (ok|fault [1-5])((?: .*)?)")
-# E1.20, control field of a mute's acknowledgement.
+# E1.20, discovery mute: the control field of its acknowledgement.
 FLAGS = {0x0001: "a proxy of others", 0x0002: "has sub-devices", 0x0004: "waits for new firmware",
          0x0008: "behind a proxy"}
 SECONDS_TO_END = 10.0
