@@ -7,6 +7,7 @@ import sys
 
 # What stands for a closed stream. Results that can't be printed mustn't be lost without a word, so writing them fails.
 INSTEAD = {"stdin": ("r", os.O_RDONLY), "stdout": ("w", os.O_RDONLY), "stderr": ("w", os.O_WRONLY)}
+FAILED = 1
 
 
 def mend() -> None:
@@ -26,3 +27,13 @@ def mend() -> None:
         stream = getattr(sys, name)
         if isinstance(stream, io.TextIOWrapper) and stream.errors == "strict":
             stream.reconfigure(errors="backslashreplace")
+
+
+def finish(status: int) -> int:
+    """A command's status, once its output is written. What can't be is lost, without another word at the end."""
+    try:
+        sys.stdout.flush()
+        return status
+    except OSError:
+        os.dup2(os.open(os.devnull, os.O_WRONLY), sys.stdout.fileno())
+        return status or FAILED

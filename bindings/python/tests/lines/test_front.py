@@ -3,6 +3,7 @@ from __future__ import annotations
 
 import contextlib
 import io
+import itertools
 import json
 import os
 import signal
@@ -28,7 +29,8 @@ FIVE_LINE = f"rig:{FIVE}"
 LOGS = ROOT / "cases/logs.txt"
 FORMATS = ROOT / "docs/FORMATS.md"
 COMMAND = [sys.executable, "-m", "wurstlinen.front"]
-ENVIRONMENT = {**os.environ, "PYTHONPATH": str(PACKAGE), "PYTHONDONTWRITEBYTECODE": "1"}
+# As most users have it, Python keeps output in a buffer.
+ENVIRONMENT = {**os.environ, "PYTHONPATH": str(PACKAGE), "PYTHONDONTWRITEBYTECODE": "1", "PYTHONUNBUFFERED": ""}
 
 
 class Pids(TestCase):
@@ -484,9 +486,11 @@ class Files(TestCase):
 class Processes(TestCase):
     """Commands in processes of their own."""
 
-    def run_command(self, *arguments: str, stdout: Optional[int] = None) -> "subprocess.CompletedProcess[bytes]":
+    def run_command(self, *arguments: str, stdout: Optional[int] = None,
+                    module: str = "front") -> "subprocess.CompletedProcess[bytes]":
         """A command's end."""
-        return subprocess.run([*COMMAND, *arguments], stdout=stdout or subprocess.PIPE, stderr=subprocess.PIPE,
+        command = [sys.executable, "-m", f"wurstlinen.{module}"]
+        return subprocess.run([*command, *arguments], stdout=stdout or subprocess.PIPE, stderr=subprocess.PIPE,
                               env=ENVIRONMENT, check=False)
 
     def test_a_command_loads_what_it_needs(self) -> None:
@@ -505,14 +509,15 @@ class Processes(TestCase):
     def test_a_reader_that_is_gone(self) -> None:
         reading, writing = os.pipe()
         os.close(reading)
-        done = self.run_command("pids", stdout=writing)
+        for module in ("front", "tool"):
+            done = self.run_command("pids", stdout=writing, module=module)
+            self.assertEqual((done.returncode, done.stderr), (1, b""))
         os.close(writing)
-        self.assertEqual((done.returncode, done.stderr), (1, b""))
 
     def test_output_that_is_full(self) -> None:
         with open("/dev/full", "wb") as full:
-            for words in (["pids"], ["pids", "--json"]):
-                done = self.run_command(*words, stdout=full.fileno())
+            for words, module in itertools.product((["pids"], ["pids", "--json"]), ("front", "tool")):
+                done = self.run_command(*words, stdout=full.fileno(), module=module)
                 self.assertEqual((done.returncode, done.stderr), (1, b"wurstlinen: No space left on device\n"))
 
     def test_without_the_library(self) -> None:

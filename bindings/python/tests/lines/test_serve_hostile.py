@@ -25,6 +25,8 @@ from wurstlinen.shared.listening import Place
 from wurstlinen.shared.place import BadPlace
 
 NOBODY = 65534
+# These tests may run as nobody, too.
+SOMEBODY_ELSE = os.geteuid() + 1
 GIGABYTE = 1 << 30
 PIECE = 1 << 16
 
@@ -281,7 +283,7 @@ class Hostile(TestCase):
             self.assertIsNone(next(faults, None))
 
     def test_another_user_is_refused(self) -> None:
-        with here(five, users=frozenset({NOBODY})) as made, Program(made.place.path, None) as program:
+        with here(five, users=frozenset({SOMEBODY_ELSE})) as made, Program(made.place.path, None) as program:
             self.assertEqual(program.read(), {"error": "OtherUser", "text": "this line is another user's"})
 
 
@@ -456,7 +458,7 @@ class Places(TestCase):
         with runtime():
             made = Place("rig:/it")
             made.listen()
-            with mock.patch.object(place, "user_of", lambda connection: NOBODY):
+            with mock.patch.object(place, "user_of", lambda connection: SOMEBODY_ELSE):
                 self.assertRaisesRegex(BadPlace, "another user's program has it", place.connected, "rig:/it")
             made.close()
 

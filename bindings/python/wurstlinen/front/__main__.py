@@ -5,10 +5,10 @@ import signal
 import sys
 
 from .._endings import end_by, interrupt
-from .._standard_streams import mend
+from .._standard_streams import finish, mend
 from .main import main
 
 if __name__ == "__main__":
     mend()
     end_by(interrupt, signal.SIGINT, signal.SIGTERM, signal.SIGHUP)
-    sys.exit(main())
+    sys.exit(finish(main()))

@@ -10,7 +10,7 @@ from typing import TYPE_CHECKING, Iterator, List, Optional, Sequence, Tuple, Uni
 
 from .. import commands
 from .._endings import end_by
-from .._standard_streams import mend
+from .._standard_streams import finish, mend
 from ..front import main as front
 from ..front.main import AS_BYTES, AS_TEXT, PROGRAM
 from ..front.main import run as run_chosen
@@ -52,7 +52,7 @@ def run() -> int:
     end_by(end, signal.SIGTERM, signal.SIGHUP)
     places.name_library()
     try:
-        return main(sys.argv[1:])
+        return finish(main(sys.argv[1:]))
     except Failure as failure:
         command = sys.argv[1] if len(sys.argv) > 1 else ""
         Output("--json" in sys.argv, commands.errors_of(command)).failure(failure)
@@ -60,12 +60,10 @@ def run() -> int:
     except KeyboardInterrupt:
         return INTERRUPTED
     except BrokenPipeError:
-        return FAILED
+        return finish(FAILED)
     except OSError as fault:
         Output(False).note(str(fault.strerror))
-        # What is left to write is lost, without another word.
-        os.dup2(os.open(os.devnull, os.O_WRONLY), sys.stdout.fileno())
-        return FAILED
+        return finish(FAILED)
 
 
 def end(number: int, frame: Optional[FrameType]) -> None:
