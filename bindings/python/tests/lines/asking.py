@@ -3,7 +3,6 @@ from __future__ import annotations
 
 import time
 from collections import deque
-from dataclasses import replace
 from typing import Callable, Deque, List, Optional, Set, Tuple
 
 from common import SOURCE
@@ -139,7 +138,7 @@ class StandInQueue:
             self.broken.add(key)
         elif done.head.ack == AckType.ACK and key in self.broken:
             self.broken.remove(key)
-            return replace(done, may_be_incomplete=True)
+            return done._replace(may_be_incomplete=True)
         return done
 
     def _done(self, number: int, request: Request, line: Line) -> Completion:

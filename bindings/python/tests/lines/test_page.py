@@ -26,7 +26,7 @@ from wurstlinen.front.page_frames import Asked, Came
 from wurstlinen.front.trace import exchanges
 from wurstlinen.lines.numbers import ResponseType
 from wurstlinen.lines.packets import Packet, decode_packet, encode_branch_reply
-from wurstlinen.lines.uids import ALL_DEVICES, parse_uid
+from wurstlinen.lines.uids import ALL_DEVICES, parse_uid, uid_text
 from wurstlinen.tool import explaining
 
 LOGS = ROOT / "cases/logs.txt"

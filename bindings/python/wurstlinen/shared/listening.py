@@ -115,12 +115,12 @@ class Place:
     def _bound(self) -> socket.socket:
         listener = socket.socket(socket.AF_UNIX)
         try:
-            # Its name gets this mode from the start. A umask would be that of all threads.
+            # Its name gets at most this mode from the start. To set a umask would set that of all threads.
             os.fchmod(listener.fileno(), SOCKET_MODE)
             listener.bind(str(self.path))
             if self._group is not None:
                 os.chown(self.path, -1, self._group)
-                os.chmod(self.path, SOCKET_GROUP_MODE)
+            os.chmod(self.path, SOCKET_MODE if self._group is None else SOCKET_GROUP_MODE)
         except BaseException:
             listener.close()
             raise
