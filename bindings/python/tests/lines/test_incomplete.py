@@ -15,7 +15,6 @@ from common import TestCase, folder, needs_library, scene
 from fronts import called
 from servers import Program, here
 from wurstlinen import AckType, Asker, Completion, Controller, Incomplete, Session, Status, Unanswered, connect
-from wurstlinen.front import work
 from wurstlinen.lines import Rig
 from wurstlinen.lines.numbers import Pid
 from wurstlinen.lines.scene import Scene
@@ -199,9 +198,7 @@ class Served(TestCase):
 
                 def flagged() -> Any:
                     done = collect()
-                    if done is not None and done.head is not None:
-                        object.__setattr__(done, "may_be_incomplete", True)
-                    return done
+                    return done if done is None or done.head is None else done._replace(may_be_incomplete=True)
                 setattr(client, "next_completion", flagged)
                 return client
         with folder() as place:
@@ -209,7 +206,7 @@ class Served(TestCase):
             params: List[Any] = [{"pid": "0082", "parts": [WHOLE.hex()]}]
             file.write_text(json.dumps({"source": "7ff0:00000001", "devices": [{"uid": UID, "params": params}]}))
             line = f"rig:{file}"
-            with mock.patch.object(work, "Controller", Broken), mock.patch("wurstlinen.Controller", Broken):
+            with mock.patch("wurstlinen._queue.Controller", Broken), mock.patch("wurstlinen.Controller", Broken):
                 self.assertEqual(called("get", UID, "device_label", "--line", line),
                                  (1, "", f"wurstlinen: {UID}: {why}\n"))
                 status, out, _ = called("get", UID, "device_label", "--line", line, "--json")

@@ -84,9 +84,10 @@ class Protocol(TestCase):
                 {"client": 0, "outstanding": 1, "name": "", **own, "paused": False},
                 {"client": 1, "outstanding": 0, "name": "console", **own, "paused": True}]})
             first.close()
-            while len(found := second.ask({"do": "clients"})["clients"][0]) > 2:
-                self.assertEqual(found["client"], 0)
-            self.assertEqual(found, {"client": 0, "outstanding": 1})
+            # What it hadn't had sent is gone with it.
+            while len(found := second.ask({"do": "clients"})["clients"]) > 1:
+                self.assertEqual(found[0]["client"], 0)
+            self.assertEqual([each["client"] for each in found], [1])
 
     def test_a_get_and_a_set(self) -> None:
         with here(five) as made, Program(made.place.path) as program:

@@ -95,9 +95,15 @@ class Place:
         self._lock = _locked(self.path.with_suffix(".lock"), line)
         try:
             self._make_room()
-            self.listener = self._bound()
+            self.listener = socket.socket(socket.AF_UNIX)
+        except BaseException:
+            os.close(self._lock)
+            raise
+        try:
+            self._bind()
             self._made = os.lstat(self.path)
         except BaseException:
+            self._unbind()
             os.close(self._lock)
             raise
 
@@ -112,19 +118,20 @@ class Place:
         except FileNotFoundError:
             pass
 
-    def _bound(self) -> socket.socket:
-        listener = socket.socket(socket.AF_UNIX)
-        try:
-            # Its name gets at most this mode from the start. To set a umask would set that of all threads.
-            os.fchmod(listener.fileno(), SOCKET_MODE)
-            listener.bind(str(self.path))
-            if self._group is not None:
-                os.chown(self.path, -1, self._group)
-            os.chmod(self.path, SOCKET_MODE if self._group is None else SOCKET_GROUP_MODE)
-        except BaseException:
-            listener.close()
-            raise
-        return listener
+    def _bind(self) -> None:
+        # Its name gets at most this mode from the start. To set a umask would set that of all threads.
+        os.fchmod(self.listener.fileno(), SOCKET_MODE)
+        self.listener.bind(str(self.path))
+        if self._group is not None:
+            os.chown(self.path, -1, self._group)
+        os.chmod(self.path, SOCKET_MODE if self._group is None else SOCKET_GROUP_MODE)
+
+    def _unbind(self) -> None:
+        """Closes the socket, and removes its name if it has one."""
+        with contextlib.suppress(OSError):
+            if self.listener.getsockname():
+                self.path.unlink()
+        self.listener.close()
 
     @property
     def users(self) -> Optional[FrozenSet[int]]:
