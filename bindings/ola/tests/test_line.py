@@ -65,7 +65,7 @@ def check_commands(checks: Checks, commands: Commands, daemon: Daemon) -> None:
     commands.check(["get", SLOW, "device_label"], 0, "House lights\n", waits)
     # olad joins the parts of an answer.
     commands.check(["get", "--raw", LAMP, "8001"], 0, f"0 00 {LONG.hex()}\n")
-    commands.check(["discover"], 0, f"{LAMP}\n{SLOW}\n")
+    commands.check(["discover"], 0, f"{LAMP}\n{SLOW}\n2 devices; as olad found them\n")
     *found, last = commands.objects("fixtures")
     checks.check([(each["uid"], each["label"]) for each in found] == [(LAMP, "Lamp"), (SLOW, "House lights")],
                  f"fixtures: {found}")
