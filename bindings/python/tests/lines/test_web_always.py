@@ -206,7 +206,7 @@ class Always(LongTestCase):
 
 def uid_text_of(fixture: object) -> str:
     """The UID of a rig's fixture."""
-    from wurstlinen.lines.packets import uid_text
+    from wurstlinen.lines.uids import uid_text
     return uid_text(fixture.uid)  # type: ignore[attr-defined]
 
 
