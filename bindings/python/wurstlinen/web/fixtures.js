@@ -23,7 +23,7 @@ export function notesOf(found) {
     const problems = (parts.get("problems") ?? []).filter((each) => each.uid === found.uid || each.other === found.uid);
     const others = problems.map((each) => (each.kind === "end" ? "ends after slot 512" : "overlaps "
         + nameOf(parts.get(`fixture/${each.uid === found.uid ? each.other : each.uid}`))));
-    return [...(found.missing ? [`missing: ${found.missing}`] : []), ...others, ...found.notes];
+    return [...(found.missing ? [`missing: ${found.missing}`] : []), ...found.notes, ...others];
 }
 
 export function remarksOf(found) {
