@@ -131,7 +131,8 @@ class Shown(TestCase):
         self.page.open(written(self.place, log, "discovery: x", "exchange 1 failed: y"))
         for at, has_failed in ((0, False), (1, True)):
             found = self.colours(self.page.value(f"xOf({at})"), 60, 20, 100)
-            self.assertEqual(found.get(RED, 0) > 300, has_failed)
+            # The edges of the strokes are paler, by how a browser draws them.
+            self.assertEqual(found.get(RED, 0) > 100, has_failed)
 
     def test_keys_and_sizes(self) -> None:
         self.page.open(written(self.place, discovered(scene(devices=[{"uid": LEFT}])), *FINDINGS))
