@@ -70,7 +70,7 @@ def closing(text: str, at: int) -> int:
 
 
 def tokens_of(text: str) -> List[Token]:
-    """The tokens of a text. What stands in the braces of a clause, or of a ghost item, is one token of kind ghost."""
+    """The tokens of a text. What is in the braces of a clause, or of a ghost item, is one token of kind ghost."""
     found: List[Token] = []
     at, in_ghost = 0, False
     while at < len(text):
@@ -168,7 +168,7 @@ class Eraser:
         self.at += 1
 
     def copy_word(self) -> None:
-        """Copies the next word, with what stands before it."""
+        """Copies the next word, with what is before it."""
         for _ in range(self.at, self.index() + 1):
             self.copy()
 

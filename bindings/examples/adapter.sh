@@ -9,7 +9,7 @@
 #   adapter.sh rig:five_fixtures.json discover --source 7ff0:00000001 --quick
 #
 # The bridge talks to the adapter, and two FIFOs carry its text: frames one way, replies the other. Both ends stop when
-# one does, and when the script is told to end. WURSTLINEN is the program, if it isn't `wurstlinen` on the PATH. The
+# one does, and when a signal ends the script. WURSTLINEN is the program, if it isn't `wurstlinen` on the PATH. The
 # status is the program's, or the bridge's if only that failed.
 set -uo pipefail
 # With it, cd would go elsewhere, and print where.

@@ -5,7 +5,7 @@ import sys
 
 # While the package is loaded, an interrupt ends it without a word.
 signal.signal(signal.SIGINT, signal.SIG_DFL)
-# Python is told to look nowhere else but among its own modules.
+# Python looks for modules only among its own.
 sys.path.append(os.path.join(os.path.dirname(os.path.realpath(__file__)), "@PACKAGES@"))
 from wurstlinen.tool import run  # noqa: E402
 

@@ -482,7 +482,7 @@ class Logs(Case):
         other = Client(session, 1)
         for _ in range(2):
             self.assertEqual(session.free_entries(), 2)
-            # The full log is told, whatever else is wrong.
+            # The full log is reported, whatever else is wrong.
             self.refused(wurstlinen.LogFull, lambda: client.get(DEVICE, PID), client.discover,
                          lambda: other.get(DEVICE, PID), other.discover, lambda: session.join(2), session.pause,
                          session.resume, session.take)

@@ -11,7 +11,7 @@ from typing import List
 
 from clone import Clone, is_alive, new_clone, wait_for
 
-# A program that works for a minute, together with a process of its own. `ignore`: it doesn't end when it is told to.
+# A program that works for a minute, together with a process of its own. `ignore`: it doesn't end at a signal.
 SLOW = """#!/bin/sh
 {ignore}
 sleep 60 &

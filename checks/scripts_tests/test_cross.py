@@ -128,7 +128,7 @@ class Cross(unittest.TestCase):
 
 
 class Crates(unittest.TestCase):
-    """tools/build_crate uses only libraries that are what it is told."""
+    """tools/build_crate uses only libraries that are what its arguments say."""
 
     def setUp(self) -> None:
         context = new_clone()

@@ -1,4 +1,4 @@
-"""What ./wurstlinen does with cargo: it compiles without a kit, or if it is told to, and says why it can't."""
+"""What ./wurstlinen does with cargo: it compiles without a kit, or if an argument says so, and says why it can't."""
 from __future__ import annotations
 
 import shutil

@@ -5,7 +5,7 @@ import io
 import os
 import sys
 
-# What stands for a closed stream. Results that can't be printed mustn't be lost without a word, so writing them fails.
+# What replaces a closed stream. Results that can't be printed mustn't be lost without a word, so writing them fails.
 INSTEAD = {"stdin": ("r", os.O_RDONLY), "stdout": ("w", os.O_RDONLY), "stderr": ("w", os.O_WRONLY)}
 FAILED = 1
 

@@ -1,5 +1,5 @@
 /* libFuzzer over all calls of the C library, in any order, with allocations that fail. An input is a program: one byte
- * chooses a call, and the next ones its arguments. Each buffer has exactly the size that the call is told. At the end
+ * chooses a call, and the next ones its arguments. Each buffer has exactly the size that the call gets. At the end
  * each handle is disposed of, and no block is left. The library isn't instrumented: which status follows on which is
  * what counts as coverage. */
 #include <stdbool.h>

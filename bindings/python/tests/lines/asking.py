@@ -1,4 +1,4 @@
-"""What the tests of asking share: a clock, devices that answer as they are told, and a stand-in for the queue."""
+"""What the tests of asking share: a clock, devices with scripted answers, and a stand-in for the queue."""
 from __future__ import annotations
 
 import time

@@ -219,7 +219,7 @@ class Limits(TestCase):
             return None
 
     def serve_slowly(self, pipes: Pipes, rig: Rig, stands: threading.Event) -> None:
-        """The far end of a rig, which stands still once for a second when it is told to."""
+        """The far end of a rig, which stops once for a second on request."""
         with open(pipes.frames.fileno(), "rb", closefd=False) as frames:
             for text in frames:
                 if stands.is_set():

@@ -14,7 +14,7 @@ Opened = TypeVar("Opened")
 def when_free(opening: Callable[[], Opened], seconds: float, note: Callable[[str], object]) -> Opened:
     """What `opening` opens, once whoever has the line has closed it. Raises LineBusy after these seconds.
 
-    `note` is told for whom this waits.
+    `note` is called with who has the line.
     """
     end = time.monotonic() + seconds
     noted = ""

@@ -75,7 +75,7 @@ class OlaQueue:
         self._turns = Turns()
         # What isn't collected so far, oldest first.
         self.calls: Deque[Call] = deque()
-        # What is told why olad failed.
+        # What is called with the reason why olad failed.
         self.on_failure: Callable[[str], None] = lambda reason: None
 
     def run(self, line: object = None) -> int:

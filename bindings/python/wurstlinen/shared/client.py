@@ -53,9 +53,9 @@ class SharedQueue:
         self.outstanding: Set[Tuple[OutcomeKind, int]] = set()
         # What takes the frames that the server has sent, for any client, if this one has subscribed to them.
         self.on_frame: Callable[[Keys], None] = lambda keys: None
-        # What is told how many of these it didn't get, since it read too slowly.
+        # What is called with how many of these it didn't get, since it read too slowly.
         self.on_missed: Callable[[int], None] = lambda count: None
-        # What is told why something of this client's failed to be sent.
+        # What is called with the reason why something of this client's failed to be sent.
         self.on_failure: Callable[[str], None] = lambda reason: None
 
     def _take(self, keys: Keys) -> None:

@@ -143,7 +143,7 @@ class Place:
         self.listener.listen()
 
     def leave(self) -> None:
-        """Removes the socket, unless it is another server's now. Who has connected is told so."""
+        """Removes the socket, unless it is another server's now. Programs that have connected get an error."""
         with contextlib.suppress(OSError):
             if os.path.samestat(os.lstat(self.path), self._made):
                 self.path.unlink()

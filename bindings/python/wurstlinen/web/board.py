@@ -5,7 +5,7 @@ import threading
 import time
 from typing import Any, Dict, Iterator, Mapping, Optional, Set
 
-# How long changes are gathered, and after how long without one a page is told that all is well.
+# How long changes are gathered, and after how long without one a page gets a sign that all is well.
 GATHERING_SECONDS = 0.03
 BEAT_SECONDS = 5.0
 Parts = Dict[str, Any]

@@ -76,7 +76,7 @@ class Rig:
         self.entries: Dict[Uid, Entry] = {}
         self._personalities: Dict[Model, List[Dict[str, Any]]] = {}
         self._undos: List[Change] = []
-        # What is told that something about fixtures has changed.
+        # What is called when something about fixtures has changed.
         self.changed = threading.Event()
 
     def fixtures(self) -> List[Fixture]:

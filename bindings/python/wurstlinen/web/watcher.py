@@ -35,8 +35,9 @@ MOST_TEXT = 300
 class Watcher:
     """Watches the server of the line by a connection of its own, and puts what it sees on the board.
 
-    `connect` makes a client. `on_set` is told which device another program has changed, `on_devices` what a run has
-    found; None at first, if the server has had no run yet. `on_there` is told that the adapter is there again.
+    `connect` makes a client. `on_set` is called with the device that another program has changed, `on_devices` with
+    what a run has found; with None at first, if the server has had no run yet. `on_there` is called when the adapter
+    is there again.
     """
 
     def __init__(self, board: Board, connect: Callable[[], SharedClient]) -> None:

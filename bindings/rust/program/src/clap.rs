@@ -140,7 +140,7 @@ fn values_of<'a>(found: &clap::ArgMatches, name: &str, words: &[&'a str]) -> Vec
     }
 }
 
-// The part of a word that is this value: all of it, or what stands behind `=`.
+// The part of a word that is this value: all of it, or what follows `=`.
 fn word_with<'a>(value: &str, words: &[&'a str]) -> Option<&'a str> {
     let behind = |word: &&'a str| word.split_once('=').map(|(_, value)| value);
     let parts = words.iter().copied().chain(words.iter().filter_map(behind));
