@@ -31,14 +31,14 @@ pub trait Client<C: Tells, A: TellsAsk, R> {
     /// What a submit of this request changes besides the callbacks, if it returns this number.
     ghost submits: { Self → RequestState → Option ℕ → Self → Type 0 };
 
-    /// What a submit that is refused with this fault shows.
-    ghost refuses_submit: { Self → CallFaultState → Self → Type 0 };
+    /// What a submit of this request shows that is refused with this fault.
+    ghost refuses_submit: { Self → RequestState → CallFaultState → Self → Type 0 };
 
     /// What a discover of this kind changes besides the callbacks, if it returns this number.
     ghost discovers: { Self → KindState → Option ℕ → Self → Type 0 };
 
-    /// What a discover that is refused with this fault shows.
-    ghost refuses_discover: { Self → CallFaultState → Self → Type 0 };
+    /// What a discover of this kind shows that is refused with this fault.
+    ghost refuses_discover: { Self → KindState → CallFaultState → Self → Type 0 };
 
     /// What a collect that returns this changes besides the callbacks.
     ghost collects: { Self → Option CollectedState → Self → Type 0 };
@@ -57,7 +57,7 @@ pub trait Client<C: Tells, A: TellsAsk, R> {
         ensures held { OnOk result (held self.new
             ≡ record (held self.old) { requests = (held self.old).requests ++ callback ∷ [] }) }
         ensures submitted { IfOk result (λ number. submits self.old request number self.new) }
-        ensures refused { IfErr result (λ e. refuses_submit self.old e.0 self.new) }
+        ensures refused { IfErr result (λ e. refuses_submit self.old request e.0 self.new) }
         // A client with ring buffers may have left.
         ensures full { (held self.old).places ≤ length (held self.old).requests
             → IsErrAnd result (λ e. (e.0 ≡ CallFault.Full) ⊎ (e.0 ≡ CallFault.Left)) }
@@ -71,7 +71,7 @@ pub trait Client<C: Tells, A: TellsAsk, R> {
         ensures held { OnOk result (held self.new
             ≡ record (held self.old) { asks = (held self.old).asks ++ callback ∷ [] }) }
         ensures discovered { IfOk result (λ number. discovers self.old kind number self.new) }
-        ensures refused { IfErr result (λ e. refuses_discover self.old e.0 self.new) }
+        ensures refused { IfErr result (λ e. refuses_discover self.old kind e.0 self.new) }
         ensures full { 4 ≤ length (held self.old).asks
             → IsErrAnd result (λ e. (e.0 ≡ CallFault.Full) ⊎ (e.0 ≡ CallFault.Left)) }
         ensures back { IfErr result (λ e. (e.1 ≡ callback) × (held self.new ≡ held self.old)) }

@@ -90,7 +90,7 @@ pub use Rattle.rdm_log.specs.promises.EventsHeadline.{AnsweredAt, IsOwnOutcome, 
 pub use Rattle.rdm_log.specs.promises.EventsHeadline.{HasMost}
 pub use Rattle.rdm_log.specs.promises.Explains.{Explains, Adds, IsAnswered}
 pub use Rattle.rdm_log.specs.promises.Headline.{numbers_accepted, Begins, IsFull}
-pub use Rattle.rdm_log.specs.promises.InBound.{AnswersInBound, FaultNeedsClose, IsCalmRun}
+pub use Rattle.rdm_log.specs.promises.InBound.{AnswersInBound, FaultNeedsClose, IsCalmRun, IsNoisyRun, IsCalmOrNoisy}
 pub use Rattle.rdm_log.specs.promises.Outcomes.{outcome_of, OutcomeValue, completion_of, discovered, outcome_value}
 pub use Rattle.rdm_log.specs.promises.Outcomes.{unboxed}
 pub use Rattle.rdm_log.specs.promises.Outcomes.OutcomeValue.{DiscoveryValue, RequestValue}

@@ -6,9 +6,10 @@ use arrayvec::ArrayVec;
 use rdm_join::{ReplyHead, Status};
 use rdm_wire::{AckType, ReqClass, Request, Uid};
 use std::marker::Model;
+use std::mem::size_of;
 
 /// How many keys a [`BrokenAnswers`] lists.
-pub const MOST_BROKEN: usize = 64;
+pub const MOST_BROKEN: usize = 1_024;
 
 /// What a GET asks for. A device keeps one position in its answer for each.
 #[derive(Clone, Copy, Debug, Default, PartialEq, Eq)]
@@ -48,14 +49,16 @@ impl AnswerKey {
 }
 
 /// For which keys the last GET of which a frame was sent ended without a whole answer, and none was whole since: they
-/// are *open*. It has memory for [`MOST_BROKEN`] keys. If more are open, it lists those that were answered whole since,
-/// and each key that it doesn't list counts as open. So it may take a key for open without need, and never the other
+/// are *open*. It has memory for [`MOST_BROKEN`] keys. If more are open at once, from then on it lists as many that
+/// were closed last, and each other counts as open. So it may take a key for open without need, and never the other
 /// way round.
 #[derive(Debug, Drop)]
 pub struct BrokenAnswers {
     inverted: bool,
     keys: ArrayVec<AnswerKey, MOST_BROKEN>,
 }
+
+const _: () = prove!(size_of::<BrokenAnswers>() == 16 * MOST_BROKEN + 16);
 
 impl Model for BrokenAnswers {
     ghost use Rattle.rdm_log.specs.log.BrokenKeys.{BrokenKeys};

@@ -5,8 +5,8 @@
 //!
 //! # What calls cost
 //!
-//! - A log's opening contains a set of devices, of 32 KB. It is filled when a log is made or cleared, and when it gets
-//!   another opening.
+//! - A log's opening contains a set of devices, of 32 KB, and the GETs that broke off, of 16 KB. Both are filled when a
+//!   log is made or cleared, and when it gets another opening.
 //! - An entry takes 296 bytes. The memory of all of them is reserved when the log is made, so `append` takes constant
 //!   time and allocates nothing.
 #![tactic(auto)]

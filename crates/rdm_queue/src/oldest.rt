@@ -12,7 +12,8 @@ pub enum Oldest<'a> {
         /// How it ended.
         done: &'a Completion,
         /// Whether its answer may lack its first parts. It is the first whole answer to such a GET after one that broke
-        /// off, so the device may have gone on where that one stopped. The next GET gets all of it.
+        /// off, so the device may have gone on where that one stopped. The next GET gets all of it. Once more than
+        /// [`MOST_BROKEN`](rdm_log::MOST_BROKEN) were broken off at once, others are flagged too.
         may_be_incomplete: bool,
     },
     /// A discovery has ended.

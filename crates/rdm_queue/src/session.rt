@@ -473,8 +473,8 @@ impl Session {
     /// has at most `8 + 370 n + 5 k` frames, and 205 more if it searches quickly.
     ///
     /// The numbers of requests, discoveries, runs and frames continue. The clients with their queue depths, the devices
-    /// and their run, how runs search, and whether it is paused or closed are unchanged: all are in the new log's
-    /// opening. The new log has no entries.
+    /// and their run, the GETs that broke off, how runs search, and whether it is paused or closed are unchanged: all
+    /// are in the new log's opening. The new log has no entries.
     /// Err: the session isn't idle. It is returned unchanged, and so is the new log.
     pub fn rotate(mut self, log: Log) -> Result<(Session, Log), (NotIdle, Session, Log)>
         requires empty { log.entries ≡ [] }

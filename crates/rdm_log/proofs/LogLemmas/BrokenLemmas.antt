@@ -1,8 +1,8 @@
 -- How what a log says about broken answers changes with each entry.
-use Rattle.rdm_log.proofs.Common.{◌≡◌, ℕ, ◌+◌, ◌<◌, Bool, true, false, List, [], ◌∷◌, ◌++◌, length, Option, None, refl}
+use Rattle.rdm_log.proofs.Common.{◌≡◌, ℕ, ◌+◌, ◌<◌, Bool, true, false, List, [], ◌∷◌, ◌++◌, length, None, refl}
 use Rattle.rdm_log.proofs.Common.{sym, ap, ◌∙◌, arith, append_assoc, append-nil, length-append, ◌==◌, ◌||◌, list_any}
 use Rattle.rdm_log.proofs.Common.{ne_eqb, eq-eqb, list_any-append, AllByRecursion, EachAfter, Status, Opening, Entry}
-use Rattle.rdm_log.proofs.Common.{Finish, finishes, MayFollow, slice_get, Some, ◌⊎◌, inl, inr, false≢true}
+use Rattle.rdm_log.proofs.Common.{Finish, finishes, MayFollow, ◌⊎◌, inl, inr}
 use Rattle.rdm_log.specs.log.Entries.{finished_of}
 use Rattle.rdm_log.specs.log.Broken.{Incomplete, after_entry, incomplete, flags_more}
 unfoldable use Rattle.rdm_log.specs.log.Broken.{after_entries}

@@ -1,15 +1,16 @@
 -- Which keys are open after one was opened or closed.
 use Rattle.rdm_log.proofs.Common.{◌≡◌, ℕ, Bool, true, false, List, [], ◌∷◌, ◌++◌, drop, refl, sym, ap, ◌∙◌, ◌⊎◌}
 use Rattle.rdm_log.proofs.Common.{inl, inr}
-use Rattle.rdm_log.proofs.Common.{◌==◌, ◌&&◌, ◌||◌, not, cond, filter, list_any, list_any-append, cases_Bool, eq-eqb}
+use Rattle.rdm_log.proofs.Common.{◌==◌, ◌&&◌, ◌||◌, not, cond, list_any-append, cases_Bool, eq-eqb}
 use Rattle.rdm_log.proofs.Common.{eqb-true, false≢true, length, if◌then◌else◌}
 use Rattle.std.specs.Prelude.{nat_lt}
 use Rattle.rdm_log.specs.declared.broken.AnswerKey.{AnswerKey}
+use Rattle.rdm_log.specs.declared.broken.TheConstants.{MOST_BROKEN}
 use Rattle.rdm_log.specs.log.BrokenKeys.{BrokenKeys, same_key, lists, without, is_open, listed_open, listed_closed}
 use Rattle.rdm_log.specs.log.BrokenKeys.{with_open, with_closed}
 
 -- the same key is equal
-and_parts : (a b : Bool) → (a && b) ≡ true → (a ≡ true) × (b ≡ true)
+pub and_parts : (a b : Bool) → (a && b) ≡ true → (a ≡ true) × (b ≡ true)
 and_parts true b all = (refl, all)
 and_parts false b all = absurd (false≢true all)
 
@@ -115,7 +116,7 @@ opens_own k b = by_mode b.inverted
     by_mode : (c : Bool) → is_open (if c then record { inverted = true; keys = without k b.keys }
         else listed_open k (without k b.keys)) k ≡ true
     by_mode true = ap not (own_struck k b.keys)
-    by_mode false = by_room (nat_lt (length (without k b.keys)) 64)
+    by_mode false = by_room (nat_lt (length (without k b.keys)) MOST_BROKEN)
 
 from_not : (b : Bool) → not b ≡ true → b ≡ false
 from_not true is = absurd (false≢true is)
@@ -139,7 +140,7 @@ opens_none_else j k b was = by_mode b.inverted was
         → is_open (if c then record { inverted = true; keys = without k b.keys }
         else listed_open k (without k b.keys)) j ≡ true
     by_mode true is = ap not (none_struck j k b.keys (from_not (lists j b.keys) is))
-    by_mode false is = by_room (nat_lt (length (without k b.keys)) 64) is
+    by_mode false is = by_room (nat_lt (length (without k b.keys)) MOST_BROKEN) is
 
 -- a key that is closed isn't open, and all others that were open still are
 pub closes_own : (k : AnswerKey) (b : BrokenKeys) → is_open (with_closed k b) k ≡ false
@@ -148,7 +149,7 @@ closes_own k b = by_mode b.inverted
     by_mode : (c : Bool) → is_open (if c then listed_closed k (without k b.keys)
         else record { inverted = false; keys = without k b.keys }) k ≡ false
     by_mode true =
-        ap not (own_listed k (if nat_lt (length (without k b.keys)) 64 then without k b.keys
+        ap not (own_listed k (if nat_lt (length (without k b.keys)) MOST_BROKEN then without k b.keys
         else drop 1 (without k b.keys)))
     by_mode false = own_struck k b.keys
 
@@ -166,7 +167,8 @@ closes_none_else j k b other was = by_mode b.inverted was
         else record { inverted = false; keys = without k b.keys }) j ≡ true
     by_mode true is =
         ap not (other_listed j k _ other
-        ∙ by_room (nat_lt (length (without k b.keys)) 64) (none_struck j k b.keys (from_not (lists j b.keys) is)))
+        ∙ by_room (nat_lt (length (without k b.keys)) MOST_BROKEN)
+        (none_struck j k b.keys (from_not (lists j b.keys) is)))
     by_mode false is = other_kept j k b.keys other ∙ is
 
 abbrev pub inverted_of : BrokenKeys → Bool
@@ -192,7 +194,7 @@ opened_before j k b not_inverted other is = by_mode b.inverted not_inverted is
         else listed_open k (without k b.keys)) j ≡ true
         → (c ≡ false) × ((if c then not (lists j b.keys) else lists j b.keys) ≡ true)
     by_mode true fits has = absurd (false≢true (sym fits))
-    by_mode false fits has = (refl, by_room (nat_lt (length (without k b.keys)) 64) fits has)
+    by_mode false fits has = (refl, by_room (nat_lt (length (without k b.keys)) MOST_BROKEN) fits has)
 
 pub closed_before : (j k : AnswerKey) (b : BrokenKeys) → (with_closed k b).inverted ≡ false
     → is_open (with_closed k b) j ≡ true → (b.inverted ≡ false) × (is_open b j ≡ true)

@@ -1,8 +1,10 @@
--- On a calm line, with a budget that suffices, a discovery that events answered has a fault only after a close.
+-- On a calm or noisy line, with a budget that suffices, a discovery that events answered has a fault only after a
+-- close.
 use Rattle.rdm_log.proofs.Common.{◌≡◌, ℕ, zero, suc, Bool, true, false, List, [], ◌∷◌, ◌++◌, Some, None, refl, sym, ap}
 use Rattle.rdm_log.proofs.Common.{◌∙◌, append_assoc, append-nil, ◌≢◌, Ok, Err, append_cancel_left, AllByRecursion}
 use Rattle.rdm_log.proofs.Common.{EachAfter, AgentFault, Entry, Close, Event, is_closed, has_begun, MayAnswer}
 use Rattle.rdm_log.proofs.Common.{MayFollow, LogState, grown, with_entries, CloseAddsWhere, IsCalmRun, FaultNeedsClose}
+use Rattle.rdm_log.proofs.Common.{IsNoisyRun, IsCalmOrNoisy, inl, inr}
 use Rattle.rdm_log.proofs.Common.{AnswersInBound, Adds, Explains}
 use Rattle.rdm_log.specs.declared.entry.Entry.TheVariants as discovery
 use Rattle.rdm_log.specs.declared.event.Event.TheVariants as events
@@ -19,7 +21,7 @@ use Rattle.rdm_log.proofs.PromiseLemmas.ExplainsLemmas.{grown_twice}
 
 -- if the queue is closed, any Answer is in bound
 closed_entry : (k : LogState) (e : Entry) → is_closed k.opening k.entries ≡ true → FaultNeedsClose k e
-closed_entry k (discovery.Answer n r (Some fault)) closed = λ present calm. closed
+closed_entry k (discovery.Answer n r (Some fault)) closed = λ present run. closed
 closed_entry k (discovery.Answer n r None) closed = tt
 closed_entry k _ closed = tt
 
@@ -84,7 +86,7 @@ all_in_bound old (e ∷ es) (r ∷ rs) new is =
 all_in_bound old [] (r ∷ rs) new is = absurd is
 all_in_bound old (e ∷ es) [] new is = absurd is
 
--- a run that an Answer names is as calm before the Answer
+-- a run that an Answer names is as calm before the Answer, or as noisy
 calm_before : (k : LogState) (before back : List Entry) (n r : ℕ) (fault : AgentFault) (present : List ℕ)
     → EachAfter (MayFollow k.opening) k.entries → k.entries ≡ before ++ discovery.Answer n r (Some fault) ∷ back
     → has_begun r before ≡ true → IsCalmRun k r present → IsCalmRun (with_entries k before) r present
@@ -97,17 +99,38 @@ calm_before k before back n r fault present each is begun calm = record {
   ) at calm.budgeted;
 }
 
+noisy_before : (k : LogState) (before back : List Entry) (n r : ℕ) (fault : AgentFault) (present : List ℕ) (w : ℕ)
+    → EachAfter (MayFollow k.opening) k.entries → k.entries ≡ before ++ discovery.Answer n r (Some fault) ∷ back
+    → has_begun r before ≡ true → IsNoisyRun k r present w → IsNoisyRun (with_entries k before) r present w
+noisy_before k before back n r fault present w each is begun noisy = record {
+  noisy = rw (ended k.opening k.entries each before back n r (Some fault) is) at noisy.noisy;
+  quick = noisy.quick;
+  budgeted = rw (
+    is,
+    served_stays r before (discovery.Answer n r (Some fault) ∷ back) begun,
+    entries_before_run_stays r before (discovery.Answer n r (Some fault) ∷ back) begun,
+  ) at noisy.budgeted;
+}
+
+run_before : (k : LogState) (before back : List Entry) (n r : ℕ) (fault : AgentFault) (present : List ℕ)
+    → EachAfter (MayFollow k.opening) k.entries → k.entries ≡ before ++ discovery.Answer n r (Some fault) ∷ back
+    → has_begun r before ≡ true → IsCalmOrNoisy k r present → IsCalmOrNoisy (with_entries k before) r present
+run_before k before back n r fault present each is begun (inl calm) =
+    inl (calm_before k before back n r fault present each is begun calm)
+run_before k before back n r fault present each is begun (inr noisy) =
+    inr (noisy.0, noisy_before k before back n r fault present noisy.0 each is begun noisy.1)
+
 -- an Answer that names no run comes after a close
 by_number : (k : LogState) (before back : List Entry) (n r : ℕ) (fault : AgentFault) (present : List ℕ)
     → EachAfter (MayFollow k.opening) k.entries → k.entries ≡ before ++ discovery.Answer n r (Some fault) ∷ back
     → MayAnswer k.opening before n r (Some fault)
-    → FaultNeedsClose (with_entries k before) (discovery.Answer n r (Some fault)) → IsCalmRun k r present
+    → FaultNeedsClose (with_entries k before) (discovery.Answer n r (Some fault)) → IsCalmOrNoisy k r present
     → is_closed k.opening before ≡ true
-by_number k before back n zero fault present each is may bound calm = (may.unserved refl).closing.closed
-by_number k before back n (suc r) fault present each is may bound calm =
+by_number k before back n zero fault present each is may bound run = (may.unserved refl).closing.closed
+by_number k before back n (suc r) fault present each is may bound run =
     bound present
-    (calm_before k before back n (suc r) fault present each is
-    (named_begun k.opening before n (suc r) (Some fault) may some) calm)
+    (run_before k before back n (suc r) fault present each is
+    (named_begun k.opening before n (suc r) (Some fault) may some) run)
   where
     some : suc r ≢ 0
     some e = cc
@@ -116,10 +139,10 @@ pub in_bound : (old : LogState) (es : List Event) (rs : List Answer) (new : LogS
     → EachAfter (MayFollow new.opening) new.entries
     → (front back : List Entry) (n r : ℕ) (fault : AgentFault) (present : List ℕ)
     → new.entries ≡ old.entries ++ front ++ discovery.Answer n r (Some fault) ∷ back
-    → IsCalmRun new r present → is_closed new.opening (old.entries ++ front) ≡ true
-in_bound old es rs new explains each front back n r fault present is calm =
+    → IsCalmOrNoisy new r present → is_closed new.opening (old.entries ++ front) ≡ true
+in_bound old es rs new explains each front back n r fault present is run =
     by_number new (old.entries ++ front) back n r fault present each is (each (old.entries ++ front) back answer is)
-    bound calm
+    bound run
   where
     answer : Entry
     answer = discovery.Answer n r (Some fault)

@@ -6,7 +6,7 @@ use Rattle.rdm_log.proofs.Common.{Kind, ClientId, Entry, Accept, Ask, NoMemory, 
 use Rattle.rdm_log.proofs.Common.{Accepted, AskedDiscovery, accepted_of, asked_of, accepts, asks, work_fault, MayFollow}
 use Rattle.rdm_log.proofs.Common.{Legal, LogState, grown, is_full_log, WorkAdds, WorkLogs, work_accepted, work_refused}
 use Rattle.rdm_log.proofs.Common.{discovered, unboxed, Adds, Explains, numbers_accepted, numbers_asked, AnsweredAt}
-use Rattle.rdm_log.proofs.Common.{brings, answer_to, IsOwnOutcome, ReportsTheLine}
+use Rattle.rdm_log.proofs.Common.{brings, answer_to, IsOwnOutcome, ReportsTheLine, inl, inr}
 use Rattle.rdm_log.specs.declared.fault.WorkFault.TheVariants.{Full}
 use Rattle.rdm_log.specs.declared.outcome.AskCompletion.{AskCompletion}
 use Rattle.rdm_log.specs.declared.outcome.Outcome.TheVariants as outcomes
@@ -193,5 +193,8 @@ events_promised old es rs new explains legal = record {
   reported = reported old es rs new explains legal;
   no_memory = no_memory old es rs new explains;
   collected_once = collected_once old es rs new explains legal.each;
-  in_bound = in_bound old es rs new explains legal.each;
+  in_bound = λ front back n r fault present is calm.
+      in_bound old es rs new explains legal.each front back n r fault present is (inl calm);
+  in_bound_in_noise = λ front back n r fault present w is noisy.
+      in_bound old es rs new explains legal.each front back n r fault present is (inr (w, noisy));
 }

@@ -1,9 +1,9 @@
 -- An answer that isn't flagged has all its parts, and a flag has its cause.
 use Rattle.rdm_log.proofs.Common.{◌≡◌, ℕ, ◌+◌, Bool, true, false, List, [], ◌∷◌, ◌++◌, length, Option, Some, None, refl}
 use Rattle.rdm_log.proofs.Common.{sym, ap, ◌∙◌, subst, arith, append_assoc, slice_get, ◌⊎◌, inl, inr, ◌&&◌, ◌||◌, ◌==◌}
-use Rattle.rdm_log.proofs.Common.{list_any, list_any-append, eq-eqb, cases_Bool, false≢true, none-some, same_Some}
+use Rattle.rdm_log.proofs.Common.{list_any, list_any-append, eq-eqb, false≢true, same_Some}
 use Rattle.rdm_log.proofs.Common.{if◌then◌else◌, EachAfter, Status, Opening, Entry, Finish, Accepted, accepts, finishes}
-use Rattle.rdm_log.proofs.Common.{MayFollow, Legal, append-nil, ◌<◌, length-append, Completed}
+use Rattle.rdm_log.proofs.Common.{MayFollow, Legal, append-nil, ◌<◌, length-append, Completed, drop}
 use Rattle.rdm_log.proofs.LogLemmas.PushLemmas.{finishes_more, finishes_same}
 use Rattle.rdm_join.specs.declared.joiner.ReplyHead.{ReplyHead}
 use Rattle.rdm_log.specs.declared.broken.AnswerKey.{AnswerKey}
@@ -11,15 +11,17 @@ use Rattle.rdm_log.specs.log.Entries.{finished_of}
 use Rattle.rdm_log.specs.log.History.{unfinished, was_sent}
 use Rattle.rdm_log.specs.log.BrokenKeys.{BrokenKeys, is_open, same_key, with_open, with_closed}
 use Rattle.rdm_log.specs.log.Broken.{Incomplete, key_of, key_of_first, head_of_result, is_whole, breaks_off, after_end}
-use Rattle.rdm_log.specs.log.Broken.{after_get, after_entry, after_finish, is_end_flagged, flags_more, incomplete}
+use Rattle.rdm_log.specs.log.Broken.{after_entry, after_finish, is_end_flagged, flags_more, incomplete}
 use Rattle.rdm_log.specs.log.Broken.{may_be_incomplete, broken_keys}
 unfoldable use Rattle.rdm_log.specs.log.Broken.{after_entries}
 use Rattle.rdm_log.specs.promises.Flags.{IsGetOf, BreaksOff, AnswersWhole, WholeWithin, BrokenWithin, FlagsHold}
+use Rattle.rdm_log.specs.promises.Flags.{IsLeftBroken, NeedsFlag}
 use Rattle.rdm_log.proofs.LogLemmas.Grows.{front as front_of}
 use Rattle.rdm_log.proofs.LogLemmas.LegalFacts.{legal_facts, unfinished_index, LogFacts}
 use Rattle.rdm_log.proofs.LogLemmas.BrokenLemmas.{after_entries-append, which, IsFinishOf, finish_number}
 use Rattle.rdm_log.proofs.LogLemmas.BrokenLemmas.{flag_of_new, flag_of_old, flagged_below, unchanged}
 use Rattle.rdm_log.proofs.LogLemmas.KeyLemmas.{same_from, opens_own, opens_none_else, closes_none_else}
+use Rattle.rdm_log.proofs.LogLemmas.KeyLemmas.{closes_own, and_parts}
 use Rattle.rdm_log.proofs.LogLemmas.KeyLemmas.{opened_before, closed_before, inverted_of}
 
 -- the request of a Finish is the oldest unfinished one
@@ -78,6 +80,8 @@ broken_later front e entries key w = record {
   len = w.len;
   stands = ap (λ l. e ∷ l) w.stands;
   broken = subst (λ l. BreaksOff l w.number w.status key) (append_assoc front (e ∷ []) w.first) w.broken;
+  since = subst (λ l. WholeWithin l w.last key → ⊥)
+      (append_assoc front (e ∷ []) (w.first ++ Finish w.number w.status w.len ∷ [])) w.since;
 }
 
 -- a Finish leaves an open key open, unless it is of a GET of that key whose answer was read to the end
@@ -212,10 +216,11 @@ record Stands (o : Opening) (front : List Entry) (e : Entry) : Type 0 where
   each : EachAfter (MayFollow o) front
   may : MayFollow o front e
 
-stands : (o : Opening) (h front back : List Entry) (e : Entry) → Legal o h → h ≡ front ++ e ∷ back → Stands o front e
-stands o h front back e legal is = record {
-  each = front_of o front (e ∷ back) (rw is at legal.each);
-  may = legal.each front back e is;
+stands : (o : Opening) (h front back : List Entry) (e : Entry) → EachAfter (MayFollow o) h → h ≡ front ++ e ∷ back
+    → Stands o front e
+stands o h front back e each is = record {
+  each = front_of o front (e ∷ back) (rw is at each);
+  may = each front back e is;
 }
 
 -- the key of a GET that isn't flagged wasn't open
@@ -228,28 +233,25 @@ not_open o h front back n status len key legal is whole unflagged open_ =
     (key_is_first o front n status len key here.each here.may whole.get) whole.whole ∙ open_))
   where
     here : Stands o front (Finish n status len)
-    here = stands o h front back (Finish n status len) legal is
+    here = stands o h front back (Finish n status len) legal.each is
 
-broken_flagged : (o : Opening) (h front middle back : List Entry) (m n : ℕ) (lost status : Status) (none len : ℕ)
-    (key : AnswerKey) → Legal o h → h ≡ front ++ Finish m lost none ∷ (middle ++ Finish n status len ∷ back)
-    → BreaksOff front m lost key → AnswersWhole (front ++ Finish m lost none ∷ middle) n status key
-    → may_be_incomplete o h (Finish n status len) ≡ false → WholeWithin (front ++ Finish m lost none ∷ []) middle key
+-- the key of a GET that broke off stays open, or a GET of it was answered whole
+broken_left : (o : Opening) (h front back : List Entry) (m : ℕ) (lost : Status) (none : ℕ) (key : AnswerKey)
+    → EachAfter (MayFollow o) h → h ≡ front ++ Finish m lost none ∷ back → BreaksOff front m lost key
+    → WholeWithin (front ++ Finish m lost none ∷ []) back key ⊎ (is_open (broken_keys o h) key ≡ true)
 unfolding after_entries
-broken_flagged o h front middle back m n lost status none len key legal is broken whole unflagged =
-    by_open (stays_open o (front ++ e ∷ []) middle key (after_entry front e (incomplete o front)) each opened)
+broken_left o h front back m lost none key each is broken =
+    rw is
+    (subst (λ (i : Incomplete). WholeWithin (front ++ e ∷ []) back key ⊎ (is_open i.keys key ≡ true))
+    (sym (after_entries-append [] front (e ∷ back) (record { keys = o.broken; flagged = [] })))
+    (stays_open o (front ++ e ∷ []) back key (after_entry front e (incomplete o front))
+    (rw (append_assoc front (e ∷ []) back, ← is) each) opened))
   where
     e : Entry
     e = Finish m lost none
 
-    later : h ≡ (front ++ e ∷ middle) ++ Finish n status len ∷ back
-    later = is ∙ sym (append_assoc front (e ∷ middle) (Finish n status len ∷ back))
-
     here : Stands o front e
-    here = stands o h front (middle ++ Finish n status len ∷ back) e legal is
-
-    each : EachAfter (MayFollow o) ((front ++ e ∷ []) ++ middle)
-    each = rw (append_assoc front (e ∷ []) middle)
-        (stands o h (front ++ e ∷ middle) back (Finish n status len) legal later).each
+    here = stands o h front back e each is
 
     opened : is_open (after_entry front e (incomplete o front)).keys key ≡ true
     opened =
@@ -257,13 +259,27 @@ broken_flagged o h front middle back m n lost status none len key legal is broke
         (incomplete o front).keys (key_is_first o front m lost none key here.each here.may broken.get) broken.sent
         broken.broken
 
-    by_open : WholeWithin (front ++ e ∷ []) middle key
-        ⊎ (is_open (after_entries (front ++ e ∷ []) middle (after_entry front e (incomplete o front))).keys key ≡ true)
+broken_flagged : (o : Opening) (h front middle back : List Entry) (m n : ℕ) (lost status : Status) (none len : ℕ)
+    (key : AnswerKey) → Legal o h → h ≡ front ++ Finish m lost none ∷ (middle ++ Finish n status len ∷ back)
+    → BreaksOff front m lost key → AnswersWhole (front ++ Finish m lost none ∷ middle) n status key
+    → may_be_incomplete o h (Finish n status len) ≡ false → WholeWithin (front ++ Finish m lost none ∷ []) middle key
+broken_flagged o h front middle back m n lost status none len key legal is broken whole unflagged =
+    by_open (broken_left o (front ++ e ∷ middle) front middle m lost none key until refl broken)
+  where
+    e : Entry
+    e = Finish m lost none
+
+    later : h ≡ (front ++ e ∷ middle) ++ Finish n status len ∷ back
+    later = is ∙ sym (append_assoc front (e ∷ middle) (Finish n status len ∷ back))
+
+    until : EachAfter (MayFollow o) (front ++ e ∷ middle)
+    until = (stands o h (front ++ e ∷ middle) back (Finish n status len) legal.each later).each
+
+    by_open : WholeWithin (front ++ e ∷ []) middle key ⊎ (is_open (broken_keys o (front ++ e ∷ middle)) key ≡ true)
         → WholeWithin (front ++ e ∷ []) middle key
     by_open (inl w) = w
     by_open (inr open_) =
-        absurd (not_open o h (front ++ e ∷ middle) back n status len key legal later whole unflagged
-        (rw (after_entries-append [] front (e ∷ middle) (record { keys = o.broken; flagged = [] })) open_))
+        absurd (not_open o h (front ++ e ∷ middle) back n status len key legal later whole unflagged open_)
 
 opened_flagged : (o : Opening) (h front back : List Entry) (n : ℕ) (status : Status) (len : ℕ) (key : AnswerKey)
     → Legal o h → h ≡ front ++ Finish n status len ∷ back → is_open o.broken key ≡ true
@@ -271,7 +287,7 @@ opened_flagged : (o : Opening) (h front back : List Entry) (n : ℕ) (status : S
     → WholeWithin [] front key
 opened_flagged o h front back n status len key legal is was whole unflagged =
     by_open (stays_open o [] front key (record { keys = o.broken; flagged = [] })
-    (stands o h front back (Finish n status len) legal is).each was)
+    (stands o h front back (Finish n status len) legal.each is).each was)
   where
     by_open : WholeWithin [] front key ⊎ (is_open (incomplete o front).keys key ≡ true) → WholeWithin [] front key
     by_open (inl w) = w
@@ -312,23 +328,68 @@ end_opens key (Some own) sent status head b fits is = by_whole (is_whole status 
     by_whole true fits is = inr (closed_before key own b fits is)
     by_whole false fits is = by_sent sent (breaks_off status) refl refl fits is
 
--- so a key that is open after a block was open before, or a GET of it broke off there
+-- an answer that was read to the end closes its key
+whole_closes : (own : Option AnswerKey) (key : AnswerKey) (sent : Bool) (status : Status) (head : Option ReplyHead)
+    (b : BrokenKeys) → own ≡ Some key → is_whole status head ≡ true
+    → is_open (after_end own sent status head b) key ≡ false
+whole_closes own key sent status head b is whole = rw (is, whole) (closes_own key b)
+
+-- so no answer was read to the end in a block, if the key is open after its first entry, and none was after that
+none_whole : (o : Opening) (front entries : List Entry) (e : Entry) (key : AnswerKey) (i : Incomplete)
+    → EachAfter (MayFollow o) (front ++ e ∷ entries) → is_open (after_entry front e i).keys key ≡ true
+    → (WholeWithin (front ++ e ∷ []) entries key → ⊥) → WholeWithin front (e ∷ entries) key → ⊥
+none_whole o front entries e key i each is later w =
+    by_first w.first w.last w.number w.status w.len w.stands w.whole
+  where
+    by_end : (n : ℕ) (status : Status) (len : ℕ) → e ≡ Finish n status len → AnswersWhole front n status key → ⊥
+    by_end n status len same whole =
+        false≢true (sym (whole_closes (key_of_first (unfinished front)) key (was_sent n front) status
+        (head_of_result n front) i.keys (key_is_first o front n status len key (front_of o front (e ∷ entries) each)
+        (rw same at (each front entries e refl)) whole.get) whole.whole) ∙ (rw same at is))
+
+    by_first : (first last : List Entry) (n : ℕ) (status : Status) (len : ℕ)
+        → e ∷ entries ≡ first ++ Finish n status len ∷ last → AnswersWhole (front ++ first) n status key → ⊥
+    by_first [] last n status len same whole =
+        by_end n status len (same_Some e (Finish n status len) (ap (λ l. slice_get l 0) same))
+        (rw append-nil at whole)
+    by_first (x ∷ first) last n status len same whole = later (record {
+      first = first;
+      last = last;
+      number = n;
+      status = status;
+      len = len;
+      stands = ap (drop 1) same;
+      whole = subst (λ y. AnswersWhole ((front ++ y ∷ []) ++ first) n status key)
+          (sym (same_Some e x (ap (λ l. slice_get l 0) same)))
+          (rw (append_assoc front (x ∷ []) first) whole);
+    })
+
+-- So a key that is open after a block was open before, or a GET of it broke off there. None was answered whole since.
 was_open : (o : Opening) (front entries : List Entry) (key : AnswerKey) (i : Incomplete)
     → EachAfter (MayFollow o) (front ++ entries) → (after_entries front entries i).keys.inverted ≡ false
     → is_open (after_entries front entries i).keys key ≡ true
-    → BrokenWithin front entries key ⊎ ((i.keys.inverted ≡ false) × (is_open i.keys key ≡ true))
+    → BrokenWithin front entries key
+    ⊎ ((i.keys.inverted ≡ false) × (is_open i.keys key ≡ true) × (WholeWithin front entries key → ⊥))
 unfolding after_entries
-was_open o front [] key i each fits is = inr (fits, is)
+was_open o front [] key i each fits is = inr (fits, is, λ w. none_there w.first w.last _ w.stands)
+  where
+    none_there : (first last : List Entry) (e : Entry) → [] ≡ first ++ e ∷ last → ⊥
+    none_there [] last e same = cc
+    none_there (x ∷ first) last e same = cc
 was_open o front (e ∷ entries) key i each fits is =
     either (was_open o (front ++ e ∷ []) entries key (after_entry front e i)
     (rw (append_assoc front (e ∷ []) entries) each) fits is)
   where
-    ended : (f : IsFinishOf e)
+    Result : Type 0
+    Result = BrokenWithin front (e ∷ entries) key
+        ⊎ ((i.keys.inverted ≡ false) × (is_open i.keys key ≡ true) × (WholeWithin front (e ∷ entries) key → ⊥))
+
+    ended : (f : IsFinishOf e) → (WholeWithin (front ++ e ∷ []) entries key → ⊥)
+        → (WholeWithin front (e ∷ entries) key → ⊥)
         → ((key_of_first (unfinished front) ≡ Some key) × (was_sent f.number front ≡ true)
-        × (breaks_off f.status ≡ true)) ⊎ ((i.keys.inverted ≡ false) × (is_open i.keys key ≡ true))
-        → BrokenWithin front (e ∷ entries) key ⊎ ((i.keys.inverted ≡ false) × (is_open i.keys key ≡ true))
-    ended f (inr before) = inr before
-    ended f (inl broken) = inl (record {
+        × (breaks_off f.status ≡ true)) ⊎ ((i.keys.inverted ≡ false) × (is_open i.keys key ≡ true)) → Result
+    ended f later none (inr before) = inr (before.0, before.1, none)
+    ended f later none (inl broken) = inl (record {
       first = [];
       last = entries;
       number = f.number;
@@ -340,21 +401,24 @@ was_open o front (e ∷ entries) key i each fits is =
         sent = broken.1;
         broken = broken.2;
       });
+      since = subst (λ x. WholeWithin (front ++ x ∷ []) entries key → ⊥) f.is later;
     })
 
     by_kind : (after_entry front e i).keys.inverted ≡ false → is_open (after_entry front e i).keys key ≡ true
-        → IsFinishOf e ⊎ (finished_of e ≡ None)
-        → BrokenWithin front (e ∷ entries) key ⊎ ((i.keys.inverted ≡ false) × (is_open i.keys key ≡ true))
-    by_kind fits is (inr other) = inr (rw (unchanged front e i other) at fits, rw (unchanged front e i other) at is)
-    by_kind fits is (inl f) =
-        ended f (end_opens key (key_of_first (unfinished front)) (was_sent f.number front) f.status
+        → (WholeWithin (front ++ e ∷ []) entries key → ⊥) → (WholeWithin front (e ∷ entries) key → ⊥)
+        → IsFinishOf e ⊎ (finished_of e ≡ None) → Result
+    by_kind fits is later none (inr other) =
+        inr (rw (unchanged front e i other) at fits, rw (unchanged front e i other) at is, none)
+    by_kind fits is later none (inl f) =
+        ended f later none (end_opens key (key_of_first (unfinished front)) (was_sent f.number front) f.status
         (head_of_result f.number front) i.keys (rw f.is at fits) (rw f.is at is))
 
     either : BrokenWithin (front ++ e ∷ []) entries key
-        ⊎ (((after_entry front e i).keys.inverted ≡ false) × (is_open (after_entry front e i).keys key ≡ true))
-        → BrokenWithin front (e ∷ entries) key ⊎ ((i.keys.inverted ≡ false) × (is_open i.keys key ≡ true))
+        ⊎ (((after_entry front e i).keys.inverted ≡ false) × (is_open (after_entry front e i).keys key ≡ true)
+        × (WholeWithin (front ++ e ∷ []) entries key → ⊥)) → Result
     either (inl w) = inl (broken_later front e entries key w)
-    either (inr before) = by_kind before.0 before.1 (which e)
+    either (inr before) =
+        by_kind before.0 before.1 before.2 (none_whole o front entries e key i each before.1 before.2) (which e)
 
 -- a request that is flagged in the end was flagged by its own Finish
 flagged_there : (o : Opening) (front entries : List Entry) (n : ℕ) (i : Incomplete)
@@ -382,19 +446,33 @@ flagged_there o front (e ∷ entries) n i each old is =
         (rw f.is at (each front entries e refl)) in omega (arith, old)))
         ∙ (rw f.is at is)
 
-flag_needed : (o : Opening) (h front back : List Entry) (n : ℕ) (status : Status) (len : ℕ) (key : AnswerKey)
-    → Legal o h → h ≡ front ++ Finish n status len ∷ back → AnswersWhole front n status key
-    → may_be_incomplete o h (Finish n status len) ≡ true → (broken_keys o front).inverted ≡ false
-    → (is_open o.broken key ≡ true) ⊎ BrokenWithin [] front key
+-- what is flagged is a GET whose answer was read to the end, and its key was open
+record EndFlagged (own : Option AnswerKey) (status : Status) (head : Option ReplyHead) (b : BrokenKeys) : Type 0 where
+  key : AnswerKey
+  is : own ≡ Some key
+  whole : is_whole status head ≡ true
+  was_open_ : is_open b key ≡ true
+
+flagged_end : (own : Option AnswerKey) (status : Status) (head : Option ReplyHead) (b : BrokenKeys)
+    → is_end_flagged own status head b ≡ true → EndFlagged own status head b
+flagged_end None status head b flagged = absurd (false≢true flagged)
+flagged_end (Some key) status head b flagged =
+    let both = and_parts (is_whole status head) (is_open b key) flagged in
+    record { key = key; is = refl; whole = both.0; was_open_ = both.1 }
+
+own_flag : (o : Opening) (h front back : List Entry) (n : ℕ) (status : Status) (len : ℕ) → Legal o h
+    → h ≡ front ++ Finish n status len ∷ back → may_be_incomplete o h (Finish n status len) ≡ true
+    → is_end_flagged (key_of_first (unfinished front)) status (head_of_result n front) (incomplete o front).keys ≡ true
 unfolding after_entries
-flag_needed o h front back n status len key legal is whole flagged fits =
-    either (was_open o [] front key (record { keys = o.broken; flagged = [] }) here.each fits open_)
+own_flag o h front back n status len legal is flagged =
+    sym (flag_of_new n (incomplete o front).flagged _
+    (rw (← finish_number o front n status len here.each here.may) at (flagged_below o front here.each))) ∙ own
   where
     e : Entry
     e = Finish n status len
 
     here : Stands o front e
-    here = stands o h front back e legal is
+    here = stands o h front back e legal.each is
 
     each : EachAfter (MayFollow o) ((front ++ e ∷ []) ++ back)
     each = rw (append_assoc front (e ∷ []) back, ← is) legal.each
@@ -409,17 +487,28 @@ flag_needed o h front back n status len key legal is whole flagged fits =
         flagged_there o (front ++ e ∷ []) back n (after_entry front e (incomplete o front)) each old
         (rw (is, after_entries-append [] front (e ∷ back) (record { keys = o.broken; flagged = [] })) at flagged)
 
-    open_ : is_open (incomplete o front).keys key ≡ true
-    open_ =
-        sym (end_flagged (key_of_first (unfinished front)) key status (head_of_result n front)
-        (incomplete o front).keys (key_is_first o front n status len key here.each here.may whole.get) whole.whole)
-        ∙ (sym (flag_of_new n (incomplete o front).flagged _
-        (rw (← finish_number o front n status len here.each here.may) at (flagged_below o front here.each))) ∙ own)
+flag_needed : (o : Opening) (h front back : List Entry) (n : ℕ) (status : Status) (len : ℕ) → Legal o h
+    → h ≡ front ++ Finish n status len ∷ back → may_be_incomplete o h (Finish n status len) ≡ true
+    → NeedsFlag o front n status
+unfolding after_entries
+flag_needed o h front back n status len legal is flagged = record {
+  key = own.key;
+  whole = record { get = first_is_get o front n status len own.key here.may own.is; whole = own.whole };
+  cause = λ fits. either (was_open o [] front own.key (record { keys = o.broken; flagged = [] }) here.each fits
+      own.was_open_);
+}
+  where
+    here : Stands o front (Finish n status len)
+    here = stands o h front back (Finish n status len) legal.each is
 
-    either : BrokenWithin [] front key ⊎ ((o.broken.inverted ≡ false) × (is_open o.broken key ≡ true))
-        → (is_open o.broken key ≡ true) ⊎ BrokenWithin [] front key
+    own : EndFlagged (key_of_first (unfinished front)) status (head_of_result n front) (incomplete o front).keys
+    own = flagged_end _ _ _ _ (own_flag o h front back n status len legal is flagged)
+
+    either : BrokenWithin [] front own.key
+        ⊎ ((o.broken.inverted ≡ false) × (is_open o.broken own.key ≡ true) × (WholeWithin [] front own.key → ⊥))
+        → IsLeftBroken o front own.key
     either (inl w) = inr w
-    either (inr before) = inl before.1
+    either (inr before) = inl (before.1, before.2)
 
 pub flags_hold : (o : Opening) (h : List Entry) → Legal o h → FlagsHold o h
 flags_hold o h legal = record {
@@ -427,6 +516,7 @@ flags_hold o h legal = record {
       broken_flagged o h front middle back m n lost status none len key legal is broken whole unflagged;
   opened = λ front back n status len key is was whole unflagged.
       opened_flagged o h front back n status len key legal is was whole unflagged;
-  needed = λ front back n status len key is whole flagged fits.
-      flag_needed o h front back n status len key legal is whole flagged fits;
+  needed = λ front back n status len is flagged. flag_needed o h front back n status len legal is flagged;
+  left = λ front back m lost none key is broken. broken_left o h front back m lost none key legal.each is broken;
+  left_open = λ key was. stays_open o [] h key (record { keys = o.broken; flagged = [] }) legal.each was;
 }

@@ -15,6 +15,7 @@ use Rattle.rdm_log.proofs.LogLemmas.ExchangeLemmas.{result_same}
 use Rattle.rdm_log.proofs.LogLemmas.RefusalLemmas.{full_at, at_full}
 use Rattle.rdm_log.proofs.LogLemmas.RunLemmas.{SameRuns, same_runs, known_same}
 use Rattle.rdm_log.proofs.LogLemmas.RunningLemmas.{run_pushes}
+use Rattle.rdm_log.proofs.LogLemmas.BrokenLemmas.{incomplete_same}
 use Rattle.rdm_log.proofs.LogLemmas.ClientSteps.{uncollected_same, outstanding_same, outstanding_discoveries_same}
 
 -- of two bounds one is reached
@@ -71,6 +72,7 @@ refusal_changes_nothing o h c call cause each =
       uncollected_same,
       outstanding_same,
       outstanding_discoveries_same,
+      incomplete_same o h e refl,
     )
 
 full_at_refusal : (o : Opening) (h : List Entry) (c : ℕ) (work : Work) (cause : ℕ)

@@ -1,10 +1,10 @@
 -- Which of a client's uncollected answers may be incomplete, as the log grows.
-use Rattle.rdm_log.proofs.Common.{◌≡◌, ℕ, zero, suc, ◌+◌, ◌<◌, Bool, List, [], ◌∷◌, ◌++◌, length, map, None, Some, refl}
-use Rattle.rdm_log.proofs.Common.{sym, ap, ◌∙◌, arith, slice_get, inl, inr, ◌⊎◌, AllByRecursion, EachAfter, Status}
-use Rattle.rdm_log.proofs.Common.{Opening, Entry, Finish, finishes, uncollected, MayFollow}
+use Rattle.rdm_log.proofs.Common.{◌≡◌, ℕ, suc, Bool, List, [], ◌∷◌, ◌++◌, map, None, Some, refl}
+use Rattle.rdm_log.proofs.Common.{ap, arith, slice_get, inl, inr, ◌⊎◌, EachAfter, Status}
+use Rattle.rdm_log.proofs.Common.{Opening, Entry, Finish, uncollected, MayFollow}
 use Rattle.rdm_log.specs.log.Entries.{finished_of}
 use Rattle.rdm_log.specs.log.History.{unfinished}
-use Rattle.rdm_log.specs.log.Broken.{incomplete, is_flagged, may_be_incomplete, flags_more, is_end_flagged}
+use Rattle.rdm_log.specs.log.Broken.{incomplete, is_flagged, may_be_incomplete, is_end_flagged}
 use Rattle.rdm_log.specs.log.Broken.{key_of_first, head_of_result}
 use Rattle.rdm_log.proofs.LogLemmas.LegalFacts.{legal_facts}
 use Rattle.rdm_log.proofs.LogLemmas.BrokenLemmas.{incomplete_push, incomplete_same, flagged_below, finish_number}

@@ -1,7 +1,7 @@
 -- A log stays in bound, whatever calls are made.
 use Rattle.rdm_log.proofs.Common.{◌≡◌, List, [], ◌∷◌, ◌++◌, Some, None, sym, subst, append-nil, append_assoc, ◌∙◌}
 use Rattle.rdm_log.proofs.Common.{EachAfter, EachAfter-push, Entry, LogState, grown, with_entries}
-use Rattle.rdm_log.proofs.Common.{FaultNeedsClose, AnswersInBound, Legal}
+use Rattle.rdm_log.proofs.Common.{FaultNeedsClose, AnswersInBound, Legal, inl, inr}
 use Rattle.rdm_log.specs.declared.entry.Entry.TheVariants as entries
 use Rattle.rdm_log.specs.promises.LogInBound.{InBound}
 use Rattle.rdm_log.proofs.PromiseLemmas.Promises.{promised}
@@ -14,7 +14,10 @@ BoundAt k h e = FaultNeedsClose (with_entries k h) e
 -- said of each entry
 each_of : (k : LogState) → InBound k → EachAfter (BoundAt k) k.entries
 each_of k is front back (entries.Answer n r (Some fault)) at =
-    λ present calm. is.closed_first front back n r fault present at calm
+    λ present run. elim run [
+      | inl calm ↦ is.closed_first front back n r fault present at calm
+      | inr noisy ↦ is.closed_first_in_noise front back n r fault present noisy.0 at noisy.1
+    ]
 each_of k is front back (entries.Answer n r None) at = tt
 each_of k is front back (entries.Join c n) at = tt
 each_of k is front back (entries.Refuse c call cause) at = tt
@@ -31,7 +34,9 @@ each_of k is front back entries.Close at = tt
 of_each : (k : LogState) → EachAfter (BoundAt k) k.entries → InBound k
 of_each k each = record {
   closed_first =
-      λ front back n r fault present at calm. each front back (entries.Answer n r (Some fault)) at present calm;
+      λ front back n r fault present at calm. each front back (entries.Answer n r (Some fault)) at present (inl calm);
+  closed_first_in_noise = λ front back n r fault present w at noisy.
+      each front back (entries.Answer n r (Some fault)) at present (inr (w, noisy));
 }
 
 each_block : (k : LogState) (block : List Entry) → EachAfter (BoundAt k) k.entries → AnswersInBound k block
@@ -47,6 +52,8 @@ empty_in_bound k empty = record {
   closed_first =
       λ front back n r fault
       present at calm. absurd (not_empty front (entries.Answer n r (Some fault)) back (sym empty ∙ at));
+  closed_first_in_noise = λ front back n r fault present w at noisy.
+      absurd (not_empty front (entries.Answer n r (Some fault)) back (sym empty ∙ at));
 }
   where
     not_empty : (front : List Entry) (x : Entry) (back : List Entry) → [] ≡ front ++ x ∷ back → ⊥

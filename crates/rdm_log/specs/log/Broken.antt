@@ -27,6 +27,7 @@ abbrev pub key_if : ReqClass → AnswerKey → Option AnswerKey
 key_if requests.Get key = Some key
 key_if requests.Set key = None
 
+-- the same of a whole request
 abbrev pub key_of : Request → Option AnswerKey
 key_of request =
     key_if request.class (record { target = request.target; sub_device = request.sub_device; pid = request.pid })
@@ -79,6 +80,7 @@ pub record Incomplete : Type 0 where
   pub keys : BrokenKeys
   pub flagged : List ℕ
 
+-- the flagged requests and this one, or without it
 abbrev pub flags_more : Bool → ℕ → List ℕ → List ℕ
 flags_more true n flagged = flagged ++ n ∷ []
 flags_more false n flagged = flagged

@@ -1,11 +1,12 @@
--- A set of keys in little memory: at most 64 are listed. A key that was opened and not closed since is always in it.
+-- A set of keys that lists at most MOST_BROKEN. A key that was opened and not closed since is always in it.
 use Rattle.std.specs.Prelude.{Bool, true, false, ◌&&◌, not, List, [], ◌∷◌, ◌++◌, length, drop, filter, ◌==◌, nat_lt}
 use Rattle.std.specs.Prelude.{if◌then◌else◌}
 use Rattle.std.specs.List.{list_any}
 use Rattle.rdm_log.specs.declared.broken.AnswerKey.{AnswerKey}
+use Rattle.rdm_log.specs.declared.broken.TheConstants.{MOST_BROKEN}
 
--- The keys that are open. Once there are more than 64, the set is inverted: from then on it lists keys that were
--- closed, the 64 latest, and each key that it doesn't list counts as open.
+-- The keys that are open. Once there are more than MOST_BROKEN, the set is inverted: from then on it lists the
+-- MOST_BROKEN keys that were closed last, and each other counts as open.
 pub record BrokenKeys : Type 0 where
   pub inverted : Bool
   pub keys : List AnswerKey
@@ -30,10 +31,10 @@ without key keys = filter (λ k. not (same_key key k)) keys
 abbrev pub is_open : BrokenKeys → AnswerKey → Bool
 is_open b key = if b.inverted then not (lists key b.keys) else lists key b.keys
 
--- a key as the newest of those that aren't inverted; if they are 64 already, all keys count as open
+-- a key as the newest of those that aren't inverted; if they are MOST_BROKEN already, all keys count as open
 abbrev pub listed_open : AnswerKey → List AnswerKey → BrokenKeys
 listed_open key others =
-    if nat_lt (length others) 64 then record { inverted = false; keys = others ++ key ∷ [] }
+    if nat_lt (length others) MOST_BROKEN then record { inverted = false; keys = others ++ key ∷ [] }
     else record { inverted = true; keys = [] }
 
 -- the set after a key was opened
@@ -41,10 +42,13 @@ abbrev pub with_open : AnswerKey → BrokenKeys → BrokenKeys
 with_open key b =
     if b.inverted then record { inverted = true; keys = without key b.keys } else listed_open key (without key b.keys)
 
--- a key as the newest of those that were closed; if they are 64 already, the oldest is dropped
+-- a key as the newest of those that were closed; if they are MOST_BROKEN already, the oldest is dropped
 abbrev pub listed_closed : AnswerKey → List AnswerKey → BrokenKeys
 listed_closed key others =
-    record { inverted = true; keys = (if nat_lt (length others) 64 then others else drop 1 others) ++ key ∷ [] }
+    record {
+      inverted = true;
+      keys = (if nat_lt (length others) MOST_BROKEN then others else drop 1 others) ++ key ∷ [];
+    }
 
 -- the set after a key was closed
 abbrev pub with_closed : AnswerKey → BrokenKeys → BrokenKeys

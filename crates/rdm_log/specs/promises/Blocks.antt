@@ -143,8 +143,8 @@ abbrev pub TakeAdds : Opening → List Entry → Option (ArrayVec ℕ) → List 
 TakeAdds o h (Some frame) block = (owner : Owner) × MaySend o h owner frame × (block ≡ Send owner frame ∷ [])
 TakeAdds o h None block = NoSend o h × (block ≡ [])
 
--- a deliver: if a reply is awaited, a Came with the event, and then Finishes and Answers; an Answer by a calm run has a
--- fault only if the queue is closed. Otherwise the event is returned, and nothing is added
+-- a deliver: if a reply is awaited, a Came with the event, and then Finishes and Answers; an Answer by a calm or noisy
+-- run has a fault only if the queue is closed. Otherwise the event is returned, and nothing is added
 abbrev pub DeliverAdds : LogState → LineEvent → Result (Unit {0}) (NotAsked × LineEvent) → List Entry → Type 0
 DeliverAdds k event (Ok x) block =
     (awaited k.entries ≡ true) × IsWithResults (Came event) block × AnswersInBound k block

@@ -42,7 +42,7 @@ use Rattle.rdm_log.specs.promises.Outcomes.{outcome_of, completion_of, unboxed, 
 use Rattle.rdm_log.specs.log.LogState.{LogState, grown, is_full_log}
 use Rattle.rdm_log.specs.promises.Blocks.{work_refused}
 use Rattle.rdm_log.specs.promises.Explains.{IsAnswered, Explains}
-use Rattle.rdm_log.specs.promises.InBound.{IsCalmRun}
+use Rattle.rdm_log.specs.promises.InBound.{IsCalmRun, IsNoisyRun}
 use Rattle.rdm_log.specs.promises.Headline.{IsFull, SameQueue, result_count}
 use Rattle.rdm_log.specs.promises.Discoveries.{HasMostDiscoveries, answer_count}
 use Rattle.rdm_log.specs.promises.Promised.{LegalPromised}
@@ -229,3 +229,7 @@ pub record EventsPromised (old : LogState) (es : List Event) (rs : List Answer) 
   pub in_bound : (front back : List Entry) (n r : ℕ) (fault : AgentFault) (present : List ℕ)
       → new.entries ≡ old.entries ++ front ++ entries.Answer n r (Some fault) ∷ back
       → IsCalmRun new r present → is_closed new.opening (old.entries ++ front) ≡ true
+  -- so does one for a quick run on a noisy line, whose budget suffices for its disturbed exchanges
+  pub in_bound_in_noise : (front back : List Entry) (n r : ℕ) (fault : AgentFault) (present : List ℕ) (w : ℕ)
+      → new.entries ≡ old.entries ++ front ++ entries.Answer n r (Some fault) ∷ back
+      → IsNoisyRun new r present w → is_closed new.opening (old.entries ++ front) ≡ true

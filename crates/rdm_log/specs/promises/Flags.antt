@@ -40,7 +40,7 @@ pub record WholeWithin (front entries : List Entry) (key : AnswerKey) : Type 0 w
   pub stands : entries ≡ first ++ Finish number status len ∷ last
   pub whole : AnswersWhole (front ++ first) number status key
 
--- the same of a GET that broke off
+-- the same of a GET that broke off, and after it no answer to a GET of this key was read to the end
 pub record BrokenWithin (front entries : List Entry) (key : AnswerKey) : Type 0 where
   pub first : List Entry
   pub last : List Entry
@@ -49,6 +49,19 @@ pub record BrokenWithin (front entries : List Entry) (key : AnswerKey) : Type 0 
   pub len : ℕ
   pub stands : entries ≡ first ++ Finish number status len ∷ last
   pub broken : BreaksOff (front ++ first) number status key
+  pub since : WholeWithin (front ++ (first ++ Finish number status len ∷ [])) last key → ⊥
+
+-- a GET of this key broke off, here or before the first entry, and since then none was read to the end
+abbrev pub IsLeftBroken : Opening → List Entry → AnswerKey → Type 0
+IsLeftBroken o h key = ((is_open o.broken key ≡ true) × (WholeWithin [] h key → ⊥)) ⊎ BrokenWithin [] h key
+
+-- why request n, whose Finish with this status follows h, is flagged
+pub record NeedsFlag (o : Opening) (h : List Entry) (n : ℕ) (status : Status) : Type 0 where
+  pub key : AnswerKey
+  -- it is a GET whose answer was read to the end
+  pub whole : AnswersWhole h n status key
+  -- and one of the same broke off, unless the set of keys is inverted
+  pub cause : (broken_keys o h).inverted ≡ false → IsLeftBroken o h key
 
 -- A device begins its answer at the first part, unless the last GET of it broke off. So the answer to a GET that isn't
 -- flagged has all its parts: after each GET of the same that broke off, another was read to the end.
@@ -62,8 +75,14 @@ pub record FlagsHold (o : Opening) (h : List Entry) : Type 0 where
   pub opened : (front back : List Entry) (n : ℕ) (status : Status) (len : ℕ) (key : AnswerKey)
       → h ≡ front ++ Finish n status len ∷ back → is_open o.broken key ≡ true → AnswersWhole front n status key
       → may_be_incomplete o h (Finish n status len) ≡ false → WholeWithin [] front key
-  -- a flag has its cause: while the set of keys isn't inverted, a GET of the same broke off before
-  pub needed : (front back : List Entry) (n : ℕ) (status : Status) (len : ℕ) (key : AnswerKey)
-      → h ≡ front ++ Finish n status len ∷ back → AnswersWhole front n status key
-      → may_be_incomplete o h (Finish n status len) ≡ true → (broken_keys o front).inverted ≡ false
-      → (is_open o.broken key ≡ true) ⊎ BrokenWithin [] front key
+  -- each flag has its cause
+  pub needed : (front back : List Entry) (n : ℕ) (status : Status) (len : ℕ)
+      → h ≡ front ++ Finish n status len ∷ back → may_be_incomplete o h (Finish n status len) ≡ true
+      → NeedsFlag o front n status
+  -- if request m broke off, its key is open at the end, for the next log, or another was read to the end
+  pub left : (front back : List Entry) (m : ℕ) (lost : Status) (none : ℕ) (key : AnswerKey)
+      → h ≡ front ++ Finish m lost none ∷ back → BreaksOff front m lost key
+      → WholeWithin (front ++ Finish m lost none ∷ []) back key ⊎ (is_open (broken_keys o h) key ≡ true)
+  -- the same of a GET that broke off before the first entry
+  pub left_open : (key : AnswerKey) → is_open o.broken key ≡ true
+      → WholeWithin [] h key ⊎ (is_open (broken_keys o h) key ≡ true)

@@ -29,6 +29,7 @@ use Rattle.rdm_log.specs.log.Runs.{devices_run}
 use Rattle.rdm_log.specs.log.Clients.{accepts_by, answers_to, uncollected, outstanding_requests}
 use Rattle.rdm_log.specs.log.Clients.{outstanding_discoveries}
 use Rattle.rdm_log.specs.log.Refusals.{number_of_work_fault}
+use Rattle.rdm_log.specs.log.Broken.{incomplete}
 
 -- the numbers of the accepted requests, in order
 abbrev pub numbers_accepted : List Accepted → List ℕ
@@ -136,6 +137,7 @@ pub record SameQueue (o : Opening) (h k : List Entry) : Type 0 where
   pub devices : known_devices o k ≡ known_devices o h
   pub devices_from : devices_run o k ≡ devices_run o h
   pub outstanding_asked : (c : ℕ) → outstanding_discoveries o c k ≡ outstanding_discoveries o c h
+  pub incomplete_ones : incomplete o k ≡ incomplete o h
 
 -- A full queue refuses a request, and only the refusal's entry shows it.
 pub record FullRefuses (o : Opening) (h : List Entry) : Type 0 where

@@ -28,5 +28,6 @@ pub record LegalPromised (o : Opening) (h : List Entry) : Type 0 where
 -- All that clients are promised for the log of a session: what each legal log promises, and the bound.
 pub record Promised (k : LogState) : Type 0 where
   pub log : LegalPromised k.opening k.entries
-  -- a run on a calm line, whose budget suffices, is answered without fault unless the queue is closed
+  -- a run on a calm line, whose budget suffices, is answered without fault unless the queue is closed; so is a quick
+  -- one on a noisy line
   pub in_bound : InBound k

@@ -49,7 +49,8 @@ pub fn nothing_after_close()
 
 /// An answer that isn't flagged has all its parts, if the device begins each answer at its first part unless the last
 /// GET of it broke off (E1.20, ACK_OVERFLOW): after a GET that broke off, the next one of the same that is answered
-/// whole is flagged. While the queue notes all GETs that broke off, no other is.
+/// whole is flagged. While the queue notes all GETs that broke off, nothing else is. Those that it notes at a log's end
+/// are in the next log's opening.
 pub fn flags_hold()
     ensures { (o : Opening) (h : List Entry) → Legal o h → FlagsHold o h }
 {}

@@ -15,10 +15,13 @@ use Rattle.rdm_queue.proofs.Common.{StandsAfter, StandsAmid, pushed, all_from_in
 use Rattle.rdm_queue.proofs.Common.{LogFacts, legal_facts, later_unsent, unfinished_number, ask_facts, client_facts}
 use Rattle.rdm_queue.proofs.Common.{last_run_same, agent_goes_on, some_at, asked_stays, asked_fewer, all_unserved}
 use Rattle.rdm_agent.specs.declared.op.Op.TheVariants as ops
+use Rattle.rdm_agent.specs.Bound.{EndsWithin}
+use Rattle.rdm_agent.specs.Machine.{start_by, Runs}
 use Rattle.rdm_agent.proofs.CallLemmas.{next_none}
-use Rattle.rdm_agent.proofs.BoundRuns.{ends_in_bound_by}
+use Rattle.rdm_agent.proofs.BoundRuns.{ends_in_bound_by, ends_in_noisy_bound}
 use Rattle.rdm_log.specs.log.Runs.{unless_answered}
 use Rattle.rdm_log.specs.log.Due.{NothingDue, AllAnswered}
+use Rattle.rdm_log.specs.promises.InBound.{IsCalmOrNoisy}
 use Rattle.rdm_queue.specs.body.Ending.{AnswersUnserved, NothingToEnd}
 use Rattle.rdm_log.proofs.LogLemmas.ExchangeLemmas.{result_unsent}
 use Rattle.rdm_queue.proofs.BodyLemmas.AfterLemmas.{pending_flag}
@@ -140,18 +143,32 @@ ends_amid o h s new entry (ByResult e) amid =
     rw (e.finishes.entry_is, e.finishes.new_is) (finish_amid o h s e.finishes.owed e.no_run e.finishes.was_due amid)
 ends_amid o h s new entry (ByClose e) amid = unserved_amid o h s new entry e.no_run e.no_request e.answers amid
 
--- an Answer with a fault needs a close, on a calm line with a sufficient budget
+-- an Answer with a fault needs a close, on a calm or noisy line with a sufficient budget
 in_bound_at : (k : LogState) (n r : ℕ) (a : AgentState) (aborted : Bool)
     → HasRunBy k.opening.search (run_kind r k.entries) (known_at_run k.opening r k.entries) k.opening.budget aborted
     (run_exchanges r k.entries) a
     → (aborted ≡ true → is_closed k.opening k.entries ≡ true) → next_op a ≡ ops.End
     → (f : Option AgentFault) → fault_of a.phase ≡ f → FaultNeedsClose k (Answer n r f)
 in_bound_at k n r a aborted s closed end None is = tt
-in_bound_at k n r a true s closed end (Some fault) is = λ present calm. closed refl
+in_bound_at k n r a true s closed end (Some fault) is = λ present run. closed refl
 in_bound_at k n r a false s closed end (Some fault) is =
-    λ present calm. absurd (none-some fault
-    (sym ((ends_in_bound_by k.opening.search _ _ _ (run_exchanges r k.entries) a s.devices (runs-own _ _ _ _ a s)
-    present calm.calm calm.budgeted).no_fault (next_none a end)) ∙ is))
+    λ present run. absurd (none-some fault (sym ((within present run).1.no_fault (next_none a end)) ∙ is))
+  where
+    runs : Runs (start_by k.opening.search (run_kind r k.entries) (known_at_run k.opening r k.entries) k.opening.budget)
+        (run_exchanges r k.entries) a
+    runs = runs-own _ _ _ _ a s
+
+    within : (present : List ℕ) → IsCalmOrNoisy k r present → (most : ℕ) × EndsWithin most a
+    within present (inl calm) = (
+      _,
+      ends_in_bound_by k.opening.search _ _ _ (run_exchanges r k.entries) a s.devices runs present calm.calm
+          calm.budgeted,
+    )
+    within present (inr noisy) = (
+      _,
+      ends_in_noisy_bound _ _ _ (run_exchanges r k.entries) a s.devices (rw noisy.1.quick at runs) present noisy.0
+          noisy.1.noisy noisy.1.budgeted,
+    )
 
 pub ends_in_bound_amid : (k : LogState) (s new : QueueState) (entry : Entry) → IsEnded s entry new
     → StandsAmid k.opening k.entries s → FaultNeedsClose k entry
@@ -163,7 +180,7 @@ ends_in_bound_amid k s new entry (ByRun e) amid =
     e.answers.ended (fault_of (agent_at_end s).phase) refl)
 ends_in_bound_amid k s new entry (ByResult e) amid = rw e.finishes.entry_is tt
 ends_in_bound_amid k s new entry (ByClose e) amid =
-    rw e.answers.entry_is (λ present calm. closed_of k.opening k.entries s e.answers.closing amid.stands)
+    rw e.answers.entry_is (λ present run. closed_of k.opening k.entries s e.answers.closing amid.stands)
 
 -- if nothing is to be ended, nothing is due: the results
 unsent_at : (n : ℕ) (ss : List Sending) → list_any (λ (x : Sending). is_request n x.owner) ss ≡ false

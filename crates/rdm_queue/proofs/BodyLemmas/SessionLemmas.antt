@@ -145,6 +145,9 @@ session_drained s k room kept fits = record {
     closed_first = λ front back n r fault present is calm.
         kept.in_bound.closed_first front back n r fault present is
         (record { calm = calm.calm; budgeted = calm.budgeted });
+    closed_first_in_noise = λ front back n r fault present w is noisy.
+        kept.in_bound.closed_first_in_noise front back n r fault present w is
+        (record { noisy = noisy.noisy; quick = noisy.quick; budgeted = noisy.budgeted });
   };
   room = omega (arith, fits);
 }

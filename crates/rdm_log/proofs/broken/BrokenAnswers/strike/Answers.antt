@@ -1,6 +1,5 @@
-use Rattle.std.proofs.Common.{◌≡◌, not, List, rules, tests, refl}
+use Rattle.std.proofs.Common.{◌≡◌, not, rules, tests, refl}
 use Rattle.arrayvec.proofs.ArrayVecLemmas.{filter-from_retain}
-use Rattle.rdm_log.specs.declared.broken.AnswerKey.{AnswerKey}
 use Rattle.rdm_log.specs.log.BrokenKeys.{same_key, without}
 use Rattle.rdm_log.proofs.broken.BrokenAnswers.strike.Goals as goal
 

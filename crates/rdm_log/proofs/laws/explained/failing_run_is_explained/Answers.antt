@@ -3,7 +3,7 @@ use Rattle.rdm_log.proofs.Common.{of_request, verdicts, result, asks, answers, h
 use Rattle.rdm_log.proofs.Common.{run_exchanges, awaited, is_paused, is_closed, answers_to, unmute_frame, Full}
 use Rattle.rdm_log.proofs.Common.{Incremental, LineFailed, Aborted, Join, Ask, Send, Came, Answer, Collect, Close}
 use Rattle.rdm_log.proofs.Common.{join_only, logged_with, first_client, source, asked_one, begun_run, asked_during}
-use Rattle.rdm_log.proofs.Common.{answered_failed, aborted_log}
+use Rattle.rdm_log.proofs.Common.{answered_failed, aborted_log, inl, inr}
 use Rattle.rdm_join.specs.declared.event.LineEvent.TheVariants.{Failed}
 use Rattle.rdm_log.specs.declared.entry.Owner.TheVariants as owners
 use Rattle.rdm_log.specs.samples.SampleRuns.{collected_failed}
@@ -36,7 +36,16 @@ returns c = λ set empty. (
             adds = (
               refl,
               record { results = Answer 0 1 (Some LineFailed) ∷ []; whole = refl; each = (refl, tt) },
-              (tt, (λ present calm. absurd (calm.calm.no_failure.0 refl), tt)),
+              (
+                tt,
+                (
+                  λ present run. absurd (elim run [
+                    | inl calm ↦ calm.calm.no_failure.0 refl
+                    | inr noisy ↦ noisy.1.noisy.no_failure.0 refl
+                  ]),
+                  tt,
+                ),
+              ),
             );
             grows = refl;
           },

@@ -1,4 +1,4 @@
-use Rattle.rdm_log.proofs.Common.{◌≡◌, ℕ, List, [], ◌∷◌, ◌++◌, replicate, Some, refl, sym, ap, ◌∙◌, inr, arith}
+use Rattle.rdm_log.proofs.Common.{◌≡◌, ℕ, List, [], ◌∷◌, ◌++◌, replicate, Some, refl, sym, ap, ◌∙◌, inl, inr, arith}
 use Rattle.rdm_log.proofs.Common.{false≢true, append_cancel_left, Seen, HonestTrace, Unmute, Mute, Silent, Exhausted}
 use Rattle.rdm_log.proofs.Common.{Answer, joins, accepts, asks, sends, cames, finishes, answers, traded, awaited}
 use Rattle.rdm_log.proofs.Common.{is_paused, is_closed, has_begun, entries_before_run, last_run, run_exchanges}
@@ -55,5 +55,5 @@ returns c = record {
       append_cancel_left wasted_sent is.1.block (came_with [] ∷ Answer 0 1 (Some Exhausted) ∷ [])
       (sym (ap (λ (k : LogState). k.entries) (is.2 ∙ is.1.grows))) in
       let bound = rw block_is at is.1.adds.2 in
-      false≢true (bound.1.0 [] calm);
+      false≢true (bound.1.0 [] (inl calm));
 }
