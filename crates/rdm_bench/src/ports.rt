@@ -13,13 +13,12 @@ use rdm_join::{LineEvent, LineFault, LineReply};
 use rdm_lanes::views::{BlankHistory, Shown, ViewHistory};
 use rdm_lanes::{Lanes, RingClient, open_lanes};
 use rdm_line::Line;
-use rdm_locked::{CallShare, Exchange, Left, LockedClient, Port};
+use rdm_locked::{Blank, CallShare, Exchange, Ledger, Left, LockedClient, Port};
 use rdm_log::{Entry, Log, Page};
 use rdm_wire::Frame;
 use std::alloc::Global;
 use std::marker::Brand;
 use std::sync::Wait;
-use std::sync::ledger::{Blank, Ledger};
 use test_rig::{AskNote, Heard, Note, cancels, log, request, told};
 
 /// Times requests of one client and of sixteen.
@@ -220,7 +219,7 @@ fn on_port<L: Ledger, X: Line + Drop, D: Job<R>, R: Wait>(
     line: X,
     job: &mut D,
 ) -> Option<()>
-    requires name { blank.name ≡ L.name }
+    requires name { (blank.name ≡ L.name) × (blank.lists ≡ L.lists) }
     requires parts { (blank.parts ≡ L.parts) × (L.parts ≡ 17) }
     requires empty { log.entries ≡ [] }
 {

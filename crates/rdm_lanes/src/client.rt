@@ -12,14 +12,17 @@ pub(crate) mod calls;
 pub(crate) mod ends;
 pub(crate) mod found;
 pub(crate) mod settle;
+mod waiting;
 
 use crate::call::ClientCall;
 use crate::ring_outcome::RingOutcome;
+use crate::sleeping::{ClientSleep, WorkerSleep};
 use crate::views::history::ViewHistory;
 use crate::views::reading::ViewReader;
 use rdm_client::{AskCallback, Callback, Desk, DeviceView};
 use rtrb::{Consumer, Producer};
 use std::alloc::Global;
+use std::sync::Arc;
 
 /// A client with a ring for its calls, one for its outcomes, and a reader of the worker's views. None of its calls
 /// waits for anybody, and none allocates. Contracts see:
@@ -38,6 +41,9 @@ pub struct RingClient<J: ViewHistory, C = Callback, A = AskCallback> {
     sent: u64,
     collected: u64,
     left: bool,
+    // What the worker and the client sleep on.
+    worker: Arc<WorkerSleep>,
+    sleep: Arc<ClientSleep>,
     ghost counted: { IsCounted calls replies sent collected left },
     ghost held: { collected + (length desk.requests + length desk.asks) ≡ sent },
     ghost own: { HoldsItsOwn (work_in (pushed calls)) (values_in (popped replies)) desk.requests desk.asks },
@@ -53,6 +59,8 @@ impl<J: ViewHistory, C, A> RingClient<J, C, A> {
         replies: Consumer<RingOutcome, Global>,
         views: ViewReader<J>,
         found: Box<DeviceView>,
+        worker: Arc<WorkerSleep>,
+        sleep: Arc<ClientSleep>,
     ) -> RingClient<J, C, A>
         requires idle { (desk.requests ≡ []) × (desk.asks ≡ []) }
         requires unused { (pushed calls ≡ []) × (popped replies ≡ []) }
@@ -70,6 +78,8 @@ impl<J: ViewHistory, C, A> RingClient<J, C, A> {
             sent: 0,
             collected: 0,
             left: false,
+            worker,
+            sleep,
         }
     }
 }

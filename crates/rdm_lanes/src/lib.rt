@@ -13,6 +13,7 @@ pub mod laws;
 mod opening;
 mod ring_outcome;
 mod session;
+mod sleeping;
 pub mod views;
 mod worker;
 

@@ -11,6 +11,7 @@ pub(crate) mod steps;
 use crate::client::RingClient;
 use crate::fault::OpenFault;
 use crate::opening::steps::{discard, joined, open_clients, total};
+use crate::sleeping::WorkerSleep;
 use crate::views::history::{BlankHistory, ViewHistory};
 use crate::views::publishing::{Publisher, Shown};
 use crate::worker::Worker;
@@ -21,7 +22,7 @@ use rdm_client::{AskCallback, Callback, DeviceView, Tells, TellsAsk};
 use rdm_log::{Config, IntoSetup, Log, MOST_CLIENTS};
 use rtrb::RingBuffer;
 use std::alloc::Global;
-use std::sync::Wait;
+use std::sync::{Arc, Wait};
 
 /// The clients of a session, its operator and its worker. `T` is `Shown<J>`.
 pub struct Lanes<
@@ -80,17 +81,25 @@ pub fn open_lanes<J: ViewHistory, C: Tells, A: TellsAsk, R: Wait + Drop, S: Into
         Ok(views) => views,
         Err(history) => return Err((OpenFault::NoMemory, log.cleared(), history)),
     };
-    let Some((clients, lanes)) = open_clients(alloc, &views, ring, places) else {
+    let Some((sleep, woken)) = worker_sleep(alloc) else {
+        return Err((OpenFault::NoMemory, log.cleared(), views.into_blank()));
+    };
+    let Some((clients, lanes)) = open_clients(alloc, &views, ring, places, &sleep) else {
         return Err((OpenFault::NoMemory, log.cleared(), views.into_blank()));
     };
     match joined(alloc, setup, log, places) {
         Ok(session) => Ok(Lanes {
             clients,
-            operator: Operator { calls, left: false },
+            operator: Operator {
+                calls,
+                left: false,
+                worker: woken,
+            },
             worker: ViewWorker {
                 server: Worker::new(session, lanes, heard),
                 views,
                 turns_made: 0,
+                sleep,
             },
         }),
         Err((fault, log)) => {
@@ -98,6 +107,13 @@ pub fn open_lanes<J: ViewHistory, C: Tells, A: TellsAsk, R: Wait + Drop, S: Into
             Err((fault, log, views.into_blank()))
         }
     }
+}
+
+// What a worker sleeps on, for itself and for its operator. None: out of memory.
+fn worker_sleep(alloc: Global) -> Option<(Arc<WorkerSleep>, Arc<WorkerSleep>)> {
+    let sleep = Arc::new(alloc, WorkerSleep::new()).ok()?;
+    let woken = Arc::try_clone(&sleep).ok()?;
+    Some((sleep, woken))
 }
 
 /// The first fault that the queue depths show: there are too many clients, or their queue depths' sum is more than the

@@ -12,6 +12,7 @@ pub(crate) mod lane;
 pub(crate) mod moving;
 pub(crate) mod operating;
 pub(crate) mod operator;
+mod resting;
 pub(crate) mod serve;
 pub(crate) mod view_turns;
 pub(crate) mod view_worker;

@@ -133,7 +133,7 @@ no_full_log false true c is = let same : work_faults.UnknownClient ≡ work_faul
 no_full_log false false true is = let same : work_faults.Full ≡ work_faults.LogFull = cc in cc
 no_full_log false false false is = cc
 
-no_full_work : (o : Opening) (h : List Entry) (c : ℕ) (work : Work)
+pub no_full_work : (o : Opening) (h : List Entry) (c : ℕ) (work : Work)
     → work_fault o h c work ≡ Some work_faults.LogFull → ⊥
 no_full_work o h c (works.Submit request) is = no_full_log _ _ _ is
 no_full_work o h c (works.Discover kind) is = no_full_log _ _ _ is

@@ -1,4 +1,5 @@
 pub mod Calls
+pub mod Clients
 pub mod Exchanges
 pub mod Inside
 pub mod Openings

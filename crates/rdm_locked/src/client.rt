@@ -1,16 +1,23 @@
 //! A client of a session with a mutex.
 ghost use Rattle.std.specs.Prelude.{◌≡◌, ◌⊎◌, ◌≤◌, ◌+◌, ◌++◌, ◌∷◌, [], length, nat_le, true, false, OnOk, IfErr};
 ghost use Rattle.std.specs.Prelude.{IsErrAnd, IfSome, IfNone, OnSome, IsNone, Some, ◌≢◌, if◌then◌else◌, MatchOption};
-ghost use Rattle.std.specs.Prelude.{IsSome, refl};
+ghost use Rattle.std.specs.Prelude.{IsSomeAnd, Ok, Err, refl};
 ghost use Rattle.std.proofs.Common.{◌∙◌};
 ghost use Rattle.rdm_log.specs.declared.fault.WorkFault.{WorkFault as WorkFaultState};
 ghost use Rattle.rdm_log.specs.declared.fault.WorkFault.TheVariants as work_faults;
 ghost use Rattle.rdm_log.specs.declared.outcome.OutcomeKind.TheVariants as kinds;
+ghost use Rattle.rdm_log.specs.declared.work.Work.TheVariants.{Submit, Discover};
+ghost use Rattle.rdm_log.specs.promises.Blocks.{number_or_fault};
+ghost use Rattle.rdm_client.specs.declared.told.Collected.TheVariants as collected;
 ghost use Rattle.rdm_locked.specs.Calls.{refused_calls};
+ghost use Rattle.rdm_locked.specs.Clients.{logged, made_by, with_fault, GotTold};
 ghost use Rattle.rdm_client.specs.Collects.{Collects, CollectsRequest, CollectsDiscovery};
 ghost use Rattle.rdm_client.specs.Faults.{of_session};
 ghost use Rattle.rdm_locked.specs.body.Oldest.{IsOfWanted};
 
+mod sleeping;
+
+use crate::history::Ledger;
 use crate::oldest::OldestOutcome;
 use crate::port::Port;
 use crate::sets::SharedSets;
@@ -23,7 +30,6 @@ use rdm_client::{
 use rdm_log::{AskFault, ClientId, OutcomeKind, SubmitFault};
 use rdm_wire::Request;
 use std::sync::Wait;
-use std::sync::ledger::Ledger;
 
 /// A client of a session with a mutex, with the callbacks of what it has outstanding. It may be used in any thread. Its
 /// calls wait for the mutex, and take it once at most; a callback runs after the mutex is released. None of its calls
@@ -44,6 +50,7 @@ pub struct LockedClient<'a, L: Ledger, C = Callback, A = AskCallback> {
     // Whether no callback was held for its oldest outcome: then it collects nothing any more.
     stranded: bool,
     sets: SharedSets,
+    ghost own: { number.0 ≡ calls.history.index },
 }
 
 /// What is left of a client.
@@ -63,6 +70,7 @@ impl<'a, L: Ledger, C: Tells, A: TellsAsk> LockedClient<'a, L, C, A> {
         calls: CallShare<L>,
         sets: SharedSets,
     ) -> LockedClient<'a, L, C, A>
+        requires own { number.0 ≡ calls.history.index }
         ensures holds { (result.desk ≡ desk) × (result.calls ≡ calls) }
         ensures is_new { (result.number ≡ number) × (result.stranded ≡ false) }
     {
@@ -92,6 +100,9 @@ impl<'a, L: Ledger, C: Tells, A: TellsAsk> LockedClient<'a, L, C, A> {
         ensures accepted { OnOk result (self.new.calls.count ≡ self.old.calls.count + 1) }
         ensures refused { IfErr result (λ e. self.new.calls.count ≡ self.old.calls.count
             + (if nat_le self.old.desk.places (length self.old.desk.requests) then 0 else refused_calls e.0)) }
+        ensures made { made_by self.new.calls ≡ made_by self.old.calls
+            ++ (if nat_le self.old.desk.places (length self.old.desk.requests) then []
+            else logged self.old.number (Submit request) (with_fault result (λ e. e.0))) }
         ensures full { self.old.desk.places ≤ length self.old.desk.requests
             → IsErrAnd result (λ e. e.0 ≡ work_faults.Full) }
         ensures back { IfErr result (λ e. (e.1 ≡ request) × (e.2 ≡ callback) × (self.new.desk ≡ self.old.desk)) }
@@ -108,6 +119,7 @@ impl<'a, L: Ledger, C: Tells, A: TellsAsk> LockedClient<'a, L, C, A> {
             ..
         } = self;
         let answer = port.inside.lock(rt).submit(*number, request, calls);
+        port.sleepers.wake_workers();
         match answer {
             Ok(accepted) => match desk.hold(callback) {
                 Ok(()) => Ok(accepted),
@@ -132,6 +144,9 @@ impl<'a, L: Ledger, C: Tells, A: TellsAsk> LockedClient<'a, L, C, A> {
         ensures accepted { OnOk result (self.new.calls.count ≡ self.old.calls.count + 1) }
         ensures refused { IfErr result (λ e. self.new.calls.count ≡ self.old.calls.count
             + (if nat_le 4 (length self.old.desk.asks) then 0 else refused_calls e.0)) }
+        ensures made { made_by self.new.calls ≡ made_by self.old.calls
+            ++ (if nat_le 4 (length self.old.desk.asks) then []
+            else logged self.old.number (Discover kind) (number_or_fault result)) }
         ensures full { 4 ≤ length self.old.desk.asks → IsErrAnd result (λ e. e.0 ≡ work_faults.Full) }
         ensures back { IfErr result (λ e. (e.1 ≡ callback) × (self.new.desk ≡ self.old.desk)) }
         ensures client { (self.new.number ≡ self.old.number) × (self.new.stranded ≡ self.old.stranded) }
@@ -147,6 +162,7 @@ impl<'a, L: Ledger, C: Tells, A: TellsAsk> LockedClient<'a, L, C, A> {
             ..
         } = self;
         let answer = port.inside.lock(rt).discover(*number, kind, calls);
+        port.sleepers.wake_workers();
         match answer {
             Ok(accepted) => match desk.hold_ask(callback) {
                 Ok(()) => Ok(accepted),
@@ -171,7 +187,10 @@ impl<'a, L: Ledger, C: Tells, A: TellsAsk> LockedClient<'a, L, C, A> {
         ensures collected { IfSome result (λ told.
             Collects C.calls C.tag_of A.calls A.tag_of self.old.desk told self.new.desk) }
         ensures counted { OnSome result (self.new.calls.count ≡ self.old.calls.count + 1) }
-        ensures none { IfNone result ((self.new.desk ≡ self.old.desk) × (self.new.calls.count ≡ self.old.calls.count)) }
+        ensures made { IfSome result (λ told.
+            GotTold self.old.number told (made_by self.old.calls) (made_by self.new.calls)) }
+        ensures none { IfNone result ((self.new.desk ≡ self.old.desk) × (self.new.calls.count ≡ self.old.calls.count)
+            × (made_by self.new.calls ≡ made_by self.old.calls)) }
         ensures for_good { self.old.stranded ≡ true → IsNone result × (self.new.stranded ≡ true) }
         // That happens only if no callback of one kind is held.
         ensures strands { self.old.stranded ≡ false → self.new.stranded ≡ true
@@ -188,7 +207,10 @@ impl<'a, L: Ledger, C: Tells, A: TellsAsk> LockedClient<'a, L, C, A> {
         ensures collected { IfSome result (λ told.
             CollectsRequest C.calls C.tag_of self.old.desk told self.new.desk) }
         ensures counted { OnSome result (self.new.calls.count ≡ self.old.calls.count + 1) }
-        ensures none { IfNone result ((self.new.desk ≡ self.old.desk) × (self.new.calls.count ≡ self.old.calls.count)) }
+        ensures made { IfSome result (λ told.
+            GotTold self.old.number (collected.Request told) (made_by self.old.calls) (made_by self.new.calls)) }
+        ensures none { IfNone result ((self.new.desk ≡ self.old.desk) × (self.new.calls.count ≡ self.old.calls.count)
+            × (made_by self.new.calls ≡ made_by self.old.calls)) }
         ensures for_good { self.old.stranded ≡ true → IsNone result × (self.new.stranded ≡ true) }
         ensures strands { self.old.stranded ≡ false → self.new.stranded ≡ true → length self.old.desk.requests ≡ 0 }
         ensures client { self.new.number ≡ self.old.number }
@@ -207,7 +229,10 @@ impl<'a, L: Ledger, C: Tells, A: TellsAsk> LockedClient<'a, L, C, A> {
         ensures collected { IfSome result (λ told.
             CollectsDiscovery A.calls A.tag_of self.old.desk told self.new.desk) }
         ensures counted { OnSome result (self.new.calls.count ≡ self.old.calls.count + 1) }
-        ensures none { IfNone result ((self.new.desk ≡ self.old.desk) × (self.new.calls.count ≡ self.old.calls.count)) }
+        ensures made { IfSome result (λ told.
+            GotTold self.old.number (collected.Ask told) (made_by self.old.calls) (made_by self.new.calls)) }
+        ensures none { IfNone result ((self.new.desk ≡ self.old.desk) × (self.new.calls.count ≡ self.old.calls.count)
+            × (made_by self.new.calls ≡ made_by self.old.calls)) }
         ensures for_good { self.old.stranded ≡ true → IsNone result × (self.new.stranded ≡ true) }
         ensures strands { self.old.stranded ≡ false → self.new.stranded ≡ true → length self.old.desk.asks ≡ 0 }
         ensures client { self.new.number ≡ self.old.number }
@@ -225,7 +250,10 @@ impl<'a, L: Ledger, C: Tells, A: TellsAsk> LockedClient<'a, L, C, A> {
             Collects C.calls C.tag_of A.calls A.tag_of self.old.desk told self.new.desk) }
         ensures wanted { IfSome result (λ told. IsOfWanted wanted told) }
         ensures counted { OnSome result (self.new.calls.count ≡ self.old.calls.count + 1) }
-        ensures none { IfNone result ((self.new.desk ≡ self.old.desk) × (self.new.calls.count ≡ self.old.calls.count)) }
+        ensures made { IfSome result (λ told.
+            GotTold self.old.number told (made_by self.old.calls) (made_by self.new.calls)) }
+        ensures none { IfNone result ((self.new.desk ≡ self.old.desk) × (self.new.calls.count ≡ self.old.calls.count)
+            × (made_by self.new.calls ≡ made_by self.old.calls)) }
         ensures for_good { self.old.stranded ≡ true → IsNone result × (self.new.stranded ≡ true) }
         ensures strands { self.old.stranded ≡ false → self.new.stranded ≡ true
             → ((wanted ≢ Some kinds.Discovery) × (length self.old.desk.requests ≡ 0))
@@ -273,7 +301,7 @@ impl<'a, L: Ledger, C: Tells, A: TellsAsk> LockedClient<'a, L, C, A> {
     /// outstanding stays in the session.
     pub fn leave<R: Wait>(self, rt: &R) -> Left<L, C, A>
         ensures unspent { result.unspent ≡ record { requests = self.entry.desk.requests; asks = self.entry.desk.asks } }
-        ensures calls { result.calls.count ≡ self.entry.calls.count }
+        ensures calls { result.calls ≡ self.entry.calls }
     {
         let LockedClient {
             port,
@@ -284,6 +312,7 @@ impl<'a, L: Ledger, C: Tells, A: TellsAsk> LockedClient<'a, L, C, A> {
             sets: _,
         } = self;
         port.inside.lock(rt).leave();
+        port.sleepers.wake_workers();
         Left {
             unspent: desk.end(),
             calls,
@@ -297,24 +326,33 @@ impl<L: Ledger, C: Tells, A: TellsAsk, R: Wait> Client<C, A, R> for LockedClient
 
     ghost same = { λ old new. new.number ≡ old.number };
 
-    ghost submits = { λ old request number new. IsSome number × (new.calls.count ≡ old.calls.count + 1)
-        × (new.stranded ≡ old.stranded) };
+    ghost submits = { λ old request number new. IsSomeAnd number (λ n.
+        made_by new.calls ≡ made_by old.calls ++ logged old.number (Submit request) (Ok n))
+        × (new.calls.count ≡ old.calls.count + 1) × (new.stranded ≡ old.stranded) };
 
-    ghost refuses_submit = { λ old fault new. (session_fault : WorkFaultState) × (fault ≡ of_session session_fault)
+    ghost refuses_submit = { λ old request fault new. (session_fault : WorkFaultState)
+        × (fault ≡ of_session session_fault) × (made_by new.calls ≡ made_by old.calls
+        ++ (if nat_le old.desk.places (length old.desk.requests) then []
+        else logged old.number (Submit request) (Err session_fault)))
         × (new.calls.count ≡ old.calls.count
         + (if nat_le old.desk.places (length old.desk.requests) then 0 else refused_calls session_fault))
         × (new.stranded ≡ old.stranded) };
 
-    ghost discovers = { λ old kind number new. IsSome number × (new.calls.count ≡ old.calls.count + 1)
-        × (new.stranded ≡ old.stranded) };
+    ghost discovers = { λ old kind number new. IsSomeAnd number (λ n.
+        made_by new.calls ≡ made_by old.calls ++ logged old.number (Discover kind) (Ok n))
+        × (new.calls.count ≡ old.calls.count + 1) × (new.stranded ≡ old.stranded) };
 
-    ghost refuses_discover = { λ old fault new. (session_fault : WorkFaultState) × (fault ≡ of_session session_fault)
+    ghost refuses_discover = { λ old kind fault new. (session_fault : WorkFaultState)
+        × (fault ≡ of_session session_fault) × (made_by new.calls ≡ made_by old.calls
+        ++ (if nat_le 4 (length old.desk.asks) then [] else logged old.number (Discover kind) (Err session_fault)))
         × (new.calls.count ≡ old.calls.count
         + (if nat_le 4 (length old.desk.asks) then 0 else refused_calls session_fault))
         × (new.stranded ≡ old.stranded) };
 
-    ghost collects = { λ old collected new. MatchOption collected (new.calls.count ≡ old.calls.count)
-        (λ told. new.calls.count ≡ old.calls.count + 1) };
+    ghost collects = { λ old collected new. MatchOption collected
+        ((new.calls.count ≡ old.calls.count) × (made_by new.calls ≡ made_by old.calls))
+        (λ told. (new.calls.count ≡ old.calls.count + 1)
+        × GotTold old.number told (made_by old.calls) (made_by new.calls)) };
 
     fn submit(
         &mut self,

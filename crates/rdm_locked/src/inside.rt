@@ -1,5 +1,5 @@
 //! What a port's mutex holds.
-ghost use Rattle.std.specs.Prelude.{◌≡◌, ◌≢◌, ◌+◌, ℕ, [], length, Ok, Err, Some, OnOk, OnErr, IfOk, IfErr};
+ghost use Rattle.std.specs.Prelude.{◌≡◌, ◌≢◌, ◌+◌, ◌++◌, ◌∷◌, ℕ, [], length, Ok, Err, Some, OnOk, OnErr, IfOk, IfErr};
 ghost use Rattle.std.specs.Prelude.{IfSome, IfNone, nat_lt, if◌then◌else◌, vec_capacity};
 ghost use Rattle.std.specs.Arc.{arc_value};
 ghost use Rattle.rdm_log.specs.log.LogState.{stored, drained, MayGoOn};
@@ -11,15 +11,19 @@ ghost use Rattle.rdm_log.specs.promises.Blocks.{GrowsBy, CloseAdds, DeliverAdds,
 ghost use Rattle.rdm_log.specs.promises.Promised.{Promised};
 ghost use Rattle.rdm_log.specs.promises.Outcomes.{oldest_kind, request_outcome, discovery_outcome};
 ghost use Rattle.rdm_log.specs.declared.outcome.Outcome.TheVariants as outcomes;
+ghost use Rattle.rdm_log.specs.declared.work.Work.TheVariants.{Submit, Discover};
 ghost use Rattle.rdm_log.specs.declared.outcome.OutcomeKind.TheVariants as kinds;
 ghost use Rattle.rdm_locked.specs.Calls.{count_calls, calls_logged};
+ghost use Rattle.rdm_locked.specs.Clients.{logged};
 ghost use Rattle.rdm_locked.specs.Openings.{MayOpen, IsOpened};
 ghost use Rattle.rdm_locked.specs.Pages.{IsPage};
 ghost use Rattle.rdm_locked.specs.Turns.{TurnLogs};
+ghost use Rattle.rdm_locked.specs.body.Keeps.{Keeps};
 ghost use Rattle.rdm_locked.specs.body.Parts.{HasParts};
 
 mod finish;
 
+use crate::history::{Accepted, Blank, Completed, Ended, Ledger, LoggedCall};
 use crate::oldest::OldestOutcome;
 use crate::sets::SharedSets;
 use crate::share::CallShare;
@@ -28,6 +32,7 @@ pub use finish::SessionEnd;
 use rdm_agent::Kind;
 use rdm_client::{BoxedAsk, DeviceView};
 use rdm_join::LineEvent;
+use rdm_ledger::{Book as Lists, Items};
 use rdm_log::{
     AskFault, ClientId, Completion, DiscoveryEnd, Entry, IntoSetup, JoinFault, Log, LogFull,
     NotAsked, OutcomeKind, Page, SubmitFault, Work, WorkFault,
@@ -35,8 +40,9 @@ use rdm_log::{
 use rdm_queue::{Session, TakesDevices};
 use rdm_wire::{DeviceSet, NoMemory, Request};
 use std::alloc::Global;
+use std::snapshot::Snapshot;
 use std::sync::Arc;
-use std::sync::ledger::{Blank, Book, Ledger, Share};
+use std::sync::ledger::{Book, Share};
 
 /// A session with a book of its clients' calls: what the mutex of a [`Port`](crate::Port) holds. Each of its calls is
 /// made with the mutex taken, and is one call of the session.
@@ -52,11 +58,13 @@ pub struct Inside<L: Ledger> {
     session: Session,
     calls: Book<L>,
     rest: Share<L>,
+    lists: Lists<LoggedCall, L>,
     joined: u8,
     left: u8,
     ghost counted: { count_calls session.entries ≡ calls.total },
     ghost clients: { next_client session.opening session.entries ≡ joined },
     ghost parts: { HasParts rest.parts rest.amount joined left },
+    ghost keeps: { Keeps session lists.lists joined },
 }
 
 impl<L: Ledger> Inside<L> {
@@ -72,7 +80,7 @@ impl<L: Ledger> Inside<L> {
         setup: S,
         log: Log,
     ) -> Result<Inside<L>, (NoMemory, Blank, Log)>
-        requires may_open { MayOpen L.name L.parts blank (S.setup_of setup).config log }
+        requires may_open { MayOpen L.name L.parts L.lists blank (S.setup_of setup).config log }
         ensures opened { IfOk result (λ i. IsOpened (S.setup_of setup) log i.session i.joined i.left) }
         ensures back { IfErr result (λ e. (e.1 ≡ blank) × (e.2 ≡ log)) }
     {
@@ -80,11 +88,13 @@ impl<L: Ledger> Inside<L> {
             Ok(session) => session,
             Err((fault, log)) => return Err((fault, blank, log)),
         };
-        let (calls, rest) = blank.open::<L>();
+        let Blank { calls, lists } = blank;
+        let (calls, rest) = calls.open::<L>();
         Ok(Inside {
             session,
             calls,
             rest,
+            lists: Lists::open(lists),
             joined: 0,
             left: 0,
         })
@@ -99,6 +109,7 @@ impl<L: Ledger> Inside<L> {
         ensures refused { IfErr result (λ e. GrowsBy self.old.session (JoinLogs self.old.session places (Err e))
             self.new.session) }
         ensures share { IfOk result (λ r. r.1.count ≡ 0) }
+        ensures history { IfOk result (λ r. (r.1.history.index ≡ r.0.0) × (r.1.history.items ≡ [])) }
         ensures one_more { OnOk result (self.new.joined ≡ self.old.joined + 1) }
         ensures no_more { OnErr result (self.new.joined ≡ self.old.joined) }
         ensures left { self.new.left ≡ self.old.left }
@@ -106,11 +117,12 @@ impl<L: Ledger> Inside<L> {
         let Inside {
             session,
             rest,
+            lists,
             joined,
             ..
         } = self;
         let client = session.join_client(alloc, places)?;
-        let share = CallShare::new(rest.split_off(1, 0));
+        let share = CallShare::new(rest.split_off(1, 0), lists.begin());
         *joined += 1;
         Ok((client, share))
     }
@@ -127,13 +139,30 @@ impl<L: Ledger> Inside<L> {
         work: Work,
         mine: &mut CallShare<L>,
     ) -> Result<u64, (WorkFault, Work)>
+        requires own { client.0 ≡ mine.old.history.index }
         ensures adds { AddsOnly (WorkLogs self.old.session client work (number_or_fault result)) self.old self.new }
+        ensures made { mine.new.history.items
+            ≡ mine.old.history.items ++ logged client work (number_or_fault result) }
+        ensures client { mine.new.history.index ≡ mine.old.history.index }
         ensures returned { IfErr result (λ e. e.1 ≡ work) }
         ensures counted { mine.new.count ≡ mine.old.count + calls_logged (number_or_fault result) }
     {
-        let Inside { session, calls, .. } = self;
+        let Inside {
+            session,
+            calls,
+            lists,
+            ..
+        } = self;
+        let asked = Snapshot::of(&work);
         let answer = session.accept(client, work);
         mine.add_calls(calls, calls_logged(&answer), session.log().len_in_all());
+        let made = Items::shown::<
+            ClientId,
+            Snapshot<Work>,
+            Result<u64, (WorkFault, Work)>,
+            Accepted,
+        >(&client, &asked, &answer);
+        lists.add(&mut mine.history, &made);
         answer
     }
 
@@ -145,7 +174,11 @@ impl<L: Ledger> Inside<L> {
         request: Request,
         mine: &mut CallShare<L>,
     ) -> Result<u64, (SubmitFault, Request)>
+        requires own { client.0 ≡ mine.old.history.index }
         ensures adds { AddsOnly (SubmitLogs self.old.session client request result) self.old self.new }
+        ensures made { mine.new.history.items
+            ≡ mine.old.history.items ++ logged client (Submit request) (number_or_fault result) }
+        ensures client { mine.new.history.index ≡ mine.old.history.index }
         ensures counted { mine.new.count ≡ mine.old.count + calls_logged (number_or_fault result) }
     {
         match self.accept(client, Work::Submit(request), mine) {
@@ -162,7 +195,10 @@ impl<L: Ledger> Inside<L> {
         kind: Kind,
         mine: &mut CallShare<L>,
     ) -> Result<u64, AskFault>
+        requires own { client.0 ≡ mine.old.history.index }
         ensures adds { AddsOnly (DiscoverLogs self.old.session client kind result) self.old self.new }
+        ensures made { mine.new.history.items ≡ mine.old.history.items ++ logged client (Discover kind) result }
+        ensures client { mine.new.history.index ≡ mine.old.history.index }
         ensures counted { mine.new.count ≡ mine.old.count + calls_logged result }
     {
         match self.accept(client, Work::Discover(kind), mine) {
@@ -210,17 +246,30 @@ impl<L: Ledger> Inside<L> {
         client: ClientId,
         mine: &mut CallShare<L>,
     ) -> Option<(u64, Completion)>
+        requires own { client.0 ≡ mine.old.history.index }
         ensures collected { IfSome result (λ r.
             IsCollected client (request_outcome r) self.old mine.old self.new mine.new) }
         ensures none { IfNone result
             (oldest_kind self.old.session.opening self.old.session.entries client.0 ≢ Some kinds.Request) }
-        ensures unchanged { IfNone result
-            ((self.new.session ≡ self.old.session) × (mine.new.count ≡ mine.old.count)) }
+        ensures unchanged { IfNone result ((self.new.session ≡ self.old.session) × (mine.new.count ≡ mine.old.count)
+            × (mine.new.history ≡ mine.old.history)) }
+        ensures client { mine.new.history.index ≡ mine.old.history.index }
         ensures clients { SameClients self.old self.new }
     {
-        let Inside { session, calls, .. } = self;
+        let Inside {
+            session,
+            calls,
+            lists,
+            ..
+        } = self;
         let outcome = session.next_completion(client)?;
         mine.add_calls(calls, 1, session.log().len_in_all());
+        let made = Items::shown::<ClientId, (u64, Completion), (), Completed>(
+            &client,
+            &outcome,
+            &(),
+        );
+        lists.add(&mut mine.history, &made);
         Some(outcome)
     }
 
@@ -233,17 +282,27 @@ impl<L: Ledger> Inside<L> {
         set: &mut T,
         mine: &mut CallShare<L>,
     ) -> Option<DiscoveryEnd>
+        requires own { client.0 ≡ mine.old.history.index }
         ensures collected { IfSome result (λ end.
             IsCollected client (discovery_outcome end (T.devices set.new)) self.old mine.old self.new mine.new) }
         ensures none { IfNone result
             (oldest_kind self.old.session.opening self.old.session.entries client.0 ≢ Some kinds.Discovery) }
         ensures unchanged { IfNone result
-            ((self.new.session ≡ self.old.session) × (set.new ≡ set.old) × (mine.new.count ≡ mine.old.count)) }
+            ((self.new.session ≡ self.old.session) × (set.new ≡ set.old) × (mine.new.count ≡ mine.old.count)
+            × (mine.new.history ≡ mine.old.history)) }
+        ensures client { mine.new.history.index ≡ mine.old.history.index }
         ensures clients { SameClients self.old self.new }
     {
-        let Inside { session, calls, .. } = self;
+        let Inside {
+            session,
+            calls,
+            lists,
+            ..
+        } = self;
         let end = session.next_discovery(client, set)?;
         mine.add_calls(calls, 1, session.log().len_in_all());
+        let made = Items::shown::<ClientId, DiscoveryEnd, T, Ended<T>>(&client, &end, set);
+        lists.add(&mut mine.history, &made);
         Some(end)
     }
 
@@ -257,10 +316,12 @@ impl<L: Ledger> Inside<L> {
         sets: &mut SharedSets,
         mine: &mut CallShare<L>,
     ) -> OldestOutcome
+        requires own { client.0 ≡ mine.old.history.index }
         ensures kind { ShowsKind requests asks result
             (oldest_kind self.old.session.opening self.old.session.entries client.0) }
         ensures collected { CollectsOldest client result self.old mine.old self.new mine.new }
         ensures sets { KeepsSets result (length sets.old.sets.items) (length sets.new.sets.items) }
+        ensures client { mine.new.history.index ≡ mine.old.history.index }
         ensures clients { SameClients self.old self.new }
     {
         let Some(kind) = self.oldest(client) else {
@@ -288,10 +349,13 @@ impl<L: Ledger> Inside<L> {
         sets: &mut SharedSets,
         mine: &mut CallShare<L>,
     ) -> Option<BoxedAsk>
+        requires own { client.0 ≡ mine.old.history.index }
         ensures collected { IfSome result (λ done. (n : ℕ)
             × IsCollected client (outcomes.Discovery (Some n) done) self.old mine.old self.new mine.new) }
         ensures unchanged { IfNone result ((self.new.session ≡ self.old.session)
-            × (length sets.new.sets.items ≡ length sets.old.sets.items) × (mine.new.count ≡ mine.old.count)) }
+            × (length sets.new.sets.items ≡ length sets.old.sets.items) × (mine.new.count ≡ mine.old.count)
+            × (mine.new.history ≡ mine.old.history)) }
+        ensures client { mine.new.history.index ≡ mine.old.history.index }
         ensures clients { SameClients self.old self.new }
     {
         let mut set = sets.take_unshared()?;
@@ -309,10 +373,12 @@ impl<L: Ledger> Inside<L> {
         set: &mut Arc<Box<DeviceSet>>,
         mine: &mut CallShare<L>,
     ) -> Option<DiscoveryEnd>
+        requires own { client.0 ≡ mine.old.history.index }
         ensures collected { IfSome result (λ end.
             IsCollected client (discovery_outcome end (arc_value set.new).value) self.old mine.old self.new mine.new) }
-        ensures unchanged { IfNone result
-            ((self.new.session ≡ self.old.session) × (mine.new.count ≡ mine.old.count)) }
+        ensures unchanged { IfNone result ((self.new.session ≡ self.old.session) × (mine.new.count ≡ mine.old.count)
+            × (mine.new.history ≡ mine.old.history)) }
+        ensures client { mine.new.history.index ≡ mine.old.history.index }
         ensures clients { SameClients self.old self.new }
     {
         match Arc::get_mut(set) {

@@ -11,16 +11,19 @@
 mod client;
 mod exchange;
 mod fault;
+mod history;
 mod inside;
 mod oldest;
 mod port;
 mod sets;
 mod share;
+mod sleeping;
 mod turn;
 
 pub use client::{Left, LockedClient};
 pub use exchange::Exchange;
 pub use fault::FinishFault;
+pub use history::{Blank, Ledger, LoggedCall};
 pub use inside::{Inside, SessionEnd};
 pub use port::Port;
 pub use rdm_client::WorkerEnd;

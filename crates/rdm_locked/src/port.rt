@@ -7,6 +7,7 @@ ghost use Rattle.rdm_log.specs.log.Legal.{Legal};
 ghost use Rattle.rdm_log.specs.promises.Promised.{Promised};
 ghost use Rattle.rdm_log.specs.log.LogState.{stored};
 ghost use Rattle.rdm_locked.specs.Calls.{count_calls};
+ghost use Rattle.rdm_locked.specs.Clients.{AllAgree, made_by};
 ghost use Rattle.rdm_locked.specs.Exchanges.{recorded, Records};
 ghost use Rattle.rdm_locked.specs.Openings.{MayOpen};
 ghost use Rattle.rdm_locked.specs.Pages.{IsPage};
@@ -14,9 +15,11 @@ ghost use Rattle.rdm_locked.specs.Pages.{IsPage};
 use crate::client::LockedClient;
 use crate::exchange::Exchange;
 use crate::fault::FinishFault;
+use crate::history::{Blank, Ledger};
 use crate::inside::{Inside, SessionEnd};
 use crate::sets::SharedSets;
 use crate::share::CallShare;
+use crate::sleeping::Sleepers;
 use crate::turn::Turn;
 use rdm_client::{Desk, Tells, TellsAsk, WorkerEnd};
 use rdm_join::LineEvent;
@@ -24,7 +27,6 @@ use rdm_line::Line;
 use rdm_log::{Entry, IntoSetup, JoinFault, Log, LogFull, Page};
 use rdm_wire::NoMemory;
 use std::alloc::Global;
-use std::sync::ledger::{Blank, Ledger};
 use std::sync::{Mutex, Wait};
 use std::thread;
 
@@ -37,6 +39,7 @@ use std::thread;
 #[derive(Drop)]
 pub struct Port<L: Ledger> {
     pub(crate) inside: Mutex<Inside<L>>,
+    pub(crate) sleepers: Sleepers,
 }
 
 impl<L: Ledger> Port<L> {
@@ -51,7 +54,7 @@ impl<L: Ledger> Port<L> {
         setup: S,
         log: Log,
     ) -> Result<Port<L>, (NoMemory, Blank, Log)>
-        requires may_open { MayOpen L.name L.parts blank (S.setup_of setup).config log }
+        requires may_open { MayOpen L.name L.parts L.lists blank (S.setup_of setup).config log }
         ensures back { IfErr result (λ e. (e.1 ≡ blank) × (e.2 ≡ log)) }
     {
         let inside = Inside::new(alloc, blank, setup, log)?;
@@ -89,13 +92,14 @@ impl<L: Ledger> Port<L> {
         ensures each { IfOk result (λ e. length shares.items ≡ next_client e.session.opening e.session.entries) }
         ensures calls { IfOk result (λ e. e.calls ≡ sum_by (λ s. s.count) shares.items) }
         ensures counted { IfOk result (λ e. e.calls ≡ count_calls e.session.entries) }
+        ensures agree { IfOk result (λ e. AllAgree e.session shares.items) }
         ensures exchanges { IfOk result (λ e. log_exchanges e.session.entries ≡ recorded exchanges.now) }
         ensures kept { IfOk result (λ e. stored e.session ≡ e.session.entries) }
         ensures legal { IfOk result (λ e. Legal e.session.opening e.session.entries) }
         ensures promised { IfOk result (λ e. Promised e.session) }
         ensures back { IfErr result (λ e. e.2 ≡ shares) }
     {
-        let Port { inside } = self;
+        let Port { inside, .. } = self;
         match inside.into_inner().finish(shares, exchanges) {
             Ok(end) => Ok(end),
             Err((fault, inside, shares)) => Err((fault, Port::holding(inside), shares)),
@@ -110,11 +114,12 @@ impl<L: Ledger> Port<L> {
         ensures each { IfOk result (λ e. length shares.items ≡ next_client e.session.opening e.session.entries) }
         ensures calls { IfOk result (λ e. e.calls ≡ sum_by (λ s. s.count) shares.items) }
         ensures counted { IfOk result (λ e. e.calls ≡ count_calls e.session.entries) }
+        ensures agree { IfOk result (λ e. AllAgree e.session shares.items) }
         ensures legal { IfOk result (λ e. Legal e.session.opening e.session.entries) }
         ensures promised { IfOk result (λ e. Promised e.session) }
         ensures back { IfErr result (λ e. e.1 ≡ shares) }
     {
-        let Port { inside } = self;
+        let Port { inside, .. } = self;
         match inside.into_inner().end(shares) {
             Ok(end) => Ok(end),
             Err((inside, shares)) => Err((Port::holding(inside), shares)),
@@ -125,6 +130,7 @@ impl<L: Ledger> Port<L> {
     pub(crate) fn holding(inside: Inside<L>) -> Port<L> {
         Port {
             inside: Mutex::new(inside),
+            sleepers: Sleepers::new(),
         }
     }
 
@@ -140,6 +146,7 @@ impl<L: Ledger> Port<L> {
     ) -> Result<LockedClient<'_, L, C, A>, JoinFault>
         ensures desk { IfOk result (λ c. c.desk ≡ record { requests = []; asks = []; places = places }) }
         ensures calls { IfOk result (λ c. c.calls.count ≡ 0) }
+        ensures made { IfOk result (λ c. made_by c.calls ≡ []) }
         ensures collects { IfOk result (λ c. c.stranded ≡ false) }
     {
         let Ok(sets) = SharedSets::new(alloc) else {
@@ -161,18 +168,23 @@ impl<L: Ledger> Port<L> {
     /// Pauses: nothing new is begun. It has no effect if the session is paused or closed already.
     /// Err: the log is full; nothing has changed.
     pub fn pause<R: Wait>(&self, rt: &R) -> Result<(), LogFull> {
-        self.inside.lock(rt).pause()
+        let answer = self.inside.lock(rt).pause();
+        self.sleepers.wake_workers();
+        answer
     }
 
     /// Resumes. It has no effect if the session isn't paused, or is closed.
     /// Err: the log is full; nothing has changed.
     pub fn resume<R: Wait>(&self, rt: &R) -> Result<(), LogFull> {
-        self.inside.lock(rt).resume()
+        let answer = self.inside.lock(rt).resume();
+        self.sleepers.wake_workers();
+        answer
     }
 
     /// Closes: nothing more is accepted, and what waits is ended. It has no effect if the session is closed already.
     pub fn close<R: Wait>(&self, rt: &R) {
         self.inside.lock(rt).close();
+        self.sleepers.wake_all();
     }
 
     /// Serves the line for this many turns. It ends earlier if each client that has joined has left and no frame may be
@@ -194,15 +206,36 @@ impl<L: Ledger> Port<L> {
         ensures record { Records X X.step line.old exchanges.old.items line.new exchanges.new.items turns }
         ensures no_turns { turns ≡ 0 → result ≡ WorkerEnd.Turns }
     {
+        self.serve(rt, alloc, line, turns, exchanges, false)
+    }
+
+    // Serves the line for this many turns, as `work` does. If it may sleep, it does so while no frame may be sent.
+    pub(crate) fn serve<X: Line, R: Wait>(
+        &self,
+        rt: &R,
+        alloc: Global,
+        line: &mut X,
+        turns: u64,
+        exchanges: &mut Vec<Exchange>,
+        sleeps: bool,
+    ) -> WorkerEnd
+        ensures record { Records X X.step line.old exchanges.old.items line.new exchanges.new.items turns }
+        ensures no_turns { turns ≡ 0 → result ≡ WorkerEnd.Turns }
+    {
         'turns: for _turn in 0..turns {
             if exchanges.reserve(1).is_err() {
                 continue;
             }
-            let turn = self.inside.lock(rt).turn();
+            let turn = if sleeps {
+                self.turn_after_sleep(rt)
+            } else {
+                self.inside.lock(rt).turn()
+            };
             match turn {
                 Turn::Exchange(frame) => {
                     let event = LineEvent::from(line.exchange(&frame));
                     let _ = self.inside.lock(rt).deliver(alloc, event.copied());
+                    self.sleepers.wake_all();
                     exchanges.push_reserved(Exchange { frame, event });
                 }
                 Turn::Nothing => thread::yield_now(),

@@ -1,7 +1,7 @@
 -- What serving a session asks of its caller, and what it leaves.
 use Rattle.std.specs.Prelude.{◌≡◌, ℕ, ◌+◌, ◌*◌, ◌≤◌, List, [], ◌∷◌, Option, Some, None, IfSome, length}
 use Rattle.std.specs.List.{All}
-use Rattle.std.specs.declared.sync.ledger.Blank.{Blank}
+use Rattle.rdm_locked.specs.Openings.{BlankNames}
 use Rattle.rdm_wire.specs.Uid.{IsDevice}
 use Rattle.rdm_agent.specs.declared.search.Search.{Search}
 use Rattle.rdm_log.specs.log.LogState.{LogState, stored}
@@ -18,8 +18,9 @@ use Rattle.rdm_serving.specs.declared.serving.Served.{Served}
 -- The blank is that of the book with this name and these parts, which are 17: one for each client, and one for the
 -- rest. The source is a device's UID, the budget is at least one exchange, and each ring has at least one slot. The log
 -- has at most 1,000,000 free entries.
-pub record MayServe (name parts : ℕ) (blank : Blank) (source budget ring log : ℕ) : Type 0 where
+pub record MayServe (name parts lists : ℕ) (blank : BlankNames) (source budget ring log : ℕ) : Type 0 where
   pub named : blank.name ≡ name
+  pub listed : blank.lists ≡ lists
   pub cut : (blank.parts ≡ parts) × (parts ≡ 17)
   pub own : IsDevice source
   pub frames : 1 ≤ budget

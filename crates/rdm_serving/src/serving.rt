@@ -31,13 +31,13 @@ use rdm_arguments::PortKind;
 use rdm_client::Told;
 use rdm_files::{ClientCall, ClientFile, SessionFile};
 use rdm_line::Line;
+use rdm_locked::{Blank, Ledger};
 use rdm_log::{Config, Log, MOST_PLACES, Setup, laws};
 use rdm_queue::Session;
 use rdm_reports::{Discovered, Outcomes, Progress};
 use rdm_wire::Uid;
 use std::alloc::Global;
 use std::sync::Wait;
-use std::sync::ledger::{Blank, Ledger};
 use std::thread::Threads;
 
 /// Why not all calls of a session are settled.
@@ -106,7 +106,7 @@ pub fn serve<
     line: X,
     progress: &mut P,
 ) -> Result<Served, ServeFault>
-    requires may_serve { MayServe L.name L.parts blank file.source file.budget file.ring file.log }
+    requires may_serve { MayServe L.name L.parts L.lists blank file.source file.budget file.ring file.log }
     ensures served { IfOk result (IsServedBy port file.clients.items file.ring file.turns) }
     ensures set_up { IfOk result (λ s. IsSetUp file.source file.budget file.search s.session) }
 {

@@ -6,13 +6,14 @@ use crate::port_line::{ClosingLine, PortNote};
 use rdm_agent::{Kind, Search};
 use rdm_client::WorkerEnd;
 use rdm_line::Line;
-use rdm_locked::{CallShare, Exchange, FinishFault, Left, LockedClient, Port, SessionEnd};
+use rdm_locked::{
+    Blank, CallShare, Exchange, FinishFault, Ledger, Left, LockedClient, Port, SessionEnd,
+};
 use rdm_log::{Log, Setup as SessionSetup};
 use rdm_wire::NoMemory;
 use std::alloc::Global;
 use std::marker::Brand;
 use std::sync::Wait;
-use std::sync::ledger::{Blank, Ledger};
 use test_rig::{
     Act, Driver, Heard, Move, Mover, Refusal, Said, Stage, State, Step, Stop, Wrong, cancels,
     config, found_in, is_blank, log, log_of, request, state_of, switched, told,
@@ -302,7 +303,7 @@ fn plays<L: Ledger, X: Line + Drop, R: Wait>(
     line: X,
     moves: &[Move],
 ) -> Result<PortOver, Failed>
-    requires name { blank.name ≡ L.name }
+    requires name { (blank.name ≡ L.name) × (blank.lists ≡ L.lists) }
     requires parts { (blank.parts ≡ L.parts) × (L.parts ≡ 17) }
 {
     let port = port_of::<L>(alloc, blank, setup)?;
@@ -329,7 +330,7 @@ fn driven<L: Ledger, X: Line + Drop, R: Wait, D: Driver>(
     line: X,
     driver: &mut D,
 ) -> Result<PortOver, Failed>
-    requires name { blank.name ≡ L.name }
+    requires name { (blank.name ≡ L.name) × (blank.lists ≡ L.lists) }
     requires parts { (blank.parts ≡ L.parts) × (L.parts ≡ 17) }
 {
     let port = port_of::<L>(alloc, blank, setup)?;
@@ -378,7 +379,7 @@ pub(crate) fn port_of<L: Ledger>(
     blank: Blank,
     setup: PortSetup,
 ) -> Result<Port<L>, Failed>
-    requires name { blank.name ≡ L.name }
+    requires name { (blank.name ≡ L.name) × (blank.lists ≡ L.lists) }
     requires parts { (blank.parts ≡ L.parts) × (L.parts ≡ 17) }
 {
     let log = log(alloc, setup.free)?;
@@ -399,7 +400,7 @@ fn new_port<L: Ledger>(
     setup: PortSetup,
     log: Log,
 ) -> Result<Port<L>, (Blank, Log)>
-    requires name { blank.name ≡ L.name }
+    requires name { (blank.name ≡ L.name) × (blank.lists ≡ L.lists) }
     requires parts { (blank.parts ≡ L.parts) × (L.parts ≡ 17) }
     requires empty { log.entries ≡ [] }
     ensures blank { IfErr result (λ back. back.0 ≡ blank) }

@@ -4,11 +4,10 @@ ghost use Rattle.std.specs.Prelude.{◌≡◌};
 use crate::failed::Failed;
 use crate::port::{Gone, PortOver, PortSetup, over_of, plays_on, port_of, refused};
 use rdm_line::Line;
-use rdm_locked::{Exchange, FinishFault, Left, LockedClient, Port};
+use rdm_locked::{Blank, Exchange, FinishFault, Ledger, Left, LockedClient, Port};
 use std::alloc::Global;
 use std::marker::Brand;
 use std::sync::Wait;
-use std::sync::ledger::{Blank, Ledger};
 use test_rig::{AskNote, Move, Note, Wrong, cancels};
 
 /// A client of a port, whose callbacks aren't boxed.
@@ -45,7 +44,7 @@ fn does<L: Ledger, J: PortJob, R: Wait>(
     setup: PortSetup,
     job: &mut J,
 ) -> Result<PortOver, Failed>
-    requires name { blank.name ≡ L.name }
+    requires name { (blank.name ≡ L.name) × (blank.lists ≡ L.lists) }
     requires parts { (blank.parts ≡ L.parts) × (L.parts ≡ 17) }
 {
     let port = port_of::<L>(alloc, blank, setup)?;
@@ -100,7 +99,7 @@ fn plays_again<L: Ledger, X: Line + Drop, R: Wait>(
     first: (X, &[Move]),
     later: (X, &[Move]),
 ) -> Result<PortOver, Failed>
-    requires name { blank.name ≡ L.name }
+    requires name { (blank.name ≡ L.name) × (blank.lists ≡ L.lists) }
     requires parts { (blank.parts ≡ L.parts) × (L.parts ≡ 17) }
 {
     let port = port_of::<L>(alloc, blank, setup)?;

@@ -7,12 +7,11 @@ use rdm_agent::AgentFault;
 use rdm_client::{AskTold, BoxedAsk, Tells, TellsAsk, Told};
 use rdm_join::{LineFault, LineReply, Status};
 use rdm_line::Line;
-use rdm_locked::Port;
+use rdm_locked::{Ledger, Port};
 use rdm_log::Completion;
 use rdm_wire::Frame;
 use std::alloc::Global;
 use std::sync::Wait;
-use std::sync::ledger::Ledger;
 
 /// A callback that returns what it was called with. If `pauses` is set, it pauses the port first.
 #[derive(Drop)]

@@ -4,12 +4,12 @@ ghost use Rattle.std.specs.Prelude.{◌≡◌};
 use crate::failed::Failed;
 use crate::player::TRIES;
 use crate::port::{Gone, PortOver, PortSetup, over_of, port_of, stop_of};
+use rdm_client::WorkerEnd;
 use rdm_line::Line;
-use rdm_locked::{CallShare, Left, LockedClient, Port};
+use rdm_locked::{Blank, CallShare, Exchange, Ledger, Left, LockedClient, Port};
 use std::alloc::Global;
 use std::marker::Brand;
 use std::sync::Wait;
-use std::sync::ledger::{Blank, Ledger};
 use std::thread::{Threads, join_mut};
 use std::{mem, thread};
 use test_rig::{AskNote, Heard, Note, Stop, cancels, request, told};
@@ -27,6 +27,9 @@ struct Seat<'a, L: Ledger> {
 /// Opens a port with this setup over this line. For each of these queue depths, a client runs in a thread of its own,
 /// beside the worker. Each client submits this many requests, with tags from 0 on, and collects their outcomes. Returns
 /// why the worker stopped, how many outcomes came in order with the data 1 and 2, and what is left.
+///
+/// With `turns`, the worker makes as many, and sleeps while it has nothing to send, as the clients do while no outcome
+/// comes. The port is paused while each second request is submitted. Without it, they look again and again.
 #[inline(never)]
 pub fn serve_port<X: Line + Send + Drop, R: Threads + Wait + Sync>(
     rt: &R,
@@ -34,9 +37,19 @@ pub fn serve_port<X: Line + Send + Drop, R: Threads + Wait + Sync>(
     setup: PortSetup,
     places: &[u8],
     requests: u64,
+    turns: Option<u64>,
     line: X,
 ) -> Result<(Stop, u64, PortOver), Failed> {
-    serves::<Brand, X, R>(rt, alloc, Blank::new(17), setup, places, requests, line)
+    serves::<Brand, X, R>(
+        rt,
+        alloc,
+        Blank::new(17),
+        setup,
+        places,
+        requests,
+        turns,
+        line,
+    )
 }
 
 fn serves<L: Ledger + Send + Sync, X: Line + Send + Drop, R: Threads + Wait + Sync>(
@@ -46,13 +59,14 @@ fn serves<L: Ledger + Send + Sync, X: Line + Send + Drop, R: Threads + Wait + Sy
     setup: PortSetup,
     places: &[u8],
     requests: u64,
+    turns: Option<u64>,
     line: X,
 ) -> Result<(Stop, u64, PortOver), Failed>
-    requires name { blank.name ≡ L.name }
+    requires name { (blank.name ≡ L.name) × (blank.lists ≡ L.lists) }
     requires parts { (blank.parts ≡ L.parts) × (L.parts ≡ 17) }
 {
     let port = port_of::<L>(alloc, blank, setup)?;
-    let (stop, right, gone) = together(rt, alloc, &port, places, requests, line);
+    let (stop, right, gone) = together(rt, alloc, &port, places, requests, turns, line);
     Ok((stop, right, over_of(alloc, port, gone)?))
 }
 
@@ -63,6 +77,7 @@ fn together<L: Ledger + Send + Sync, X: Line + Send + Drop, R: Threads + Wait + 
     port: &Port<L>,
     places: &[u8],
     requests: u64,
+    turns: Option<u64>,
     line: X,
 ) -> (Stop, u64, Gone<L>) {
     let mut line = line;
@@ -71,8 +86,8 @@ fn together<L: Ledger + Send + Sync, X: Line + Send + Drop, R: Threads + Wait + 
     let all = seats.as_mut_slice();
     let (end, _) = join_mut(
         rt,
-        &mut || port.work(rt, alloc, &mut line, TRIES, &mut record),
-        &mut || all_sit(rt, alloc, requests, all),
+        &mut || works(rt, alloc, port, &mut line, turns, &mut record),
+        &mut || all_sit(rt, alloc, port, requests, turns.is_some(), all),
     );
     let (right, shares, held) = stood_up(rt, alloc, seats);
     let gone = Gone {
@@ -81,6 +96,21 @@ fn together<L: Ledger + Send + Sync, X: Line + Send + Drop, R: Threads + Wait + 
         held,
     };
     (stop_of(end), right, gone)
+}
+
+// The worker, which sleeps if its turns are counted.
+fn works<L: Ledger, X: Line, R: Wait>(
+    rt: &R,
+    alloc: Global,
+    port: &Port<L>,
+    line: &mut X,
+    turns: Option<u64>,
+    record: &mut Vec<Exchange>,
+) -> WorkerEnd {
+    match turns {
+        Some(turns) => port.work_or_sleep(rt, alloc, line, turns, record),
+        None => port.work(rt, alloc, line, TRIES, record),
+    }
 }
 
 fn seats_of<'a, L: Ledger, R: Wait>(
@@ -107,23 +137,36 @@ fn seats_of<'a, L: Ledger, R: Wait>(
 fn all_sit<L: Ledger + Send + Sync, R: Threads + Wait + Sync>(
     rt: &R,
     alloc: Global,
+    port: &Port<L>,
     requests: u64,
+    sleeps: bool,
     seats: &mut [Seat<'_, L>],
 ) {
-    thread::for_each_mut(rt, seats, 2, &|_, seat| sits(rt, alloc, requests, seat));
+    thread::for_each_mut(
+        rt,
+        seats,
+        2,
+        &|_, seat| sits(rt, alloc, port, requests, sleeps, seat),
+    );
 }
 
 // Takes the client out of the seat, and lets it ask and leave.
 fn sits<L: Ledger + Send + Sync, R: Wait>(
     rt: &R,
     alloc: Global,
+    port: &Port<L>,
     requests: u64,
+    sleeps: bool,
     seat: &mut Seat<'_, L>,
 ) {
     let Some(mut client) = mem::replace(&mut seat.client, None) else {
         return;
     };
-    seat.right = asks(rt, &mut client, requests);
+    seat.right = if sleeps {
+        asks_asleep(rt, port, &mut client, requests)
+    } else {
+        asks(rt, &mut client, requests)
+    };
     let Left { unspent, calls } = client.leave(rt);
     seat.held = cancels(alloc, unspent);
     seat.calls = Some(calls);
@@ -150,6 +193,43 @@ fn asks<L: Ledger, R: Wait>(rt: &R, client: &mut Client<'_, L>, requests: u64) -
         }
     }
     right
+}
+
+// Submits requests one by one, and sleeps until the outcome of each comes. The port is paused while each second one is
+// submitted. Returns how many were right.
+fn asks_asleep<L: Ledger, R: Wait>(
+    rt: &R,
+    port: &Port<L>,
+    client: &mut Client<'_, L>,
+    requests: u64,
+) -> u64 {
+    let mut right = 0u64;
+    for tag in 0..requests {
+        let pauses = tag % 2 == 1;
+        if pauses && port.pause(rt).is_err() || !submits(rt, client, tag) {
+            break;
+        }
+        if pauses && port.resume(rt).is_err() {
+            break;
+        }
+        if next_asleep(rt, client) == Heard::Answered(tag, 1, 2) {
+            right = right.saturating_add(1);
+        }
+    }
+    right
+}
+
+// The next outcome. It comes at the first try, unless the worker hasn't begun yet.
+fn next_asleep<L: Ledger, R: Wait>(rt: &R, client: &mut Client<'_, L>) -> Heard {
+    for _try in 0..TRIES {
+        client.wait_for_outcome(rt);
+        let heard = told(&client.collect(rt));
+        if heard != Heard::Nothing {
+            return heard;
+        }
+        thread::yield_now();
+    }
+    Heard::Nothing
 }
 
 // Submits the request with this tag. Returns whether it was accepted.

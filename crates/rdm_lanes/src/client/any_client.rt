@@ -20,13 +20,13 @@ impl<J: ViewHistory, C: Tells, A: TellsAsk, R> Client<C, A, R> for RingClient<J,
     ghost submits = { λ old request number new. (number ≡ None)
         × (sent_by new ≡ sent_by old ++ Submit request ∷ []) × (got_by new ≡ got_by old) };
 
-    ghost refuses_submit = { λ old fault new. (fault ≡ shown_fault (submit_fault old))
+    ghost refuses_submit = { λ old request fault new. (fault ≡ shown_fault (submit_fault old))
         × (sent_by new ≡ sent_by old) × (got_by new ≡ got_by old) };
 
     ghost discovers = { λ old kind number new. (number ≡ None)
         × (sent_by new ≡ sent_by old ++ Discover kind ∷ []) × (got_by new ≡ got_by old) };
 
-    ghost refuses_discover = { λ old fault new. (fault ≡ shown_fault (discover_fault old))
+    ghost refuses_discover = { λ old kind fault new. (fault ≡ shown_fault (discover_fault old))
         × (sent_by new ≡ sent_by old) × (got_by new ≡ got_by old) };
 
     ghost collects = { λ old collected new. (sent_by new ≡ sent_by old)

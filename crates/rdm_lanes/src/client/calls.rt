@@ -57,6 +57,7 @@ impl<J: ViewHistory, C: Tells, A: TellsAsk> RingClient<J, C, A> {
             return Err((RingFault::Full, request, callback));
         }
         self.calls.push_reserved(ClientCall::Submit(request));
+        self.worker.wake();
         self.sent += 1;
         Ok(())
     }
@@ -90,6 +91,7 @@ impl<J: ViewHistory, C: Tells, A: TellsAsk> RingClient<J, C, A> {
             return Err((RingFault::Full, callback));
         }
         self.calls.push_reserved(ClientCall::Discover(kind));
+        self.worker.wake();
         self.sent += 1;
         Ok(())
     }
@@ -130,6 +132,7 @@ impl<J: ViewHistory, C: Tells, A: TellsAsk> RingClient<J, C, A> {
             return None;
         }
         let item = self.replies.pop_known();
+        self.worker.wake();
         let told = settle_request(&mut self.desk, item);
         self.collected += 1;
         Some(told)
@@ -150,6 +153,7 @@ impl<J: ViewHistory, C: Tells, A: TellsAsk> RingClient<J, C, A> {
             return None;
         }
         let item = self.replies.pop_known();
+        self.worker.wake();
         keep_found(&mut self.found, &item);
         let told = settle_discovery(&mut self.desk, item);
         self.collected += 1;
@@ -210,6 +214,7 @@ impl<J: ViewHistory, C: Tells, A: TellsAsk> RingClient<J, C, A> {
             return Err(RingFull);
         }
         self.calls.push_reserved(ClientCall::Leave);
+        self.worker.wake();
         self.left = true;
         Ok(())
     }
@@ -256,6 +261,8 @@ impl<J: ViewHistory, C: Tells, A: TellsAsk> RingClient<J, C, A> {
             sent,
             collected,
             left,
+            worker: _,
+            sleep: _,
         } = self;
         ClientEnd {
             unspent: desk.end(),

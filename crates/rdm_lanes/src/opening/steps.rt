@@ -10,6 +10,7 @@ ghost use Rattle.rdm_lanes.specs.Views.{opening_view};
 
 use crate::client::RingClient;
 use crate::fault::OpenFault;
+use crate::sleeping::{ClientSleep, WorkerSleep};
 use crate::views::history::ViewHistory;
 use crate::views::publishing::{Publisher, Shown};
 use crate::worker::comparing::shows_legal;
@@ -20,7 +21,7 @@ use rdm_queue::Session;
 use rdm_wire::DeviceSet;
 use rtrb::RingBuffer;
 use std::alloc::Global;
-use std::sync::Wait;
+use std::sync::{Arc, Wait};
 
 /// The sum of the queue depths of at most sixteen clients.
 pub fn total(places: &[u8]) -> u16
@@ -40,6 +41,7 @@ pub fn open_client<J: ViewHistory, C: Tells, A: TellsAsk, R: Wait + Drop>(
     publisher: &Publisher<J, Shown<J>, R>,
     ring: u8,
     places: u8,
+    worker: &Arc<WorkerSleep>,
 ) -> Option<(RingClient<J, C, A>, Lane)>
     requires { publisher.now.shown ≡ opening_view ∷ [] }
     ensures { IfSome result (λ r. IsNewWith ring places r.0 r.1) }
@@ -56,10 +58,11 @@ pub fn open_client<J: ViewHistory, C: Tells, A: TellsAsk, R: Wait + Drop>(
     let Ok((outcomes, replies)) = RingBuffer::new(alloc, usize::from(ring)) else {
         return None;
     };
+    let (worker, sleep, woken) = sleeps_for(alloc, worker)?;
     let Ok(desk) = Desk::new(alloc, places) else {
         return None;
     };
-    let client = RingClient::new(desk, calls, replies, views, found);
+    let client = RingClient::new(desk, calls, replies, views, found, worker, sleep);
     let lane = Lane {
         calls: heard,
         replies: outcomes,
@@ -67,8 +70,19 @@ pub fn open_client<J: ViewHistory, C: Tells, A: TellsAsk, R: Wait + Drop>(
         requests: 0,
         asks: 0,
         left: false,
+        sleep: woken,
     };
     Some((client, lane))
+}
+
+// What the worker sleeps on, and twice what the client does. None: out of memory.
+fn sleeps_for(
+    alloc: Global,
+    worker: &Arc<WorkerSleep>,
+) -> Option<(Arc<WorkerSleep>, Arc<ClientSleep>, Arc<ClientSleep>)> {
+    let sleep = Arc::new(alloc, ClientSleep::new()).ok()?;
+    let woken = Arc::try_clone(&sleep).ok()?;
+    Some((Arc::try_clone(worker).ok()?, sleep, woken))
 }
 
 // What a client knows of devices at first, in a box. It isn't inlined, so that only its own frame has a set.
@@ -92,6 +106,7 @@ pub fn open_clients<J: ViewHistory, C: Tells, A: TellsAsk, R: Wait + Drop>(
     publisher: &Publisher<J, Shown<J>, R>,
     ring: u8,
     places: &[u8],
+    worker: &Arc<WorkerSleep>,
 ) -> Option<(Vec<RingClient<J, C, A>>, Vec<Lane>)>
     requires { publisher.now.shown ≡ opening_view ∷ [] }
     ensures { IfSome result (λ r. AreNewWith ring places.now r.0.items r.1.items) }
@@ -103,7 +118,7 @@ pub fn open_clients<J: ViewHistory, C: Tells, A: TellsAsk, R: Wait + Drop>(
         return None;
     };
     for n in places {
-        let Some((client, lane)) = open_client(alloc, publisher, ring, *n) else {
+        let Some((client, lane)) = open_client(alloc, publisher, ring, *n, worker) else {
             discard(clients);
             return None;
         };

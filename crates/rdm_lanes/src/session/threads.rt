@@ -12,6 +12,7 @@ use crate::opening::seat::Seat;
 use crate::session::body::{Body, Gate, WORKER_STOPPED};
 use crate::views::history::ViewHistory;
 use crate::views::publishing::Shown;
+use crate::worker::operator::Operator;
 use crate::worker::view_worker::ViewWorker;
 use rdm_client::WorkerEnd;
 use rdm_line::Line;
@@ -21,7 +22,7 @@ use std::sync::Wait;
 use std::thread;
 use std::thread::Threads;
 
-/// Runs each body in a thread of its own, if one can be made.
+/// Runs each body in a thread of its own, if one can be made. Then the worker sleeps no more.
 pub fn call_bodies<
     J: ViewHistory + Send + Sync,
     B: Body<C, A> + Send,
@@ -29,7 +30,7 @@ pub fn call_bodies<
     A: Send,
     G: Gate + Sync,
     R: Threads + Sync,
->(rt: &R, seats: &mut [Seat<J, B, C, A>], gate: &G)
+>(rt: &R, seats: &mut [Seat<J, B, C, A>], gate: &G, operator: &Operator)
     ensures { SameSeats seats.old seats.new }
 {
     thread::for_each_mut(
@@ -38,6 +39,8 @@ pub fn call_bodies<
         MOST_CLIENTS,
         &|_, seat| seat.body.run(&mut seat.client, gate),
     );
+    // Those that haven't left call nothing more either.
+    operator.worker.end();
 }
 
 /// Runs the worker beside the bodies, and waits for all of them. The worker arrives at its point once it has stopped.
@@ -49,7 +52,7 @@ pub fn all_in_threads<
     A: Send,
     G: Gate + Sync,
     X: Line + Send,
-    R: Threads + Sync,
+    R: Threads + Wait + Sync,
     W: Wait + Drop + Send,
 >(
     rt: &R,
@@ -59,6 +62,7 @@ pub fn all_in_threads<
     gate: &G,
     line: X,
     turns: u64,
+    operator: &Operator,
 ) -> (
     ViewWorker<J, Shown<J>, W>,
     Vec<Seat<J, B, C, A>>,
@@ -82,13 +86,26 @@ pub fn all_in_threads<
     let mut worker = worker;
     let mut seats = seats;
     let mut line = line;
-    let mut serve = || {
-        let end = worker.work(alloc, &mut line, turns);
+    let mut serve = ||
+        ensures exchanged { Exchanged X.step line.entry (session_of worker.entry) line.exit (session_of worker.exit) }
+        ensures exchanges { exchange_count (session_of worker.exit)
+            ≤ exchange_count (session_of worker.entry) + turns_made_of worker.exit }
+        ensures lanes { SameLanes (lanes_of worker.entry) (lanes_of worker.exit) }
+        ensures operator { operator_has_left worker.entry ≡ true → (operator_has_left worker.exit ≡ true)
+            × SameSwitches (session_of worker.entry) (session_of worker.exit) }
+        ensures turns { (turns_made_of worker.exit ≤ turns) × (turns ≡ 0 → result ≡ Turns) }
+        ensures all_turns { result ≡ Turns → turns_made_of worker.exit ≡ turns }
+        ensures all_left { result ≡ AllLeft → AllHaveLeft (lanes_of worker.exit)
+            × NoSend (session_of worker.exit).opening (session_of worker.exit).entries }
+        ensures full { result ≡ FullLog → is_full_log (session_of worker.exit) ≡ true }
+        ensures published { result ≢ Turns → HasPublishedAll worker.exit }
+    {
+        let end = worker.work_or_sleep(rt, alloc, &mut line, turns);
         gate.arrive(WORKER_STOPPED);
         end
     };
     let all = seats.as_mut_slice();
-    let mut play = || call_bodies(rt, all, gate);
+    let mut play = || call_bodies(rt, all, gate, operator);
     let (end, _) = thread::join_mut(rt, &mut serve, &mut play);
     (worker, seats, line, end)
 }

@@ -56,7 +56,7 @@ pub fn lanes_in_threads<
     A: TellsAsk + Send,
     G: Gate + Sync,
     X: Line + Send,
-    R: Threads + Sync,
+    R: Threads + Wait + Sync,
     W: Wait + Drop + Send,
 >(
     rt: &R,
@@ -87,7 +87,7 @@ pub fn lanes_in_threads<
 {
     let Lanes {
         clients,
-        operator: _,
+        operator,
         worker,
     } = lanes;
     let Rooms {
@@ -97,7 +97,9 @@ pub fn lanes_in_threads<
     } = rooms;
     let paired = seated(bodies, clients, seats);
     let alone = worker.without_operator();
-    let (worker, left, line, end) = all_in_threads(rt, alloc, alone, paired, gate, line, turns);
+    let (worker, left, line, end) = all_in_threads(
+        rt, alloc, alone, paired, gate, line, turns, &operator,
+    );
     let (bodies, ends) = unseated(left, back, ends);
     let turns = worker.turns_made;
     let Compared {

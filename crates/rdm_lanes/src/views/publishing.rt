@@ -221,6 +221,11 @@ impl<J: ViewHistory, R: Wait + Drop> Publisher<J, Shown<J>, R> {
         true
     }
 
+    /// Whether the view that was added last is published.
+    pub fn is_shown(&self) -> bool {
+        !self.waiting
+    }
+
     /// What readers read now. None: the view has as many owners as can be counted.
     pub fn shown_now(&self) -> Option<Shown<J>>
         ensures { IfSome result (λ s. s ≡ self.now.shown) }

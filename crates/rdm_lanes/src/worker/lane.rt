@@ -1,8 +1,10 @@
 //! The worker's ends of one client's rings.
 use crate::call::ClientCall;
 use crate::ring_outcome::RingOutcome;
+use crate::sleeping::ClientSleep;
 use rtrb::{Consumer, Producer};
 use std::alloc::Global;
+use std::sync::Arc;
 
 /// The worker's ends of a client's rings, and what the client has outstanding in the session.
 #[derive(Drop)]
@@ -19,4 +21,6 @@ pub struct Lane {
     pub asks: usize,
     /// Whether its leave was received.
     pub left: bool,
+    /// What the client sleeps on.
+    pub sleep: Arc<ClientSleep>,
 }

@@ -61,6 +61,7 @@ fn move_completion(session: &mut Session, client: ClientId, lane: &mut Lane) -> 
         number: Some(number),
         done,
     });
+    lane.sleep.wake();
     true
 }
 
@@ -85,5 +86,6 @@ fn move_discovery(alloc: Global, session: &mut Session, client: ClientId, lane: 
         number: Some(end.number),
         done,
     });
+    lane.sleep.wake();
     true
 }

@@ -7,8 +7,10 @@ ghost use Rattle.rdm_lanes.specs.declared.call.OperatorCall.TheVariants.{Pause, 
 
 use crate::call::OperatorCall;
 use crate::fault::RingFull;
+use crate::sleeping::WorkerSleep;
 use rtrb::Producer;
 use std::alloc::Global;
+use std::sync::Arc;
 
 /// Who pauses, resumes and closes a session. It has a ring for its calls. None of them waits for anybody, and none
 /// allocates. The worker makes them in order, one in each of its turns. They have no effect after its leave.
@@ -16,6 +18,8 @@ use std::alloc::Global;
 pub struct Operator {
     pub(crate) calls: Producer<OperatorCall, Global>,
     pub(crate) left: bool,
+    // What the worker sleeps on.
+    pub(crate) worker: Arc<WorkerSleep>,
 }
 
 impl Operator {
@@ -79,6 +83,7 @@ impl Operator {
             return Err(RingFull);
         }
         self.calls.push_reserved(call);
+        self.worker.wake();
         Ok(())
     }
 }

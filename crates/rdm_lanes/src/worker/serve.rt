@@ -130,7 +130,10 @@ fn apply_answer(
             OutcomeKind::Request => lane.requests += 1,
             OutcomeKind::Discovery => lane.asks += 1,
         },
-        Err((WorkFault::Closed, _)) => lane.replies.push_reserved(refused(alloc, kind)),
+        Err((WorkFault::Closed, _)) => {
+            lane.replies.push_reserved(refused(alloc, kind));
+            lane.sleep.wake();
+        }
         Err(_) => {}
     }
 }

@@ -81,6 +81,48 @@ impl<J: ViewHistory, R: Wait + Drop> ViewWorker<J, Shown<J>, R> {
         WorkerEnd::Turns
     }
 
+    /// Works as [`work`](ViewWorker::work) does, but sleeps after a turn in which it had nothing to do, until a client
+    /// or the operator calls, or a client collects. So clients have to be in other threads, since nobody else wakes it.
+    #[tactic(auto, using(crate::proofs::WorkLemmas::view_steps_join, crate::proofs::ExchangeLemmas::exchanged_join))]
+    pub fn work_or_sleep<X: Line, W: Wait>(
+        &mut self,
+        rt: &W,
+        alloc: Global,
+        line: &mut X,
+        turns: u64,
+    ) -> WorkerEnd
+        ensures exchanged { Exchanged X.step line.old (session_of self.old) line.new (session_of self.new) }
+        ensures lanes { SameLanes (lanes_of self.old) (lanes_of self.new) }
+        ensures turns { (turns_made_of self.new ≤ turns) × (turns ≡ 0 → result ≡ Turns) }
+        ensures all_turns { result ≡ Turns → turns_made_of self.new ≡ turns }
+        ensures worked { result ≡ Turns → AreTurns turns (session_of self.old) (published_by self.old)
+            (session_of self.new) (published_by self.new) }
+        ensures exchanges { exchange_count (session_of self.new)
+            ≤ exchange_count (session_of self.old) + turns_made_of self.new }
+        ensures all_left { result ≡ AllLeft → AllHaveLeft (lanes_of self.new) × (operator_has_left self.new ≡ true)
+            × NoSend (session_of self.new).opening (session_of self.new).entries }
+        ensures published { result ≢ Turns → HasPublishedAll self.new }
+        ensures views { IsPrefix (published_by self.old) (published_by self.new) }
+        ensures full { result ≡ FullLog → is_full_log (session_of self.new) ≡ true }
+        ensures operator { operator_has_left self.old ≡ true → (operator_has_left self.new ≡ true)
+            × SameSwitches (session_of self.old) (session_of self.new) }
+        ensures operated { switches (session_of self.new).entries ≡ effective (received_by self.new) }
+        ensures ring { SameConsumer (operator_ring self.old) (operator_ring self.new) }
+    {
+        self.turns_made = 0;
+        self.serve_sleepers(true);
+        for _turn in 0u64..turns {
+            let logged = self.server.session.log().len_in_all();
+            if let Some(end) = self.turn(alloc, line) {
+                self.serve_sleepers(false);
+                return end;
+            }
+            self.rest(rt, logged);
+        }
+        self.serve_sleepers(false);
+        WorkerEnd::Turns
+    }
+
     // One turn, which is counted first. Some: the worker stops.
     pub(crate) fn turn<X: Line>(&mut self, alloc: Global, line: &mut X) -> Option<WorkerEnd>
         requires few { self.old.turns_made < 2 ^ 64 - 1 }

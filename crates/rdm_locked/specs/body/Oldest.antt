@@ -38,7 +38,8 @@ module _ {L : Type 0} where
       (n : ℕ) × IsCollected client (outcomes.Request (Some n) done) old before new after
   CollectsOldest client (oldest.Discovery done) old before new after =
       (n : ℕ) × IsCollected client (outcomes.Discovery (Some n) done) old before new after
-  CollectsOldest client _ old before new after = (new.session ≡ old.session) × (after.count ≡ before.count)
+  CollectsOldest client _ old before new after =
+      (new.session ≡ old.session) × (after.count ≡ before.count) × (after.history ≡ before.history)
 
 -- what was collected is of the wanted kind, or of either if none is given
 abbrev pub IsOfWanted : Option OutcomeKind → Collected → Type 0

@@ -1,5 +1,6 @@
 //! How a session is taken out of its mutex.
-ghost use Rattle.std.specs.Prelude.{◌≡◌, ◌≢◌, true, OnErr, ◌≤◌, ◌<◌, ◌+◌, length, Some, IfOk, IfErr, IfNone};
+ghost use Rattle.std.specs.Prelude.{◌≡◌, ◌≢◌, true, [], OnErr, ◌≤◌, ◌<◌, ◌+◌, length, Some, IfOk, IfErr, IfNone};
+ghost use Rattle.rdm_locked.specs.body.Found.{AreMerged};
 ghost use Rattle.std.specs.List.{sum_by};
 ghost use Rattle.rdm_log.specs.log.Entries.{exchanges as log_exchanges};
 ghost use Rattle.rdm_log.specs.log.LogState.{stored};
@@ -8,10 +9,12 @@ ghost use Rattle.rdm_locked.specs.Inside.{IsTakenOut};
 
 use crate::exchange::{Exchange, has_exchanges};
 use crate::fault::FinishFault;
+use crate::history::{Ledger, LoggedCall, Mark};
 use crate::inside::Inside;
 use crate::share::CallShare;
+use rdm_ledger::{Book as Lists, Items};
 use rdm_queue::Session;
-use std::sync::ledger::{Book, Ledger, Share};
+use std::sync::ledger::{Book, Share};
 
 /// A session that was taken out of its mutex, and how many calls its clients made.
 #[derive(Debug, Drop)]
@@ -104,19 +107,22 @@ impl<L: Ledger> Inside<L> {
             session,
             calls: mut book,
             mut rest,
+            mut lists,
             joined: _,
             left: _,
         } = self;
-        let calls = gather(&mut book, &mut rest, shares, most);
+        let calls = gather(&mut book, &mut rest, &mut lists, shares, most);
         book.audit(&mut rest);
         SessionEnd { session, calls }
     }
 }
 
-// Merges the shares, and adds up their counts. The book has this many calls at most.
+// Merges the shares, and adds up their counts. The book has this many calls at most. Each client's half of its list is
+// the other half, which gets a mark: so no two shares are of one client.
 fn gather<L: Ledger>(
     book: &mut Book<L>,
     rest: &mut Share<L>,
+    lists: &mut Lists<LoggedCall, L>,
     shares: Vec<CallShare<L>>,
     most: u64,
 ) -> u64
@@ -126,10 +132,20 @@ fn gather<L: Ledger>(
     ensures sum { result ≡ sum_by (λ s. s.count) shares.items }
     ensures amount { rest.new.amount ≡ result }
     ensures parts { rest.new.parts ≡ rest.old.parts + length shares.items }
+    ensures merged { AreMerged lists.old.lists lists.new.lists shares.items [] }
 {
     let mut shares = shares;
     let mut calls = 0;
-    while let Some(CallShare { share, count }) = shares.pop() {
+    let mark = Items::shown::<(), (), (), Mark>(&(), &(), &());
+    while let Some(
+        CallShare {
+            share,
+            count,
+            mut history,
+        },
+    ) = shares.pop()
+    {
+        lists.add(&mut history, &mark);
         rest.merge(share);
         book.audit(rest);
         calls += count;

@@ -10,13 +10,12 @@ use crate::serving::ticket::{AskTicket, RequestTicket};
 use crate::serving::{ServeFault, Served, Start};
 use rdm_files::{ClientCall, ClientFile};
 use rdm_line::Line;
-use rdm_locked::{CallShare, Exchange, Left, LockedClient, Port};
+use rdm_locked::{Blank, CallShare, Exchange, Ledger, Left, LockedClient, Port};
 use rdm_log::JoinFault;
 use rdm_reports::Outcomes;
 use std::alloc::Global;
 use std::sync::Wait;
 use std::sync::atomic::{AtomicBool, Ordering};
-use std::sync::ledger::{Blank, Ledger};
 use std::thread::{Threads, join_mut};
 use std::{mem, thread};
 
@@ -33,7 +32,7 @@ pub fn serve_locked<L: Ledger + Send + Sync, X: Line + Send + Drop, R: Threads +
     clients: &[ClientFile],
     mut line: X,
 ) -> Result<Served, ServeFault>
-    requires name { blank.name ≡ L.name }
+    requires name { (blank.name ≡ L.name) × (blank.lists ≡ L.lists) }
     requires parts { (blank.parts ≡ L.parts) × (L.parts ≡ 17) }
     requires config_is { IsConfig start.setup.config }
     requires empty { start.log.entries ≡ [] }
@@ -139,7 +138,7 @@ fn work<L: Ledger, X: Line, R: Wait>(
 )
     ensures { length «record».new.items ≤ length «record».old.items + turns }
 {
-    port.work(rt, alloc, line, turns, record);
+    port.work_or_sleep(rt, alloc, line, turns, record);
     stop.store(true, Ordering::SeqCst);
 }
 
@@ -258,7 +257,8 @@ impl<'p, 'c, L: Ledger> Caller<'p, 'c, L> {
         let Some(mut client) = mem::replace(&mut self.client, None) else {
             return;
         };
-        let (outcomes, end) = play(rt, alloc, self.calls, &mut client, stop, self.turns);
+        let watch = Asleep { rt, stop };
+        let (outcomes, end) = play(rt, alloc, self.calls, &mut client, &watch, self.turns);
         self.outcomes = outcomes;
         self.end = end;
         self.share = Some(leave(rt, alloc, client));
@@ -293,11 +293,18 @@ fn leave<L: Ledger, R: Wait>(rt: &R, alloc: Global, client: Client<'_, L>) -> Ca
     calls
 }
 
-// Whether the worker has stopped.
-impl<C> Watch<C> for AtomicBool {
+// Sleeps until the client has an outcome or the worker stops, before it looks whether that has stopped.
+#[derive(Drop)]
+struct Asleep<'a, R> {
+    rt: &'a R,
+    stop: &'a AtomicBool,
+}
+
+impl<L: Ledger, R: Wait> Watch<Client<'_, L>> for Asleep<'_, R> {
     ghost sees = { λ watch client has_stopped. ⊤ };
 
-    fn has_stopped(&self, _client: &C) -> bool {
-        self.load(Ordering::SeqCst)
+    fn has_stopped(&self, client: &Client<'_, L>) -> bool {
+        client.wait_for_outcome(self.rt);
+        self.stop.load(Ordering::SeqCst)
     }
 }

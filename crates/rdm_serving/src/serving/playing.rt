@@ -17,7 +17,7 @@ pub trait Watch<C> {
     /// That this client sees this when it looks whether the worker has stopped.
     ghost sees: { Self → C → Bool → Type 0 };
 
-    /// Whether the client's worker has stopped.
+    /// Whether the client's worker has stopped. It may sleep first, until the client has an outcome or that stops.
     fn has_stopped(&self, client: &C) -> bool
         ensures { sees self.now client.now result };
 }

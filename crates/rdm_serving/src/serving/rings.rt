@@ -71,7 +71,7 @@ fn serve_views<J: ViewHistory + Send + Sync, X: Line + Send + Drop, R: Threads +
     ensures ran_out { IfOk result (λ s. IfSome s.ran_out (λ made. made ≡ start.turns)) }
 {
     let Start { setup, log, turns } = start;
-    let Some((places, callers)) = seats_of(alloc, clients, turns) else {
+    let Some((places, callers)) = seats_of(rt, alloc, clients, turns) else {
         return Err(ServeFault::Memory);
     };
     let gate = Stop(AtomicBool::new(false));
@@ -86,7 +86,12 @@ fn serve_views<J: ViewHistory + Send + Sync, X: Line + Send + Drop, R: Threads +
 }
 
 // The queue depths of the clients, and what they do, one each. None: there was no memory.
-fn seats_of(alloc: Global, clients: &[ClientFile], turns: u64) -> Option<(Vec<u8>, Vec<Caller<'_>>)>
+fn seats_of<'a, R>(
+    rt: &'a R,
+    alloc: Global,
+    clients: &'a [ClientFile],
+    turns: u64,
+) -> Option<(Vec<u8>, Vec<Caller<'a, R>>)>
     ensures places { IfSome result (λ seats. length seats.0.items ≡ length clients.now) }
     ensures callers { IfSome result (λ seats. length seats.1.items ≡ length seats.0.items) }
     ensures turns { IfSome result (λ seats. All (λ c. c.turns ≡ turns) seats.1.items) }
@@ -95,15 +100,17 @@ fn seats_of(alloc: Global, clients: &[ClientFile], turns: u64) -> Option<(Vec<u8
     let mut callers = Vec::new(alloc);
     for client in clients {
         places.push(client.places).ok()?;
-        callers.push(Caller::new(alloc, &client.calls, turns)).ok()?;
+        callers
+            .push(Caller::new(rt, alloc, &client.calls, turns))
+            .ok()?;
     }
     Some((places, callers))
 }
 
 // The outcomes of the clients' calls, in their order, and the session. All callbacks that are left are cancelled.
-fn served<J: ViewHistory, X: Drop>(
+fn served<J: ViewHistory, X: Drop, R>(
     alloc: Global,
-    end: LanesEnd<J, Caller<'_>, X, RequestTicket, AskTicket>,
+    end: LanesEnd<J, Caller<'_, R>, X, RequestTicket, AskTicket>,
 ) -> Result<Served, ServeFault>
     ensures session { IfOk result (λ s. s.session ≡ end.entry.session) }
     ensures slots { IfOk result (λ s. s.slots ≡ option_map end_slots (slice_get end.entry.ends.items 0)) }
@@ -133,7 +140,7 @@ fn served<J: ViewHistory, X: Drop>(
 }
 
 // The outcomes of the clients, in their order. None: there was no memory, now or for one of their calls.
-fn outcomes_of(alloc: Global, callers: Vec<Caller<'_>>) -> Option<Vec<Outcomes>> {
+fn outcomes_of<R>(alloc: Global, callers: Vec<Caller<'_, R>>) -> Option<Vec<Outcomes>> {
     let mut outcomes = Vec::new(alloc);
     for caller in callers {
         if caller.end == Err(ServeFault::Memory) || outcomes.push(caller.outcomes).is_err() {
@@ -189,7 +196,8 @@ impl Gate for Stop {
 
 // What a client does.
 #[derive(Drop)]
-struct Caller<'a> {
+struct Caller<'a, R> {
+    rt: &'a R,
     alloc: Global,
     calls: &'a [ClientCall],
     turns: u64,
@@ -197,12 +205,13 @@ struct Caller<'a> {
     end: Result<(), ServeFault>,
 }
 
-impl<'a> Caller<'a> {
+impl<'a, R> Caller<'a, R> {
     // A client that has made none of these calls.
-    fn new(alloc: Global, calls: &'a [ClientCall], turns: u64) -> Caller<'a>
+    fn new(rt: &'a R, alloc: Global, calls: &'a [ClientCall], turns: u64) -> Caller<'a, R>
         ensures { result.turns ≡ turns }
     {
         Caller {
+            rt,
             alloc,
             calls,
             turns,
@@ -224,12 +233,12 @@ impl<'a> Caller<'a> {
     }
 }
 
-impl Body<RequestTicket, AskTicket> for Caller<'_> {
+impl<R: Wait> Body<RequestTicket, AskTicket> for Caller<'_, R> {
     fn run<J: ViewHistory, G: Gate>(&mut self, client: &mut Client<J>, gate: &G)
         ensures in_turns { self.new.outcomes.turns ≤ self.old.turns }
         ensures same { SameClient client.old client.new }
     {
-        let watch = AtGate(gate);
+        let watch = AtGate { gate, rt: self.rt };
         let (outcomes, end) = play(&(), self.alloc, self.calls, client, &watch, self.turns);
         self.outcomes = outcomes;
         self.end = end;
@@ -237,14 +246,18 @@ impl Body<RequestTicket, AskTicket> for Caller<'_> {
     }
 }
 
-// Looks at the gate for the worker's stop.
+// Sleeps until the client has an outcome or the worker stops, before it looks at the gate whether that has stopped.
 #[derive(Drop)]
-struct AtGate<'a, G>(&'a G);
+struct AtGate<'a, G, R> {
+    gate: &'a G,
+    rt: &'a R,
+}
 
-impl<C, G: Gate> Watch<C> for AtGate<'_, G> {
+impl<J: ViewHistory, G: Gate, R: Wait> Watch<Client<J>> for AtGate<'_, G, R> {
     ghost sees = { λ watch client has_stopped. ⊤ };
 
-    fn has_stopped(&self, _client: &C) -> bool {
-        self.0.passed(WORKER_STOPPED)
+    fn has_stopped(&self, client: &Client<J>) -> bool {
+        client.wait_for_outcome(self.rt);
+        self.gate.passed(WORKER_STOPPED)
     }
 }

@@ -1,24 +1,24 @@
 //! What the mutex of a port protects: its creation, joins, and replies that are delivered.
 ghost use Rattle.std.specs.Prelude.{◌≡◌};
+ghost use Rattle.rdm_locked.specs.Clients.{client_of};
 
 use super::checks::check;
 use super::lines::first_device;
 use rdm_join::{LineEvent, Status};
 use rdm_line::{Line, SimLine};
-use rdm_locked::{CallShare, Inside, Turn};
+use rdm_locked::{Blank, CallShare, Inside, Ledger, Turn};
 use rdm_log::{ClientId, JoinFault, NotAsked};
 use rdm_wire::NoMemory;
 use std::alloc::Global;
 use std::marker::Brand;
 use std::process::Abort;
-use std::sync::ledger::{Blank, Ledger};
 use test_rig::{Heard, completion_told, config, is_blank, log, request};
 
 const CLIENT: ClientId = ClientId(0);
 
 // What the mutex protects, made again with what was returned if an allocation fails.
 fn inside<L: Ledger>(rt: &impl Abort, alloc: Global, blank: Blank) -> Inside<L>
-    requires name { blank.name ≡ L.name }
+    requires name { (blank.name ≡ L.name) × (blank.lists ≡ L.lists) }
     requires parts { (blank.parts ≡ L.parts) × (L.parts ≡ 17) }
 {
     let log = log(alloc, 100).expect(rt, "memory for a log");
@@ -34,8 +34,14 @@ fn inside<L: Ledger>(rt: &impl Abort, alloc: Global, blank: Blank) -> Inside<L>
     }
 }
 
-// The share of the first client, which joins again if an allocation fails. In that case only the log may have changed.
-fn joined<L: Ledger>(rt: &impl Abort, alloc: Global, inside: &mut Inside<L>) -> CallShare<L> {
+// The first client with its share. It joins again if an allocation fails. In that case only the log may have changed.
+fn joined<L: Ledger>(
+    rt: &impl Abort,
+    alloc: Global,
+    inside: &mut Inside<L>,
+) -> (ClientId, CallShare<L>)
+    ensures { client_of result.1 ≡ result.0.0 }
+{
     let mut joined = inside.join(alloc, 2);
     if matches!(&joined, Err(JoinFault::NoMemory)) {
         check(rt, inside.session().log().entries().len() == 1);
@@ -44,7 +50,7 @@ fn joined<L: Ledger>(rt: &impl Abort, alloc: Global, inside: &mut Inside<L>) -> 
     match joined {
         Ok((client, share)) => {
             check(rt, client == CLIENT);
-            share
+            (client, share)
         }
         Err(_) => panic!(rt; "memory for a client"),
     }
@@ -55,11 +61,15 @@ fn asks<L: Ledger>(
     rt: &impl Abort,
     alloc: Global,
     inside: &mut Inside<L>,
+    client: ClientId,
     share: &mut CallShare<L>,
     line: &mut SimLine,
     number: u64,
-) -> Heard {
-    check(rt, inside.submit(CLIENT, request(number), share).is_ok());
+) -> Heard
+    requires { client.0 ≡ client_of share.old }
+    ensures { client_of share.new ≡ client_of share.old }
+{
+    check(rt, inside.submit(client, request(number), share).is_ok());
     let Turn::Exchange(frame) = inside.turn() else {
         panic!(rt; "no frame")
     };
@@ -67,19 +77,19 @@ fn asks<L: Ledger>(
     check(rt, inside.deliver(alloc, LineEvent::Reply(reply)).is_ok());
     let again = inside.deliver(alloc, LineEvent::Failed);
     check(rt, matches!(&again, Err((NotAsked, LineEvent::Failed))));
-    completion_told(&inside.collect_request(CLIENT, share))
+    completion_told(&inside.collect_request(client, share))
 }
 
 fn delivers<L: Ledger>(rt: &impl Abort, alloc: Global, blank: Blank)
-    requires name { blank.name ≡ L.name }
+    requires name { (blank.name ≡ L.name) × (blank.lists ≡ L.lists) }
     requires parts { (blank.parts ≡ L.parts) × (L.parts ≡ 17) }
 {
     let mut line = first_device(rt, alloc, &[], &[]);
     let mut inside = inside::<L>(rt, alloc, blank);
-    let mut share = joined(rt, alloc, &mut inside);
-    let mut heard = asks(rt, alloc, &mut inside, &mut share, &mut line, 0);
+    let (client, mut share) = joined(rt, alloc, &mut inside);
+    let mut heard = asks(rt, alloc, &mut inside, client, &mut share, &mut line, 0);
     if heard == Heard::Request(0, Status::NoMemory) {
-        heard = asks(rt, alloc, &mut inside, &mut share, &mut line, 1);
+        heard = asks(rt, alloc, &mut inside, client, &mut share, &mut line, 1);
     }
     check(
         rt,

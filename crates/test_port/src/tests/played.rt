@@ -28,11 +28,11 @@ impl Client<RequestTicket, AskTicket, ()> for Late<'_> {
 
     ghost submits = { λ old request number new. ⊤ };
 
-    ghost refuses_submit = { λ old fault new. ⊤ };
+    ghost refuses_submit = { λ old request fault new. ⊤ };
 
     ghost discovers = { λ old kind number new. ⊤ };
 
-    ghost refuses_discover = { λ old fault new. ⊤ };
+    ghost refuses_discover = { λ old kind fault new. ⊤ };
 
     ghost collects = { λ old collected new. ⊤ };
 

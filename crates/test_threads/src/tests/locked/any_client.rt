@@ -1,10 +1,9 @@
 //! Calls on a port by the trait for clients of either port.
 use rdm_agent::Kind;
 use rdm_client::{CallFault, Client};
-use rdm_locked::{Exchange, Port};
+use rdm_locked::{Exchange, Ledger, Port};
 use std::alloc::Global;
 use std::sync::Wait;
-use std::sync::ledger::Ledger;
 use std::test::Fail;
 use test_rig::{AskNote, Note, request};
 use test_stage::{PortClient, PortJob, PortSetup, on_port};
@@ -57,7 +56,7 @@ fn asked<R, C: Client<Note, AskNote, R>>(rt: &R, client: &mut C, tag: u64) -> Ma
     }
 }
 
-// No clause over a mutex says which number it is, and which of the faults that count as a call.
+// Which number it is, and which fault, clauses compare with the log only once the port ends.
 #[test]
 fn any_client_of_a_port_gets_its_numbers_and_faults(rt: HostRuntime) -> Result<(), Fail> {
     let mut calls = Calls {

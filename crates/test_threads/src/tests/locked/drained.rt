@@ -4,13 +4,12 @@ ghost use Rattle.std.specs.Prelude.{◌≡◌, []};
 use rdm_client::WorkerEnd;
 use rdm_join::{LineFault, LineReply, Status};
 use rdm_line::Line;
-use rdm_locked::{CallShare, Exchange, FinishFault, Left, Port, SessionEnd};
+use rdm_locked::{Blank, CallShare, Exchange, FinishFault, Ledger, Left, Port, SessionEnd};
 use rdm_log::{Entry, Log, Page};
 use rdm_wire::Frame;
 use std::alloc::Global;
 use std::marker::Brand;
 use std::sync::Wait;
-use std::sync::ledger::{Blank, Ledger};
 use std::test::Fail;
 use std::thread::{Threads, join_mut};
 use std::{mem, thread};
@@ -151,7 +150,7 @@ fn plays<L: Ledger + Send + Sync, R: Threads + Wait + Sync>(
     log: Log,
     drains: bool,
 ) -> Result<Played, Fail>
-    requires name { blank.name ≡ L.name }
+    requires name { (blank.name ≡ L.name) × (blank.lists ≡ L.lists) }
     requires parts { (blank.parts ≡ L.parts) × (L.parts ≡ 17) }
     requires empty { log.entries ≡ [] }
 {

@@ -2,11 +2,10 @@
 use rdm_agent::Kind;
 use rdm_join::Status;
 use rdm_line::SimLine;
-use rdm_locked::{Exchange, Port};
+use rdm_locked::{Exchange, Ledger, Port};
 use rdm_log::OutcomeKind;
 use std::alloc::Global;
 use std::sync::Wait;
-use std::sync::ledger::Ledger;
 use std::test::Fail;
 use test_rig::{AskNote, Note, one_device, request};
 use test_stage::{PortClient, PortJob, PortSetup, on_port};

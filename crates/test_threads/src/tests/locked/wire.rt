@@ -2,11 +2,10 @@
 use rdm_client::Told;
 use rdm_join::{LineEvent, LineReply, ReplyHead, Status};
 use rdm_line::TapeLine;
-use rdm_locked::{Exchange, Port};
+use rdm_locked::{Exchange, Ledger, Port};
 use rdm_wire::{AckType, ReqClass, Request, RespClass, Uid};
 use std::alloc::Global;
 use std::sync::Wait;
-use std::sync::ledger::Ledger;
 use std::test::Fail;
 use test_rig::{Note, Wrong, request};
 use test_stage::{PortClient, PortJob, PortSetup, on_port};

@@ -9,13 +9,12 @@ use super::report::{Report, TAGS, get, reply_in, set};
 use rdm_agent::Kind;
 use rdm_client::DeviceView;
 use rdm_line::SimLine;
-use rdm_locked::{CallShare, Exchange, Left, LockedClient, Port, SessionEnd};
+use rdm_locked::{Blank, CallShare, Exchange, Ledger, Left, LockedClient, Port, SessionEnd};
 use rdm_queue::Session;
 use rdm_scenes::laws;
 use std::alloc::Global;
 use std::marker::Brand;
 use std::sync::Wait;
-use std::sync::ledger::{Blank, Ledger};
 use test_rig::{AskNote, Heard, Note, cancels, config, found_in, log, told};
 
 type Client<'a, L> = LockedClient<'a, L, Note, AskNote>;
@@ -37,7 +36,7 @@ fn serves_on<L: Ledger, R: Wait>(
     blank: Blank,
     line: SimLine,
 ) -> Option<(Report, Session)>
-    requires name { blank.name ≡ L.name }
+    requires name { (blank.name ≡ L.name) × (blank.lists ≡ L.lists) }
     requires parts { (blank.parts ≡ L.parts) × (L.parts ≡ 17) }
     ensures { IfSome result (λ ran. (t : SimState) × IsLogOver line t ran.1) }
 {

@@ -1,5 +1,6 @@
 use Rattle.std.proofs.Common.{arith}
 use Rattle.rdm_locked.proofs.CallLemmas.{grown_counts, collect_brings, calls_few}
+use Rattle.rdm_locked.proofs.HistoryLemmas.{keeps_request}
 use Rattle.rdm_locked.proofs.inside.Inside.collect_request.Goals as goal
 
 pub add_calls-requires : goal.add_calls-requires
@@ -22,4 +23,9 @@ invariant_of-self-2 g c =
       counted = rw c.add_calls.ensures.total (omega (arith, counts.calls_are, me.counted));
       clients = omega (arith, counts.clients_are, me.clients);
       parts = me.parts;
+      keeps = rw (c.add.ensures.lists, c.add_calls.ensures.history, c.shown-made.ensures)
+          (keeps_request k c.next_completion.new.self c.args.client _ me.lists.lists me.joined
+          c.args.mine.now.history.index c.args.mine.now.history.items me.keeps
+          (rw c.add_calls.ensures.history at c.add.ensures.agreed) c.requires.own c.in_ok-outcome.ensures.adds
+          c.next_completion.ensures.legal);
     }

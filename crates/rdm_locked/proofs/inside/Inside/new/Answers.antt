@@ -1,6 +1,7 @@
-use Rattle.std.proofs.Common.{arith, refl, ap, length, ◌∙◌}
+use Rattle.std.proofs.Common.{arith, refl, ◌∙◌}
 use Rattle.rdm_log.specs.log.Entries.{joins}
 use Rattle.rdm_locked.specs.Calls.{count_calls}
+use Rattle.rdm_locked.proofs.HistoryLemmas.{keeps_nothing}
 use Rattle.rdm_locked.proofs.inside.Inside.new.Goals as goal
 
 pub invariant_of-result : goal.invariant_of-result
@@ -17,4 +18,5 @@ invariant_of-result g c =
         unused = c.open-calls.ensures.amount;
         left_once = omega arith;
       };
+      keeps = rw c.open.ensures (keeps_nothing _ (rw (session, c.requires.may_open.empty) refl));
     }

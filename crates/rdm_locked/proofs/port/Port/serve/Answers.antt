@@ -1,7 +1,7 @@
 use Rattle.rdm_locked.specs.declared.exchange.Exchange.{Exchange}
 use Rattle.rdm_locked.proofs.RecordLemmas.{records_more, records_later}
-use Rattle.rdm_locked.proofs.port.Port.work.Goals.{in-Exchange, in-Nothing}
-use Rattle.rdm_locked.proofs.port.Port.work.Goals as goal
+use Rattle.rdm_locked.proofs.port.Port.serve.Goals.{in-Exchange, in-Nothing}
+use Rattle.rdm_locked.proofs.port.Port.serve.Goals as goal
 
 pub turns-preserved : goal.turns-preserved
 turns-preserved g c =

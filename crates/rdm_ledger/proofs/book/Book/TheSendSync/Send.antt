@@ -1,0 +1,22 @@
+use base.Stored.{coded_list}
+use denote.RattleType.{RattleType}
+use denote.Param.Send.{IsSend}
+use Rattle.rdm_ledger.specs.declared.book.Named.{Ghosts}
+use Rattle.rdm_ledger.specs.contracts.book.Book.{the_row}
+use Rattle.rdm_ledger.proofs.Steps.{book_keyless}
+
+pub send : (T L : RattleType) (g : Ghosts L.Denot) → IsSend (the_row T L g)
+send T L g = record {
+  owned = λ d vs. (
+    (λ vss. (
+      tt,
+      (
+        (λ uss.
+            (tt, tt)),
+        tt,
+      ),
+    )),
+    book_keyless (coded_list T.coded).code g.lists d.lists,
+  );
+  leaving = λ k f vs. tt;
+}
