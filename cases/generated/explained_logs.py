@@ -23,9 +23,9 @@ exchange 7 mutes a UID that neither acknowledged nor was muted five times in a r
 UNREAD = "exchange 7 mutes a UID that no earlier branch had read\n"
 # How a quick run goes on, and how it ends.
 GOES_ON = "0 devices; its certificate is incomplete, or the log ends within the run\n"
-ENDS = "fault 1 1234:00000008, 0 devices; its certificate is incomplete\n"
+ENDS = "fault 1 1234:00000008 (its answer showed no new device), 0 devices; its certificate is incomplete\n"
 GARBLED = """\
-exchange 3: bytes came from 1234:00000008 alone that aren't its text; \
+exchange 3{}: bytes came from 1234:00000008 alone that aren't its text; \
 a rule was broken, by it, another device or noise: try each device alone on the line
 """
 IGNORES = """\
@@ -62,6 +62,12 @@ CUT_BEFORE = """\
 discovery: 5 exchanges, 0 devices; its certificate can't be decided, since the log begins within the run
 """
 
+# Its exchanges from 4, with another opening.
+OTHER_PART = """\
+discovery: {}, 6 exchanges, 1 device; its certificate can't be decided, since the log begins within the run
+1234:00000001 was found, and followed the rules in the exchanges that the log has
+"""
+
 # A device that no unmute in the log reaches may be muted.
 LATE = "1234:00000009 followed the rules in the exchanges that the log has\n"
 
@@ -72,7 +78,7 @@ FAILING = (
 )
 
 FAILED = """\
-run 1: full, 2 exchanges, fault 4, 0 devices; its certificate is incomplete
+run 1: full, 2 exchanges, fault 4 (the line failed), 0 devices; its certificate is incomplete
 exchange 2 should be one of the three unmutes that begin a run
 exchange 1 failed: check the adapter and the cable
 0000:00000000 is the first UID that wasn't ruled out: it needs five silences in a row of a range that holds it
@@ -114,46 +120,50 @@ exchange 1 should be one of the three unmutes that begin a run
 # A known device, in a run that ended too soon.
 GONE = "1234:00000001 was known, and wasn't found: the run ended before it was ruled out\n"
 
+# Those that ended, and all of them.
+ENDED = f"""\
+run 1: incremental, quick, 1 exchange, fault 3 (its budget of 384008 frames is used up), 0 devices; \
+its certificate is incomplete
+{GAPS}\
+run 2: full, quick, 1 exchange, fault 3 (its budget of 384008 frames is used up), 0 devices; \
+its certificate is incomplete
+{GAPS}"""
+
 OF_KINDS = f"""\
-run 1: incremental, quick, 1 exchange, fault 3, 0 devices; its certificate is incomplete: \
-its budget of 384008 frames is used up
-{GAPS}\
-run 2: full, quick, 1 exchange, fault 3, 0 devices; its certificate is incomplete: \
-its budget of 384008 frames is used up
-{GAPS}\
+{ENDED}\
 run 3: incremental, quick, 1 exchange, 0 devices; its certificate is incomplete, or the log ends within the run
 {GAPS}"""
 
 AFTER_WAITING = f"""\
-run 2: steady, 1 exchange, fault 3, 0 devices; its certificate is incomplete: \
-its budget of 384008 frames is used up
+run 2: steady, 1 exchange, fault 3 (its budget of 384008 frames is used up), 0 devices; \
+its certificate is incomplete
 {GAPS}{GONE}\
-run 3: incremental, steady, 1 exchange, fault 3, 0 devices; its certificate is incomplete: \
-its budget of 384008 frames is used up
+run 3: incremental, steady, 1 exchange, fault 3 (its budget of 384008 frames is used up), 0 devices; \
+its certificate is incomplete
 {GAPS}\
 1234:00000001 is known, but wasn't muted before the first branch
 {GONE}"""
 
 FROM_WITHIN = f"""\
-run 2: steady, 1 exchange, fault 3, 0 devices; its certificate can't be decided, since the log begins within the run; \
-exchanges count from there
-run 3: incremental, steady, 1 exchange, fault 3, 0 devices; its certificate is incomplete: \
-its budget of 384008 frames is used up
+run 2: steady, 1 exchange, fault 3 (its budget of 384008 frames is used up), 0 devices; \
+its certificate can't be decided, since the log begins within the run; exchanges count from there
+run 3: incremental, steady, 1 exchange, fault 3 (its budget of 384008 frames is used up), 0 devices; \
+its certificate is incomplete
 {GAPS}\
 1234:00000001 is known, but wasn't muted before the first branch
 {GONE}"""
 
 UNOPENED = f"""\
-run 2: 1 exchange, fault 3, 0 devices; its certificate can't be decided, since the log may begin within the run; \
-exchanges count from there
-run 3: incremental, 1 exchange, fault 3, 0 devices; its certificate is incomplete: its budget of frames is used up
+run 2: 1 exchange, fault 3 (its budget of frames is used up), 0 devices; \
+its certificate can't be decided, since the log may begin within the run; exchanges count from there
+run 3: incremental, 1 exchange, fault 3 (its budget of frames is used up), 0 devices; its certificate is incomplete
 {GAPS}"""
 
 OF_THREE_RUNS = f"""\
 run 1: full, quick, 10 exchanges, no fault, 1 device; its certificate is complete
 1234:00000001 was found, and followed the rules
-run 2: incremental, quick, 1 exchange, fault 3, 0 devices; its certificate is incomplete: \
-its budget of 384008 frames is used up
+run 2: incremental, quick, 1 exchange, fault 3 (its budget of 384008 frames is used up), 0 devices; \
+its certificate is incomplete
 {GAPS}\
 1234:00000001 is known, but wasn't muted before the first branch
 {GONE}\
@@ -191,13 +201,14 @@ check its power and its cable
 # After the answer of run 1 the log has all of run 2.
 ANSWERED = answer(0, 1) + ask(1, "incremental") + session_run(2, "unmute") + answer(1, 2, fault=3)
 AFTER_ANSWER = f"""\
-run 2: incremental, 1 exchange, fault 3, 0 devices; its certificate is incomplete: its budget of frames is used up
+run 2: incremental, 1 exchange, fault 3 (its budget of frames is used up), 0 devices; its certificate is incomplete
 {GAPS}"""
 
 # 1,025 devices acknowledge mutes.
 TOO_MANY = FULL + discovery("3 unmute") + mutes(1025, first=3)
 CROWDED = """\
-discovery: full, steady, 1028 exchanges, fault 2, 1024 devices; its certificate is incomplete
+discovery: full, steady, 1028 exchanges, fault 2 (more than 1,024 devices answered), 1024 devices; \
+its certificate is incomplete
 1234:00000401 acknowledged a mute, but isn't reported: a run reports at most 1,024 devices
 0000:00000000 is the first UID that wasn't ruled out: it needs five silences in a row of a range that holds it
 exchange 3 mutes a UID that no earlier branch had read
@@ -221,11 +232,12 @@ BAD = (
 def cases() -> Iterator[Case]:
     """All logs."""
     yield from parts()
+    yield from openings()
     yield from sequences()
     yield from sessions()
     yield from quick_runs()
     for line in BAD:
-        yield refuses(f"after a session: {line!r}", NEW + KINDS + line, (NEW + KINDS).count("\n") + 1)
+        yield refuses(f"after a session: {line!r}", NEW + KINDS + line, (NEW + KINDS).count("\n") + 1, ENDED)
 
 
 def quick_runs() -> Iterator[Case]:
@@ -233,21 +245,40 @@ def quick_runs() -> Iterator[Case]:
 
     Mutes that aren't acknowledged may come between them, but no silence.
     """
-    for answers, count in (("alone spare > noise", 4), ("7 alone spare > noise", 10),
-                           ("4 alone spare > noise; alone spare; 4 alone spare > noise", 12),
-                           ("4 alone spare > noise; all > noise; 4 alone spare > noise", 12)):
+    for answers, count, more in (("alone spare > noise", 4, ""), ("7 alone spare > noise", 10, " (and 6 more)"),
+                                 ("4 alone spare > noise; alone spare; 4 alone spare > noise", 12, " (and 7 more)"),
+                                 ("4 alone spare > noise; all > noise; 4 alone spare > noise", 12, " (and 7 more)")):
         yield shows(f"a quick run that goes on: {answers}", QUICK + discovery(f"3 unmute; {answers}"),
-                    f"discovery: full, quick, {count} exchanges, {GOES_ON}{UNCOVERED}{GARBLED}", 3)
-    for answers, count in (("8 alone spare > noise", 11), ("9 alone spare > noise", 12)):
-        yield shows(f"a quick run that ends: {answers}", QUICK + discovery(f"3 unmute; {answers}"),
-                    f"discovery: full, quick, {count} exchanges, {ENDS}{UNCOVERED}{GARBLED}", 3)
+                    f"discovery: full, quick, {count} exchanges, {GOES_ON}{UNCOVERED}{GARBLED.format(more)}", 3)
+    for answers, count in (8, 11), (9, 12):
+        yield shows(f"a quick run that ends: {answers}", QUICK + discovery(f"3 unmute; {answers} alone spare > noise"),
+                    f"discovery: full, quick, {count} exchanges, {ENDS}{UNCOVERED}"
+                    + GARBLED.format(f" (and {answers - 1} more)"), 3)
     between = "4 alone spare > noise; mute spare > noise; 4 alone spare > noise"
     yield shows("a quick run that ends, with a mute between bad answers", QUICK + discovery(f"3 unmute; {between}"),
-                f"discovery: full, quick, 12 exchanges, {ENDS}{UNTRIED}{UNCOVERED}{UNREAD}{GARBLED}", 3)
+                f"discovery: full, quick, 12 exchanges, {ENDS}{UNTRIED}{UNCOVERED}{UNREAD}"
+                + GARBLED.format(" (and 8 more)"), 3)
     for name, answers, said in (("goes on", 7, f"15 exchanges, {GOES_ON}"), ("ends", 8, f"16 exchanges, {ENDS}")):
         run = discovery(f"3 unmute; {answers} alone spare > spare; 5 mute spare")
         yield shows(f"a quick run that {name} after five mutes", QUICK + run,
                     f"discovery: full, quick, {said}{UNCOVERED}{IGNORES}", 3)
+
+
+def openings() -> Iterator[Case]:
+    """Parts of the discovery, each with an opening. One that says the same continues it, if the numbers follow on."""
+    first, rest = FULL + discovery("3 unmute; all > found"), discovery("mute found > ack; 5 all", first=4)
+    yield shows("a discovery in two parts", first + FULL + rest, FOUND)
+    yield shows("the same with an opening twice, and another discovery", first + FULL + FULL + rest + first[len(FULL):],
+                FOUND + UNMUTED.replace("full, steady, ", ""))
+    yield shows("an opening like the last one, at the end", first + FULL, UNMUTED)
+    yield shows("the same before a discovery", first + FULL + discovery(FINDS), UNMUTED + FOUND)
+    yield shows("the same before a gap", first + FULL + discovery("5 all", first=5),
+                UNMUTED + CUT_BEFORE.replace("5 exch", "full, steady, 5 exch"))
+    yield refuses("the same before a damaged line", first + FULL + "{}\n", 7, "")
+    for name, other, said in (("kind", opening("incremental"), "incremental, steady"),
+                              ("search", QUICK, "full, quick"), ("known UIDs", opening("full", LIAR), "full, steady"),
+                              ("budget", FULL.replace("384008", "384009"), "full, steady")):
+        yield shows(f"parts with another {name}", first + other + rest, UNMUTED + OTHER_PART.format(said))
 
 
 def parts() -> Iterator[Case]:

@@ -8,7 +8,8 @@ from __future__ import annotations
 from typing import Iterator, List, NamedTuple, Sequence
 
 from ..checker.case import Case
-from .runs import LIAR, discovery, opening, session_opening, session_run, shows, shows_with_scene
+from .runs import LIAR, UIDS, CommandClass, Pid, ResponseType, command_of, discovery, opening, session_opening
+from .runs import session_run, shows, shows_with_scene
 
 # Each block has a name, a run, all that is printed of it, and the status. An empty line ends a block.
 #
@@ -33,7 +34,7 @@ status 3
 
 other bytes from another UID alone, with which a run ends
 3 unmute; alone spare > noise
-4 exchanges, fault 1 1234:00000008, 0 devices; its certificate is incomplete
+4 exchanges, fault 1 1234:00000008 (its answer showed no new device), 0 devices; its certificate is incomplete
 0000:00000000 is the first UID that wasn't ruled out: it needs five silences in a row of a range that holds it
 1234:00000009 wasn't found: the run ended before it was ruled out; it broke no rule until then
 exchange 3: bytes came from 1234:00000008 alone that aren't its text; \
@@ -51,7 +52,7 @@ status 0
 
 the same and five mutes of it, with which a run ends
 3 unmute; alone spare > spare; 5 mute spare
-9 exchanges, fault 1 1234:00000008, 0 devices; its certificate is incomplete
+9 exchanges, fault 1 1234:00000008 (its answer showed no new device), 0 devices; its certificate is incomplete
 0000:00000000 is the first UID that wasn't ruled out: it needs five silences in a row of a range that holds it
 1234:00000009 wasn't found: the run ended before it was ruled out; it broke no rule until then
 1234:00000008 answered alone and then acknowledged no mute: it left, or broke a rule; try it alone on the line
@@ -69,12 +70,12 @@ status 0
 
 the same with other bytes after each mute
 3 unmute; alone spare > spare; 5 mute spare > noise
-9 exchanges, fault 1 1234:00000008, 0 devices; its certificate is incomplete
+9 exchanges, fault 1 1234:00000008 (its answer showed no new device), 0 devices; its certificate is incomplete
 0000:00000000 is the first UID that wasn't ruled out: it needs five silences in a row of a range that holds it
 1234:00000009 wasn't found: the run ended before it was ruled out; it broke no rule until then
 1234:00000008 answered alone and then acknowledged no mute: it left, or broke a rule; try it alone on the line
-exchange 4: bytes came after a mute of 1234:00000008 that don't acknowledge it; \
-a rule was broken, by it, another device or noise: try each device alone on the line
+exchange 4 (and 4 more): bytes came after a mute of 1234:00000008 that don't acknowledge it: \
+they are too short for a response; a rule was broken, by it, another device or noise: try each device alone on the line
 status 3
 """
 
@@ -97,7 +98,8 @@ status 3
 
 a broadcast UID that answers alone
 3 unmute; alone nobody > nobody
-discovery: 4 exchanges, fault 1 ffff:ffffffff, 0 devices; its certificate is incomplete
+discovery: 4 exchanges, fault 1 ffff:ffffffff (its answer showed no new device), \
+0 devices; its certificate is incomplete
 0000:00000000 is the first UID that wasn't ruled out: it needs five silences in a row of a range that holds it
 1234:00000009 wasn't found: the run ended before it was ruled out; it broke no rule until then
 exchange 3: bytes came from ffff:ffffffff alone, which no device may have; a rule was broken: look for one that has it
@@ -113,17 +115,19 @@ status 0
 
 bytes of a device that stays unmuted, first where another one was due, and then from it alone
 3 unmute; all > liar; mute liar > ack; all > liar; mute spare > ack; 2 alone liar > liar
-discovery: 9 exchanges, fault 1 1234:00000009, 2 devices; its certificate is incomplete
+discovery: 9 exchanges, fault 1 1234:00000009 (its answer showed no new device), \
+2 devices; its certificate is incomplete
 0000:00000000 is the first UID that wasn't ruled out: it needs five silences in a row of a range that holds it
 1234:00000008 was found, and followed the rules
 1234:00000009 was found, and followed the rules, but see exchange 7
-exchange 7: bytes came from 1234:00000009 alone, which had acknowledged its mute: \
+exchange 7 (and 1 more): bytes came from 1234:00000009 alone, which had acknowledged its mute: \
 it restarted, or broke a rule; try it alone on the line
 status 3
 
 a device that answers alone, after an unmute and a mute that it didn't acknowledge
 3 unmute; mute liar > ack; unmute; mute liar; mute spare > ack; alone liar > liar
-discovery: 8 exchanges, fault 1 1234:00000009, 2 devices; its certificate is incomplete
+discovery: 8 exchanges, fault 1 1234:00000009 (its answer showed no new device), \
+2 devices; its certificate is incomplete
 0000:00000000 is the first UID that wasn't ruled out: it needs five silences in a row of a range that holds it
 1234:00000008 was found, and followed the rules
 1234:00000009 was found, and followed the rules
@@ -140,7 +144,8 @@ status 0
 the same, and then its text
 3 unmute; mute liar > ack; unmute; mute liar; mute spare > ack; alone liar > liar; mute liar > ack; alone liar; \
 alone liar > liar
-discovery: 11 exchanges, fault 1 1234:00000009, 2 devices; its certificate is incomplete
+discovery: 11 exchanges, fault 1 1234:00000009 (its answer showed no new device), \
+2 devices; its certificate is incomplete
 0000:00000000 is the first UID that wasn't ruled out: it needs five silences in a row of a range that holds it
 1234:00000008 was found, and followed the rules
 1234:00000009 was found, and followed the rules, but see exchange 10
@@ -171,8 +176,8 @@ exchange 3 mutes a UID that neither acknowledged nor was muted five times in a r
 0000:00000000 is the first UID that wasn't ruled out: it needs five silences in a row of a range that holds it
 1234:00000009 was to mute, and other bytes came: exchange 3 has no acknowledgement; \
 a rule was broken, by it, another device or noise: try it alone, then the others
-exchange 3: bytes came after a mute of 1234:00000009 that don't acknowledge it; \
-a rule was broken, by it, another device or noise: try each device alone on the line
+exchange 3: bytes came after a mute of 1234:00000009 that don't acknowledge it: \
+they are too short for a response; a rule was broken, by it, another device or noise: try each device alone on the line
 status 3
 
 the same, and other bytes after a mute of that UID
@@ -184,8 +189,8 @@ exchange 3 mutes a UID that neither acknowledged nor was muted five times in a r
 a rule was broken, by it, another device or noise: try it alone, then the others
 exchange 5: bytes came after a mute of 1234:00000008, which isn't listed; \
 they may be those of a device that the log doesn't show
-exchange 3: bytes came after a mute of 1234:00000009 that don't acknowledge it; \
-a rule was broken, by it, another device or noise: try each device alone on the line
+exchange 3 (and 1 more): bytes came after a mute of 1234:00000009 that don't acknowledge it: \
+they are too short for a response; a rule was broken, by it, another device or noise: try each device alone on the line
 status 3
 
 noise from all UIDs and from two, and then the text of one from it alone
@@ -198,12 +203,13 @@ status 0
 
 the same, and then noise from it alone
 3 unmute; all > noise; spare to liar > noise; mute liar; alone liar; alone liar > liar; 2 alone liar > noise
-discovery: 10 exchanges, fault 1 1234:00000009, 0 devices; its certificate is incomplete
+discovery: 10 exchanges, fault 1 1234:00000009 (its answer showed no new device), \
+0 devices; its certificate is incomplete
 exchange 5 mutes a UID that neither acknowledged nor was muted five times in a row: perhaps no device has it
 0000:00000000 is the first UID that wasn't ruled out: it needs five silences in a row of a range that holds it
 1234:00000009 wasn't found: the run ended before it was ruled out; it broke no rule until then, \
 but see exchange 8
-exchange 8: bytes came from 1234:00000009 alone that aren't its text; \
+exchange 8 (and 1 more): bytes came from 1234:00000009 alone that aren't its text; \
 a rule was broken, by it, another device or noise: try each device alone on the line
 status 3
 
@@ -220,8 +226,8 @@ discovery: 6 exchanges, 1 device; its certificate is incomplete, or the log ends
 0000:00000000 is the first UID that wasn't ruled out: it needs five silences in a row of a range that holds it
 1234:00000009 was to mute, and other bytes came: exchange 5 has no acknowledgement; \
 a rule was broken, by it, another device or noise: try it alone, then the others
-exchange 5: bytes came after a mute of 1234:00000009 that don't acknowledge it; \
-a rule was broken, by it, another device or noise: try each device alone on the line
+exchange 5: bytes came after a mute of 1234:00000009 that don't acknowledge it: \
+they are too short for a response; a rule was broken, by it, another device or noise: try each device alone on the line
 status 3
 
 other bytes after two mutes of a UID that isn't listed
@@ -230,8 +236,8 @@ discovery: 5 exchanges, 0 devices; its certificate is incomplete, or the log end
 exchange 3 mutes a UID that neither acknowledged nor was muted five times in a row: perhaps no device has it
 0000:00000000 is the first UID that wasn't ruled out: it needs five silences in a row of a range that holds it
 1234:00000009 wasn't found yet; it followed the rules in the exchanges that the log has
-exchange 3: bytes came after a mute of 1234:00000008 that don't acknowledge it; \
-a rule was broken, by it, another device or noise: try each device alone on the line
+exchange 3 (and 1 more): bytes came after a mute of 1234:00000008 that don't acknowledge it: \
+they are too short for a response; a rule was broken, by it, another device or noise: try each device alone on the line
 status 3
 
 another UID's text from a UID alone, after an exchange that failed
@@ -369,6 +375,63 @@ discovery: incremental, steady, 15 exchanges, 1 device; its certificate is compl
 1234:00000001 didn't mute: exchange 7 is the fifth mute of it in a row without an answer; try it alone on the line
 """
 
+# A device that by the scene comes at exchange 8. Silence shows nothing of it, but its acknowledgement does.
+LATE_SCENE = '{"source": "7a70:00000100", "devices": [{"uid": "9abc:00000002", "from": 8}]}'
+UNJUDGED_NEW = "9abc:00000002 can't be judged: it comes or leaves, and may have been absent when it was asked\n"
+PASSES = (
+    ("a device that answers when it has come, in a log from exchange 3", discovery("5 all; all > new", first=3), """\
+discovery: 6 exchanges, 0 devices; its certificate can't be decided, since the log begins within the run
+""", 0),
+    ("a device that comes after two mutes and five silences",
+     opening("incremental", "9abc:00000002") + discovery("3 unmute; 2 mute new; 5 all; all > new; mute new > ack"), """\
+discovery: incremental, steady, 12 exchanges, 1 device; its certificate is complete
+""", 0),
+    ("a device that comes, and answers after its acknowledgement",
+     opening("full") + discovery("3 unmute; 5 all; all > new; mute new > ack; 2 all > new"), """\
+discovery: full, steady, 12 exchanges, 1 device; its certificate is complete
+exchange 10 (and 1 more): bytes came from 0000:00000000 to ffff:ffffffff, where no listed device was due; \
+they read as 9abc:00000002, which should be silent there unless it restarted: try it alone on the line
+""", 3),
+    ("the same after an unmute",
+     opening("full") + discovery("3 unmute; 5 all; all > new; mute new > ack; unmute; 2 all > new"), """\
+discovery: full, steady, 13 exchanges, 1 device; its certificate is complete
+""", 0),
+)
+
+# A mute of the liar, and bytes that don't acknowledge it. They are judged in the order of this table.
+MUTE = command_of(("mute", "liar"), 3)
+FINE = MUTE.answer(UIDS["liar"], ResponseType.ACK, bytes(2))
+NACK = MUTE.answer(UIDS["liar"], ResponseType.NACK_REASON, bytes(2))
+ENCODED = FINE.encode()
+FLAWS = (
+    ("they are too short for a response", ENCODED[:25]),
+    ("they don't begin with the start code", b"\xcd" + ENCODED[1:]),
+    ("their sub start code is wrong", ENCODED[:1] + b"\x02" + ENCODED[2:]),
+    ("their message length is wrong", ENCODED[:-1]),
+    ("their parameter data length is wrong", ENCODED[:23] + b"\x03" + ENCODED[24:]),
+    ("their checksum is wrong", ENCODED[:-1] + bytes([ENCODED[-1] ^ 1])),
+    ("their command class isn't that of a response", FINE._replace(command_class=CommandClass.DISCOVERY).encode()),
+    ("their response type is unknown", FINE._replace(port_or_type=4).encode()),
+    ("they answer another command", FINE._replace(pid=Pid.DISC_UN_MUTE).encode()),
+    ("they answer another command", FINE._replace(command_class=0x21).encode()),
+    ("they are from another UID", NACK._replace(source=UIDS["spare"]).encode()),
+    ("they are for another controller", NACK._replace(destination=UIDS["spare"]).encode()),
+    ("they have another transaction number", NACK._replace(transaction=4).encode()),
+    ("they are a NACK", NACK.encode()),
+    ("they are no ACK", FINE._replace(port_or_type=ResponseType.ACK_TIMER).encode()),
+    ("they are no ACK", FINE._replace(port_or_type=ResponseType.ACK_OVERFLOW).encode()),
+    ("they have neither 2 bytes of data nor 8", FINE._replace(data=bytes(3)).encode()),
+)
+FLAWED = """\
+discovery: {} exchanges, 0 devices; its certificate is incomplete, or the log ends within the run
+exchange 3 mutes a UID that neither acknowledged nor was muted five times in a row: perhaps no device has it
+0000:00000000 is the first UID that wasn't ruled out: it needs five silences in a row of a range that holds it
+1234:00000009 was to mute, and other bytes came: exchange 3 has no acknowledgement; \
+a rule was broken, by it, another device or noise: try it alone, then the others
+exchange 3{}: bytes came after a mute of 1234:00000009 that don't acknowledge it: {}; \
+a rule was broken, by it, another device or noise: try each device alone on the line
+"""
+
 
 class Block(NamedTuple):
     """What a table has of a case; the words of an opening only in some tables."""
@@ -406,6 +469,9 @@ def cases() -> Iterator[Case]:
     log = opening("incremental", "1234:00000001") + discovery(COMES)
     yield shows_with_scene("a known device that comes after its mutes", log, SCENE, UNJUDGED)
     yield shows("the same without the scene", log, JUDGED, 3)
+    for name, log, text, status in PASSES:
+        yield shows_with_scene(name, log, LATE_SCENE, UNJUDGED_NEW + text, status)
+    yield from flawed()
 
 
 def begun_before() -> Iterator[Case]:
@@ -414,3 +480,12 @@ def begun_before() -> Iterator[Case]:
     yield shows("a log from exchange 2", discovery(SILENCES, first=2), FROM_TWO, 3, [LIAR])
     yield shows("a log from within run 1", within + session_run(1, SILENCES), LATER, 3, [LIAR])
     yield shows("a log that may begin within run 1", session_run(1, SILENCES), UNKNOWN, 3, [LIAR])
+
+
+def flawed() -> Iterator[Case]:
+    """Mutes that aren't acknowledged, and why. Only the first one's flaw is told."""
+    for at, (flaw, reply) in enumerate(FLAWS):
+        run = f"3 unmute; mute liar > x{reply.hex()}"
+        yield shows(f"flaw {at}: {flaw}", discovery(run), FLAWED.format(4, "", flaw), 3, [LIAR])
+        yield shows(f"flaw {at}, and then noise: {flaw}", discovery(f"{run}; mute liar > noise"),
+                    FLAWED.format(5, " (and 1 more)", flaw), 3, [LIAR])

@@ -48,6 +48,7 @@ OPENING = (f'{{"entry":"opening","source":"{uid_text(SOURCE)}","budget":384008,"
            '"known":[]}\n')
 # The lines of explain that are compared, and what is left of them.
 UID = "([0-9a-f]{4}:[0-9a-f]{8})"
+SIGHTING = r"exchange (\d+)((?: \(and \d+ more\))?)"
 SHORTENED = {re.compile(line): short for line, short in (
     (f"{UID} was found, and followed the rules(?: in the exchanges that the log has)?", rf"\1 {FOUND}"),
     (rf"{UID} was found, and followed the rules.*, but see exchange (\d+)", rf"\1 {FOUND} \2"),
@@ -56,9 +57,9 @@ SHORTENED = {re.compile(line): short for line, short in (
     (rf"{UID} (?:was never|wasn't) heard: exchange (\d+) is .*", rf"\1 {HIDDEN} \2"),
     (rf"{UID} didn't mute: exchange (\d+) is .*", rf"\1 {UNMUTED} \2"),
     (rf"{UID} was to mute, and other bytes came: exchange (\d+) has .*", rf"\1 {GARBLED} \2"),
-    (r"exchange (\d+): bytes came .*, (?:where no listed device was due|which isn't listed)[;:] .*", r"stray \1"),
-    (r"exchange (\d+): bytes came .* (?:aren't its text|acknowledged its mute|don't acknowledge it)[;:] .*",
-     r"none \1"))}
+    (rf"{SIGHTING}: bytes came .*, (?:where no listed device was due|which isn't listed)[;:] .*", r"stray \1\2"),
+    (rf"{SIGHTING}: bytes came .* (?:aren't its text|acknowledged its mute|don't acknowledge it)[;:] .*",
+     r"none \1\2"))}
 
 
 class Exchange(NamedTuple):
@@ -155,14 +156,19 @@ def findings_of(exchanges: Sequence[Exchange], uids: Sequence[str], has_all: boo
         for device in devices:
             device.see(at, exchange)
     is_broken = none or has_all and stray or any(device.broken for device in devices)
-    stray = [at for at in stray[:1] if at not in none[:1]]
+    stray = [] if stray[:1] == none[:1] else stray
     shown = []
     for device in devices:
         named_at = [at for at in none[:1] if device.uid in exchanges[at].names]
-        named_at += [at for at in stray if device.uid in exchanges[at].reads]
+        named_at += [at for at in stray[:1] if device.uid in exchanges[at].reads]
         shown.append(device.shown(named_at))
-    lines = [*(f"stray {at}" for at in stray), *(f"none {at}" for at in none[:1])]
-    return shown + lines, 3 if is_broken else 0
+    return shown + sighting("stray", stray) + sighting("none", none), 3 if is_broken else 0
+
+
+def sighting(kind: str, exchanges: Sequence[int]) -> List[str]:
+    """The line about the first of such exchanges, if there is one, and how many others there are."""
+    more = f" (and {len(exchanges) - 1} more)" if exchanges[1:] else ""
+    return [f"{kind} {at}{more}" for at in exchanges[:1]]
 
 
 @dataclass(frozen=True)

@@ -109,16 +109,17 @@ they read as 1234:00000001, which isn't listed: name it by --present, if it is t
 {"number":4,"operation":"mute","frame":"cc01181234000000017a7000000100040100000010000200022e","reply":"00"}
 """, """\
 discovery: 1 exchange, 0 devices; its certificate can't be decided, since the log begins within the run
-exchange 4: bytes came after a mute of 1234:00000001 that don't acknowledge it; \
-a rule was broken, by it, another device or noise: try each device alone on the line
+exchange 4: bytes came after a mute of 1234:00000001 that don't acknowledge it: \
+they are too short for a response; a rule was broken, by it, another device or noise: try each device alone on the line
 """, 3),
 )
 
-# One unmute, to which something may have come back.
+# One unmute, after which bytes came.
 OF_UNMUTE = """\
 discovery: 1 exchange, 0 devices; its certificate is incomplete, or the log ends within the run
 exchange 1 should be one of the three unmutes that begin a run
 0000:00000000 is the first UID that wasn't ruled out: it needs five silences in a row of a range that holds it
+exchange 0: bytes came after an unmute, which no device may answer: look for noise, or try each device alone
 """
 
 # What no writer of logs writes. A run's frames are unmutes, branches and mutes, each with its checksum.

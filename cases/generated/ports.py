@@ -14,6 +14,8 @@ Entry = Dict[str, Any]
 # begin on a busy machine.
 MANY = 3_000
 ENTRIES = 100_000
+# The most that there may be: a client that waits on a busy machine makes turns meanwhile.
+TURNS = 1_000_000_000
 TIMEOUT = 3
 
 
@@ -28,7 +30,8 @@ def case_of(name: str, port: str, form: LogForm, clients: int, places: int, requ
     """So many clients make requests to a device that isn't there, and the log has the form."""
     call = {"get": "1234:00000001", "pid": "0060"}
     client = {"places": places, "calls": [call] * requests}
-    session = json.dumps({"scene": {"source": "7a70:00000100"}, "clients": [client] * clients, "log": ENTRIES})
+    scene = {"source": "7a70:00000100"}
+    session = json.dumps({"scene": scene, "clients": [client] * clients, "log": ENTRIES, "turns": TURNS})
     out = "".join(f"client {c} request {k}: {TIMEOUT}\n" for c in range(clients) for k in range(requests))
     command = arguments_of("run", "--port", port, "--log", LOG_NAME, FILE_NAME)
     return file_case(name, (command,), session, Expected(out=out.encode(), log_form=form))

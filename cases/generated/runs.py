@@ -157,18 +157,18 @@ def shows(name: str, log: str, text: str, status: int = 0, present: Sequence[str
     return explained(name, log.encode(), expected, *(f"--present={uid}" for uid in present))
 
 
-def shows_with_scene(name: str, log: str, scene: str, text: str) -> Case:
-    """Explain prints this text of a log with a scene, and finds no broken rule."""
-    case = explained(name, log.encode(), Expected(out=text.encode(), err=b""), f"--rig={RIG_NAME}")
+def shows_with_scene(name: str, log: str, scene: str, text: str, status: int = 0) -> Case:
+    """Explain prints this text of a log with a scene, with this status."""
+    case = explained(name, log.encode(), Expected(out=text.encode(), err=b"", status=status), f"--rig={RIG_NAME}")
     return replace(case, files=(*case.files, File(scene.encode(), RIG_NAME)))
 
 
-def refuses(name: str, log: str, line: int) -> Case:
-    """Explain prints only that this line isn't a log's, and says how to get those before and after it."""
+def refuses(name: str, log: str, line: int, text: str = "") -> Case:
+    """Explain prints this text of a log, and that this line isn't a log's; it says how to get those around it."""
     before = f"; 'head -n {line - 1}' has those before it" if line > 1 else ""
     after = f"; 'tail -n +{line + 1}' has those after it"
     reason = f'wurstlinen: line {line} of "{EXPLAINED_NAME}" isn\'t a line of a log{before}{after}\n'
-    expected = Expected(status=1, out=f"fault: line {line}\n".encode(), err=reason.encode())
+    expected = Expected(status=1, out=f"{text}fault: line {line}\n".encode(), err=reason.encode())
     return explained(name, log.encode(), expected)
 
 

@@ -47,24 +47,27 @@ uid_given uid (x ∷ xs) is h = simp (no_hyphen (x == 45) h) (refl, ap Some (sym
 
 -- without options it is all that is given
 log_given : (job : ExplainJob) (text : Text) → job.log.now ≡ text → job.present.items ≡ [] → job.rig ≡ None
-    → is_plain text ≡ true → IsGiven (subcommand_of commands (codes "explain" ∷ text ∷ [])) (Explain job)
+    → job.json ≡ false → is_plain text ≡ true
+    → IsGiven (subcommand_of commands (codes "explain" ∷ text ∷ [])) (Explain job)
 unfolding clap_on_literals
-log_given job [] is none no_rig h = (
+log_given job [] is none no_rig no_json h = (
   refl,
   record {
     log = ap Some (sym is);
     present = rw none refl;
     few = rw none (omega arith);
     rig = rw no_rig refl;
+    json = no_json;
   },
 )
-log_given job (x ∷ xs) is none no_rig h = simp (no_hyphen (x == 45) h) (
+log_given job (x ∷ xs) is none no_rig no_json h = simp (no_hyphen (x == 45) h) (
   refl,
   record {
     log = ap Some (sym is);
     present = rw none refl;
     few = rw none (omega arith);
     rig = rw no_rig refl;
+    json = no_json;
   },
 )
 
@@ -76,9 +79,9 @@ pub asks_encode : (uid : Bor Text) → is_plain uid.now ≡ true → Asks (codes
 asks_encode uid h = (no_fault (codes "encode") uid.now (inr (inl refl)) h, uid_given uid uid.now refl h)
 
 pub asks_explain : (job : ExplainJob) → is_plain job.log.now ≡ true → job.present.items ≡ [] → job.rig ≡ None
-    → Asks (codes "explain" ∷ job.log.now ∷ []) (Explain job)
-asks_explain job h none no_rig =
-    (no_fault (codes "explain") job.log.now (inr (inr refl)) h, log_given job job.log.now refl none no_rig h)
+    → job.json ≡ false → Asks (codes "explain" ∷ job.log.now ∷ []) (Explain job)
+asks_explain job h none no_rig no_json =
+    (no_fault (codes "explain") job.log.now (inr (inr refl)) h, log_given job job.log.now refl none no_rig no_json h)
 
 pub asks_after_hyphens : (digits : Bor Text) → Asks (codes "decode" ∷ codes "--" ∷ digits.now ∷ []) (Decode digits)
 unfolding clap_on_literals

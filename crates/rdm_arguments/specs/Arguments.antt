@@ -58,10 +58,11 @@ run_rules =
     rule_for Needed (codes "file") ∷ rule_for Once (codes "line") ∷ rule_for Once (codes "replies")
     ∷ rule_for Once (codes "port") ∷ rule_for Once (codes "log") ∷ []
 
--- the arguments of an explanation: a log, and devices that were present
+-- the arguments of an explanation: a log, devices that were present, and how it is printed
 abbrev pub explain_rules : List Rule
 explain_rules =
-    rule_for Needed (codes "log") ∷ rule_for Repeated (codes "present") ∷ rule_for Once (codes "rig") ∷ []
+    rule_for Needed (codes "log") ∷ rule_for Repeated (codes "present") ∷ rule_for Once (codes "rig")
+    ∷ rule_for Flag (codes "json") ∷ []
 
 -- the program's commands
 abbrev pub commands : App
@@ -162,6 +163,7 @@ pub record IsExplain (given : List Row) (job : ExplainJob) : Type 0 where
   pub present : texts_given (codes "present") given ≡ texts_of job.present.items
   pub few : length job.present.items ≤ 1024
   pub rig : path_text job.rig ≡ first_of (codes "rig") given
+  pub json : job.json ≡ is_set (codes "json") given
 
 -- the command with its arguments is this job
 abbrev pub IsGiven : Option (Text × List Row) → Job → Type 0

@@ -91,6 +91,8 @@ pub struct ExplainJob<'a> {
     pub present: Vec<&'a str>,
     /// The path of a scene file with devices that were present, if there is one.
     pub rig: Option<&'a str>,
+    /// Whether it is printed as JSON.
+    pub json: bool,
 }
 
 impl<'a> Job<'a> {

@@ -1,5 +1,5 @@
 //! Laws of arguments, each the contract of a function that does nothing. The definitions are in `specs`.
-ghost use Rattle.std.specs.Prelude.{◌≡◌, ℕ, List, [], ◌∷◌, None, true, codes};
+ghost use Rattle.std.specs.Prelude.{◌≡◌, ℕ, List, [], ◌∷◌, None, true, false, codes};
 ghost use Rattle.std.specs.Borrow.{Bor};
 ghost use Rattle.rdm_arguments.specs.Arguments.{Asks, AsksNothing, is_plain};
 
@@ -14,7 +14,7 @@ pub fn what_words_ask()
     ensures encode { (uid : Bor (List ℕ)) → is_plain uid.now ≡ true
         → Asks (codes "encode" ∷ uid.now ∷ []) (Job.Encode uid) }
     ensures explain { (job : ExplainJob) → is_plain job.log.now ≡ true → job.present.items ≡ [] → job.rig ≡ None
-        → Asks (codes "explain" ∷ job.log.now ∷ []) (Job.Explain job) }
+        → job.json ≡ false → Asks (codes "explain" ∷ job.log.now ∷ []) (Job.Explain job) }
     ensures any_word { (digits : Bor (List ℕ))
         → Asks (codes "decode" ∷ codes "--" ∷ digits.now ∷ []) (Job.Decode digits) }
     ensures no_words { AsksNothing [] }

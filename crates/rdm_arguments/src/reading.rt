@@ -173,6 +173,7 @@ fn explanation<'a>(alloc: Global, given: &ArgMatches<'a>) -> Result<ExplainJob<'
             log,
             present,
             rig: value(given, "rig"),
+            json: has_flag(given, "json"),
         }),
         Err(fault) => Err(fault),
     }

@@ -194,10 +194,10 @@ const LOG: ArgumentRule = ArgumentRule {
 /// Explains a log.
 pub(crate) const EXPLAIN: CommandRule = CommandRule {
     name: "explain",
-    arguments: &[EXPLAINED, PRESENT, RIG],
-    forms: &["LOG [--present UID].. [--rig FILE]"],
+    arguments: &[EXPLAINED, PRESENT, RIG, JSON],
+    forms: &["LOG [--present UID].. [--rig FILE] [--json]"],
     help: "which devices broke the rules in a log that discover or run wrote",
-    explained: &[PRESENT, RIG],
+    explained: &[PRESENT, RIG, JSON],
 };
 
 const EXPLAINED: ArgumentRule = ArgumentRule {
@@ -219,6 +219,13 @@ const RIG: ArgumentRule = ArgumentRule {
     form: Form::Once,
     needs_line: false,
     help: "a scene file with devices that were on the line",
+};
+
+const JSON: ArgumentRule = ArgumentRule {
+    name: "json",
+    form: Form::Flag,
+    needs_line: false,
+    help: "prints the findings as one JSON document",
 };
 
 impl ArgumentRule {

@@ -1,13 +1,11 @@
 -- The first garbled exchange, and that no honest line has one.
 use Rattle.std.proofs.Common.{◌≡◌, ℕ, ◌+◌, ◌<◌, ◌≤◌, Bool, true, false, ◌&&◌, ◌||◌, not, List, [], ◌∷◌, ◌++◌, refl, sym}
 use Rattle.std.proofs.Common.{ap, ◌∙◌, subst, inl, inr, true≢false, arith, length, take, drop, get_or, length-append}
-use Rattle.std.proofs.Common.{append_assoc, append-nil, rules}
-use Rattle.std.specs.Prelude.{◌⊎◌, ◌≢◌, ◌==◌, nat_le, filter, fold, MatchBool, if◌then◌else◌}
+use Rattle.std.specs.Prelude.{◌⊎◌, ◌≢◌, ◌==◌, nat_le, filter, MatchBool, if◌then◌else◌}
 use Rattle.std.specs.List.{AllByRecursion}
-use Rattle.std.proofs.lemmas.List.{map-append, take_more, take_at, get_or_at, drop_more, take-append-drop}
+use Rattle.std.proofs.lemmas.List.{map-append, take_at, get_or_at, drop_more, take-append-drop}
 use Rattle.std.proofs.lemmas.List.{length-take-le}
 use Rattle.std.proofs.lemmas.Bool.{and_parts, and_from, or_cases, cases_lt, eqb-true, eq-eqb, leb-true}
-use Rattle.std.proofs.lemmas.List.Sums.{fold-append}
 use Rattle.rdm_wire.specs.Uid.{has, is_broadcast, is_within, IsAscending, IsDevice, IsDeviceSet}
 use Rattle.rdm_wire.specs.Honest.{Asked, Heard, Seen, LineState, HonestStep, HonestTrace, Chain, MayReply, MuteMoves}
 use Rattle.rdm_wire.specs.Honest.{KeepsMuted, Counts, due_in, before_run, is_acked}
@@ -17,10 +15,10 @@ use Rattle.rdm_wire.specs.Honest.Heard.{Failed, Silent, One, Acked, Noise}
 use Rattle.rdm_explain.specs.declared.exchange.Exchange.{Exchange}
 use Rattle.rdm_explain.specs.Exchanges.{seen_of, seen_all}
 use Rattle.rdm_explain.specs.Garbled.{StaysMuted, IsNoAnswer, IsGarbledExchange, IsGarbled}
-use Rattle.rdm_explain.specs.body.Garbling.{muted_after, muted_with, stays_muted, is_wrong_reply, is_no_acknowledgement}
-use Rattle.rdm_explain.specs.body.Garbling.{is_garbled_by, is_garbled}
-use Rattle.rdm_explain.proofs.EndLemmas.{all_append}
+use Rattle.rdm_explain.specs.body.Garbling.{stays_muted, is_wrong_reply, is_no_acknowledgement, is_garbled_by}
+use Rattle.rdm_explain.specs.body.Garbling.{is_garbled}
 use Rattle.rdm_explain.proofs.ElementLemmas.{own_elements}
+use Rattle.rdm_explain.proofs.MutedLemmas.{muted_is, muted_test, or_true}
 use Rattle.rdm_explain.proofs.StrayLemmas.{NoFailure, failed_in}
 
 pub cons_head : {X : Type 0} (x y : X) (xs ys : List X) → x ∷ xs ≡ y ∷ ys → x ≡ y
@@ -31,83 +29,6 @@ cons_tail x y xs ys e = cc
 
 nil_cons : {X : Type 0} (x : X) (xs : List X) → [] ≡ x ∷ xs → ⊥
 nil_cons x xs e = cc
-
--- u stays muted by what the test says
-extend : (u : ℕ) (x : List Seen) (e : Seen) → e.asked ≢ Unmute → StaysMuted u x → StaysMuted u (x ++ e ∷ [])
-extend u x e other is = record {
-  front = is.front;
-  mute = is.mute;
-  back = is.back ++ e ∷ [];
-  whole = ap (λ l. l ++ e ∷ []) is.whole ∙ append_assoc is.front (is.mute ∷ is.back) (e ∷ []);
-  asked = is.asked;
-  acked = is.acked;
-  no_unmute = all_append (λ (s : Seen). s.asked ≢ Unmute) is.back (e ∷ []) is.no_unmute (other, tt);
-}
-
-one_more_is : (u : ℕ) (x : List Seen) (b : Bool) (e : Seen) (a : Asked) → e.asked ≡ a → (b ≡ true → StaysMuted u x)
-    → muted_after u b a e.heard ≡ true → StaysMuted u (x ++ e ∷ [])
-one_more_is u x b e Unmute asked was is = absurd (true≢false (sym is))
-one_more_is u x b e (Branch lo hi) asked was is = extend u x e (λ other. cc) (was is)
-one_more_is u x b e Other asked was is = extend u x e (λ other. cc) (was is)
-one_more_is u x b e (Mute v) asked was is = elim (or_cases (is_acked e.heard && (u == v)) b is) [
-  | inl acked ↦
-      let both = and_parts (is_acked e.heard) (u == v) acked in record {
-        front = x;
-        mute = e;
-        back = [];
-        whole = refl;
-        asked = asked ∙ ap (λ w. Mute w) (sym (eqb-true u v both.1));
-        acked = both.0;
-        no_unmute = tt;
-      }
-  | inr before ↦ extend u x e (λ other. cc) (was before)
-]
-
-muted_from : (u : ℕ) (front x : List Seen) (b : Bool) → (b ≡ true → StaysMuted u front)
-    → fold (muted_with u) b x ≡ true → StaysMuted u (front ++ x)
-muted_from u front [] b was is = subst (StaysMuted u) (sym (append-nil front)) (was is)
-muted_from u front (e ∷ x) b was is =
-    subst (StaysMuted u) (append_assoc front (e ∷ []) x)
-    (muted_from u (front ++ e ∷ []) x (muted_with u b e)
-    (λ now. one_more_is u front b e e.asked refl was now) is)
-
-muted_is : (u : ℕ) (x : List Seen) → stays_muted x u ≡ true → StaysMuted u x
-muted_is u x is = muted_from u [] x false (λ never. absurd (true≢false (sym never))) is
-
-or_true : (b : Bool) → (b || true) ≡ true
-or_true true = refl
-or_true false = refl
-
-still_muted : (u : ℕ) (a : Asked) (h : Heard) → a ≢ Unmute → muted_after u true a h ≡ true
-still_muted u Unmute h other = absurd (other refl)
-still_muted u (Branch lo hi) h other = refl
-still_muted u Other h other = refl
-still_muted u (Mute v) h other = or_true (is_acked h && (u == v))
-
-muted_through : (u : ℕ) (x : List Seen) → AllByRecursion (λ (e : Seen). e.asked ≢ Unmute) x
-    → fold (muted_with u) true x ≡ true
-muted_through u [] all = refl
-muted_through u (e ∷ x) all =
-    ap (λ b. fold (muted_with u) b x) (still_muted u e.asked e.heard all.0) ∙ muted_through u x all.1
-
-muted_by : (u : ℕ) (b : Bool) (e : Seen) → e.asked ≡ Mute u → is_acked e.heard ≡ true → muted_with u b e ≡ true
-muted_by u b e asked acked =
-    ap (λ a. muted_after u b a e.heard) asked ∙ ap (λ k. (k && (u == u)) || b) acked ∙ ap (λ k. k || b) (itself u)
-  where
-    itself : (v : ℕ) → (v == v) ≡ true
-    itself v = search rules
-
-is_muted : (u : ℕ) (x : List Seen) → StaysMuted u x → stays_muted x u ≡ true
-is_muted u x is =
-    ap (λ l. stays_muted l u) is.whole
-    ∙ fold-append (muted_with u) false is.front (is.mute ∷ is.back)
-    ∙ ap (λ b. fold (muted_with u) b is.back)
-    (muted_by u (fold (muted_with u) false is.front) is.mute is.asked is.acked)
-    ∙ muted_through u is.back is.no_unmute
-
--- the set of muted devices after one more exchange
-muted_push : (u : ℕ) (x : List Seen) (e : Seen) → stays_muted (x ++ e ∷ []) u ≡ muted_with u (stays_muted x u) e
-muted_push u x e = fold-append (muted_with u) false x (e ∷ [])
 
 not_true : (b : Bool) → not b ≡ true → b ≡ true → ⊥
 not_true true n b = true≢false (sym n)
@@ -149,7 +70,7 @@ of_wrong u x (One v) fine loud (inl other) = by_test (v == u) refl
     by_test true is = absurd (other (ap (λ w. One w) (eqb-true v u is)))
     by_test false is = or_true (stays_muted x u)
 of_wrong u x (One v) fine loud (inr (inl muted)) =
-    ap (λ b. b || (not (v == u) || is_broadcast u)) (is_muted u x muted)
+    ap (λ b. b || (not (v == u) || is_broadcast u)) (muted_test u x muted)
 of_wrong u x (One v) fine loud (inr (inr broadcast)) =
     ap (λ b. stays_muted x u || (not (v == u) || b)) broadcast
     ∙ ap (λ b. stays_muted x u || b) (or_true (not (v == u))) ∙ or_true (stays_muted x u)
@@ -216,15 +137,6 @@ same_test f g e same = by_asked e.asked e.heard
     by_asked (Mute u) h = refl
     by_asked (Branch lo hi) h = ap (λ b. (lo == hi) && is_wrong_reply b lo h) (same lo)
 
-pub muted_more : (u : ℕ) (xs : List Exchange) (at : ℕ) (e : Exchange) (old new : Bool) → at < length xs
-    → e ≡ get_or xs at e → old ≡ stays_muted (seen_all (take at xs)) u → new ≡ muted_with u old (seen_of e)
-    → new ≡ stays_muted (seen_all (take (at + 1) xs)) u
-muted_more u xs at e old new within read was is =
-    is ∙ ap (λ b. muted_with u b (seen_of e)) was
-    ∙ sym (ap (λ l. stays_muted (seen_all l) u) (take_more xs at e within ∙ ap (λ x. take at xs ++ x ∷ []) (sym read))
-    ∙ ap (λ l. stays_muted l u) (map-append seen_of (take at xs) (e ∷ []))
-    ∙ muted_push u (seen_all (take at xs)) (seen_of e))
-
 -- at an index
 pub garbled_at : (xs : List Exchange) (at : ℕ) (e : Exchange) → at < length xs → e ≡ get_or xs at e
     → NoFailure (seen_all (take at xs)) → is_garbled (stays_muted (seen_all (take at xs))) (seen_of e) ≡ true
@@ -264,27 +176,17 @@ garbled_within xs at g =
 
 -- none comes with a failure or after it
 pub none_after : (xs : List Exchange) (at : ℕ) (e : Exchange) → at < length xs → e ≡ get_or xs at e
-    → (seen_of e).heard ≡ Failed → ((j : ℕ) → j < at → IsGarbled xs j → ⊥) → (j : ℕ) → IsGarbled xs j → ⊥
-none_after xs at e within read failed before j g = by_order (cases_lt j at) (cases_lt at j)
+    → (seen_of e).heard ≡ Failed → (j : ℕ) → at ≤ j → IsGarbled xs j → ⊥
+none_after xs at e within read failed j more g = by_order (cases_lt at j)
   where
-    by_order : (j < at) ⊎ (at ≤ j) → (at < j) ⊎ (j ≤ at) → ⊥
-    by_order (inl less) h = before j less g
-    by_order (inr more) (inl later) =
+    by_order : (at < j) ⊎ (j ≤ at) → ⊥
+    by_order (inl later) =
         failed_in xs j at e later within (ap (λ x. (seen_of x).heard) (sym read) ∙ failed)
         (subst (λ l. NoFailure (seen_all l)) (same_front xs j g) g.no_failure)
-    by_order (inr more) (inr less) =
-        let same : j ≡ at = omega arith in
+    by_order (inr less) =
+        let same : j ≡ at = omega (arith, more, less) in
         let here = subst (IsGarbled xs) same g in
         here.garbled.not_failed (ap (λ x. (seen_of x).heard) (same_exchange xs at e read here) ∙ failed)
-
--- after an exchange that isn't garbled
-pub none_more : (xs : List Exchange) (at : ℕ) → ((j : ℕ) → j < at → IsGarbled xs j → ⊥) → (IsGarbled xs at → ⊥)
-    → (j : ℕ) → j < at + 1 → IsGarbled xs j → ⊥
-none_more xs at before never j less g = by_order (cases_lt j at)
-  where
-    by_order : (j < at) ⊎ (at ≤ j) → ⊥
-    by_order (inl earlier) = before j earlier g
-    by_order (inr later) = let same : j ≡ at = omega arith in never (subst (IsGarbled xs) same g)
 
 -- of devices at most one has a given UID, and it replies with its text or is silent
 one_reply : (t : ℕ → Bool) (us : List ℕ) (u : ℕ) (h : Heard) → IsAscending us → ((v : ℕ) → t v ≡ true → v ≡ u)

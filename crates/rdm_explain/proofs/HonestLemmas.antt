@@ -1,12 +1,13 @@
 -- On a line that is honest to devices, one of them is due if an exchange is answered.
 use Rattle.std.proofs.Common.{◌≡◌, ℕ, Bool, true, false, ◌&&◌, not, List, [], ◌∷◌, ◌++◌, refl, sym, ap, ◌∙◌, subst, inl}
-use Rattle.std.proofs.Common.{inr, true≢false, arith}
-use Rattle.std.specs.Prelude.{◌⊎◌, ◌≢◌, MatchBool, filter}
+use Rattle.std.proofs.Common.{inr, true≢false, arith, rules}
+use Rattle.std.specs.Prelude.{◌⊎◌, ◌≢◌, ◌==◌, MatchBool, filter}
+use Rattle.std.specs.List.{AllByRecursion}
 use Rattle.std.proofs.lemmas.List.{map-append}
 use Rattle.std.proofs.lemmas.Bool.{cases_Bool, and_parts}
 use Rattle.rdm_wire.specs.Uid.{has, is_within}
 use Rattle.rdm_wire.specs.Honest.{Asked, Heard, Seen, LineState, HonestStep, HonestTrace, Chain, Counts, MayReply}
-use Rattle.rdm_wire.specs.Honest.{MuteMoves, KeepsMuted, due_in, before_run}
+use Rattle.rdm_wire.specs.Honest.{HonestToStep, MuteMoves, KeepsMuted, due_in, before_run, is_acked}
 use Rattle.rdm_wire.specs.Honest.Asked.{Unmute, Branch, Mute, Other}
 use Rattle.rdm_wire.specs.Honest.Heard.{Silent}
 use Rattle.rdm_wire.proofs.EachDevice.{IsBelow, below_step}
@@ -14,7 +15,8 @@ use Rattle.rdm_agent.proofs.Members.{member}
 use Rattle.rdm_agent.proofs.Sets.{has-head, has-rest}
 use Rattle.rdm_explain.specs.declared.exchange.Exchange.{Exchange}
 use Rattle.rdm_explain.specs.Exchanges.{seen_of, seen_all}
-use Rattle.rdm_explain.specs.Strays.{Leads, IsMuted, NobodyIsDue, IsStray}
+use Rattle.rdm_explain.specs.Garbled.{StaysMuted}
+use Rattle.rdm_explain.specs.Strays.{Leads, MayBeUnmuted, IsMuted, NobodyIsDue, IsStray}
 use Rattle.rdm_explain.specs.Certificates.{NoFailure}
 
 -- the state after some exchanges, and a way to it for each device
@@ -63,25 +65,84 @@ not_false : (b : Bool) → not b ≡ true → b ≡ false
 not_false true e = absurd (true≢false (sym e))
 not_false false e = refl
 
+-- an honest step keeps a device muted, if it isn't an unmute
+step_keeps : (u : ℕ) (old new : LineState) (a : Asked) (h : Heard) → a ≢ Unmute → HonestToStep u old a h new
+    → old.muted u ≡ true → new.muted u ≡ true
+step_keeps u old new Unmute h other step is = absurd (other refl)
+step_keeps u old new Other h other step is = step.0 ∙ is
+step_keeps u old new (Branch lo hi) h other step is = step.0 ∙ is
+step_keeps u old new (Mute v) h other step is = by_uid (u == v) step
+  where
+    by_uid : (b : Bool) → MatchBool b (MuteMoves u old h new) (KeepsMuted u old new × Counts new 0 0 0)
+        → new.muted u ≡ true
+    by_uid true (inl acked) = acked.1
+    by_uid true (inr silent) = elim silent.1 [ inl muted ↦ muted | inr keeps ↦ keeps ∙ is ]
+    by_uid false keeps = keeps.0 ∙ is
+
+-- one that acknowledges its mute is muted
+step_mutes : (u : ℕ) (old new : LineState) (a : Asked) (h : Heard) → a ≡ Mute u → is_acked h ≡ true
+    → HonestToStep u old a h new → new.muted u ≡ true
+step_mutes u old new a h is acked step =
+    by_uid (u == u) (itself u) (subst (λ b. HonestToStep u old b h new) is step)
+  where
+    itself : (v : ℕ) → (v == v) ≡ true
+    itself v = search rules
+
+    by_uid : (b : Bool) → b ≡ true → MatchBool b (MuteMoves u old h new) (KeepsMuted u old new × Counts new 0 0 0)
+        → new.muted u ≡ true
+    by_uid true same (inl moves) = moves.1
+    by_uid true same (inr silent) = absurd (true≢false (sym acked ∙ ap is_acked silent.0))
+    by_uid false same keeps = absurd (true≢false (sym same))
+
+kept : (u : ℕ) (s : LineState) (x : List Seen) (end : LineState) → AllByRecursion (λ (e : Seen). e.asked ≢ Unmute) x
+    → s.muted u ≡ true → Leads u s x end → end.muted u ≡ true
+kept u s [] end none is same = ap (λ t. t.muted u) (sym same) ∙ is
+kept u s (e ∷ x) end none is leads =
+    kept u leads.0 x end none.1 (step_keeps u s leads.0 e.asked e.heard none.0 leads.1 is) leads.2
+
+muted_at : (u : ℕ) (s : LineState) (front : List Seen) (e : Seen) (back : List Seen) (end : LineState)
+    → e.asked ≡ Mute u → is_acked e.heard ≡ true → AllByRecursion (λ (d : Seen). d.asked ≢ Unmute) back
+    → Leads u s (front ++ e ∷ back) end → end.muted u ≡ true
+muted_at u s [] e back end asked acked none leads =
+    kept u leads.0 back end none (step_mutes u s leads.0 e.asked e.heard asked acked leads.1) leads.2
+muted_at u s (d ∷ front) e back end asked acked none leads =
+    muted_at u leads.0 front e back end asked acked none leads.2
+
+-- a device that stays muted can't be unmuted on a line that is honest to it
+stays_muted : (u : ℕ) (x : List Seen) → StaysMuted u x → MayBeUnmuted u x → ⊥
+stays_muted u x is may =
+    true≢false (sym (muted_at u (before_run may.muted) is.front is.mute is.back may.end is.asked is.acked is.no_unmute
+    (subst (λ l. Leads u (before_run may.muted) l may.end) is.whole may.leads)) ∙ may.unmuted)
+
 -- nobody of these devices is due, and yet the exchange is answered
-no_step : (us present : List ℕ) (x rest : List Seen) (muted : ℕ → Bool) (l : Led present (before_run muted) x rest)
-    (new : LineState) (a : Asked) (h : Heard) → ((u : ℕ) → has present u ≡ true → has us u ≡ true) → h ≢ Silent
-    → NobodyIsDue us x a → HonestStep present l.state a h new → ⊥
-no_step us present x rest muted l new Unmute h listed loud nobody step = nobody
-no_step us present x rest muted l new Other h listed loud nobody step = nobody
-no_step us present x rest muted l new (Mute u) h listed loud nobody step = by_present (has present u) refl step.1
+no_step : (us ps present : List ℕ) (x rest : List Seen) (muted : ℕ → Bool)
+    (l : Led present (before_run muted) x rest) (new : LineState) (a : Asked) (h : Heard)
+    → ((u : ℕ) → has present u ≡ true → (has us u ≡ true) ⊎ (has ps u ≡ true)) → h ≢ Silent → NobodyIsDue us ps x a
+    → HonestStep present l.state a h new → ⊥
+no_step us ps present x rest muted l new Unmute h listed loud nobody step = nobody
+no_step us ps present x rest muted l new Other h listed loud nobody step = nobody
+no_step us ps present x rest muted l new (Mute u) h listed loud nobody step = by_present (has present u) refl step.1
   where
     by_present : (b : Bool) → has present u ≡ b
         → MatchBool b (MuteMoves u l.state h new) ((h ≡ Silent) × KeepsMuted u l.state new × Counts new 0 0 0) → ⊥
-    by_present true here moves = true≢false (sym (listed u here) ∙ nobody)
+    by_present true here moves = elim (listed u here) [
+      | inl stays ↦ true≢false (sym stays ∙ nobody.0)
+      | inr passes ↦ true≢false (sym passes ∙ nobody.1)
+    ]
     by_present false here silent = loud silent.0
-no_step us present x rest muted l new (Branch lo hi) h listed loud nobody step = by_due due
+no_step us ps present x rest muted l new (Branch lo hi) h listed loud nobody step = by_due due
   where
     test : ℕ → Bool
     test v = is_within lo hi v && not (l.state.muted v)
 
     due : Passing test present
     due = some_pass test present (λ empty. loud (silent_of (due_in present l.state.muted lo hi) h empty step.0))
+
+    is_muted : (u : ℕ) → is_within lo hi u ≡ true → (has us u ≡ true) ⊎ (has ps u ≡ true) → MayBeUnmuted u x → ⊥
+    is_muted u within (inl stays) =
+        (member (λ v. is_within lo hi v ≡ true → IsMuted v x) us u nobody.0 stays within).muted
+    is_muted u within (inr passes) =
+        stays_muted u x (member (λ v. is_within lo hi v ≡ true → StaysMuted v x) ps u nobody.1 passes within)
 
     by_due : Passing test present → ⊥
     by_due p =
@@ -92,17 +153,16 @@ no_step us present x rest muted l new (Branch lo hi) h listed loud nobody step =
           lost = omega arith;
           unmutes = refl;
         }) in
-        (member (λ v. is_within lo hi v ≡ true → IsMuted v x) us p.uid nobody (listed p.uid p.there) both.0).muted
-        (record {
+        is_muted p.uid both.0 (listed p.uid p.there) (record {
           muted = muted;
           end = w.0;
           leads = w.2;
           unmuted = w.1.muted ∙ not_false (l.state.muted p.uid) both.1;
         })
 
-pub stray_dishonest : (us present : List ℕ) (xs : List Exchange) (at : ℕ) → IsStray us xs at
-    → ((u : ℕ) → has present u ≡ true → has us u ≡ true) → HonestTrace present (seen_all xs) → ⊥
-stray_dishonest us present xs at s listed honest = by_chain l.chain
+pub stray_dishonest : (us ps present : List ℕ) (xs : List Exchange) (at : ℕ) → IsStray us ps xs at
+    → ((u : ℕ) → has present u ≡ true → (has us u ≡ true) ⊎ (has ps u ≡ true)) → HonestTrace present (seen_all xs) → ⊥
+stray_dishonest us ps present xs at s listed honest = by_chain l.chain
   where
     whole : seen_all xs ≡ seen_all s.front ++ seen_of s.exchange ∷ seen_all s.back
     whole = ap seen_all s.whole ∙ map-append seen_of s.front (s.exchange ∷ s.back)
@@ -114,5 +174,5 @@ stray_dishonest us present xs at s listed honest = by_chain l.chain
     by_chain : Chain (HonestStep present) l.state (seen_of s.exchange ∷ seen_all s.back) → ⊥
     by_chain (inl failed) = s.not_failed failed
     by_chain (inr step) =
-        no_step us present (seen_all s.front) (seen_of s.exchange ∷ seen_all s.back) honest.1 l step.0
+        no_step us ps present (seen_all s.front) (seen_of s.exchange ∷ seen_all s.back) honest.1 l step.0
         (seen_of s.exchange).asked (seen_of s.exchange).heard listed s.not_silent s.nobody step.1

@@ -2,7 +2,7 @@
 use Rattle.std.proofs.Common.{◌≡◌, ℕ, zero, suc, ◌+◌, ◌<◌, ◌≤◌, Bool, true, false, not, List, [], ◌∷◌, ◌++◌, refl, sym}
 use Rattle.std.proofs.Common.{ap, ◌∙◌, subst, inl, inr, true≢false, arith, length, take, drop, Option, Some, None}
 use Rattle.std.proofs.Common.{get_or, length-append}
-use Rattle.std.specs.Prelude.{◌⊎◌, ◌≢◌, ◌==◌, ◌||◌, fold, if◌then◌else◌}
+use Rattle.std.specs.Prelude.{◌⊎◌, ◌≢◌, ◌==◌, ◌||◌, ◌&&◌, fold, if◌then◌else◌}
 use Rattle.std.specs.List.{AllByRecursion}
 use Rattle.std.proofs.lemmas.List.{map-append, take_more, take_at, get_or_at, drop_more, take-append-drop}
 use Rattle.std.proofs.lemmas.List.{length-take-le}
@@ -14,12 +14,15 @@ use Rattle.rdm_wire.specs.Honest.Heard.{Failed, Silent, One, Acked, Noise}
 use Rattle.rdm_explain.specs.declared.exchange.Exchange.{Exchange}
 use Rattle.rdm_explain.specs.declared.rule.Breach.{Breach}
 use Rattle.rdm_explain.specs.Exchanges.{seen_of, seen_all}
+use Rattle.rdm_explain.specs.Garbled.{StaysMuted}
 use Rattle.rdm_explain.specs.Strays.{Leads, MayBeUnmuted, IsMuted, NobodyIsDue, IsStray}
 use Rattle.rdm_explain.specs.declared.standing.Standing.{Standing}
 use Rattle.rdm_explain.specs.declared.watch.Watch.{Watch}
 use Rattle.rdm_explain.specs.body.Standings.{is_alive, after, after_asked, at_start, standing}
 use Rattle.rdm_explain.specs.body.Watching.{uids_watched, Watches, is_muted, is_quiet_one, is_listed, are_quiet}
-use Rattle.rdm_explain.specs.body.Watching.{is_stray_by, is_stray}
+use Rattle.rdm_explain.specs.body.Watching.{are_muted, is_stray_by, is_stray}
+use Rattle.rdm_explain.specs.body.Garbling.{stays_muted}
+use Rattle.rdm_explain.proofs.MutedLemmas.{muted_is, muted_test}
 use Rattle.rdm_explain.proofs.StandingLemmas.{Allows, keeps, back, after_other, goes_on, start_allows, at_start_is}
 use Rattle.rdm_explain.proofs.StandingLemmas.{state_of, unmuted_state, alive_honest}
 use Rattle.rdm_explain.proofs.EndLemmas.{all_append}
@@ -136,10 +139,38 @@ listed : (u : ℕ) (ws : List Watch) → is_listed u ws ≡ has (uids_watched ws
 listed u [] = refl
 listed u (w ∷ ws) = ap (λ b. (u == w.uid) || b) (listed u ws)
 
+-- whether each of a list that comes or leaves stays muted
+abbrev AllStay : List Seen → ℕ → ℕ → List ℕ → Type 0
+AllStay x lo hi ps = AllByRecursion (λ (u : ℕ). is_within lo hi u ≡ true → StaysMuted u x) ps
+
+-- the test by which devices stay muted is right
+abbrev pub Knows : (ℕ → Bool) → List Seen → Type 0
+Knows muted x = (u : ℕ) → muted u ≡ stays_muted x u
+
+muted_stay : (x : List Seen) (lo hi : ℕ) (muted : ℕ → Bool) (ps : List ℕ) → Knows muted x
+    → are_muted lo hi muted ps ≡ true → AllStay x lo hi ps
+muted_stay x lo hi muted [] known holds = tt
+muted_stay x lo hi muted (u ∷ ps) known holds =
+    let both = and_parts (if is_within lo hi u then muted u else true) (are_muted lo hi muted ps) holds in (
+      λ within. muted_is u x (sym (known u) ∙ sym (ap (λ b. if b then muted u else true) within) ∙ both.0),
+      muted_stay x lo hi muted ps known both.1,
+    )
+
+stay_muted : (x : List Seen) (lo hi : ℕ) (muted : ℕ → Bool) (ps : List ℕ) → Knows muted x → AllStay x lo hi ps
+    → are_muted lo hi muted ps ≡ true
+stay_muted x lo hi muted [] known stay = refl
+stay_muted x lo hi muted (u ∷ ps) known stay =
+    and_from (if is_within lo hi u then muted u else true) (are_muted lo hi muted ps)
+    (by_within (is_within lo hi u) stay.0) (stay_muted x lo hi muted ps known stay.1)
+  where
+    by_within : (b : Bool) → (b ≡ true → StaysMuted u x) → (if b then muted u else true) ≡ true
+    by_within true is = known u ∙ muted_test u x (is refl)
+    by_within false is = refl
+
 -- an exchange that is stray by what is known
-record StrayBy (xs : List Exchange) (ws : List Watch) (a : Asked) (h : Heard) : Type 0 where
+record StrayBy (xs : List Exchange) (ws : List Watch) (ps : List ℕ) (a : Asked) (h : Heard) : Type 0 where
   not_silent : h ≢ Silent
-  nobody : NobodyIsDue (uids_watched ws) (seen_all xs) a
+  nobody : NobodyIsDue (uids_watched ws) ps (seen_all xs) a
 
 not_is : (b : Bool) → not b ≡ true → b ≡ false
 not_is true e = absurd (true≢false (sym e))
@@ -148,16 +179,26 @@ not_is false e = refl
 loud : (h : Heard) → not (is_silent h) ≡ true → h ≢ Silent
 loud h holds silent = not_true (is_silent h) holds (ap is_silent silent)
 
-stray_by : (xs : List Exchange) (ws : List Watch) (a : Asked) (h : Heard) → NoFailure (seen_all xs)
-    → AllByRecursion (Watches xs) ws → is_stray_by ws a h ≡ true → StrayBy xs ws a h
-stray_by xs ws Unmute h ok all holds = absurd (true≢false (sym holds))
-stray_by xs ws Other h ok all holds = absurd (true≢false (sym holds))
-stray_by xs ws (Mute u) h ok all holds =
-    let both = and_parts (not (is_silent h)) (not (is_listed u ws)) holds in
-    record { not_silent = loud h both.0; nobody = sym (listed u ws) ∙ not_is (is_listed u ws) both.1 }
-stray_by xs ws (Branch lo hi) h ok all holds =
-    let both = and_parts (not (is_silent h)) (are_quiet lo hi ws) holds in
-    record { not_silent = loud h both.0; nobody = quiet_nobody xs lo hi ws ok all both.1 }
+stray_by : (xs : List Exchange) (ws : List Watch) (ps : List ℕ) (muted : ℕ → Bool) (a : Asked) (h : Heard)
+    → NoFailure (seen_all xs) → AllByRecursion (Watches xs) ws → Knows muted (seen_all xs)
+    → is_stray_by ws ps muted a h ≡ true → StrayBy xs ws ps a h
+stray_by xs ws ps muted Unmute h ok all known holds = absurd (true≢false (sym holds))
+stray_by xs ws ps muted Other h ok all known holds = absurd (true≢false (sym holds))
+stray_by xs ws ps muted (Mute u) h ok all known holds =
+    let both = and_parts (not (is_silent h)) (not (is_listed u ws) && not (has ps u)) holds in
+    let neither = and_parts (not (is_listed u ws)) (not (has ps u)) both.1 in record {
+      not_silent = loud h both.0;
+      nobody = (sym (listed u ws) ∙ not_is (is_listed u ws) neither.0, not_is (has ps u) neither.1);
+    }
+stray_by xs ws ps muted (Branch lo hi) h ok all known holds =
+    let both = and_parts (not (is_silent h)) (are_quiet lo hi ws && are_muted lo hi muted ps) holds in
+    let each = and_parts (are_quiet lo hi ws) (are_muted lo hi muted ps) both.1 in record {
+      not_silent = loud h both.0;
+      nobody = (
+        quiet_nobody xs lo hi ws ok all each.0,
+        muted_stay (seen_all xs) lo hi muted ps known each.1,
+      );
+    }
 
 silence_of : (h : Heard) → h ≢ Silent → is_silent h ≡ false
 silence_of Failed other = refl
@@ -166,25 +207,28 @@ silence_of (One u) other = refl
 silence_of (Acked ack) other = refl
 silence_of Noise other = refl
 
-by_stray : (xs : List Exchange) (ws : List Watch) (a : Asked) (h : Heard) → NoFailure (seen_all xs)
-    → AllByRecursion (Watches xs) ws → h ≢ Silent → NobodyIsDue (uids_watched ws) (seen_all xs) a
-    → is_stray_by ws a h ≡ true
-by_stray xs ws Unmute h ok all other nobody = absurd nobody
-by_stray xs ws Other h ok all other nobody = absurd nobody
-by_stray xs ws (Mute u) h ok all other nobody =
-    and_from (not (is_silent h)) (not (is_listed u ws)) (not_of (is_silent h) (silence_of h other))
-    (not_of (is_listed u ws) (listed u ws ∙ nobody))
-by_stray xs ws (Branch lo hi) h ok all other nobody =
-    and_from (not (is_silent h)) (are_quiet lo hi ws) (not_of (is_silent h) (silence_of h other))
-    (nobody_quiet xs lo hi ws ok all nobody)
+by_stray : (xs : List Exchange) (ws : List Watch) (ps : List ℕ) (muted : ℕ → Bool) (a : Asked) (h : Heard)
+    → NoFailure (seen_all xs) → AllByRecursion (Watches xs) ws → Knows muted (seen_all xs) → h ≢ Silent
+    → NobodyIsDue (uids_watched ws) ps (seen_all xs) a → is_stray_by ws ps muted a h ≡ true
+by_stray xs ws ps muted Unmute h ok all known other nobody = absurd nobody
+by_stray xs ws ps muted Other h ok all known other nobody = absurd nobody
+by_stray xs ws ps muted (Mute u) h ok all known other nobody =
+    and_from (not (is_silent h)) (not (is_listed u ws) && not (has ps u)) (not_of (is_silent h) (silence_of h other))
+    (and_from (not (is_listed u ws)) (not (has ps u)) (not_of (is_listed u ws) (listed u ws ∙ nobody.0))
+    (not_of (has ps u) nobody.1))
+by_stray xs ws ps muted (Branch lo hi) h ok all known other nobody =
+    and_from (not (is_silent h)) (are_quiet lo hi ws && are_muted lo hi muted ps)
+    (not_of (is_silent h) (silence_of h other))
+    (and_from (are_quiet lo hi ws) (are_muted lo hi muted ps) (nobody_quiet xs lo hi ws ok all nobody.0)
+    (stay_muted (seen_all xs) lo hi muted ps known nobody.1))
 
 -- at an index
-pub stray_at : (us : List ℕ) (xs : List Exchange) (at : ℕ) (e : Exchange) (ws : List Watch)
-    → at < length xs
-    → e ≡ get_or xs at e → NoFailure (seen_all (take at xs)) → WatchesAll (take at xs) us ws
-    → (seen_of e).heard ≢ Failed → is_stray ws (seen_of e) ≡ true → IsStray us xs at
-stray_at us xs at e ws within read ok all fine holds =
-    let s = stray_by (take at xs) ws (seen_of e).asked (seen_of e).heard ok all.watches holds in record {
+pub stray_at : (us ps : List ℕ) (xs : List Exchange) (at : ℕ) (e : Exchange) (ws : List Watch) (muted : ℕ → Bool)
+    → at < length xs → e ≡ get_or xs at e → NoFailure (seen_all (take at xs)) → WatchesAll (take at xs) us ws
+    → Knows muted (seen_all (take at xs)) → (seen_of e).heard ≢ Failed → is_stray ws ps muted (seen_of e) ≡ true
+    → IsStray us ps xs at
+stray_at us ps xs at e ws muted within read ok all known fine holds =
+    let s = stray_by (take at xs) ws ps muted (seen_of e).asked (seen_of e).heard ok all.watches known holds in record {
       front = take at xs;
       exchange = e;
       back = drop (at + 1) xs;
@@ -194,17 +238,17 @@ stray_at us xs at e ws within read ok all fine holds =
       no_failure = ok;
       not_failed = fine;
       not_silent = s.not_silent;
-      nobody = subst (λ l. NobodyIsDue l (seen_all (take at xs)) (seen_of e).asked) all.same s.nobody;
+      nobody = subst (λ l. NobodyIsDue l ps (seen_all (take at xs)) (seen_of e).asked) all.same s.nobody;
     }
 
-pub at_stray : (us : List ℕ) (xs : List Exchange) (at : ℕ) (e : Exchange) (ws : List Watch)
-    → e ≡ get_or xs at e
-    → NoFailure (seen_all (take at xs)) → WatchesAll (take at xs) us ws → IsStray us xs at
-    → is_stray ws (seen_of e) ≡ true
-at_stray us xs at e ws read ok all s =
-    subst (λ x. is_stray ws (seen_of x) ≡ true) same
-    (by_stray (take at xs) ws (seen_of s.exchange).asked (seen_of s.exchange).heard ok all.watches s.not_silent
-    (subst (λ l. NobodyIsDue l (seen_all (take at xs)) (seen_of s.exchange).asked) (sym all.same) nobody))
+pub at_stray : (us ps : List ℕ) (xs : List Exchange) (at : ℕ) (e : Exchange) (ws : List Watch) (muted : ℕ → Bool)
+    → e ≡ get_or xs at e → NoFailure (seen_all (take at xs)) → WatchesAll (take at xs) us ws
+    → Knows muted (seen_all (take at xs)) → IsStray us ps xs at → is_stray ws ps muted (seen_of e) ≡ true
+at_stray us ps xs at e ws muted read ok all known s =
+    subst (λ x. is_stray ws ps muted (seen_of x) ≡ true) same
+    (by_stray (take at xs) ws ps muted (seen_of s.exchange).asked (seen_of s.exchange).heard ok all.watches known
+    s.not_silent
+    (subst (λ l. NobodyIsDue l ps (seen_all (take at xs)) (seen_of s.exchange).asked) (sym all.same) nobody))
   where
     same : s.exchange ≡ e
     same = sym (read ∙ ap (λ l. get_or l at e) s.whole ∙ get_or_at s.front s.exchange s.back e at s.index)
@@ -212,12 +256,12 @@ at_stray us xs at e ws read ok all s =
     front : s.front ≡ take at xs
     front = sym (ap (take at) s.whole ∙ take_at s.front (s.exchange ∷ s.back) at s.index)
 
-    nobody : NobodyIsDue us (seen_all (take at xs)) (seen_of s.exchange).asked
-    nobody = subst (λ l. NobodyIsDue us (seen_all l) (seen_of s.exchange).asked) front s.nobody
+    nobody : NobodyIsDue us ps (seen_all (take at xs)) (seen_of s.exchange).asked
+    nobody = subst (λ l. NobodyIsDue us ps (seen_all l) (seen_of s.exchange).asked) front s.nobody
 
 -- a stray exchange is within the list
-pub stray_within : (us : List ℕ) (xs : List Exchange) (at : ℕ) → IsStray us xs at → at < length xs
-stray_within us xs at s =
+pub stray_within : (us ps : List ℕ) (xs : List Exchange) (at : ℕ) → IsStray us ps xs at → at < length xs
+stray_within us ps xs at s =
     let long : length xs ≡ length s.front + length (s.exchange ∷ s.back)
     = ap length s.whole ∙ length-append s.front (s.exchange ∷ s.back) in
     omega (arith, long, s.index)
@@ -231,20 +275,19 @@ failed_in (x ∷ xs) (suc j) (suc at) e less within failed ok =
     failed_in xs j at e (omega arith) (omega arith) failed ok.1
 
 -- none comes with a failure or after it
-pub none_after : (us : List ℕ) (xs : List Exchange) (at : ℕ) (e : Exchange) → at < length xs → e ≡ get_or xs at e
-    → (seen_of e).heard ≡ Failed → ((j : ℕ) → j < at → IsStray us xs j → ⊥) → (j : ℕ) → IsStray us xs j → ⊥
-none_after us xs at e within read failed before j s = by_order (cases_lt j at) (cases_lt at j)
+pub none_after : (us ps : List ℕ) (xs : List Exchange) (at : ℕ) (e : Exchange) → at < length xs → e ≡ get_or xs at e
+    → (seen_of e).heard ≡ Failed → (j : ℕ) → at ≤ j → IsStray us ps xs j → ⊥
+none_after us ps xs at e within read failed j more s = by_order (cases_lt at j)
   where
     front : s.front ≡ take j xs
     front = sym (ap (take j) s.whole ∙ take_at s.front (s.exchange ∷ s.back) j s.index)
 
-    by_order : (j < at) ⊎ (at ≤ j) → (at < j) ⊎ (j ≤ at) → ⊥
-    by_order (inl less) h = before j less s
-    by_order (inr more) (inl later) =
+    by_order : (at < j) ⊎ (j ≤ at) → ⊥
+    by_order (inl later) =
         failed_in xs j at e later within (ap (λ x. (seen_of x).heard) (sym read) ∙ failed)
         (subst (λ l. NoFailure (seen_all l)) front s.no_failure)
-    by_order (inr more) (inr less) =
-        let same_index : j ≡ at = omega arith in
+    by_order (inr less) =
+        let same_index : j ≡ at = omega (arith, more, less) in
         let same : s.exchange ≡ e
         = sym (read ∙ ap (λ l. get_or l at e) s.whole
         ∙ get_or_at s.front s.exchange s.back e at (s.index ∙ same_index)) in
@@ -257,11 +300,3 @@ no_failure_more xs at e within read fine ok =
     subst (λ l. NoFailure (seen_all l)) (sym (take_more xs at e within ∙ ap (λ x. take at xs ++ x ∷ []) (sym read)))
     (subst NoFailure (sym (map-append seen_of (take at xs) (e ∷ [])))
     (all_append (λ (s : Seen). s.heard ≢ Failed) (seen_all (take at xs)) (seen_of e ∷ []) ok (fine, tt)))
-
-pub none_more : (us : List ℕ) (xs : List Exchange) (at : ℕ) → ((j : ℕ) → j < at → IsStray us xs j → ⊥)
-    → (IsStray us xs at → ⊥) → (j : ℕ) → j < at + 1 → IsStray us xs j → ⊥
-none_more us xs at before never j less s = by_order (cases_lt j at)
-  where
-    by_order : (j < at) ⊎ (at ≤ j) → ⊥
-    by_order (inl earlier) = before j earlier s
-    by_order (inr later) = let same : j ≡ at = omega arith in never (subst (IsStray us xs) same s)

@@ -278,6 +278,23 @@ one_more_heard f ws i w within =
     next : suc i ≡ i + 1
     next = omega arith
 
+-- a device that it changes nothing for
+one_still : (f : Watch → Watch) (ws : List Watch) (i : ℕ) (w : Watch) → i < length ws
+    → f (get_or ws i w) ≡ get_or ws i w
+    → map f (take i ws) ++ drop i ws ≡ map f (take (suc i) ws) ++ drop (suc i) ws
+one_still f [] i w within same = absurd (omega arith)
+one_still f (x ∷ ws) zero w within same = ap (λ y. y ∷ ws) (sym same)
+one_still f (x ∷ ws) (suc i) w within same = ap (λ l. f x ∷ l) (one_still f ws i w (omega arith) same)
+
+pub one_still_heard : (f : Watch → Watch) (ws : List Watch) (i : ℕ) (w : Watch) → i < length ws
+    → f (get_or ws i w) ≡ get_or ws i w
+    → map f (take i ws) ++ drop i ws ≡ map f (take (i + 1) ws) ++ drop (i + 1) ws
+one_still_heard f ws i w within same =
+    subst (λ n. map f (take i ws) ++ drop i ws ≡ map f (take n ws) ++ drop n ws) next (one_still f ws i w within same)
+  where
+    next : suc i ≡ i + 1
+    next = omega arith
+
 -- what is known of the devices of a list is right
 pub record WatchesAll (xs : List Exchange) (us : List ℕ) (ws : List Watch) : Type 0 where
   pub watches : AllByRecursion (Watches xs) ws

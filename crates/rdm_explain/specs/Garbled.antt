@@ -1,12 +1,14 @@
 -- Bytes that no honest line allows, whichever devices are on it.
-use Rattle.std.specs.Prelude.{◌≡◌, ◌≢◌, ◌⊎◌, ℕ, ◌<◌, true, false, List, ◌∷◌, ◌++◌, length, Option, Some, None}
+use Rattle.std.specs.Prelude.{◌≡◌, ◌≢◌, ◌⊎◌, ℕ, true, false, List, ◌∷◌, ◌++◌, length, Option}
 use Rattle.std.specs.List.{AllByRecursion}
 use Rattle.rdm_wire.specs.Uid.{is_broadcast}
 use Rattle.rdm_wire.specs.Honest.{Asked, Heard, Seen, is_acked}
 use Rattle.rdm_wire.specs.Honest.Asked.{Unmute, Branch, Mute, Other}
 use Rattle.rdm_wire.specs.Honest.Heard.{Failed, Silent, One}
 use Rattle.rdm_explain.specs.declared.exchange.Exchange.{Exchange}
+use Rattle.rdm_explain.specs.declared.sighting.Sighting.{Sighting}
 use Rattle.rdm_explain.specs.Exchanges.{seen_of, seen_all}
+use Rattle.rdm_explain.specs.Sightings.{Sighted}
 
 -- u acknowledged a mute in these exchanges, and no unmute came after that, so it is muted if it is still there
 pub record StaysMuted (u : ℕ) (x : List Seen) : Type 0 where
@@ -43,7 +45,6 @@ pub record IsGarbled (xs : List Exchange) (at : ℕ) : Type 0 where
   pub no_failure : AllByRecursion (λ e. e.heard ≢ Failed) (seen_all front)
   pub garbled : IsGarbledExchange (seen_all front) (seen_of exchange)
 
--- no exchange is garbled, or this is the first that is
-abbrev pub FirstGarbled : List Exchange → Option ℕ → Type 0
-FirstGarbled xs None = (at : ℕ) → IsGarbled xs at → ⊥
-FirstGarbled xs (Some at) = IsGarbled xs at × ((j : ℕ) → j < at → IsGarbled xs j → ⊥)
+-- no exchange is garbled, or this is the first that is, and so many after it are
+abbrev pub FirstGarbled : List Exchange → Option Sighting → Type 0
+FirstGarbled xs found = Sighted (IsGarbled xs) (length xs) found

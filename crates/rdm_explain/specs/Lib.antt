@@ -1,6 +1,7 @@
 pub mod Exchanges
 pub mod Rules
 pub mod Covers
+pub mod Sightings
 pub mod Strays
 pub mod Garbled
 pub mod Certificates

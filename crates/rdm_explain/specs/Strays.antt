@@ -1,12 +1,15 @@
--- Bytes that came although no device of a list was due to send any.
-use Rattle.std.specs.Prelude.{◌≡◌, ◌≢◌, ℕ, ◌<◌, Bool, true, false, List, [], ◌∷◌, ◌++◌, length, Option, Some, None}
+-- Bytes that came although no device of two lists was due to send any.
+use Rattle.std.specs.Prelude.{◌≡◌, ◌≢◌, ℕ, Bool, true, false, List, [], ◌∷◌, ◌++◌, length, Option}
 use Rattle.std.specs.List.{AllByRecursion}
 use Rattle.rdm_wire.specs.Uid.{has, is_within}
 use Rattle.rdm_wire.specs.Honest.{Asked, LineState, Seen, HonestTo, HonestToStep, before_run}
 use Rattle.rdm_wire.specs.Honest.Asked.{Unmute, Branch, Mute, Other}
 use Rattle.rdm_wire.specs.Honest.Heard.{Failed, Silent}
 use Rattle.rdm_explain.specs.declared.exchange.Exchange.{Exchange}
+use Rattle.rdm_explain.specs.declared.sighting.Sighting.{Sighting}
 use Rattle.rdm_explain.specs.Exchanges.{seen_of, seen_all}
+use Rattle.rdm_explain.specs.Garbled.{StaysMuted}
+use Rattle.rdm_explain.specs.Sightings.{Sighted}
 
 -- a line that is honest to u leads by these exchanges from the one state to the other
 abbrev pub Leads : ℕ → LineState → List Seen → LineState → Type 0
@@ -25,16 +28,20 @@ pub record IsMuted (u : ℕ) (x : List Seen) : Type 0 where
   pub honest : HonestTo u x
   pub muted : MayBeUnmuted u x → ⊥
 
--- no device of the list is due to answer after these exchanges: each is outside of the range of a branch, or muted; the
--- UID that is to be muted isn't in the list. What comes after other frames is never counted
-abbrev pub NobodyIsDue : List ℕ → List Seen → Asked → Type 0
-NobodyIsDue us x (Branch lo hi) = AllByRecursion (λ u. is_within lo hi u ≡ true → IsMuted u x) us
-NobodyIsDue us x (Mute u) = has us u ≡ false
-NobodyIsDue us x Unmute = ⊥
-NobodyIsDue us x Other = ⊥
+-- No device is due to answer after these exchanges. Those of `us` are on the line during the whole run: each is outside
+-- of the range of a branch, or muted. Those of `ps` come or leave: each is outside, or acknowledged a mute, and no
+-- unmute came after that. The UID that is to be muted is in neither list. What comes after other frames is never
+-- counted
+abbrev pub NobodyIsDue : (us ps : List ℕ) → List Seen → Asked → Type 0
+NobodyIsDue us ps x (Branch lo hi) =
+    AllByRecursion (λ u. is_within lo hi u ≡ true → IsMuted u x) us
+    × AllByRecursion (λ u. is_within lo hi u ≡ true → StaysMuted u x) ps
+NobodyIsDue us ps x (Mute u) = (has us u ≡ false) × (has ps u ≡ false)
+NobodyIsDue us ps x Unmute = ⊥
+NobodyIsDue us ps x Other = ⊥
 
--- this branch or mute was answered although no device of the list was due. The line hasn't failed before
-pub record IsStray (us : List ℕ) (xs : List Exchange) (at : ℕ) : Type 0 where
+-- this branch or mute was answered although no device of the lists was due. The line hasn't failed before
+pub record IsStray (us ps : List ℕ) (xs : List Exchange) (at : ℕ) : Type 0 where
   pub front : List Exchange
   pub exchange : Exchange
   pub back : List Exchange
@@ -43,9 +50,8 @@ pub record IsStray (us : List ℕ) (xs : List Exchange) (at : ℕ) : Type 0 wher
   pub no_failure : AllByRecursion (λ e. e.heard ≢ Failed) (seen_all front)
   pub not_failed : (seen_of exchange).heard ≢ Failed
   pub not_silent : (seen_of exchange).heard ≢ Silent
-  pub nobody : NobodyIsDue us (seen_all front) (seen_of exchange).asked
+  pub nobody : NobodyIsDue us ps (seen_all front) (seen_of exchange).asked
 
--- no exchange is stray, or this is the first that is
-abbrev pub FirstStray : List ℕ → List Exchange → Option ℕ → Type 0
-FirstStray us xs None = (at : ℕ) → IsStray us xs at → ⊥
-FirstStray us xs (Some at) = IsStray us xs at × ((j : ℕ) → j < at → IsStray us xs j → ⊥)
+-- no exchange is stray, or this is the first that is, and so many after it are
+abbrev pub FirstStray : (us ps : List ℕ) → List Exchange → Option Sighting → Type 0
+FirstStray us ps xs found = Sighted (IsStray us ps xs) (length xs) found

@@ -9,3 +9,4 @@ pub mod Naming
 pub mod Leasts
 pub mod Firsts
 pub mod Garbling
+pub mod Noting

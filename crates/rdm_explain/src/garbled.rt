@@ -6,11 +6,13 @@ ghost use Rattle.rdm_explain.specs.body.Trees.{in_tree};
 ghost use Rattle.rdm_explain.specs.body.Garbling.{is_garbled, is_wrong_reply, is_no_acknowledgement, muted_with};
 
 use crate::exchange::{Asked, Exchange, Heard};
+use crate::sighting::{Sighting, noted};
 use crate::uids::Uids;
 use rdm_wire::{NoMemory, Uid};
 use std::alloc::Global;
 
-/// The index of the first exchange that was answered by bytes which no honest line allows, whichever devices are on it:
+/// The first exchange that was answered by bytes which no honest line allows, whichever devices are on it, and how many
+/// such exchanges come after it:
 /// - a branch of one UID alone, and the bytes aren't the text of that UID: no other device may reply, so nothing
 ///   collides;
 /// - a branch of one UID alone, although that device acknowledged a mute before, and no unmute came after that;
@@ -18,20 +20,19 @@ use std::alloc::Global;
 /// - a mute, and the bytes don't acknowledge it.
 ///
 /// `None`: there is no such exchange before the line fails. The only error: out of memory.
-pub fn first_garbled(alloc: Global, exchanges: &[Exchange]) -> Result<Option<usize>, NoMemory>
+pub fn first_garbled(alloc: Global, exchanges: &[Exchange]) -> Result<Option<Sighting>, NoMemory>
     ensures { IfOk result (λ found. FirstGarbled exchanges.now found) }
 {
     let mut muted = Uids::new(alloc);
+    let mut found = None;
     for (at, exchange) in exchanges.iter().enumerate() {
         if exchange.heard.is_failed() {
-            return Ok(None);
+            return Ok(found);
         }
-        if is_garbled(&muted, exchange) {
-            return Ok(Some(at));
-        }
+        found = noted(found, at, is_garbled(&muted, exchange));
         hear(&mut muted, exchange)?;
     }
-    Ok(None)
+    Ok(found)
 }
 
 // Whether bytes came that don't answer what was asked.
@@ -66,8 +67,8 @@ fn is_no_acknowledgement(heard: &Heard) -> bool
     }
 }
 
-// Which devices are muted after an exchange.
-fn hear(muted: &mut Uids, exchange: &Exchange) -> Result<(), NoMemory>
+/// Which devices are muted after an exchange.
+pub(crate) fn hear(muted: &mut Uids, exchange: &Exchange) -> Result<(), NoMemory>
     ensures { OnOk result ((u : ℕ) → in_tree muted.new u
         ≡ muted_with u (in_tree muted.old u) (seen_of exchange.now)) }
 {

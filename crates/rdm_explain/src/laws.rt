@@ -52,10 +52,11 @@ pub fn breach_is_not_honest()
         → has present u ≡ true → HonestTrace present (seen_all xs) → ⊥ }
 {}
 
-/// If an exchange is stray for a list, the line wasn't honest for these devices, nor for any part of them.
+/// If an exchange is stray for two lists, the line wasn't honest for these devices, nor for any part of them.
 pub fn stray_is_not_honest()
-    ensures { (us present : List ℕ) (xs : List Exchange) (at : ℕ) → IsStray us xs at
-        → ((u : ℕ) → has present u ≡ true → has us u ≡ true) → HonestTrace present (seen_all xs) → ⊥ }
+    ensures { (us ps present : List ℕ) (xs : List Exchange) (at : ℕ) → IsStray us ps xs at
+        → ((u : ℕ) → has present u ≡ true → (has us u ≡ true) ⊎ (has ps u ≡ true))
+        → HonestTrace present (seen_all xs) → ⊥ }
 {}
 
 /// If an exchange is garbled, the line wasn't honest for any devices. They needn't be known, and may come and leave.

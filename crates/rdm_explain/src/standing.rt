@@ -1,5 +1,7 @@
 //! What is known of one device's state after some exchanges.
 ghost use Rattle.std.specs.Prelude.{◌≡◌, ◌<◌, ◌^◌, ℕ};
+ghost use Rattle.rdm_explain.specs.Exchanges.{asked_of, heard_of};
+ghost use Rattle.rdm_explain.specs.body.Standings.{concerns, is_failing};
 
 use crate::exchange::{Asked, Exchange, Heard};
 use rdm_wire::Uid;
@@ -28,9 +30,9 @@ pub(crate) struct Standing {
 }
 
 impl Standing {
-    ghost use Rattle.rdm_explain.specs.Exchanges.{seen_of, heard_of};
+    ghost use Rattle.rdm_explain.specs.Exchanges.{seen_of};
     ghost use Rattle.rdm_explain.specs.body.Standings.{is_alive, with_counts, after_branch, after_mute, after_unmute};
-    ghost use Rattle.rdm_explain.specs.body.Standings.{after, at_start};
+    ghost use Rattle.rdm_explain.specs.body.Standings.{after, at_start, is_moved, has_counts};
 
     /// Before a run.
     pub(crate) fn start() -> Standing
@@ -51,6 +53,23 @@ impl Standing {
         ensures { result ≡ is_alive self.now }
     {
         self.muted || self.unmuted
+    }
+
+    /// Whether an exchange changes what is known of the device with this UID.
+    pub(crate) fn is_moved_by(&self, uid: Uid, exchange: &Exchange) -> bool
+        ensures { result ≡ is_moved uid self.now (seen_of exchange.now) }
+    {
+        self.has_counts()
+            || !self.is_alive()
+            || is_failing(&exchange.heard)
+            || concerns(uid, exchange)
+    }
+
+    // Whether it counts anything.
+    fn has_counts(&self) -> bool
+        ensures { result ≡ has_counts self.now }
+    {
+        self.lost_branches != 0 || self.lost_mutes != 0 || self.unmutes != 0
     }
 
     /// After an exchange, for the device with this UID.
@@ -137,5 +156,26 @@ impl Standing {
             unmuted: self.is_alive(),
             ..self.with_counts(0, 0, unmutes)
         }
+    }
+}
+
+fn is_failing(heard: &Heard) -> bool
+    ensures { result ≡ is_failing (heard_of heard.now) }
+{
+    match heard {
+        Heard::Failed => true,
+        _ => false,
+    }
+}
+
+// Whether an exchange asks the device with this UID, maybe among others. A branch that was answered changes nothing.
+fn concerns(uid: Uid, exchange: &Exchange) -> bool
+    ensures { result ≡ concerns uid (asked_of exchange.now.asked) (heard_of exchange.now.heard) }
+{
+    match exchange.asked {
+        Asked::Unmute => true,
+        Asked::Branch { lo, hi } => lo <= uid && uid <= hi && exchange.heard.is_silent(),
+        Asked::Mute(muted) => uid == muted,
+        Asked::Other => false,
     }
 }

@@ -20,7 +20,7 @@ pub(crate) struct Watch {
 
 impl Watch {
     ghost use Rattle.std.specs.Prelude.{◌==◌};
-    ghost use Rattle.rdm_explain.specs.body.Watching.{is_quiet_one};
+    ghost use Rattle.rdm_explain.specs.body.Watching.{is_quiet_one, is_moved_watch};
 
     // Before the first exchange.
     fn of(uid: Uid) -> Watch
@@ -31,6 +31,13 @@ impl Watch {
             standing: Standing::start(),
             breach: None,
         }
+    }
+
+    // Whether an exchange changes what is known. Most change nothing for most devices.
+    fn is_moved_by(&self, exchange: &Exchange) -> bool
+        ensures { result ≡ is_moved_watch (seen_of exchange.now) self.now }
+    {
+        self.breach.is_none() && self.standing.is_moved_by(self.uid, exchange)
     }
 
     // After an exchange.
@@ -103,7 +110,9 @@ pub(crate) fn hear_all(watches: &mut Vec<Watch>, at: usize, exchange: &Exchange)
     ensures { watches.new.items ≡ map (heard_by at (seen_of exchange.now)) watches.old.items }
 {
     'watches: for index in 0..watches.len() {
-        watches[index] = watches[index].after(at, exchange);
+        if watches[index].is_moved_by(exchange) {
+            watches[index] = watches[index].after(at, exchange);
+        }
     }
 }
 

@@ -5,11 +5,23 @@ use Rattle.std.proofs.Math.Seq.{take-suc}
 use Rattle.std.specs.Prelude.{flat_map}
 use Rattle.std.proofs.lemmas.Grind.{flat_map-append}
 
+-- two texts, without an error
+pub then_written : (t0 t1 t2 a b : List ℕ) → t1 ≡ t0 ++ a → t2 ≡ t1 ++ b → t2 ≡ t0 ++ (a ++ b)
+then_written t0 t1 t2 a b p q = q ∙ ap (λ l. l ++ b) p ∙ append_assoc t0 a b
+
 -- two texts
 pub two_written : {A E : Type 0} (r : Result A E) (t0 t1 t2 a b : List ℕ) → t1 ≡ t0 ++ a → OnOk r (t2 ≡ t1 ++ b)
     → OnOk r (t2 ≡ t0 ++ (a ++ b))
 two_written (Err e) t0 t1 t2 a b p u = tt
 two_written (Ok x) t0 t1 t2 a b p u = u ∙ ap (λ l. l ++ b) p ∙ append_assoc t0 a b
+
+-- five texts
+pub five_written : {A E : Type 0} (r : Result A E) (t0 t1 t2 t3 t4 t5 a b c d e : List ℕ) → t1 ≡ t0 ++ a → t2 ≡ t1 ++ b
+    → t3 ≡ t2 ++ c → t4 ≡ t3 ++ d → OnOk r (t5 ≡ t4 ++ e) → OnOk r (t5 ≡ t0 ++ ((((a ++ b) ++ c) ++ d) ++ e))
+five_written r t0 t1 t2 t3 t4 t5 a b c d e p q s v u =
+    two_written r t0 t4 t5 (((a ++ b) ++ c) ++ d) e
+    (then_written t0 t3 t4 ((a ++ b) ++ c) d
+    (then_written t0 t2 t3 (a ++ b) c (then_written t0 t1 t2 a b p q) s) v) u
 
 -- the line of one more element
 pub lines_next : {X : Type 0} (line : X → List ℕ) (xs : List X) (i : ℕ) (x : X) (t0 t1 t2 : List ℕ) → i < length xs

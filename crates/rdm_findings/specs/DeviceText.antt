@@ -2,16 +2,20 @@
 use Rattle.std.specs.Prelude.{ℕ, Bool, true, false, ◌&&◌, ◌||◌, not, List, [], ◌++◌, Option, Some, None, codes, decimal}
 use Rattle.std.specs.Prelude.{◌==◌, if◌then◌else◌}
 use Rattle.rdm_wire.specs.UidText.{uid_text}
-use Rattle.rdm_reports.specs.Report.{line_of}
 use Rattle.rdm_explain.specs.declared.rule.Rule.{Rule}
 use Rattle.rdm_explain.specs.declared.rule.Rule.TheVariants.{SilentBranches, SilentMutes, GarbledMute}
 use Rattle.rdm_explain.specs.declared.rule.Breach.{Breach}
 use Rattle.rdm_explain.specs.declared.rule.DeviceFinding.{DeviceFinding}
+use Rattle.rdm_findings.specs.declared.form.About.{About}
+use Rattle.rdm_findings.specs.declared.form.Form.{Form}
+use Rattle.rdm_findings.specs.declared.form.Judgement.{Judgement}
+use Rattle.rdm_findings.specs.declared.form.Judgement.TheVariants as judged
 use Rattle.rdm_findings.specs.declared.head.Start.{Start}
 use Rattle.rdm_findings.specs.declared.heard.RunUids.{RunUids}
 use Rattle.rdm_findings.specs.declared.mention.Mention.{Mention}
 use Rattle.rdm_findings.specs.declared.mention.RunFacts.{RunFacts}
-use Rattle.rdm_findings.specs.FindingText.{exchange_name, uid_line}
+use Rattle.rdm_findings.specs.FindingText.{exchange_name, uid_finding}
+use Rattle.rdm_findings.specs.Forms.{finding}
 use Rattle.rdm_findings.specs.HeardUids.{in_uids}
 use Rattle.rdm_findings.specs.Starts.{has_start, number_at}
 
@@ -95,16 +99,39 @@ verdict_text r heard acked see None = unbroken_text r acked ++ see_text see
 verdict_text r heard acked see (Some b) =
     breach_before (r.whole && not heard) b.rule ++ decimal (number_at r.start b.at) ++ breach_after heard b.rule
 
--- the line of a listed device. The sets have the UIDs that were heard, and those that acknowledged a mute
-abbrev pub device_line : RunFacts → RunUids → RunUids → DeviceFinding → List ℕ
-device_line r heard acked f =
-    line_of (uid_text f.uid ++ verdict_text r (in_uids heard f.uid) (in_uids acked f.uid) (seen_at r f.uid) f.breach)
+-- whether a device that broke no rule was found. The flag says that it acknowledged a mute
+abbrev pub unbroken_judgement : RunFacts → Bool → Judgement
+unbroken_judgement r acked = if acked then judged.Found else (if r.whole then judged.Missed else judged.Pending)
 
--- the line of a device that answered a branch of it alone, and then acknowledged no mute, if there is one
-abbrev pub culprit_line : Option ℕ → List ℕ
-culprit_line None = []
-culprit_line (Some u) =
-    uid_line u
+-- whether a device broke a rule, or else was found
+abbrev pub device_judgement : RunFacts → Bool → Option Breach → Judgement
+device_judgement r acked None = unbroken_judgement r acked
+device_judgement r acked (Some b) = judged.Broke
+
+-- the exchange that its sentence names
+abbrev pub device_exchange : RunFacts → Option ℕ → Option Breach → Option ℕ
+device_exchange r see None = see
+device_exchange r see (Some b) = Some (number_at r.start b.at)
+
+-- what the finding about a device with this UID is about
+abbrev pub of_device : RunFacts → ℕ → Bool → Option ℕ → Option Breach → About
+of_device r u acked see breach = record {
+  judgement = device_judgement r acked breach;
+  uid = Some u;
+  exchange = device_exchange r see breach;
+}
+
+-- The finding about a listed device. The sets have the UIDs that were heard, and those that acknowledged a mute
+abbrev pub device_finding : Form → RunFacts → RunUids → RunUids → DeviceFinding → List ℕ
+device_finding form r heard acked f =
+    finding form (of_device r f.uid (in_uids acked f.uid) (seen_at r f.uid) f.breach)
+    (uid_text f.uid ++ verdict_text r (in_uids heard f.uid) (in_uids acked f.uid) (seen_at r f.uid) f.breach)
+
+-- the finding about a device that answered a branch of it alone, and then acknowledged no mute, if there is one
+abbrev pub culprit_finding : Form → Option ℕ → List ℕ
+culprit_finding form None = []
+culprit_finding form (Some u) =
+    uid_finding form judged.Unmuted u
     (codes " answered alone and then acknowledged no mute: it left, or broke a rule; try it alone on the line")
 
 -- what a known UID lacks, before its exchange
@@ -119,13 +146,19 @@ gone_after SilentBranches = codes " is the fifth silence in a row in a range tha
 gone_after SilentMutes = codes " is the last of them"
 gone_after GarbledMute = []
 
+-- about a known UID and the exchange with this number
+abbrev pub of_gone : ℕ → ℕ → About
+of_gone u number = record { judgement = judged.Gone; uid = Some u; exchange = Some number }
+
 -- A known UID that acknowledged no mute, by the rule that it would have broken if its device had stayed: that counts
 -- against nobody. If it would have broken none, the run must be over
-abbrev pub gone_line : RunFacts → DeviceFinding → List ℕ
-gone_line r f = elim f.breach [
+abbrev pub gone_finding : Form → RunFacts → DeviceFinding → List ℕ
+gone_finding form r f = elim f.breach [
   | None ↦
-      if r.whole then uid_line f.uid (codes " was known, and wasn't found: the run ended before it was ruled out")
+      if r.whole then
+      uid_finding form judged.Gone f.uid (codes " was known, and wasn't found: the run ended before it was ruled out")
       else []
   | Some b ↦
-      line_of (uid_text f.uid ++ (gone_before b.rule ++ decimal (number_at r.start b.at) ++ gone_after b.rule))
+      finding form (of_gone f.uid (number_at r.start b.at))
+      (uid_text f.uid ++ (gone_before b.rule ++ decimal (number_at r.start b.at) ++ gone_after b.rule))
 ]

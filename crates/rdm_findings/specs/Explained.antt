@@ -8,6 +8,7 @@ use Rattle.rdm_agent.specs.declared.kind.Kind.{Kind}
 use Rattle.rdm_agent.specs.declared.kind.Kind.TheVariants.{Full, Incremental}
 use Rattle.rdm_explain.specs.declared.certificate.KnownFinding.{KnownFinding}
 use Rattle.rdm_explain.specs.declared.exchange.Exchange.{Exchange}
+use Rattle.rdm_explain.specs.declared.sighting.Sighting.{Sighting}
 use Rattle.rdm_explain.specs.Certificates.{ExplainsRun, ExplainsKnown}
 use Rattle.rdm_explain.specs.Exchanges.{seen_all}
 use Rattle.rdm_explain.specs.Garbled.{FirstGarbled}
@@ -15,14 +16,16 @@ use Rattle.rdm_explain.specs.Reported.{reported_in}
 use Rattle.rdm_explain.specs.Rules.{AreFirstBreaches, uids_of_findings}
 use Rattle.rdm_explain.specs.Strays.{FirstStray}
 use Rattle.rdm_findings.specs.declared.explaining.Findings.{Findings}
+use Rattle.rdm_findings.specs.declared.form.Form.{Form}
 use Rattle.rdm_findings.specs.declared.head.RunHead.{RunHead}
 use Rattle.rdm_findings.specs.declared.heard.RunUids.{RunUids}
 use Rattle.rdm_findings.specs.declared.mention.RunFacts.{RunFacts}
-use Rattle.rdm_findings.specs.DeviceText.{device_line, culprit_line, gone_line}
+use Rattle.rdm_findings.specs.DeviceText.{device_finding, culprit_finding, gone_finding}
 use Rattle.rdm_findings.specs.Ends.{is_whole, decides_stray, never_muted}
-use Rattle.rdm_findings.specs.FindingText.{head_line, run_gaps, quiet_text, stray_line, garbled_line}
-use Rattle.rdm_findings.specs.FindingText.{unless_garbled, any_broke}
+use Rattle.rdm_findings.specs.FindingText.{head_finding, run_gaps, quiet_text, stray_finding, garbled_finding}
+use Rattle.rdm_findings.specs.FindingText.{unless_garbled, any_broke, answered_finding}
 use Rattle.rdm_findings.specs.HeardUids.{heard_in, in_uids}
+use Rattle.rdm_findings.specs.RunJson.{before_run, run_end}
 use Rattle.rdm_findings.specs.Mentions.{garbled_mention, stray_mention}
 
 -- some UIDs, and then the others of a list
@@ -78,7 +81,8 @@ ExplainsNames (Some first) xs (Some names) = ExplainsKnown first xs names
 -- The findings about these exchanges of a run: about its certificate of the devices whose mutes were acknowledged, and
 -- about each of these and each of the list `present`, but none of `passing`, which come or leave. About the UID that
 -- answered alone, and then acknowledged no mute; and about each known UID that acknowledged none. Then about bytes that
--- came though none of all these was due; and about bytes that no honest line allows, whichever devices are on it
+-- came though none of the listed devices, nor that UID, nor one of `passing` was due; and about bytes that no honest
+-- line allows, whichever devices are on it
 pub record Finds (kind : Option Kind) (known : Option (List ℕ)) (present passing : List ℕ) (xs : List Exchange)
     (f : Findings) : Type 0 where
   pub acknowledged : f.reported ≡ reported_in (seen_all xs)
@@ -91,7 +95,8 @@ pub record Finds (kind : Option Kind) (known : Option (List ℕ)) (present passi
   pub due : f.due.items ≡ with_one (with_passing (uids_of f.reported) present passing) f.culprit
   pub all_gone : uids_of_findings f.gone.items ≡ gone_of f.acked f.due.items known
   pub gone_breaches : AreFirstBreaches xs f.gone.items
-  pub first_stray : FirstStray f.due.items xs f.stray
+  pub first_stray :
+      FirstStray (with_one (listed (uids_of f.reported) present passing) f.culprit) passing xs f.stray
   pub first_garbled : FirstGarbled xs f.garbled
   -- the UIDs that were heard, and those that acknowledged a mute
   pub heard : (u : ℕ) → in_uids f.heard u ≡ has (heard_in (seen_all xs)) u
@@ -102,7 +107,7 @@ abbrev pub shows_all : RunHead → List Exchange → Findings → Bool
 shows_all head xs f = is_whole head f.reported xs f.certificate
 
 -- the first stray exchange that has a line of its own
-abbrev pub stray_of : Findings → Option ℕ
+abbrev pub stray_of : Findings → Option Sighting
 stray_of f = unless_garbled f.garbled f.stray
 
 -- what lines of devices depend on beside their findings
@@ -115,19 +120,28 @@ facts_of head xs f = record {
   stray = stray_mention head.start f.due.items xs (stray_of f);
 }
 
--- the lines of devices
-abbrev pub devices_text : RunFacts → Findings → List ℕ
-devices_text r f =
-    flat_map (device_line r f.heard f.acked) f.devices.items
-    ++ culprit_line f.culprit ++ flat_map (gone_line r) f.gone.items
+-- the findings about devices
+abbrev pub devices_text : Form → RunFacts → Findings → List ℕ
+devices_text form r f =
+    flat_map (device_finding form r f.heard f.acked) f.devices.items
+    ++ culprit_finding form f.culprit ++ flat_map (gone_finding form r) f.gone.items
 
--- their text, a finding a line
-abbrev pub findings_text : RunHead → List Exchange → Findings → List ℕ
-findings_text head xs f =
-    head_line head f.reported xs f.certificate f.names ++ run_gaps head.start f.certificate f.names
-    ++ quiet_text head xs f.certificate ++ devices_text (facts_of head xs f) f
-    ++ stray_line head.start f.due.items (decides_stray head f.certificate) xs (stray_of f)
-    ++ garbled_line head.start xs f.garbled
+-- the findings about bytes
+abbrev pub bytes_text : Form → RunHead → List Exchange → Findings → List ℕ
+bytes_text form head xs f =
+    stray_finding form head.start f.due.items (decides_stray head f.certificate) xs (stray_of f)
+    ++ garbled_finding form head.start head.flaw xs f.garbled ++ answered_finding form head.start xs
+
+-- the findings about the run, its certificate and its silence
+abbrev pub run_text : Form → RunHead → List Exchange → Findings → List ℕ
+run_text form head xs f =
+    head_finding form head f.reported xs f.certificate f.names ++ run_gaps form head.start f.certificate f.names
+    ++ quiet_text form head xs f.certificate
+
+-- Their text: a finding a line, or an object of JSON that has what is known of the run, and its findings
+abbrev pub findings_text : Form → RunHead → List Exchange → Findings → List ℕ
+findings_text form head xs f =
+    run_text form head xs f ++ (devices_text form (facts_of head xs f) f ++ bytes_text form head xs f ++ run_end form)
 
 -- whether any finding is that a rule was broken. A known UID that is gone broke none
 abbrev pub is_broken : RunHead → Findings → Bool
@@ -135,12 +149,12 @@ is_broken head f =
     (any_broke f.devices.items || is_some f.garbled) || is_some f.culprit
     || (decides_stray head f.certificate && is_some f.stray)
 
--- The text has the findings about these exchanges of a run, and says whether a rule was broken. `known` has the UIDs
--- that were known before it, if the log has them. The devices of `present` were on the line during the whole run, those
--- of `passing` came or left.
-pub record IsExplained (head : RunHead) (known : Option (List ℕ)) (present passing : List ℕ) (xs : List Exchange)
-    (text : List ℕ) (broken : Bool) : Type 0 where
+-- The text has the findings about these exchanges of a run, and says whether a rule was broken. `any` says whether
+-- others were printed before. `known` has the UIDs that were known before it, if the log has them. The devices of
+-- `present` were on the line during the whole run, those of `passing` came or left.
+pub record IsExplained (form : Form) (any : Bool) (head : RunHead) (known : Option (List ℕ))
+    (present passing : List ℕ) (xs : List Exchange) (text : List ℕ) (broken : Bool) : Type 0 where
   pub findings : Findings
   pub finds : Finds head.kind known present passing xs findings
-  pub prints : text ≡ findings_text head xs findings
+  pub prints : text ≡ before_run form any ++ findings_text form head xs findings
   pub breaks : broken ≡ is_broken head findings

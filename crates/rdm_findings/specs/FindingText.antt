@@ -1,7 +1,7 @@
 -- The text of findings about a run: one finding a line.
-use Rattle.std.specs.Prelude.{ℕ, Bool, false, ◌&&◌, ◌||◌, not, List, [], ◌∷◌, ◌++◌, Option, Some, None, codes, decimal}
+use Rattle.std.specs.Prelude.{ℕ, Bool, false, ◌&&◌, ◌||◌, List, [], ◌∷◌, ◌++◌, Option, Some, None, codes, decimal}
 use Rattle.std.specs.Prelude.{length, slice_get, is_some, ◌==◌, if◌then◌else◌, true}
-use Rattle.std.specs.List.{list_all}
+use Rattle.std.specs.List.{list_all, position}
 use Rattle.rdm_wire.specs.Honest.{is_silent}
 use Rattle.rdm_wire.specs.Uid.{is_broadcast}
 use Rattle.rdm_wire.specs.UidText.{uid_text}
@@ -11,23 +11,32 @@ use Rattle.rdm_agent.specs.declared.kind.Kind.TheVariants.{Full, Incremental}
 use Rattle.rdm_agent.specs.declared.search.Search.{Search}
 use Rattle.rdm_agent.specs.declared.search.Search.TheVariants.{Steady, Quick}
 use Rattle.rdm_agent.specs.declared.fault.AgentFault.{AgentFault}
-use Rattle.rdm_agent.specs.declared.fault.AgentFault.TheVariants.{Exhausted, Aborted}
-use Rattle.rdm_reports.specs.Report.{line_of, fault_text}
+use Rattle.rdm_agent.specs.declared.fault.AgentFault.TheVariants.{Corrupt, TooMany, Exhausted, LineFailed, Aborted}
+use Rattle.rdm_reports.specs.Report.{fault_text}
 use Rattle.rdm_explain.specs.declared.certificate.RunFinding.{RunFinding}
 use Rattle.rdm_explain.specs.declared.certificate.KnownFinding.{KnownFinding}
 use Rattle.rdm_explain.specs.declared.exchange.Asked.{Asked}
-use Rattle.rdm_explain.specs.declared.exchange.Asked.TheVariants.{Branch, Mute}
+use Rattle.rdm_explain.specs.declared.exchange.Asked.TheVariants.{Unmute, Branch, Mute}
 use Rattle.rdm_explain.specs.declared.exchange.Heard.{Heard}
-use Rattle.rdm_explain.specs.declared.exchange.Heard.TheVariants.{One}
+use Rattle.rdm_explain.specs.declared.exchange.Heard.TheVariants.{Failed, One, Silent}
 use Rattle.rdm_explain.specs.declared.exchange.Exchange.{Exchange}
 use Rattle.rdm_explain.specs.declared.rule.DeviceFinding.{DeviceFinding}
+use Rattle.rdm_explain.specs.declared.sighting.Sighting.{Sighting}
 use Rattle.rdm_explain.specs.Exchanges.{heard_of}
+use Rattle.rdm_findings.specs.declared.flaw.Flaw.{Flaw}
 use Rattle.rdm_findings.specs.declared.head.RunHead.{RunHead}
 use Rattle.rdm_findings.specs.declared.head.Start.{Start}
 use Rattle.rdm_findings.specs.declared.head.Start.TheVariants.{At, Later, Unknown}
 use Rattle.rdm_findings.specs.declared.stray_bytes.Sign.{Sign}
 use Rattle.rdm_findings.specs.declared.stray_bytes.Sign.TheVariants as signs
+use Rattle.rdm_findings.specs.declared.form.About.{About}
+use Rattle.rdm_findings.specs.declared.form.Form.{Form}
+use Rattle.rdm_findings.specs.declared.form.Judgement.{Judgement}
+use Rattle.rdm_findings.specs.declared.form.Judgement.TheVariants as judged
 use Rattle.rdm_findings.specs.Ends.{is_complete, is_known_complete, is_over, is_lost, end_of, decides_stray}
+use Rattle.rdm_findings.specs.Flaws.{flaw_text}
+use Rattle.rdm_findings.specs.Forms.{finding, after_sentence, of_run, of_exchange, of_uid}
+use Rattle.rdm_findings.specs.RunJson.{run_start}
 use Rattle.rdm_findings.specs.Starts.{has_start, number_at}
 use Rattle.rdm_findings.specs.StrayBytes.{sign_of}
 
@@ -35,13 +44,21 @@ use Rattle.rdm_findings.specs.StrayBytes.{sign_of}
 abbrev pub exchange_name : ℕ → List ℕ
 exchange_name at = codes "exchange " ++ decimal at
 
--- a line about an exchange
-abbrev pub exchange_line : ℕ → List ℕ → List ℕ
-exchange_line at text = exchange_name at ++ line_of text
+-- how many others there are, if there are any
+abbrev pub more_text : ℕ → List ℕ
+more_text more = if more == 0 then [] else codes " (and " ++ decimal more ++ codes " more)"
 
--- a line about a UID
-abbrev pub uid_line : ℕ → List ℕ → List ℕ
-uid_line u text = uid_text u ++ line_of text
+-- an exchange, and how many others of its kind come after it
+abbrev pub sighting_name : ℕ → ℕ → List ℕ
+sighting_name at more = exchange_name at ++ more_text more
+
+-- a finding about an exchange
+abbrev pub exchange_finding : Form → Judgement → ℕ → List ℕ → List ℕ
+exchange_finding form judgement at text = finding form (of_exchange judgement at) (exchange_name at ++ text)
+
+-- a finding about a UID
+abbrev pub uid_finding : Form → Judgement → ℕ → List ℕ → List ℕ
+uid_finding form judgement u text = finding form (of_uid judgement u) (uid_text u ++ text)
 
 -- the run's name: its number in its session; a discovery has none
 abbrev pub name_text : Option ℕ → List ℕ
@@ -64,11 +81,24 @@ search_text (Some Quick) = codes "quick, "
 abbrev pub count_text : ℕ → List ℕ → List ℕ
 count_text n thing = decimal n ++ thing ++ (if n == 1 then [] else codes "s")
 
+-- that its budget is used up, which may be known
+abbrev pub spent_text : Option ℕ → List ℕ
+spent_text None = codes " (its budget of frames is used up)"
+spent_text (Some budget) = codes " (its budget of " ++ count_text budget (codes " frame") ++ codes " is used up)"
+
+-- what its fault says
+abbrev pub reason_text : Option ℕ → AgentFault → List ℕ
+reason_text budget (Corrupt u) = codes " (its answer showed no new device)"
+reason_text budget TooMany = codes " (more than 1,024 devices answered)"
+reason_text budget Exhausted = spent_text budget
+reason_text budget LineFailed = codes " (the line failed)"
+reason_text budget Aborted = codes " (it was aborted)"
+
 -- how it ended, if that is known
-abbrev pub end_text : Option (Option AgentFault) → List ℕ
-end_text None = []
-end_text (Some None) = codes ", no fault"
-end_text (Some (Some fault)) = codes ", " ++ fault_text fault
+abbrev pub end_text : Option ℕ → Option (Option AgentFault) → List ℕ
+end_text budget None = []
+end_text budget (Some None) = codes ", no fault"
+end_text budget (Some (Some fault)) = codes ", " ++ fault_text fault ++ reason_text budget fault
 
 -- a certificate of which no part fails but those that can't be decided
 abbrev pub sound_text : Option Kind → Option KnownFinding → List ℕ
@@ -86,19 +116,6 @@ gap_text decided =
     if decided then codes "; its certificate is incomplete"
     else codes "; its certificate is incomplete, or the log ends within the run"
 
--- why a certificate is incomplete, if the run's end says more than lines about its parts do
-abbrev pub cause_text : Option ℕ → Option (Option AgentFault) → List ℕ
-cause_text None (Some (Some Exhausted)) = codes ": its budget of frames is used up"
-cause_text (Some budget) (Some (Some Exhausted)) =
-    codes ": its budget of " ++ count_text budget (codes " frame") ++ codes " is used up"
-cause_text budget (Some (Some Aborted)) = codes ": it was aborted"
-cause_text budget _ = []
-
--- the same, unless the certificate is complete, or can't be decided
-abbrev pub because_text : RunHead → Option (Option AgentFault) → RunFinding → List ℕ
-because_text head ending f =
-    if has_start head.start && not (is_complete f) then cause_text head.budget ending else []
-
 -- the certificate, by the findings about its parts, if the log has the run's beginning
 abbrev pub begun_text : RunHead → Bool → RunFinding → Option KnownFinding → List ℕ
 begun_text head decided f names = if is_complete f then sound_text head.kind names else gap_text decided
@@ -115,100 +132,122 @@ certificate_text head decided f names = elim head.start [
       codes "; its certificate can't be decided, since the log may begin within the run; exchanges count from there"
 ]
 
+-- whether the certificate is complete, by the findings about the parts that depend on the known UIDs
+abbrev pub sound_judgement : Option KnownFinding → Judgement
+sound_judgement (Some names) = if is_known_complete names then judged.Complete else judged.Incomplete
+sound_judgement None = judged.Undecided
+
+-- whether it is complete, if the log has the run's beginning
+abbrev pub begun_judgement : Bool → RunFinding → Option KnownFinding → Judgement
+begun_judgement decided f names =
+    if is_complete f then sound_judgement names else (if decided then judged.Incomplete else judged.Undecided)
+
+-- whether it is complete, if that can be decided
+abbrev pub run_judgement : RunHead → Bool → RunFinding → Option KnownFinding → Judgement
+run_judgement head decided f names = if has_start head.start then begun_judgement decided f names else judged.Undecided
+
 -- the run's name, its kind, and how it searched
 abbrev pub what_text : RunHead → List ℕ
 what_text head = name_text head.number ++ codes ": " ++ (kind_text head.kind ++ search_text head.search)
 
 -- how it ended, and how many devices it reports
-abbrev pub outcome_text : Option (Option AgentFault) → ℕ → List ℕ
-outcome_text fault devices = end_text fault ++ codes ", " ++ count_text devices (codes " device")
+abbrev pub outcome_text : Option ℕ → Option (Option AgentFault) → ℕ → List ℕ
+outcome_text budget ending devices = end_text budget ending ++ codes ", " ++ count_text devices (codes " device")
 
 -- what the run was, how many exchanges it had, how it ended, if that is known, and how many devices it had
 abbrev pub head_text : RunHead → Option (Option AgentFault) → ℕ → ℕ → List ℕ
 head_text head ending exchanges devices =
-    what_text head ++ count_text exchanges (codes " exchange") ++ outcome_text ending devices
+    what_text head ++ count_text exchanges (codes " exchange") ++ outcome_text head.budget ending devices
 
 -- whether gaps of the certificate are those of the run, and not only of its log: no exchange came after these, or none
 -- could mend them
 abbrev pub decides_gaps : RunHead → List Device → List Exchange → RunFinding → Option KnownFinding → Bool
 decides_gaps head reported xs f names = is_over head reported xs f || is_lost xs f names
 
--- the first line of a run
-abbrev pub head_line : RunHead → List Device → List Exchange → RunFinding → Option KnownFinding → List ℕ
-head_line head reported xs f names =
-    line_of (head_text head (end_of head reported xs f) (length xs) (length reported)
-    ++ (certificate_text head (decides_gaps head reported xs f names) f names
-    ++ because_text head (end_of head reported xs f) f))
+-- what a run's first finding says
+abbrev pub head_sentence : RunHead → List Device → List Exchange → RunFinding → Option KnownFinding → List ℕ
+head_sentence head reported xs f names =
+    head_text head (end_of head reported xs f) (length xs) (length reported)
+    ++ certificate_text head (decides_gaps head reported xs f names) f names
+
+-- the first finding of a run
+abbrev pub head_finding : Form → RunHead → List Device → List Exchange → RunFinding → Option KnownFinding → List ℕ
+head_finding form head reported xs f names =
+    run_start form head (end_of head reported xs f) (length reported) xs
+    (of_run (run_judgement head (decides_gaps head reported xs f names) f names))
+    ++ (head_sentence head reported xs f names ++ after_sentence form)
 
 -- a part of the certificate that fails at an exchange
-abbrev pub exchange_gap : Option ℕ → List ℕ → List ℕ
-exchange_gap None text = []
-exchange_gap (Some at) text = exchange_line at text
+abbrev pub exchange_gap : Form → Judgement → Option ℕ → List ℕ → List ℕ
+exchange_gap form judgement None text = []
+exchange_gap form judgement (Some at) text = exchange_finding form judgement at text
 
 -- a part of the certificate that fails for a UID
-abbrev pub uid_gap : Option ℕ → List ℕ → List ℕ
-uid_gap None text = []
-uid_gap (Some u) text = uid_line u text
+abbrev pub uid_gap : Form → Option ℕ → List ℕ → List ℕ
+uid_gap form None text = []
+uid_gap form (Some u) text = uid_finding form judged.Gap u text
 
 -- a part of the certificate that fails for a device
-abbrev pub device_gap : Option Device → List ℕ → List ℕ
-device_gap None text = []
-device_gap (Some d) text = uid_line d.uid text
+abbrev pub device_gap : Form → Option Device → List ℕ → List ℕ
+device_gap form None text = []
+device_gap form (Some d) text = uid_finding form judged.Gap d.uid text
 
 -- an exchange that failed
 abbrev pub failed_text : List ℕ
 failed_text = codes " failed: check the adapter and the cable"
 
 -- the parts about the unmutes, failed exchanges and the reported devices
-abbrev pub start_gaps : RunFinding → List ℕ
-start_gaps f =
-    exchange_gap f.missing_unmute (codes " should be one of the three unmutes that begin a run")
-    ++ exchange_gap f.failure failed_text
-    ++ uid_gap f.misreported (codes " acknowledged a mute, but isn't reported: a run reports at most 1,024 devices")
+abbrev pub start_gaps : Form → RunFinding → List ℕ
+start_gaps form f =
+    exchange_gap form judged.Gap f.missing_unmute (codes " should be one of the three unmutes that begin a run")
+    ++ exchange_gap form judged.Failure f.failure failed_text
+    ++ uid_gap form f.misreported
+    (codes " acknowledged a mute, but isn't reported: a run reports at most 1,024 devices")
 
 -- the parts about mutes, UIDs that weren't ruled out, and what is reported of a device
-abbrev pub end_gaps : RunFinding → List ℕ
-end_gaps f =
-    exchange_gap f.untried
+abbrev pub end_gaps : Form → RunFinding → List ℕ
+end_gaps form f =
+    exchange_gap form judged.Gap f.untried
     (codes " mutes a UID that neither acknowledged nor was muted five times in a row: perhaps no device has it")
-    ++ uid_gap f.uncovered
+    ++ uid_gap form f.uncovered
     (codes " is the first UID that wasn't ruled out: it needs five silences in a row of a range that holds it")
-    ++ device_gap f.other_data (codes " isn't reported as in its first acknowledgement")
+    ++ device_gap form f.other_data (codes " isn't reported as in its first acknowledgement")
 
 -- the parts of the certificate that fail
-abbrev pub gaps_text : RunFinding → List ℕ
-gaps_text f = start_gaps f ++ end_gaps f
+abbrev pub gaps_text : Form → RunFinding → List ℕ
+gaps_text form f = start_gaps form f ++ end_gaps form f
 
 -- the parts about known UIDs that fail
-abbrev pub names_gaps : KnownFinding → List ℕ
-names_gaps f =
-    uid_gap f.not_muted_first (codes " is known, but wasn't muted before the first branch")
-    ++ exchange_gap f.unread (codes " mutes a UID that no earlier branch had read")
+abbrev pub names_gaps : Form → KnownFinding → List ℕ
+names_gaps form f =
+    uid_gap form f.not_muted_first (codes " is known, but wasn't muted before the first branch")
+    ++ exchange_gap form judged.Gap f.unread (codes " mutes a UID that no earlier branch had read")
 
 -- the parts that depend on the known UIDs
-abbrev pub known_gaps : Option KnownFinding → List ℕ
-known_gaps None = []
-known_gaps (Some f) = names_gaps f
+abbrev pub known_gaps : Form → Option KnownFinding → List ℕ
+known_gaps form None = []
+known_gaps form (Some f) = names_gaps form f
 
 -- whether no byte came
 abbrev pub hears_nothing : Exchange → Bool
 hears_nothing e = is_silent (heard_of e.heard)
 
 -- a run that found all devices, but heard none
-abbrev pub quiet_text : RunHead → List Exchange → RunFinding → List ℕ
-quiet_text head xs f =
+abbrev pub quiet_text : Form → RunHead → List Exchange → RunFinding → List ℕ
+quiet_text form head xs f =
     if decides_stray head f && list_all hears_nothing xs then
-    line_of (codes "no byte came in the whole run: check the adapter and the first cable") else []
+    finding form (of_run judged.Quiet) (codes "no byte came in the whole run: check the adapter and the first cable")
+    else []
 
 -- the first exchange that failed, by its number in the run
-abbrev pub failure_gap : Start → Option ℕ → List ℕ
-failure_gap start None = []
-failure_gap start (Some at) = exchange_line (number_at start at) failed_text
+abbrev pub failure_gap : Form → Start → Option ℕ → List ℕ
+failure_gap form start None = []
+failure_gap form start (Some at) = exchange_finding form judged.Failure (number_at start at) failed_text
 
 -- the parts of the certificate that fail. If the log may begin within the run, only a failure is decided
-abbrev pub run_gaps : Start → RunFinding → Option KnownFinding → List ℕ
-run_gaps start f names =
-    if has_start start then gaps_text f ++ known_gaps names else failure_gap start f.failure
+abbrev pub run_gaps : Form → Start → RunFinding → Option KnownFinding → List ℕ
+run_gaps form start f names =
+    if has_start start then gaps_text form f ++ known_gaps form names else failure_gap form start f.failure
 
 -- a range, from which bytes came
 abbrev pub range_text : ℕ → ℕ → List ℕ
@@ -246,22 +285,40 @@ advice_text false signs.Unread = codes "; they may be those of a device that the
 abbrev pub stray_text : Bool → Asked → Sign → List ℕ
 stray_text decided asked sign = place_text asked ++ sign_text sign ++ advice_text decided sign
 
--- the line of a stray exchange with this number. `us` are the devices that are listed, or come or leave
-abbrev pub stray_found : ℕ → List ℕ → Bool → Option Exchange → List ℕ
-stray_found number us decided None = []
-stray_found number us decided (Some e) =
-    line_of (exchange_name number ++ stray_text decided e.asked (sign_of us e.asked e.heard))
+-- whether stray bytes show that a rule was broken
+abbrev pub stray_judgement : Bool → Judgement
+stray_judgement decided = if decided then judged.Stray else judged.Unexplained
 
--- the line of the first stray exchange, if there is one
-abbrev pub stray_line : Start → List ℕ → Bool → List Exchange → Option ℕ → List ℕ
-stray_line start us decided xs None = []
-stray_line start us decided xs (Some at) = stray_found (number_at start at) us decided (slice_get xs at)
+-- the UID that bytes read as
+abbrev pub sign_uid : Sign → Option ℕ
+sign_uid (signs.Listed u) = Some u
+sign_uid (signs.Other u) = Some u
+sign_uid signs.Unread = None
+
+-- what a stray exchange with this number is about
+abbrev pub of_stray : Bool → ℕ → Sign → About
+of_stray decided number sign =
+    record { judgement = stray_judgement decided; uid = sign_uid sign; exchange = Some number }
+
+-- the finding about a stray exchange with this number, and so many after it. `us` are the devices that are listed, or
+-- come or leave
+abbrev pub stray_found : Form → (number more : ℕ) → List ℕ → Bool → Option Exchange → List ℕ
+stray_found form number more us decided None = []
+stray_found form number more us decided (Some e) =
+    finding form (of_stray decided number (sign_of us e.asked e.heard))
+    (sighting_name number more ++ stray_text decided e.asked (sign_of us e.asked e.heard))
+
+-- the finding about the first stray exchange, if there is one
+abbrev pub stray_finding : Form → Start → List ℕ → Bool → List Exchange → Option Sighting → List ℕ
+stray_finding form start us decided xs None = []
+stray_finding form start us decided xs (Some s) =
+    stray_found form (number_at start s.at) s.more us decided (slice_get xs s.at)
 
 -- the first stray exchange, unless it is also the first that no device explains
-abbrev pub unless_garbled : Option ℕ → Option ℕ → Option ℕ
+abbrev pub unless_garbled : Option Sighting → Option Sighting → Option Sighting
 unless_garbled None stray = stray
 unless_garbled (Some garbled) None = None
-unless_garbled (Some garbled) (Some at) = if at == garbled then None else Some at
+unless_garbled (Some garbled) (Some s) = if s.at == garbled.at then None else Some s
 
 -- what to do about bytes that no honest line allows, whichever devices are on it
 abbrev pub each_text : List ℕ
@@ -289,23 +346,68 @@ abbrev pub own_text : ℕ → Heard → List ℕ
 own_text u (Heard.One v) = if v == u then same_text u else other_bytes (Heard.One v)
 own_text u heard = other_bytes heard
 
+-- why they don't acknowledge a mute, if that is known
+abbrev pub why_text : Option Flaw → List ℕ
+why_text None = []
+why_text (Some flaw) = codes ": " ++ flaw_text flaw
+
+-- bytes that don't acknowledge a mute
+abbrev pub unacked_text : Option Flaw → List ℕ
+unacked_text flaw = codes " that don't acknowledge it" ++ why_text flaw ++ each_text
+
 -- about bytes that came after a branch of one UID alone and aren't its text, or after a mute and don't acknowledge it
-abbrev pub garbled_text : Asked → Heard → List ℕ
-garbled_text (Branch lo hi) heard =
-    codes ": bytes came from " ++ uid_text lo ++ own_text lo heard
-garbled_text (Mute u) heard =
-    codes ": bytes came after a mute of " ++ uid_text u ++ (codes " that don't acknowledge it" ++ each_text)
-garbled_text _ heard = []
+abbrev pub garbled_text : Option Flaw → Asked → Heard → List ℕ
+garbled_text flaw (Branch lo hi) heard = codes ": bytes came from " ++ uid_text lo ++ own_text lo heard
+garbled_text flaw (Mute u) heard = codes ": bytes came after a mute of " ++ uid_text u ++ unacked_text flaw
+garbled_text flaw _ heard = []
 
--- the line of such an exchange with this number
-abbrev pub garbled_found : ℕ → Option Exchange → List ℕ
-garbled_found number None = []
-garbled_found number (Some e) = line_of (exchange_name number ++ garbled_text e.asked e.heard)
+-- the UID that was asked alone
+abbrev pub asked_uid : Asked → Option ℕ
+asked_uid (Branch lo hi) = Some lo
+asked_uid (Mute u) = Some u
+asked_uid _ = None
 
--- the line of the first such exchange, if there is one
-abbrev pub garbled_line : Start → List Exchange → Option ℕ → List ℕ
-garbled_line start xs None = []
-garbled_line start xs (Some at) = garbled_found (number_at start at) (slice_get xs at)
+-- what such an exchange with this number is about
+abbrev pub of_garbled : ℕ → Asked → About
+of_garbled number asked = record { judgement = judged.Garbled; uid = asked_uid asked; exchange = Some number }
+
+-- the finding about such an exchange with this number, and so many after it
+abbrev pub garbled_found : Form → (number more : ℕ) → Option Flaw → Option Exchange → List ℕ
+garbled_found form number more flaw None = []
+garbled_found form number more flaw (Some e) =
+    finding form (of_garbled number e.asked) (sighting_name number more ++ garbled_text flaw e.asked e.heard)
+
+-- the finding about the first such exchange, if there is one. If it is a mute, it is the first whose reply has a flaw
+abbrev pub garbled_finding : Form → Start → Option Flaw → List Exchange → Option Sighting → List ℕ
+garbled_finding form start flaw xs None = []
+garbled_finding form start flaw xs (Some s) =
+    garbled_found form (number_at start s.at) s.more flaw (slice_get xs s.at)
+
+-- whether bytes came
+abbrev pub is_loud : Heard → Bool
+is_loud Failed = false
+is_loud Silent = false
+is_loud _ = true
+
+-- whether bytes came after an unmute of all devices, which none may answer
+abbrev pub answers_unmute : Asked → Heard → Bool
+answers_unmute Unmute heard = is_loud heard
+answers_unmute _ heard = false
+
+-- the same of an exchange
+abbrev pub is_answered_unmute : Exchange → Bool
+is_answered_unmute e = answers_unmute e.asked e.heard
+
+-- about bytes that came after the unmute with this index, if there are any. They count against nobody
+abbrev pub answered_at : Form → Start → Option ℕ → List ℕ
+answered_at form start None = []
+answered_at form start (Some at) =
+    exchange_finding form judged.Answered (number_at start at)
+    (codes ": bytes came after an unmute, which no device may answer: look for noise, or try each device alone")
+
+-- the finding about the first unmute that was answered, if there is one
+abbrev pub answered_finding : Form → Start → List Exchange → List ℕ
+answered_finding form start xs = answered_at form start (position is_answered_unmute xs)
 
 -- whether a device broke a rule
 abbrev pub any_broke : List DeviceFinding → Bool

@@ -1,12 +1,17 @@
 pub mod Lines
 pub mod Starts
+pub mod Flaws
 pub mod Asked
 pub mod Ends
 pub mod HeardUids
 pub mod StrayBytes
+pub mod Forms
+pub mod RunJson
 pub mod FindingText
 pub mod Mentions
 pub mod DeviceText
 pub mod Explained
 pub mod Runs
 pub mod Logs
+pub mod Document
+pub mod body

@@ -5,6 +5,7 @@ use Rattle.rdm_explain.specs.declared.exchange.Asked.TheVariants.{Branch, Mute}
 use Rattle.rdm_explain.specs.declared.exchange.Heard.{Heard}
 use Rattle.rdm_explain.specs.declared.exchange.Heard.TheVariants.{One}
 use Rattle.rdm_explain.specs.declared.exchange.Exchange.{Exchange}
+use Rattle.rdm_explain.specs.declared.sighting.Sighting.{Sighting}
 use Rattle.rdm_findings.specs.declared.head.Start.{Start}
 use Rattle.rdm_findings.specs.declared.mention.Mention.{Mention}
 use Rattle.rdm_findings.specs.declared.stray_bytes.Sign.{Sign}
@@ -29,9 +30,9 @@ named_by number None = None
 named_by number (Some e) = named_in number e.asked e.heard
 
 -- the same in the first exchange with such bytes, if there is one
-abbrev pub garbled_mention : Start → List Exchange → Option ℕ → Option Mention
+abbrev pub garbled_mention : Start → List Exchange → Option Sighting → Option Mention
 garbled_mention start xs None = None
-garbled_mention start xs (Some at) = named_by (number_at start at) (slice_get xs at)
+garbled_mention start xs (Some s) = named_by (number_at start s.at) (slice_get xs s.at)
 
 -- bytes that nobody was due to send, if they read as a listed UID
 abbrev pub signed_in : ℕ → Sign → Option Mention
@@ -44,6 +45,6 @@ signed_by number us None = None
 signed_by number us (Some e) = signed_in number (sign_of us e.asked e.heard)
 
 -- the same in the first exchange with such bytes, if there is one
-abbrev pub stray_mention : Start → List ℕ → List Exchange → Option ℕ → Option Mention
+abbrev pub stray_mention : Start → List ℕ → List Exchange → Option Sighting → Option Mention
 stray_mention start us xs None = None
-stray_mention start us xs (Some at) = signed_by (number_at start at) us (slice_get xs at)
+stray_mention start us xs (Some s) = signed_by (number_at start s.at) us (slice_get xs s.at)

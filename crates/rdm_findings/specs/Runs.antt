@@ -1,6 +1,6 @@
 -- The runs that a log's lines have.
 use Rattle.std.specs.Prelude.{ℕ, ◌+◌, Bool, true, false, ◌&&◌, ◌||◌, not, ◌==◌, List, [], ◌∷◌, ◌++◌, Option, Some, None}
-use Rattle.std.specs.Prelude.{fold, length, is_some, nat_le, if◌then◌else◌}
+use Rattle.std.specs.Prelude.{fold, length, bytes_eq, is_some, nat_le, if◌then◌else◌}
 use Rattle.arrayvec.specs.ArrayVec.{ArrayVec}
 use Rattle.rdm_wire.specs.Devices.{uids_of}
 use Rattle.rdm_wire.specs.Honest.{Seen}
@@ -8,7 +8,9 @@ use Rattle.rdm_join.specs.Exchange.{seen_event}
 use Rattle.rdm_join.specs.declared.event.LineEvent.{LineEvent}
 use Rattle.rdm_agent.specs.declared.fault.AgentFault.{AgentFault}
 use Rattle.rdm_agent.specs.declared.kind.Kind.{Kind}
+use Rattle.rdm_agent.specs.declared.kind.Kind.TheVariants.{Full, Incremental}
 use Rattle.rdm_agent.specs.declared.search.Search.{Search}
+use Rattle.rdm_agent.specs.declared.search.Search.TheVariants.{Steady, Quick}
 use Rattle.rdm_log.specs.declared.entry.Entry.{Entry}
 use Rattle.rdm_log.specs.declared.entry.Entry.TheVariants as entries
 use Rattle.rdm_log.specs.declared.entry.Owner.{Owner}
@@ -18,10 +20,12 @@ use Rattle.rdm_findings.specs.declared.asks.Asks.{Asks}
 use Rattle.rdm_findings.specs.declared.head.RunHead.{RunHead}
 use Rattle.rdm_findings.specs.declared.head.Start.{Start}
 use Rattle.rdm_findings.specs.declared.head.Start.TheVariants.{At, Later, Unknown}
+use Rattle.rdm_findings.specs.declared.line.DiscoveryOpening.{DiscoveryOpening}
 use Rattle.rdm_findings.specs.declared.line.LogLine.{LogLine}
 use Rattle.rdm_findings.specs.declared.line.LogLine.TheVariants.{Discovery, Session, Entered, Exchanged}
 use Rattle.rdm_findings.specs.Asked.{no_asks, asks_from, is_answered, start_of, kind_of_run, after_ask, after_answer}
 use Rattle.rdm_findings.specs.Asked.{after_run}
+use Rattle.rdm_findings.specs.Flaws.{first_flaw}
 use Rattle.rdm_findings.specs.Starts.{has_start}
 
 -- what the log has of a run: what is known of it, the UIDs that were known before it, if the log has them, and its
@@ -32,11 +36,12 @@ pub record RunRead : Type 0 where
   pub exchanges : List Seen
 
 -- What was read so far. `run` is what is known of the run in progress, or would be known of the next one. `has_run`
--- says whether one has begun. `sent` is its frame whose answer is awaited. In a session's log, `asks` has what it shows
--- of discoveries.
+-- says whether one has begun, and `reopened` whether an opening like its own came after it. `sent` is its frame whose
+-- answer is awaited. In a session's log, `asks` has what it shows of discoveries.
 pub record ReadState : Type 0 where
   pub run : RunRead
   pub has_run : Bool
+  pub reopened : Bool
   pub is_session : Bool
   pub asks : Asks
   pub sent : Option (ArrayVec ℕ)
@@ -44,7 +49,15 @@ pub record ReadState : Type 0 where
 -- a run of which this is known, before its first exchange
 abbrev pub run_of : Option ℕ → Option Kind → Option Search → Start → Option ℕ → Option (List ℕ) → RunRead
 run_of number kind search start budget known = record {
-  head = record { number = number; kind = kind; search = search; start = start; budget = budget; fault = None };
+  head = record {
+    number = number;
+    kind = kind;
+    search = search;
+    start = start;
+    budget = budget;
+    fault = None;
+    flaw = None;
+  };
   known = known;
   exchanges = [];
 }
@@ -54,6 +67,7 @@ abbrev pub awaiting : Bool → Option Kind → Option Search → Option ℕ → 
 awaiting is_session kind search budget known asks = record {
   run = run_of None kind search Unknown budget known;
   has_run = false;
+  reopened = false;
   is_session = is_session;
   asks = asks;
   sent = None;
@@ -107,9 +121,37 @@ abbrev pub continues : ℕ → ReadState → Bool
 continues number s =
     (s.has_run && not s.is_session) && is_next number (length s.run.exchanges) s.run.head.start
 
+-- whether this is the kind of a run
+abbrev pub is_kind : Kind → Option Kind → Bool
+is_kind Full (Some Full) = true
+is_kind Incremental (Some Incremental) = true
+is_kind kind _ = false
+
+-- whether a run searches like this
+abbrev pub is_search : Search → Option Search → Bool
+is_search Steady (Some Steady) = true
+is_search Quick (Some Quick) = true
+is_search search _ = false
+
+-- whether these are the UIDs that were known before a run
+abbrev pub is_known : List ℕ → Option (List ℕ) → Bool
+is_known us None = false
+is_known us (Some known) = bytes_eq us known
+
+-- whether an opening says the same of a run as its own
+abbrev pub is_like : DiscoveryOpening → RunRead → Bool
+is_like o run =
+    (is_kind o.kind run.head.kind && is_search o.search run.head.search)
+    && (is_number o.budget run.head.budget && is_known o.known run.known)
+
+-- whether an opening may be that of the next part of the discovery in progress: a long run may be written in parts,
+-- each with its opening. It is, if the next exchange continues the discovery
+abbrev pub reopens : DiscoveryOpening → ReadState → Bool
+reopens o s = (s.has_run && not s.is_session) && is_like o s.run
+
 -- whether the run in progress, if there is one, ended before this line
 abbrev pub begins : LogLine → ReadState → Bool
-begins (Discovery o) s = true
+begins (Discovery o) s = not (reopens o.value s)
 begins (Session o) s = true
 begins (Entered entry) s = (not s.is_session || begins_log entry s) || begins_run entry s
 begins (Exchanged number frame event) s = not (continues number s)
@@ -141,6 +183,7 @@ abbrev pub begun : ℕ → ReadState → ReadState
 begun r s = record {
   run = run_of (Some r) (kind_of_run r s.asks) s.run.head.search (start_of r s.asks) s.run.head.budget (known_after s);
   has_run = true;
+  reopened = false;
   is_session = s.is_session;
   asks = after_run r s.asks;
   sent = None;
@@ -153,14 +196,33 @@ started number s = record s {
   has_run = true;
 }
 
--- an opening is that of one discovery
+-- what an opening says that came after a run which is like it
+abbrev pub opened_again : ReadState → ReadState
+opened_again s = awaiting false s.run.head.kind s.run.head.search s.run.head.budget s.run.known no_asks
+
+-- what is known of a discovery that begins: an opening is that of one
+abbrev pub before_discovery : ReadState → ReadState
+before_discovery s =
+    if s.reopened then opened_again s else (if s.is_session || s.has_run then nothing_read else s)
+
+-- a discovery begins with the exchange of this number
 abbrev pub discovered : ℕ → ReadState → ReadState
-discovered number s = started number (if s.is_session || s.has_run then nothing_read else s)
+discovered number s = started number (before_discovery s)
+
+-- after the opening of a discovery
+abbrev pub after_opening : DiscoveryOpening → ReadState → ReadState
+after_opening o s =
+    if reopens o s then record s { reopened = true }
+    else awaiting false (Some o.kind) (Some o.search) (Some o.budget) (Some o.known) no_asks
 
 -- with another exchange
 abbrev pub with_exchange : ArrayVec ℕ → LineEvent → ReadState → ReadState
 with_exchange frame event s = record s {
-  run = record s.run { exchanges = s.run.exchanges ++ seen_event (frame, event) ∷ [] };
+  run = record s.run {
+    head = record s.run.head { flaw = first_flaw s.run.head.flaw frame event };
+    exchanges = s.run.exchanges ++ seen_event (frame, event) ∷ [];
+  };
+  reopened = false;
   sent = None;
 }
 
@@ -210,8 +272,7 @@ after_entry _ s = s
 
 -- after a line
 abbrev pub after_line : LogLine → ReadState → ReadState
-after_line (Discovery o) s =
-    awaiting false (Some o.value.kind) (Some o.value.search) (Some o.value.budget) (Some o.value.known) no_asks
+after_line (Discovery o) s = after_opening o.value s
 after_line (Session o) s =
     awaiting true None (Some o.value.opening.search) (Some o.value.opening.budget)
     (Some (uids_of o.value.opening.devices)) (asks_from o.value.opening.next_ask o.value.opening.next_run)

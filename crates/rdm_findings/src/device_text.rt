@@ -1,48 +1,127 @@
 //! What is printed about devices.
-ghost use Rattle.std.specs.Prelude.{◌≡◌, ◌++◌, ◌∷◌, [], OnOk, codes, decimal, flat_map};
+ghost use Rattle.std.specs.Prelude.{◌≡◌, ◌++◌, OnOk, codes, decimal, flat_map};
 ghost use Rattle.rdm_findings.specs.DeviceText.{breach_before, breach_after, followed_text, until_text, over_text};
 ghost use Rattle.rdm_findings.specs.DeviceText.{yet_text, found_text, unbroken_text, see_text, verdict_text};
-ghost use Rattle.rdm_findings.specs.DeviceText.{device_line};
+ghost use Rattle.rdm_findings.specs.DeviceText.{device_finding, device_exchange, device_judgement, of_device};
+ghost use Rattle.rdm_findings.specs.DeviceText.{unbroken_judgement};
+ghost use Rattle.rdm_findings.specs.Forms.{finding};
+ghost use Rattle.rdm_wire.specs.UidText.{uid_text};
 
+use crate::form::{About, Form, Judgement, begin, end};
 use crate::head::Start;
 use crate::heard::RunUids;
 use crate::mention::RunFacts;
 use crate::writing::{write, write_exchange, write_number, write_uid};
 use rdm_explain::{Breach, DeviceFinding, Rule};
+use rdm_wire::Uid;
 use std::alloc::AllocError;
 
-/// Writes a line for each listed device. The sets have the UIDs that were heard, and those that acknowledged a mute.
+/// Writes a finding about each listed device. The sets have the UIDs that were heard, and those that acknowledged a
+/// mute.
 pub(crate) fn write_devices(
     text: &mut Vec<u8>,
+    form: Form,
     facts: &RunFacts,
     heard: &RunUids,
     acked: &RunUids,
     found: &[DeviceFinding],
 ) -> Result<(), AllocError>
     ensures { OnOk result (text.new.items ≡ text.old.items
-        ++ flat_map (device_line facts.now heard.now acked.now) found.now) }
+        ++ flat_map (device_finding form facts.now heard.now acked.now) found.now) }
 {
     'devices: for device in found {
-        write_device(text, facts, heard, acked, device)?;
+        write_device(text, form, facts, heard, acked, device)?;
     }
     Ok(())
 }
 
 fn write_device(
     text: &mut Vec<u8>,
+    form: Form,
     facts: &RunFacts,
     heard: &RunUids,
     acked: &RunUids,
     found: &DeviceFinding,
 ) -> Result<(), AllocError>
-    ensures { OnOk result (text.new.items ≡ text.old.items ++ device_line facts.now heard.now acked.now found.now) }
+    ensures { OnOk result (text.new.items ≡ text.old.items
+        ++ device_finding form facts.now heard.now acked.now found.now) }
 {
     let was_heard = heard.contains(found.uid);
     let was_acked = acked.contains(found.uid);
     let see = facts.seen_at(found.uid);
-    write_uid(text, found.uid)?;
-    write_verdict(text, facts, was_heard, was_acked, see, found.breach)?;
-    text.extend_from_slice(b"\n")
+    write_judged(
+        text,
+        form,
+        facts,
+        found.uid,
+        was_heard,
+        was_acked,
+        see,
+        found.breach,
+    )
+}
+
+fn write_judged(
+    text: &mut Vec<u8>,
+    form: Form,
+    facts: &RunFacts,
+    uid: Uid,
+    heard: bool,
+    acked: bool,
+    see: Option<u64>,
+    breach: Option<Breach>,
+) -> Result<(), AllocError>
+    ensures { OnOk result (text.new.items ≡ text.old.items
+        ++ finding form (of_device facts.now uid acked see breach)
+        (uid_text uid ++ verdict_text facts.now heard acked see breach)) }
+{
+    begin(text, form, &about(facts, uid, acked, see, breach))?;
+    write_uid(text, uid)?;
+    write_verdict(text, facts, heard, acked, see, breach)?;
+    end(text, form)
+}
+
+fn about(facts: &RunFacts, uid: Uid, acked: bool, see: Option<u64>, breach: Option<Breach>) -> About
+    ensures { result ≡ of_device facts.now uid acked see breach }
+{
+    About {
+        judgement: device_judgement(facts, acked, breach),
+        uid: Some(uid),
+        exchange: device_exchange(facts, see, breach),
+    }
+}
+
+// Whether it broke a rule, or else was found.
+fn device_judgement(facts: &RunFacts, acked: bool, breach: Option<Breach>) -> Judgement
+    ensures { result ≡ device_judgement facts.now acked breach }
+{
+    match breach {
+        None => unbroken_judgement(facts, acked),
+        Some(_) => Judgement::Broke,
+    }
+}
+
+// Whether one that broke no rule was found.
+fn unbroken_judgement(facts: &RunFacts, acked: bool) -> Judgement
+    ensures { result ≡ unbroken_judgement facts.now acked }
+{
+    if acked {
+        Judgement::Found
+    } else if facts.whole {
+        Judgement::Missed
+    } else {
+        Judgement::Pending
+    }
+}
+
+// The exchange that its sentence names.
+fn device_exchange(facts: &RunFacts, see: Option<u64>, breach: Option<Breach>) -> Option<u64>
+    ensures { result ≡ device_exchange facts.now see breach }
+{
+    match breach {
+        None => see,
+        Some(breach) => Some(facts.start.number(breach.at)),
+    }
 }
 
 fn write_verdict(

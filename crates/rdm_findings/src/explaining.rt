@@ -1,14 +1,16 @@
 //! The findings about a run, and their text.
 ghost use Rattle.std.specs.Prelude.{◌≡◌, ◌++◌, IfOk, OnOk, option_copied};
 ghost use Rattle.rdm_explain.specs.Rules.{AreFirstBreaches, uids_of_findings};
-ghost use Rattle.rdm_findings.specs.FindingText.{any_broke, stray_line, garbled_line, unless_garbled};
+ghost use Rattle.rdm_findings.specs.FindingText.{any_broke, stray_finding, unless_garbled};
 ghost use Rattle.rdm_findings.specs.Ends.{decides_stray};
 ghost use Rattle.rdm_findings.specs.Explained.{first_of, ExplainsNames, Finds, gone_of};
 ghost use Rattle.rdm_findings.specs.Explained.{findings_text, IsExplained, shows_all, is_broken, stray_of, facts_of};
-ghost use Rattle.rdm_findings.specs.Explained.{devices_text};
+ghost use Rattle.rdm_findings.specs.Explained.{devices_text, bytes_text, run_text};
+ghost use Rattle.rdm_findings.specs.RunJson.{before_run, run_end};
 
 use crate::device_text::write_devices;
 use crate::ending::{decides_stray, is_whole};
+use crate::form::Form;
 use crate::gap_text::{write_quiet, write_run_gaps};
 use crate::garbled_text::write_garbled;
 use crate::gone_text::{write_culprit, write_gone};
@@ -17,11 +19,13 @@ use crate::head_text::write_head;
 use crate::heard::{RunUids, acknowledged_uids, heard_uids};
 use crate::listing::{add_one, culprit_of, gone_of, listed, with_passing};
 use crate::mention::{RunFacts, garbled_mention, stray_mention};
+use crate::run_json::{write_before_run, write_run_end};
 use crate::stray_text::write_stray;
+use crate::unmute_text::write_answered;
 use rdm_agent::Kind;
 use rdm_explain::{
-    DeviceFinding, Exchange, KnownFinding, RunFinding, acknowledged_devices, explain_known,
-    explain_run, first_breaches, first_garbled, first_stray,
+    DeviceFinding, Exchange, KnownFinding, RunFinding, Sighting, acknowledged_devices,
+    explain_known, explain_run, first_breaches, first_garbled, first_stray,
 };
 use rdm_wire::{DeviceSet, NoMemory, Uid};
 use std::alloc::{AllocError, Global};
@@ -50,8 +54,8 @@ struct Findings {
     due: Vec<Uid>,
     // The known UIDs that acknowledged no mute.
     gone: Vec<DeviceFinding>,
-    stray: Option<usize>,
-    garbled: Option<usize>,
+    stray: Option<Sighting>,
+    garbled: Option<Sighting>,
     heard: RunUids,
     acked: RunUids,
 }
@@ -61,24 +65,26 @@ struct Findings {
 /// - whether each of these, and each of the list `present`, was found and followed the rules, but none of `passing`,
 ///   which come or leave;
 /// - the UID that answered alone and then acknowledged no mute, and known ones that acknowledged none;
-/// - where bytes came first though none of all these was due;
-/// - where bytes came first that no honest line allows, whichever devices are on it.
+/// - where bytes came first though none of all these was due, and how often after that;
+/// - where bytes came first that no honest line allows, whichever devices are on it, and how often after that.
 ///
-/// `known` has the UIDs that were known before the run, if the log has them; a full run needs none. The only error: out
-/// of memory.
+/// `any` says whether other runs were printed before. `known` has the UIDs that were known before the run, if the log
+/// has them; a full run needs none. The only error: out of memory.
 pub fn explain(
     alloc: Global,
+    form: Form,
+    any: bool,
     head: &RunHead,
     known: Option<&[Uid]>,
     present: &[Uid],
     passing: &[Uid],
     exchanges: &[Exchange],
 ) -> Result<Explained, NoMemory>
-    ensures { IfOk result (λ e. IsExplained head.now (option_copied known.entry) present.now passing.now exchanges.now
-        e.text.items e.is_broken) }
+    ensures { IfOk result (λ e. IsExplained form any head.now (option_copied known.entry) present.now passing.now
+        exchanges.now e.text.items e.is_broken) }
 {
     let found = find(alloc, head.kind, known, present, passing, exchanges)?;
-    match text(alloc, head, exchanges, &found) {
+    match text(alloc, form, any, head, exchanges, &found) {
         Ok(text) => Ok(Explained {
             text,
             is_broken: is_broken(head, &found),
@@ -100,7 +106,7 @@ fn find(
 {
     let reported = acknowledged_devices(exchanges);
     let acked = acknowledged_uids(alloc, exchanges)?;
-    let Ok(uids) = listed(alloc, &reported, present, passing) else {
+    let Ok(mut uids) = listed(alloc, &reported, present, passing) else {
         return Err(NoMemory);
     };
     let Ok(mut due) = with_passing(alloc, &uids, passing) else {
@@ -108,16 +114,17 @@ fn find(
     };
     let certificate = explain_run(alloc, &reported, exchanges)?;
     let culprit = culprit_of(certificate.failure, &due, &reported, exchanges);
-    if add_one(&mut due, culprit).is_err() {
+    let devices = first_breaches(alloc, &uids, exchanges)?;
+    if add_one(&mut uids, culprit).is_err() || add_one(&mut due, culprit).is_err() {
         return Err(NoMemory);
     }
     Ok(Findings {
         certificate,
         names: names(alloc, kind, known, exchanges)?,
-        devices: first_breaches(alloc, &uids, exchanges)?,
+        devices,
         culprit,
         gone: gone(alloc, &acked, &due, known, exchanges)?,
-        stray: first_stray(alloc, &due, exchanges)?,
+        stray: first_stray(alloc, &uids, passing, exchanges)?,
         garbled: first_garbled(alloc, exchanges)?,
         heard: heard_uids(alloc, exchanges)?,
         due,
@@ -168,58 +175,106 @@ fn names(
 
 fn text(
     alloc: Global,
+    form: Form,
+    any: bool,
     head: &RunHead,
     exchanges: &[Exchange],
     found: &Findings,
 ) -> Result<Vec<u8>, AllocError>
-    ensures { IfOk result (λ text. text.items ≡ findings_text head.now exchanges.now found.now) }
+    ensures { IfOk result (λ text. text.items
+        ≡ before_run form any ++ findings_text form head.now exchanges.now found.now) }
 {
     let mut text = Vec::new(alloc);
+    write_before_run(&mut text, form, any)?;
+    write_findings(&mut text, form, head, exchanges, found)?;
+    Ok(text)
+}
+
+fn write_findings(
+    text: &mut Vec<u8>,
+    form: Form,
+    head: &RunHead,
+    exchanges: &[Exchange],
+    found: &Findings,
+) -> Result<(), AllocError>
+    ensures { OnOk result (text.new.items ≡ text.old.items
+        ++ findings_text form head.now exchanges.now found.now) }
+{
+    write_run(text, form, head, exchanges, found)?;
+    write_others(text, form, head, exchanges, found)
+}
+
+// Writes the findings about the run, its certificate and its silence.
+fn write_run(
+    text: &mut Vec<u8>,
+    form: Form,
+    head: &RunHead,
+    exchanges: &[Exchange],
+    found: &Findings,
+) -> Result<(), AllocError>
+    ensures { OnOk result (text.new.items ≡ text.old.items ++ run_text form head.now exchanges.now found.now) }
+{
     write_head(
-        &mut text,
+        text,
+        form,
         head,
         &found.reported,
         exchanges,
         &found.certificate,
         &found.names,
     )?;
-    write_run_gaps(&mut text, head.start, &found.certificate, &found.names)?;
-    write_quiet(&mut text, head, exchanges, &found.certificate)?;
-    write_judged(&mut text, &facts_of(head, exchanges, found), found)?;
-    write_bytes(&mut text, head, exchanges, found)?;
-    Ok(text)
+    write_run_gaps(text, form, head.start, &found.certificate, &found.names)?;
+    write_quiet(text, form, head, exchanges, &found.certificate)
 }
 
-// Writes the lines of bytes that no device was due to send.
+// Writes the findings about devices and bytes.
+fn write_others(
+    text: &mut Vec<u8>,
+    form: Form,
+    head: &RunHead,
+    exchanges: &[Exchange],
+    found: &Findings,
+) -> Result<(), AllocError>
+    ensures { OnOk result (text.new.items ≡ text.old.items
+        ++ (devices_text form (facts_of head.now exchanges.now found.now) found.now
+        ++ bytes_text form head.now exchanges.now found.now ++ run_end form)) }
+{
+    write_judged(text, form, &facts_of(head, exchanges, found), found)?;
+    write_bytes(text, form, head, exchanges, found)?;
+    write_run_end(text, form)
+}
+
+// Writes the findings about bytes that no device was due to send, or may send.
 fn write_bytes(
     text: &mut Vec<u8>,
+    form: Form,
     head: &RunHead,
     exchanges: &[Exchange],
     found: &Findings,
 ) -> Result<(), AllocError>
-    ensures { OnOk result (text.new.items ≡ text.old.items
-        ++ (stray_line head.now.start found.now.due.items (decides_stray head.now found.now.certificate) exchanges.now
-        (stray_of found.now)
-        ++ garbled_line head.now.start exchanges.now found.now.garbled)) }
+    ensures { OnOk result (text.new.items ≡ text.old.items ++ bytes_text form head.now exchanges.now found.now) }
 {
-    write_first_stray(text, head, exchanges, found)?;
-    write_garbled(text, head.start, exchanges, found.garbled)
+    write_first_stray(text, form, head, exchanges, found)?;
+    write_garbled(text, form, head, exchanges, found.garbled)?;
+    write_answered(text, form, head.start, exchanges)
 }
 
-// Writes the line of the first stray exchange, unless another line is about the same one.
+// Writes the finding about the first stray exchange, unless another one is about the same exchange.
 fn write_first_stray(
     text: &mut Vec<u8>,
+    form: Form,
     head: &RunHead,
     exchanges: &[Exchange],
     found: &Findings,
 ) -> Result<(), AllocError>
     ensures { OnOk result (text.new.items ≡ text.old.items
-        ++ stray_line head.now.start found.now.due.items (decides_stray head.now found.now.certificate) exchanges.now
-        (stray_of found.now)) }
+        ++ stray_finding form head.now.start found.now.due.items (decides_stray head.now found.now.certificate)
+        exchanges.now (stray_of found.now)) }
 {
     let decided = decides_stray(head, &found.certificate);
     write_stray(
         text,
+        form,
         head.start,
         &found.due,
         decided,
@@ -228,25 +283,31 @@ fn write_first_stray(
     )
 }
 
-// The first stray exchange that has a line of its own.
-fn stray_of(found: &Findings) -> Option<usize>
+// The first stray exchange that has a finding of its own.
+fn stray_of(found: &Findings) -> Option<Sighting>
     ensures { result ≡ stray_of found.now }
 {
     unless_garbled(found.garbled, found.stray)
 }
 
-// The first stray exchange, unless another line is about the same one.
-fn unless_garbled(garbled: Option<usize>, stray: Option<usize>) -> Option<usize>
+// The first stray exchange, unless another finding is about the same one.
+fn unless_garbled(garbled: Option<Sighting>, stray: Option<Sighting>) -> Option<Sighting>
     ensures { result ≡ unless_garbled garbled stray }
 {
     match (garbled, stray) {
         (None, stray) => stray,
         (Some(_), None) => None,
-        (Some(garbled), Some(at)) => { if at == garbled { None } else { Some(at) } }
+        (Some(garbled), Some(first)) => {
+            if first.at == garbled.at {
+                None
+            } else {
+                Some(first)
+            }
+        }
     }
 }
 
-// What lines of devices depend on beside their findings.
+// What is said of devices beside their findings.
 fn facts_of(head: &RunHead, exchanges: &[Exchange], found: &Findings) -> RunFacts
     ensures { result ≡ facts_of head.now exchanges.now found.now }
 {
@@ -259,13 +320,25 @@ fn facts_of(head: &RunHead, exchanges: &[Exchange], found: &Findings) -> RunFact
     }
 }
 
-// Writes a line for each device that is listed, didn't mute, or was known and is gone.
-fn write_judged(text: &mut Vec<u8>, facts: &RunFacts, found: &Findings) -> Result<(), AllocError>
-    ensures { OnOk result (text.new.items ≡ text.old.items ++ devices_text facts.now found.now) }
+// Writes a finding about each device that is listed, didn't mute, or was known and is gone.
+fn write_judged(
+    text: &mut Vec<u8>,
+    form: Form,
+    facts: &RunFacts,
+    found: &Findings,
+) -> Result<(), AllocError>
+    ensures { OnOk result (text.new.items ≡ text.old.items ++ devices_text form facts.now found.now) }
 {
-    write_devices(text, facts, &found.heard, &found.acked, &found.devices)?;
-    write_culprit(text, found.culprit)?;
-    write_gone(text, facts, &found.gone)
+    write_devices(
+        text,
+        form,
+        facts,
+        &found.heard,
+        &found.acked,
+        &found.devices,
+    )?;
+    write_culprit(text, form, found.culprit)?;
+    write_gone(text, form, facts, &found.gone)
 }
 
 // Whether the log has all of the run.

@@ -1,55 +1,99 @@
 //! What is printed about bytes that no honest line allows, whichever devices are on it.
-ghost use Rattle.std.specs.Prelude.{◌≡◌, ◌++◌, ◌∷◌, [], OnOk, codes};
+ghost use Rattle.std.specs.Prelude.{◌≡◌, ◌++◌, OnOk, codes};
 ghost use Rattle.rdm_wire.specs.UidText.{uid_text};
-ghost use Rattle.rdm_reports.specs.Report.{line_of};
-ghost use Rattle.rdm_findings.specs.FindingText.{exchange_name, each_text, reply_text, garbled_text, garbled_found};
-ghost use Rattle.rdm_findings.specs.FindingText.{same_text, own_text, other_bytes};
-ghost use Rattle.rdm_findings.specs.FindingText.{garbled_line};
+ghost use Rattle.rdm_findings.specs.FindingText.{sighting_name, each_text, reply_text, garbled_text, garbled_found};
+ghost use Rattle.rdm_findings.specs.FindingText.{same_text, own_text, other_bytes, why_text, unacked_text};
+ghost use Rattle.rdm_findings.specs.FindingText.{garbled_finding, asked_uid, of_garbled};
+ghost use Rattle.rdm_findings.specs.Forms.{finding};
 
-use crate::head::Start;
-use crate::writing::{write, write_exchange, write_uid};
-use rdm_explain::{Asked, Exchange, Heard};
+use crate::flaw::{Flaw, flaw_text};
+use crate::form::{About, Form, Judgement, begin, end};
+use crate::head::RunHead;
+use crate::writing::{write, write_sighting, write_uid};
+use rdm_explain::{Asked, Exchange, Heard, Sighting};
 use rdm_wire::Uid;
 use std::alloc::AllocError;
 
-/// Writes the line of the first exchange with such bytes, if there is one.
+/// Writes the finding about the first exchange with such bytes, if there is one.
 pub(crate) fn write_garbled(
     text: &mut Vec<u8>,
-    start: Start,
+    form: Form,
+    head: &RunHead,
     exchanges: &[Exchange],
-    garbled: Option<usize>,
+    garbled: Option<Sighting>,
 ) -> Result<(), AllocError>
-    ensures { OnOk result (text.new.items ≡ text.old.items ++ garbled_line start exchanges.now garbled) }
+    ensures { OnOk result (text.new.items ≡ text.old.items
+        ++ garbled_finding form head.now.start head.now.flaw exchanges.now garbled) }
 {
-    let Some(at) = garbled else {
+    let Some(first) = garbled else {
         return Ok(());
     };
-    match exchanges.get(at) {
-        Some(exchange) => write_line(text, start.number(at), &exchange.asked, &exchange.heard),
+    match exchanges.get(first.at) {
+        Some(exchange) => {
+            write_found(
+                text,
+                form,
+                head.start.number(first.at),
+                first.more as u64,
+                head.flaw,
+                &exchange.asked,
+                &exchange.heard,
+            )
+        }
         None => Ok(()),
     }
 }
 
-fn write_line(
+fn write_found(
     text: &mut Vec<u8>,
+    form: Form,
     number: u64,
+    more: u64,
+    flaw: Option<Flaw>,
     asked: &Asked,
     heard: &Heard,
 ) -> Result<(), AllocError>
-    ensures { OnOk result (text.new.items ≡ text.old.items
-        ++ line_of (exchange_name number ++ garbled_text asked.now heard.now)) }
+    ensures { OnOk result (text.new.items ≡ text.old.items ++ finding form (of_garbled number asked.now)
+        (sighting_name number more ++ garbled_text flaw asked.now heard.now)) }
 {
-    write_exchange(text, number)?;
-    write_reason(text, asked, heard)?;
-    text.extend_from_slice(b"\n")
+    begin(text, form, &about(number, asked))?;
+    write_sighting(text, number, more)?;
+    write_reason(text, flaw, asked, heard)?;
+    end(text, form)
 }
 
-fn write_reason(text: &mut Vec<u8>, asked: &Asked, heard: &Heard) -> Result<(), AllocError>
-    ensures { OnOk result (text.new.items ≡ text.old.items ++ garbled_text asked.now heard.now) }
+fn about(number: u64, asked: &Asked) -> About
+    ensures { result ≡ of_garbled number asked.now }
+{
+    About {
+        judgement: Judgement::Garbled,
+        uid: asked_uid(asked),
+        exchange: Some(number),
+    }
+}
+
+// The UID that was asked alone.
+fn asked_uid(asked: &Asked) -> Option<Uid>
+    ensures { result ≡ asked_uid asked.now }
+{
+    match asked {
+        Asked::Branch { lo, .. } => Some(*lo),
+        Asked::Mute(uid) => Some(*uid),
+        _ => None,
+    }
+}
+
+fn write_reason(
+    text: &mut Vec<u8>,
+    flaw: Option<Flaw>,
+    asked: &Asked,
+    heard: &Heard,
+) -> Result<(), AllocError>
+    ensures { OnOk result (text.new.items ≡ text.old.items ++ garbled_text flaw asked.now heard.now) }
 {
     match asked {
         Asked::Branch { lo, .. } => write_from(text, *lo, heard),
-        Asked::Mute(uid) => write_unmuted(text, *uid),
+        Asked::Mute(uid) => write_unmuted(text, flaw, *uid),
         _ => Ok(()),
     }
 }
@@ -84,21 +128,34 @@ fn same_text(uid: Uid) -> &'static str
     }
 }
 
-fn write_unmuted(text: &mut Vec<u8>, uid: Uid) -> Result<(), AllocError>
+fn write_unmuted(text: &mut Vec<u8>, flaw: Option<Flaw>, uid: Uid) -> Result<(), AllocError>
     ensures { OnOk result (text.new.items ≡ text.old.items
-        ++ (codes ": bytes came after a mute of " ++ uid_text uid
-        ++ (codes " that don't acknowledge it" ++ each_text))) }
+        ++ (codes ": bytes came after a mute of " ++ uid_text uid ++ unacked_text flaw)) }
 {
     write(text, ": bytes came after a mute of ")?;
     write_uid(text, uid)?;
-    write_unacked(text)
+    write_unacked(text, flaw)
 }
 
-fn write_unacked(text: &mut Vec<u8>) -> Result<(), AllocError>
-    ensures { OnOk result (text.new.items ≡ text.old.items ++ (codes " that don't acknowledge it" ++ each_text)) }
+fn write_unacked(text: &mut Vec<u8>, flaw: Option<Flaw>) -> Result<(), AllocError>
+    ensures { OnOk result (text.new.items ≡ text.old.items ++ unacked_text flaw) }
 {
     write(text, " that don't acknowledge it")?;
+    write_why(text, flaw)?;
     write(text, EACH)
+}
+
+// Why they don't, if that is known.
+fn write_why(text: &mut Vec<u8>, flaw: Option<Flaw>) -> Result<(), AllocError>
+    ensures { OnOk result (text.new.items ≡ text.old.items ++ why_text flaw) }
+{
+    match flaw {
+        None => Ok(()),
+        Some(flaw) => {
+            write(text, ": ")?;
+            write(text, flaw_text(flaw))
+        }
+    }
 }
 
 fn write_other_bytes(text: &mut Vec<u8>, heard: &Heard) -> Result<(), AllocError>

@@ -1,4 +1,5 @@
 //! What is known of a run beside its exchanges.
+use crate::flaw::Flaw;
 use rdm_agent::{AgentFault, Kind, Search};
 
 /// With which exchange of a run a log begins to have it.
@@ -52,4 +53,6 @@ pub struct RunHead {
     pub budget: Option<u64>,
     /// How it ended, if the log says so: its fault, or none.
     pub fault: Option<Option<AgentFault>>,
+    /// Why the first bytes that came after a mute and don't acknowledge it don't, if there are any.
+    pub flaw: Option<Flaw>,
 }

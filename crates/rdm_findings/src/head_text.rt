@@ -1,22 +1,28 @@
-//! The first line of a run.
-ghost use Rattle.std.specs.Prelude.{◌≡◌, ◌++◌, ◌∷◌, [], Some, OnOk, codes};
+//! The first finding of a run.
+ghost use Rattle.std.specs.Prelude.{◌≡◌, ◌++◌, OnOk, codes};
 ghost use Rattle.rdm_reports.specs.Report.{fault_text};
 ghost use Rattle.rdm_findings.specs.FindingText.{name_text, kind_text, search_text, what_text, end_text, outcome_text};
 ghost use Rattle.rdm_findings.specs.FindingText.{sound_text, gap_text, begun_text, certificate_text, decides_gaps};
 ghost use Rattle.rdm_findings.specs.Ends.{end_of};
-ghost use Rattle.rdm_findings.specs.FindingText.{head_text, head_line, because_text, cause_text, count_text};
+ghost use Rattle.rdm_findings.specs.FindingText.{head_text, head_finding, head_sentence, reason_text, spent_text};
+ghost use Rattle.rdm_findings.specs.FindingText.{count_text};
+ghost use Rattle.rdm_findings.specs.FindingText.{sound_judgement, begun_judgement, run_judgement};
+ghost use Rattle.rdm_findings.specs.Forms.{after_sentence};
 
 use crate::ending::{end_of, is_complete, is_known_complete, is_lost, is_over};
+use crate::form::{About, Form, Judgement, end};
 use crate::head::{RunHead, Start};
+use crate::run_json::write_run_start;
 use crate::writing::{write, write_count, write_number, write_uid};
 use rdm_agent::{AgentFault, Kind, Search};
 use rdm_explain::{Exchange, KnownFinding, RunFinding};
 use rdm_wire::DeviceSet;
 use std::alloc::AllocError;
 
-/// Writes the first line of a run.
+/// Writes the first finding of a run. In JSON the run's members precede it.
 pub(crate) fn write_head(
     text: &mut Vec<u8>,
+    form: Form,
     head: &RunHead,
     reported: &DeviceSet,
     exchanges: &[Exchange],
@@ -24,81 +30,80 @@ pub(crate) fn write_head(
     names: &Option<KnownFinding>,
 ) -> Result<(), AllocError>
     ensures { OnOk result (text.new.items ≡ text.old.items
-        ++ head_line head.now reported.now exchanges.now certificate.now names.now) }
+        ++ head_finding form head.now reported.now exchanges.now certificate.now names.now) }
 {
     let ending = end_of(head, reported, exchanges, certificate);
-    write_run(text, head, ending, exchanges.len(), reported.len())?;
-    write_certificate(text, head, reported, exchanges, certificate, names)?;
-    text.extend_from_slice(b"\n")
-}
-
-// The certificate, and why it is incomplete.
-fn write_certificate(
-    text: &mut Vec<u8>,
-    head: &RunHead,
-    reported: &DeviceSet,
-    exchanges: &[Exchange],
-    certificate: &RunFinding,
-    names: &Option<KnownFinding>,
-) -> Result<(), AllocError>
-    ensures { OnOk result (text.new.items ≡ text.old.items
-        ++ (certificate_text head.now (decides_gaps head.now reported.now exchanges.now certificate.now names.now)
-        certificate.now names.now
-        ++ because_text head.now (end_of head.now reported.now exchanges.now certificate.now) certificate.now)) }
-{
     let decided = decides_gaps(head, reported, exchanges, certificate, names);
-    let ending = end_of(head, reported, exchanges, certificate);
-    write(text, certificate_text(head, decided, certificate, names))?;
-    write_because(text, head, ending, certificate)
+    let about = About::run(run_judgement(head, decided, certificate, names));
+    write_run_start(text, form, head, ending, reported.len(), exchanges, &about)?;
+    write_sentence(text, head, reported, exchanges, certificate, names)?;
+    end(text, form)
 }
 
-// Why a certificate is incomplete, unless it is complete, or can't be decided.
-fn write_because(
+fn write_sentence(
     text: &mut Vec<u8>,
     head: &RunHead,
-    ending: Option<Option<AgentFault>>,
+    reported: &DeviceSet,
+    exchanges: &[Exchange],
     certificate: &RunFinding,
+    names: &Option<KnownFinding>,
 ) -> Result<(), AllocError>
-    ensures { OnOk result (text.new.items ≡ text.old.items ++ because_text head.now ending certificate.now) }
+    ensures { OnOk result (text.new.items ≡ text.old.items
+        ++ head_sentence head.now reported.now exchanges.now certificate.now names.now) }
 {
-    if head.start.is_first() && !is_complete(certificate) {
-        write_cause(text, head.budget, ending)
+    let ending = end_of(head, reported, exchanges, certificate);
+    let decided = decides_gaps(head, reported, exchanges, certificate, names);
+    write_run(text, head, ending, exchanges.len(), reported.len())?;
+    write(text, certificate_text(head, decided, certificate, names))
+}
+
+// Whether the certificate is complete, if that can be decided.
+fn run_judgement(
+    head: &RunHead,
+    decided: bool,
+    certificate: &RunFinding,
+    names: &Option<KnownFinding>,
+) -> Judgement
+    ensures { result ≡ run_judgement head.now decided certificate.now names.now }
+{
+    if head.start.is_first() {
+        begun_judgement(decided, certificate, names)
     } else {
-        Ok(())
+        Judgement::Undecided
     }
 }
 
-fn write_cause(
-    text: &mut Vec<u8>,
-    budget: Option<u64>,
-    ending: Option<Option<AgentFault>>,
-) -> Result<(), AllocError>
-    ensures { OnOk result (text.new.items ≡ text.old.items ++ cause_text budget ending) }
+// The same, if the log has the run's beginning.
+fn begun_judgement(
+    decided: bool,
+    certificate: &RunFinding,
+    names: &Option<KnownFinding>,
+) -> Judgement
+    ensures { result ≡ begun_judgement decided certificate.now names.now }
 {
-    match ending {
-        Some(Some(AgentFault::Exhausted)) => write_spent(text, budget),
-        Some(Some(AgentFault::Aborted)) => write(text, ": it was aborted"),
-        _ => Ok(()),
+    if is_complete(certificate) {
+        sound_judgement(names)
+    } else if decided {
+        Judgement::Incomplete
+    } else {
+        Judgement::Undecided
     }
 }
 
-fn write_spent(text: &mut Vec<u8>, budget: Option<u64>) -> Result<(), AllocError>
-    ensures { OnOk result (text.new.items ≡ text.old.items
-        ++ cause_text budget (Some (Some AgentFault.Exhausted))) }
+// The same, if no part fails but those that depend on the known UIDs.
+fn sound_judgement(names: &Option<KnownFinding>) -> Judgement
+    ensures { result ≡ sound_judgement names.now }
 {
-    match budget {
-        Some(budget) => write_budget(text, budget),
-        None => write(text, ": its budget of frames is used up"),
+    match names {
+        Some(names) => {
+            if is_known_complete(names) {
+                Judgement::Complete
+            } else {
+                Judgement::Incomplete
+            }
+        }
+        None => Judgement::Undecided,
     }
-}
-
-fn write_budget(text: &mut Vec<u8>, budget: u64) -> Result<(), AllocError>
-    ensures { OnOk result (text.new.items ≡ text.old.items
-        ++ (codes ": its budget of " ++ count_text budget (codes " frame") ++ codes " is used up")) }
-{
-    write(text, ": its budget of ")?;
-    write_count(text, budget, " frame")?;
-    write(text, " is used up")
 }
 
 // Whether no exchanges that the log doesn't have could mend the certificate.
@@ -125,7 +130,7 @@ fn write_run(
 {
     write_what(text, head)?;
     write_count(text, exchanges as u64, " exchange")?;
-    write_outcome(text, ending, reported)
+    write_outcome(text, head.budget, ending, reported)
 }
 
 // The run's name, its kind, and how it searched.
@@ -180,36 +185,86 @@ fn search_text(search: Option<Search>) -> &'static str
 // How the run ended, and how many devices it reported.
 fn write_outcome(
     text: &mut Vec<u8>,
+    budget: Option<u64>,
     ending: Option<Option<AgentFault>>,
     reported: usize,
 ) -> Result<(), AllocError>
-    ensures { OnOk result (text.new.items ≡ text.old.items ++ outcome_text ending reported) }
+    ensures { OnOk result (text.new.items ≡ text.old.items ++ outcome_text budget ending reported) }
 {
-    write_ending(text, ending)?;
+    write_ending(text, budget, ending)?;
     write(text, ", ")?;
     write_count(text, reported as u64, " device")
 }
 
-fn write_ending(text: &mut Vec<u8>, ending: Option<Option<AgentFault>>) -> Result<(), AllocError>
-    ensures { OnOk result (text.new.items ≡ text.old.items ++ end_text ending) }
+fn write_ending(
+    text: &mut Vec<u8>,
+    budget: Option<u64>,
+    ending: Option<Option<AgentFault>>,
+) -> Result<(), AllocError>
+    ensures { OnOk result (text.new.items ≡ text.old.items ++ end_text budget ending) }
 {
     match ending {
         None => Ok(()),
         Some(None) => write(text, ", no fault"),
-        Some(Some(fault)) => {
-            write(text, ", ")?;
-            write_fault(text, fault)
-        }
+        Some(Some(fault)) => write_explained(text, budget, &fault),
     }
 }
 
-fn write_fault(text: &mut Vec<u8>, fault: AgentFault) -> Result<(), AllocError>
-    ensures { OnOk result (text.new.items ≡ text.old.items ++ fault_text fault) }
+// The fault, and what it says.
+fn write_explained(
+    text: &mut Vec<u8>,
+    budget: Option<u64>,
+    fault: &AgentFault,
+) -> Result<(), AllocError>
+    ensures { OnOk result (text.new.items ≡ text.old.items
+        ++ (codes ", " ++ fault_text fault.now ++ reason_text budget fault.now)) }
+{
+    write(text, ", ")?;
+    write_fault(text, fault)?;
+    write_reason(text, budget, fault)
+}
+
+fn write_reason(
+    text: &mut Vec<u8>,
+    budget: Option<u64>,
+    fault: &AgentFault,
+) -> Result<(), AllocError>
+    ensures { OnOk result (text.new.items ≡ text.old.items ++ reason_text budget fault.now) }
+{
+    match fault {
+        AgentFault::Corrupt(_) => write(text, " (its answer showed no new device)"),
+        AgentFault::TooMany => write(text, " (more than 1,024 devices answered)"),
+        AgentFault::Exhausted => write_spent(text, budget),
+        AgentFault::LineFailed => write(text, " (the line failed)"),
+        AgentFault::Aborted => write(text, " (it was aborted)"),
+    }
+}
+
+fn write_spent(text: &mut Vec<u8>, budget: Option<u64>) -> Result<(), AllocError>
+    ensures { OnOk result (text.new.items ≡ text.old.items ++ spent_text budget) }
+{
+    match budget {
+        Some(budget) => write_budget(text, budget),
+        None => write(text, " (its budget of frames is used up)"),
+    }
+}
+
+fn write_budget(text: &mut Vec<u8>, budget: u64) -> Result<(), AllocError>
+    ensures { OnOk result (text.new.items ≡ text.old.items
+        ++ (codes " (its budget of " ++ count_text budget (codes " frame") ++ codes " is used up)")) }
+{
+    write(text, " (its budget of ")?;
+    write_count(text, budget, " frame")?;
+    write(text, " is used up)")
+}
+
+fn write_fault(text: &mut Vec<u8>, fault: &AgentFault) -> Result<(), AllocError>
+    ensures { OnOk result (text.new.items ≡ text.old.items ++ fault_text fault.now) }
 {
     match fault {
         AgentFault::Corrupt(uid) => {
             write(text, "fault 1 ")?;
-            write_uid(text, uid)
+            write_uid(text, *uid)
         }
         AgentFault::TooMany => write(text, "fault 2"),
         AgentFault::Exhausted => write(text, "fault 3"),

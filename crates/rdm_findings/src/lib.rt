@@ -4,10 +4,13 @@
 
 mod asks;
 mod device_text;
+mod document;
 mod ending;
 mod entry;
 mod explaining;
 mod fields;
+mod flaw;
+mod form;
 mod gap_text;
 mod garbled_text;
 mod gone_text;
@@ -21,11 +24,16 @@ mod log;
 mod mention;
 mod opening;
 mod reading;
+mod run_json;
 mod stray_bytes;
 mod stray_text;
+mod unmute_text;
 mod writing;
 
+pub use document::{document_end, document_start, document_stop, memory_stop};
 pub use explaining::{Explained, explain};
+pub use flaw::Flaw;
+pub use form::Form;
 pub use head::{RunHead, Start};
 pub use line::{DiscoveryOpening, LogLine, SessionOpening, read_line};
 pub use log::{LogFault, explain_log};

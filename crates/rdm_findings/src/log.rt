@@ -1,17 +1,22 @@
 //! Explains a whole log, line by line.
-ghost use Rattle.std.specs.Prelude.{◌≡◌, ◌≢◌, ◌&&◌, ◌++◌, ◌+◌, ◌-◌, ◌<◌, ◌^◌, List, [], ℕ, IfOk, OnOk, Err};
+ghost use Rattle.std.specs.Prelude.{◌≡◌, ◌≢◌, ◌&&◌, ◌++◌, ◌+◌, ◌-◌, ◌<◌, ◌^◌, List, [], ℕ, IfOk, IfErr, OnOk, Err};
 ghost use Rattle.std.specs.Prelude.{false, flat_map, if◌then◌else◌};
 ghost use Rattle.std.specs.Io.KnownBytes.{Appends, Consumes, IsAtEnd};
 ghost use Rattle.rdm_findings.specs.declared.line.LogLine.{LogLine};
 ghost use Rattle.rdm_findings.specs.Lines.{line_text, lines_text};
 ghost use Rattle.rdm_findings.specs.Runs.{runs_of, begins, ended, after_line};
-ghost use Rattle.rdm_findings.specs.Logs.{AreExplained, IsLogText, EndsLog, IsRefusedAt, unjudged_line, no_run_text};
+ghost use Rattle.rdm_findings.specs.Logs.{AreExplained, IsLogText, EndsLog, IsStopped, unjudged_finding, no_run_text};
+ghost use Rattle.rdm_findings.specs.Forms.{object_start, of_run};
+ghost use Rattle.rdm_findings.specs.Logs.{no_run_finding, no_run_start};
+ghost use Rattle.rdm_findings.specs.body.Stops.{StopsAfter};
 
 use crate::explaining::explain;
+use crate::form::{About, Form, Judgement, write_start};
 use crate::input::{NoText, read_text};
 use crate::line::{LogLine, read_line};
 use crate::reading::Reading;
-use crate::writing::{write_end, write_uid_line};
+use crate::run_json::write_run_end;
+use crate::writing::{write, write_end, write_uid_finding};
 use rdm_reports::write_all;
 use rdm_wire::{NoMemory, Uid};
 use std::alloc::{AllocError, Global};
@@ -42,9 +47,10 @@ impl From<NoMemory> for LogFault {
 
 /// Explains each run of the reader's log, in order, when it has ended, with a list of devices that were present. If the
 /// log has no run, it says so. `passing` has devices that come or leave. Returns whether a rule was broken in any run.
-/// With an error, runs may have been explained before.
+/// With an error, runs may have been explained before: those that ended.
 pub fn explain_log<R: Read, W: Write>(
     alloc: Global,
+    form: Form,
     reader: &mut R,
     present: &[Uid],
     passing: &[Uid],
@@ -52,11 +58,11 @@ pub fn explain_log<R: Read, W: Write>(
 ) -> Result<bool, LogFault>
     ensures explained { IfOk result (λ broken. (lines : List LogLine) × (text : List ℕ)
         × Consumes (R.remaining reader.old) (R.remaining reader.new) (lines_text lines)
-        × IsLogText present.now passing.now (runs_of lines) text broken
+        × IsLogText form present.now passing.now (runs_of lines) text broken
         × Appends (W.contents writer.old) (W.contents writer.new) text) }
     ensures whole { OnOk result (IsAtEnd (R.remaining reader.new)) }
-    ensures refused { (n : ℕ) → result ≡ Err (LogFault.Line n)
-        → IsRefusedAt (R.remaining reader.old) (R.remaining reader.new) n }
+    ensures stopped { IfErr result (IsStopped form present.now passing.now (R.remaining reader.old)
+        (R.remaining reader.new) (W.contents writer.old) (W.contents writer.new)) }
 {
     let mut text = Vec::new(alloc);
     let mut reading = Reading::new(alloc);
@@ -65,11 +71,11 @@ pub fn explain_log<R: Read, W: Write>(
     'lines: for number in 0..u64::MAX {
         read_next(reader, &mut text, number)?;
         if text.is_empty() {
-            let breaks = explain_last(alloc, &reading, any, present, passing, writer)?;
+            let breaks = explain_last(alloc, form, any, &reading, present, passing, writer)?;
             return Ok(broken || breaks);
         }
         let line = next_line(alloc, &text, number)?;
-        let breaks = explain_ended(alloc, &reading, &line, present, passing, writer)?;
+        let breaks = explain_ended(alloc, form, any, &reading, &line, present, passing, writer)?;
         let ends = ends_run(&reading, &line);
         any = any || ends;
         broken = broken || breaks;
@@ -126,9 +132,12 @@ fn ends_run(reading: &Reading, line: &LogLine) -> bool
     reading.is_ended_by(line) && reading.has_run()
 }
 
-// Explains the run in progress if it ended before this line, and returns whether a rule was broken.
+// Explains the run in progress if it ended before this line, and returns whether a rule was broken. `any` says whether
+// others were printed before.
 fn explain_ended<W: Write>(
     alloc: Global,
+    form: Form,
+    any: bool,
     reading: &Reading,
     line: &LogLine,
     present: &[Uid],
@@ -136,13 +145,16 @@ fn explain_ended<W: Write>(
     writer: &mut W,
 ) -> Result<bool, LogFault>
     ensures explained { IfOk result (λ broken. (text : List ℕ)
-        × AreExplained present.now passing.now (if begins line.now reading.now then ended reading.now else []) text
-        broken
+        × AreExplained form any present.now passing.now
+        (if begins line.now reading.now then ended reading.now else []) text broken
         × Appends (W.contents writer.old) (W.contents writer.new) text) }
+    ensures stopped { IfErr result (StopsAfter (AreExplained form any present.now passing.now
+        (if begins line.now reading.now then ended reading.now else [])) (W.contents writer.old)
+        (W.contents writer.new)) }
     ensures fault { (n : ℕ) → result ≢ Err (LogFault.Line n) }
 {
     if reading.is_ended_by(line) {
-        explain_run(alloc, reading, present, passing, writer)
+        explain_run(alloc, form, any, reading, present, passing, writer)
     } else {
         Ok(false)
     }
@@ -152,35 +164,43 @@ fn explain_ended<W: Write>(
 // whether the log has others.
 fn explain_last<W: Write>(
     alloc: Global,
-    reading: &Reading,
+    form: Form,
     any: bool,
+    reading: &Reading,
     present: &[Uid],
     passing: &[Uid],
     writer: &mut W,
 ) -> Result<bool, LogFault>
     ensures explained { IfOk result (λ broken. (text : List ℕ)
-        × EndsLog present.now passing.now any (ended reading.now) text broken
+        × EndsLog form present.now passing.now any (ended reading.now) text broken
         × Appends (W.contents writer.old) (W.contents writer.new) text) }
+    ensures stopped { IfErr result (StopsAfter (EndsLog form present.now passing.now any (ended reading.now))
+        (W.contents writer.old) (W.contents writer.new)) }
     ensures fault { (n : ℕ) → result ≢ Err (LogFault.Line n) }
 {
     if any || reading.has_run() {
-        explain_run(alloc, reading, present, passing, writer)
+        explain_run(alloc, form, any, reading, present, passing, writer)
     } else {
-        explain_none(alloc, present, writer)
+        explain_none(alloc, form, present, writer)
     }
 }
 
-// Explains the run in progress, if there is one, and returns whether a rule was broken.
+// Explains the run in progress, if there is one, and returns whether a rule was broken. `any` says whether others were
+// printed before.
 fn explain_run<W: Write>(
     alloc: Global,
+    form: Form,
+    any: bool,
     reading: &Reading,
     present: &[Uid],
     passing: &[Uid],
     writer: &mut W,
 ) -> Result<bool, LogFault>
     ensures explained { IfOk result (λ broken. (text : List ℕ)
-        × AreExplained present.now passing.now (ended reading.now) text broken
+        × AreExplained form any present.now passing.now (ended reading.now) text broken
         × Appends (W.contents writer.old) (W.contents writer.new) text) }
+    ensures stopped { IfErr result (StopsAfter (AreExplained form any present.now passing.now (ended reading.now))
+        (W.contents writer.old) (W.contents writer.new)) }
     ensures fault { (n : ℕ) → result ≢ Err (LogFault.Line n) }
 {
     if !reading.has_run() {
@@ -188,6 +208,8 @@ fn explain_run<W: Write>(
     }
     let Ok(explained) = explain(
         alloc,
+        form,
+        any,
         reading.head(),
         reading.known(),
         present,
@@ -203,12 +225,20 @@ fn explain_run<W: Write>(
 }
 
 // Says that the log has no run, in which no rule was broken.
-fn explain_none<W: Write>(alloc: Global, present: &[Uid], writer: &mut W) -> Result<bool, LogFault>
+fn explain_none<W: Write>(
+    alloc: Global,
+    form: Form,
+    present: &[Uid],
+    writer: &mut W,
+) -> Result<bool, LogFault>
     ensures unbroken { IfOk result (λ broken. broken ≡ false) }
-    ensures printed { OnOk result (Appends (W.contents writer.old) (W.contents writer.new) (no_run_text present.now)) }
+    ensures printed { OnOk result (Appends (W.contents writer.old) (W.contents writer.new)
+        (no_run_text form present.now)) }
+    ensures stopped { IfErr result (StopsAfter (λ text broken.
+        (text ≡ no_run_text form present.now) × (broken ≡ false)) (W.contents writer.old) (W.contents writer.new)) }
     ensures fault { (n : ℕ) → result ≢ Err (LogFault.Line n) }
 {
-    let Ok(text) = no_run_text(alloc, present) else {
+    let Ok(text) = no_run_text(alloc, form, present) else {
         return Err(LogFault::NoMemory);
     };
     match write_all(writer, &text) {
@@ -218,28 +248,62 @@ fn explain_none<W: Write>(alloc: Global, present: &[Uid], writer: &mut W) -> Res
 }
 
 // What is printed for a log without a run: nothing is known of the listed devices.
-fn no_run_text(alloc: Global, present: &[Uid]) -> Result<Vec<u8>, AllocError>
-    ensures { IfOk result (λ text. text.items ≡ no_run_text present.now) }
+fn no_run_text(alloc: Global, form: Form, present: &[Uid]) -> Result<Vec<u8>, AllocError>
+    ensures { IfOk result (λ text. text.items ≡ no_run_text form present.now) }
 {
     let mut text = Vec::new(alloc);
-    write_end(&mut text, "the log has no exchange of a discovery")?;
-    write_unjudged(&mut text, present)?;
+    write_no_run(&mut text, form)?;
+    write_unjudged(&mut text, form, present)?;
+    write_run_end(&mut text, form)?;
     Ok(text)
 }
 
-fn write_unjudged(text: &mut Vec<u8>, present: &[Uid]) -> Result<(), AllocError>
-    ensures { OnOk result (text.new.items ≡ text.old.items ++ flat_map unjudged_line present.now) }
+// The first finding about a log without a run.
+fn write_no_run(text: &mut Vec<u8>, form: Form) -> Result<(), AllocError>
+    ensures { OnOk result (text.new.items ≡ text.old.items ++ no_run_finding form) }
+{
+    write_no_run_start(text, form)?;
+    write_end(text, form, "the log has no exchange of a discovery")
+}
+
+// What precedes its sentence: in JSON it has the form of a run.
+fn write_no_run_start(text: &mut Vec<u8>, form: Form) -> Result<(), AllocError>
+    ensures { OnOk result (text.new.items ≡ text.old.items ++ no_run_start form) }
+{
+    match form {
+        Form::Lines => Ok(()),
+        Form::Json => write_no_run_object(text),
+    }
+}
+
+const NO_RUN: &str = "{\"exchanges\":0,\"devices\":0,\"heard\":\"\",\"findings\":[";
+
+fn write_no_run_object(text: &mut Vec<u8>) -> Result<(), AllocError>
+    ensures { OnOk result (text.new.items ≡ text.old.items ++ no_run_start Form.Json) }
+{
+    write(text, NO_RUN)?;
+    write_no_run_about(text)
+}
+
+fn write_no_run_about(text: &mut Vec<u8>) -> Result<(), AllocError>
+    ensures { OnOk result (text.new.items ≡ text.old.items ++ object_start (of_run Judgement.NoRun)) }
+{
+    write_start(text, &About::run(Judgement::NoRun))
+}
+
+fn write_unjudged(text: &mut Vec<u8>, form: Form, present: &[Uid]) -> Result<(), AllocError>
+    ensures { OnOk result (text.new.items ≡ text.old.items ++ flat_map (unjudged_finding form) present.now) }
 {
     'present: for uid in present {
-        write_unjudged_line(text, *uid)?;
+        write_unjudged_finding(text, form, *uid)?;
     }
     Ok(())
 }
 
 const UNJUDGED: &str = " can't be judged: the log has no exchange of a discovery";
 
-fn write_unjudged_line(text: &mut Vec<u8>, uid: Uid) -> Result<(), AllocError>
-    ensures { OnOk result (text.new.items ≡ text.old.items ++ unjudged_line uid) }
+fn write_unjudged_finding(text: &mut Vec<u8>, form: Form, uid: Uid) -> Result<(), AllocError>
+    ensures { OnOk result (text.new.items ≡ text.old.items ++ unjudged_finding form uid) }
 {
-    write_uid_line(text, uid, UNJUDGED)
+    write_uid_finding(text, form, Judgement::Unjudged, uid, UNJUDGED)
 }

@@ -5,7 +5,7 @@ ghost use Rattle.rdm_findings.specs.Mentions.{spelt_or, named_in, garbled_mentio
 
 use crate::head::Start;
 use crate::stray_bytes::{Sign, sign_of};
-use rdm_explain::{Asked, Exchange, Heard};
+use rdm_explain::{Asked, Exchange, Heard, Sighting};
 use rdm_wire::Uid;
 
 /// The devices that a line about an exchange names.
@@ -62,15 +62,15 @@ fn mentioned(mention: &Option<Mention>, uid: Uid) -> Option<u64>
 pub(crate) fn garbled_mention(
     start: Start,
     exchanges: &[Exchange],
-    garbled: Option<usize>,
+    garbled: Option<Sighting>,
 ) -> Option<Mention>
     ensures { result ≡ garbled_mention start exchanges.now garbled }
 {
-    let Some(at) = garbled else {
+    let Some(first) = garbled else {
         return None;
     };
-    match exchanges.get(at) {
-        Some(exchange) => named_in(start.number(at), exchange.asked, &exchange.heard),
+    match exchanges.get(first.at) {
+        Some(exchange) => named_in(start.number(first.at), exchange.asked, &exchange.heard),
         None => None,
     }
 }
@@ -110,15 +110,15 @@ pub(crate) fn stray_mention(
     start: Start,
     listed: &[Uid],
     exchanges: &[Exchange],
-    stray: Option<usize>,
+    stray: Option<Sighting>,
 ) -> Option<Mention>
     ensures { result ≡ stray_mention start listed.now exchanges.now stray }
 {
-    let Some(at) = stray else {
+    let Some(first) = stray else {
         return None;
     };
-    match exchanges.get(at) {
-        Some(exchange) => signed_in(start.number(at), sign_of(listed, exchange)),
+    match exchanges.get(first.at) {
+        Some(exchange) => signed_in(start.number(first.at), sign_of(listed, exchange)),
         None => None,
     }
 }

@@ -5,9 +5,10 @@ ghost use Rattle.rdm_wire.specs.Devices.{uids_of};
 ghost use Rattle.rdm_explain.specs.Exchanges.{seen_all};
 ghost use Rattle.rdm_explain.specs.Reported.{reported_in};
 ghost use Rattle.rdm_findings.specs.Starts.{has_start};
-ghost use Rattle.rdm_findings.specs.Runs.{is_next};
+ghost use Rattle.rdm_findings.specs.Runs.{is_next, is_kind, is_search, is_number};
 
 use crate::asks::{Asks, NO_ASKS};
+use crate::flaw::first_flaw;
 use crate::head::{RunHead, Start};
 use crate::line::{DiscoveryOpening, LogLine, SessionOpening};
 use rdm_agent::{AgentFault, Kind, Search};
@@ -26,6 +27,8 @@ pub(crate) struct Reading {
     known: Option<Vec<Uid>>,
     exchanges: Vec<Exchange>,
     has_run: bool,
+    // An opening like that of the run came after it, which may go on.
+    reopened: bool,
     is_session: bool,
     asks: Asks,
     sent: Option<Frame>,
@@ -45,6 +48,7 @@ impl Model for Reading {
         exchanges = seen_all r.exchanges.items;
       };
       has_run = r.has_run;
+      reopened = r.reopened;
       is_session = r.is_session;
       asks = r.asks;
       sent = r.sent;
@@ -59,6 +63,7 @@ const UNKNOWN: RunHead = RunHead {
     start: Start::Unknown,
     budget: None,
     fault: None,
+    flaw: None,
 };
 
 impl Reading {
@@ -70,6 +75,8 @@ impl Reading {
     ghost use Rattle.rdm_findings.specs.Runs.{nothing_read, begins, begins_run, begins_log, after_line};
     ghost use Rattle.rdm_findings.specs.Runs.{after_entry, after_send};
     ghost use Rattle.rdm_findings.specs.Runs.{awaiting, unopened, begun, begun_by, discovered, continues};
+    ghost use Rattle.rdm_findings.specs.Runs.{reopens, is_like, is_known, after_opening, before_discovery};
+    ghost use Rattle.rdm_findings.specs.Runs.{opened_again};
     ghost use Rattle.rdm_findings.specs.Runs.{is_in_progress, is_anothers};
     ghost use Rattle.rdm_findings.specs.Runs.{with_exchange, after_event, after_end, with_end, with_other_end};
     ghost use Rattle.rdm_findings.specs.Runs.{replaces_known, with_known, known_after};
@@ -83,6 +90,7 @@ impl Reading {
             known: None,
             exchanges: Vec::new(alloc),
             has_run: false,
+            reopened: false,
             is_session: false,
             asks: NO_ASKS,
             sent: None,
@@ -125,9 +133,35 @@ impl Reading {
         ensures { result ≡ begins line.now self.now }
     {
         match line {
-            LogLine::Discovery(_) | LogLine::Session(_) => true,
+            LogLine::Discovery(opening) => !self.reopens(opening),
+            LogLine::Session(_) => true,
             LogLine::Entered(entry) => self.begins_log(entry) || self.is_ended_by_entry(entry),
             LogLine::Exchanged { number, .. } => !self.continues(*number),
+        }
+    }
+
+    // Whether an opening may be that of the next part of the discovery in progress.
+    fn reopens(&self, opening: &DiscoveryOpening) -> bool
+        ensures { result ≡ reopens opening.now self.now }
+    {
+        (self.has_run && !self.is_session) && self.is_like(opening)
+    }
+
+    // Whether an opening says the same of the run in progress as its own.
+    fn is_like(&self, opening: &DiscoveryOpening) -> bool
+        ensures { result ≡ is_like opening.now self.now.run }
+    {
+        (is_kind(opening.kind, self.head.kind) && is_search(opening.search, self.head.search))
+            && (is_number(opening.budget, self.head.budget) && self.knows(opening.known.as_slice()))
+    }
+
+    // Whether these UIDs were known before the run in progress.
+    fn knows(&self, uids: &[Uid]) -> bool
+        ensures { result ≡ is_known uids.now self.now.run.known }
+    {
+        match &self.known {
+            Some(known) => uids == known.as_slice(),
+            None => false,
         }
     }
 
@@ -193,7 +227,7 @@ impl Reading {
         ensures { OnOk result (self.new ≡ after_line line self.old) }
     {
         match line {
-            LogLine::Discovery(opening) => self.open_discovery(alloc, opening),
+            LogLine::Discovery(opening) => self.take_discovery(alloc, opening),
             LogLine::Session(opening) => self.open_session(alloc, opening),
             LogLine::Entered(entry) => {
                 self.continue_session(&entry);
@@ -208,6 +242,20 @@ impl Reading {
                 self.add(&frame, &event)
             }
         }
+    }
+
+    fn take_discovery(
+        &mut self,
+        alloc: Global,
+        opening: Box<DiscoveryOpening>,
+    ) -> Result<(), NoMemory>
+        ensures { OnOk result (self.new ≡ after_opening opening.value self.old) }
+    {
+        if self.reopens(&opening) {
+            self.reopened = true;
+            return Ok(());
+        }
+        self.open_discovery(alloc, opening)
     }
 
     fn open_discovery(
@@ -257,10 +305,12 @@ impl Reading {
             start: Start::Unknown,
             budget,
             fault: None,
+            flaw: None,
         };
         self.known = None;
         self.exchanges.clear();
         self.has_run = false;
+        self.reopened = false;
         self.is_session = is_session;
         self.asks = asks;
         self.sent = None;
@@ -283,11 +333,30 @@ impl Reading {
         if self.continues(number) {
             return;
         }
-        if self.is_session || self.has_run {
-            self.begin_log(false, None, None, None, NO_ASKS);
-        }
+        self.begin_discovery();
         self.head.start = Start::At(number);
         self.has_run = true;
+    }
+
+    // A discovery begins. An opening is that of one.
+    fn begin_discovery(&mut self)
+        ensures { self.new ≡ before_discovery self.old }
+    {
+        if self.reopened {
+            self.open_again();
+        } else if self.is_session || self.has_run {
+            self.begin_log(false, None, None, None, NO_ASKS);
+        }
+    }
+
+    // The opening that came after a run which is like it is that of the next discovery.
+    fn open_again(&mut self)
+        ensures { self.new ≡ opened_again self.old }
+    {
+        let known = self.known.take();
+        let (kind, search, budget) = (self.head.kind, self.head.search, self.head.budget);
+        self.begin_log(false, kind, search, budget, NO_ASKS);
+        self.known = known;
     }
 
     // A run of a session begins, or that of another one, of which nothing else is known.
@@ -312,10 +381,12 @@ impl Reading {
             start: self.asks.start_of(run),
             budget: self.head.budget,
             fault: None,
+            flaw: None,
         };
         self.asks.run(run);
         self.exchanges.clear();
         self.has_run = true;
+        self.reopened = false;
         self.sent = None;
         Ok(())
     }
@@ -341,6 +412,8 @@ impl Reading {
         ensures { OnOk result (self.new ≡ with_exchange frame.now event.now self.old) }
     {
         self.sent = None;
+        self.reopened = false;
+        self.head.flaw = first_flaw(self.head.flaw, frame, event);
         push_exchange(&mut self.exchanges, frame, event)
     }
 
@@ -406,6 +479,35 @@ fn copied(alloc: Global, uids: &[Uid]) -> Result<Vec<Uid>, NoMemory>
     match Vec::from_slice(alloc, uids) {
         Ok(list) => Ok(list),
         Err(_) => Err(NoMemory),
+    }
+}
+
+fn is_kind(kind: Kind, other: Option<Kind>) -> bool
+    ensures { result ≡ is_kind kind other }
+{
+    match (kind, other) {
+        (Kind::Full, Some(Kind::Full)) => true,
+        (Kind::Incremental, Some(Kind::Incremental)) => true,
+        _ => false,
+    }
+}
+
+fn is_search(search: Search, other: Option<Search>) -> bool
+    ensures { result ≡ is_search search other }
+{
+    match (search, other) {
+        (Search::Steady, Some(Search::Steady)) => true,
+        (Search::Quick, Some(Search::Quick)) => true,
+        _ => false,
+    }
+}
+
+fn is_number(number: u64, other: Option<u64>) -> bool
+    ensures { result ≡ is_number number other }
+{
+    match other {
+        Some(other) => number == other,
+        None => false,
     }
 }
 

@@ -1,55 +1,99 @@
 //! What is printed about stray bytes.
-ghost use Rattle.std.specs.Prelude.{◌≡◌, ◌++◌, ◌∷◌, [], OnOk, codes};
+ghost use Rattle.std.specs.Prelude.{◌≡◌, ◌++◌, OnOk, codes};
 ghost use Rattle.rdm_wire.specs.UidText.{uid_text};
-ghost use Rattle.rdm_reports.specs.Report.{line_of};
-ghost use Rattle.rdm_findings.specs.FindingText.{exchange_name, range_text, mute_text, place_text, sign_text};
-ghost use Rattle.rdm_findings.specs.FindingText.{advice_text, stray_text, stray_found, stray_line};
+ghost use Rattle.rdm_findings.specs.FindingText.{sighting_name, range_text, mute_text, place_text, sign_text};
+ghost use Rattle.rdm_findings.specs.FindingText.{advice_text, stray_text, stray_found, stray_finding};
+ghost use Rattle.rdm_findings.specs.FindingText.{stray_judgement, sign_uid, of_stray};
+ghost use Rattle.rdm_findings.specs.Forms.{finding};
 
+use crate::form::{About, Form, Judgement, begin, end};
 use crate::head::Start;
 use crate::stray_bytes::{Sign, sign_of};
-use crate::writing::{write, write_exchange, write_uid};
-use rdm_explain::{Asked, Exchange};
+use crate::writing::{write, write_sighting, write_uid};
+use rdm_explain::{Asked, Exchange, Sighting};
 use rdm_wire::Uid;
 use std::alloc::AllocError;
 
-/// Writes the line of a stray exchange, if there is one. `listed` also has the devices that come or leave. `decided`
-/// says that the bytes show that a rule was broken.
+/// Writes the finding about a stray exchange, if there is one. `listed` also has the devices that come or leave.
+/// `decided` says that the bytes show that a rule was broken.
 pub(crate) fn write_stray(
     text: &mut Vec<u8>,
+    form: Form,
     start: Start,
     listed: &[Uid],
     decided: bool,
     exchanges: &[Exchange],
-    stray: Option<usize>,
+    stray: Option<Sighting>,
 ) -> Result<(), AllocError>
     ensures { OnOk result (text.new.items ≡ text.old.items
-        ++ stray_line start listed.now decided exchanges.now stray) }
+        ++ stray_finding form start listed.now decided exchanges.now stray) }
 {
-    let Some(at) = stray else {
+    let Some(first) = stray else {
         return Ok(());
     };
-    match exchanges.get(at) {
+    match exchanges.get(first.at) {
         Some(exchange) => {
             let sign = sign_of(listed, exchange);
-            write_stray_line(text, start.number(at), decided, &exchange.asked, &sign)
+            write_found(
+                text,
+                form,
+                start.number(first.at),
+                first.more as u64,
+                decided,
+                &exchange.asked,
+                &sign,
+            )
         }
         None => Ok(()),
     }
 }
 
-fn write_stray_line(
+fn write_found(
     text: &mut Vec<u8>,
+    form: Form,
     number: u64,
+    more: u64,
     decided: bool,
     asked: &Asked,
     sign: &Sign,
 ) -> Result<(), AllocError>
     ensures { OnOk result (text.new.items ≡ text.old.items
-        ++ line_of (exchange_name number ++ stray_text decided asked.now sign.now)) }
+        ++ finding form (of_stray decided number sign.now)
+        (sighting_name number more ++ stray_text decided asked.now sign.now)) }
 {
-    write_exchange(text, number)?;
+    begin(text, form, &about(decided, number, sign))?;
+    write_sighting(text, number, more)?;
     write_reason(text, decided, asked, sign)?;
-    text.extend_from_slice(b"\n")
+    end(text, form)
+}
+
+fn about(decided: bool, number: u64, sign: &Sign) -> About
+    ensures { result ≡ of_stray decided number sign.now }
+{
+    About {
+        judgement: stray_judgement(decided),
+        uid: sign_uid(sign),
+        exchange: Some(number),
+    }
+}
+
+fn stray_judgement(decided: bool) -> Judgement
+    ensures { result ≡ stray_judgement decided }
+{
+    if decided {
+        Judgement::Stray
+    } else {
+        Judgement::Unexplained
+    }
+}
+
+fn sign_uid(sign: &Sign) -> Option<Uid>
+    ensures { result ≡ sign_uid sign.now }
+{
+    match sign {
+        Sign::Listed(uid) | Sign::Other(uid) => Some(*uid),
+        Sign::Unread => None,
+    }
 }
 
 // After what the bytes came, what they read as, and what to do about it.

@@ -1,3 +1,5 @@
+mod CommandLemmas
+mod ExplanationLemmas
 mod LineLemmas
 mod LoggedLemmas
 mod RunLemmas

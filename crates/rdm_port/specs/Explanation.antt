@@ -1,22 +1,25 @@
 -- What is printed for a log, and for which devices.
 use Rattle.std.specs.Prelude.{◌≡◌, ◌⊎◌, ◌+◌, ◌<◌, ◌≤◌, ◌++◌, [], ℕ, Bool, false, not, List, Option, Some, None, ⊤}
-use Rattle.std.specs.Prelude.{codes, decimal, filter, flat_map, length, IfSome, if◌then◌else◌}
+use Rattle.std.specs.Prelude.{filter, length, IfSome, if◌then◌else◌}
 use Rattle.std.specs.Borrow.{Bor}
 use Rattle.clap.specs.Words.{Text}
 use Rattle.rdm_wire.specs.Uid.{has, set_of}
 use Rattle.rdm_arguments.specs.declared.job.ExplainJob.{ExplainJob}
 use Rattle.rdm_files.specs.RigFiles.{IsRigFile}
 use Rattle.rdm_files.specs.declared.scene.rig.RigFile.{RigFile}
-use Rattle.rdm_findings.specs.FindingText.{uid_line}
+use Rattle.rdm_findings.specs.Document.{document_start, document_end, document_stop}
 use Rattle.rdm_findings.specs.Lines.{lines_text}
-use Rattle.rdm_findings.specs.Logs.{IsLogText}
-use Rattle.rdm_findings.specs.Runs.{runs_of}
+use Rattle.rdm_findings.specs.Logs.{AreExplained, IsLogText}
+use Rattle.rdm_findings.specs.Runs.{read_all, runs_of}
+use Rattle.rdm_findings.specs.declared.form.Form.{Form}
+use Rattle.rdm_findings.specs.declared.form.Form.TheVariants.{Lines, Json}
 use Rattle.rdm_findings.specs.declared.line.LogLine.{LogLine}
+use Rattle.rdm_findings.specs.declared.log.LogFault.{LogFault}
+use Rattle.rdm_findings.specs.declared.log.LogFault.TheVariants.{Line}
 use Rattle.rdm_port.specs.Fault.{Format, IsFileFault, ReadsFile}
 use Rattle.rdm_port.specs.LineOutcome.{SpellDevices}
 use Rattle.rdm_port.specs.declared.fault.Fault.{Fault}
-use Rattle.rdm_port.specs.declared.fault.Fault.TheVariants.{Uid, File, Scene, Memory}
-use Rattle.rdm_reports.specs.Report.{line_of}
+use Rattle.rdm_port.specs.declared.fault.Fault.TheVariants.{Uid, Scene, Memory}
 
 -- the UIDs that the arguments give; at most 1,024
 pub record SaysPresent (job : ExplainJob) (given : List ℕ) : Type 0 where
@@ -55,32 +58,40 @@ pub record HasTooMany (job : ExplainJob) (known : Option (List ℕ)) : Type 0 wh
   pub devices : HasDevices job known present passing
   pub many : 1024 < length present
 
--- the line of a device that comes or leaves
-abbrev pub passing_line : ℕ → List ℕ
-passing_line u = uid_line u (codes " can't be judged: it comes or leaves, and may have been absent when it was asked")
-
 -- the program's status: whether a rule was broken
 abbrev pub explain_status : Bool → ℕ
 explain_status broken = if broken then 3 else 0
 
+-- how findings are printed: as JSON, if the arguments say so
+abbrev pub form_of : Bool → Form
+form_of json = if json then Json else Lines
+
 -- the text has the findings about exactly the lines of a log with these bytes, if they are known
-pub record IsExplanation (present passing : List ℕ) (known : Option (List ℕ)) (text : List ℕ) (status : ℕ)
-    : Type 0 where
+pub record IsExplanation (form : Form) (present passing : List ℕ) (known : Option (List ℕ)) (text : List ℕ)
+    (status : ℕ) : Type 0 where
   pub lines : List LogLine
   pub all : IfSome known (λ bytes. bytes ≡ lines_text lines)
   pub findings : List ℕ
   pub broken : Bool
-  pub explained : IsLogText present passing (runs_of lines) findings broken
-  pub prints : text ≡ flat_map passing_line passing ++ findings
+  pub explained : IsLogText form present passing (runs_of lines) findings broken
+  pub prints : text ≡ document_start form passing ++ findings ++ document_end form broken
   pub ends : status ≡ explain_status broken
 
--- The text says that the line after these, counted from 1, isn't a log's, which is tested and not proved. The log has
--- these lines and then other bytes, if its bytes are known
-pub record IsRefusedLine (known : Option (List ℕ)) (text : List ℕ) (status : ℕ) : Type 0 where
+-- The text has the findings about the runs that ended in the first lines of a log, or about all runs of these lines,
+-- and then a fault: the file or memory, or the line after these, counted from 1, which isn't a log's; that is tested
+-- and not proved. The log has these lines and then other bytes, if its bytes are known
+pub record IsPartExplanation (form : Form) (present passing : List ℕ) (known : Option (List ℕ)) (text : List ℕ)
+    (status : ℕ) : Type 0 where
   pub lines : List LogLine
   pub others : List ℕ
   pub read : IfSome known (λ bytes. bytes ≡ lines_text lines ++ others)
-  pub prints : text ≡ line_of (codes "fault: line " ++ decimal (length lines + 1))
+  pub findings : List ℕ
+  pub broken : Bool
+  pub explained : AreExplained form false present passing (read_all lines).0 findings broken
+      ⊎ IsLogText form present passing (runs_of lines) findings broken
+  pub fault : LogFault
+  pub number : (n : ℕ) → fault ≡ Line n → length lines + 1 ≡ n
+  pub prints : text ≡ document_start form passing ++ findings ++ document_stop form fault
   pub ends : status ≡ 1
 
 -- the text and the status explain a log about these devices; its bytes and those of the scene file may be known
@@ -89,18 +100,17 @@ pub record Explains (job : ExplainJob) (log rig : Option (List ℕ)) (text : Lis
   pub passing : List ℕ
   pub devices : HasDevices job rig present passing
   pub few : length present ≤ 1024
-  pub answers : IsExplanation present passing log text status ⊎ IsRefusedLine log text status
+  pub answers : IsExplanation (form_of job.json) present passing log text status
+      ⊎ IsPartExplanation (form_of job.json) present passing log text status
 
 -- the faults of a scene file with these bytes, if the arguments name one
 abbrev pub IsRigFault : Option (Bor Text) → Option (List ℕ) → Fault → Type 0
 IsRigFault None known fault = ⊥
 IsRigFault (Some path) known fault = IsFileFault rigs known fault
 
--- the faults of an explanation: a text that spells no device's UID, or else those of the scene file and of the log. Any
--- log may be one that can't be read
+-- the faults before a log is read: a text that spells no device's UID, or else those of the scene file
 abbrev pub IsExplainFault : ExplainJob → Option (List ℕ) → Fault → Type 0
 IsExplainFault job known Uid = (given : List ℕ) → SaysPresent job given → ⊥
-IsExplainFault job known File = ⊤
 IsExplainFault job known Memory = ⊤
 IsExplainFault job known Scene = IsRigFault job.rig known Scene ⊎ HasTooMany job known
 IsExplainFault job known fault = IsRigFault job.rig known fault

@@ -2,3 +2,5 @@
 pub mod Texts
 pub mod Logged
 pub mod Faults
+pub mod Parts
+pub mod Explained

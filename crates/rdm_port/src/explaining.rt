@@ -1,52 +1,64 @@
 //! Answers the command that explains a log.
-ghost use Rattle.std.specs.Prelude.{◌≡◌, ◌⊎◌, ◌++◌, ◌+◌, ◌≤◌, ℕ, List, Err, IfOk, IfErr, OnOk, IfSome, flat_map};
-ghost use Rattle.rdm_findings.specs.FindingText.{uid_line};
+ghost use Rattle.std.specs.Prelude.{◌≡◌, ◌⊎◌, ◌++◌, ◌≤◌, ℕ, List, IfOk, IfErr, OnOk, OnErr, IfSome, false, is_some};
+ghost use Rattle.std.specs.Prelude.{length};
+ghost use Rattle.std.specs.Io.KnownBytes.{Appends};
 ghost use Rattle.rdm_findings.specs.declared.line.LogLine.{LogLine};
+ghost use Rattle.rdm_findings.specs.Document.{document_start, document_stop};
 ghost use Rattle.rdm_findings.specs.Lines.{lines_text};
 ghost use Rattle.rdm_findings.specs.Logs.{IsLogText};
 ghost use Rattle.rdm_findings.specs.Runs.{runs_of};
 ghost use Rattle.rdm_port.specs.Explanation.{Explains, HasDevices, HasRig, IsExplainFault, IsExplanation};
-ghost use Rattle.rdm_port.specs.Explanation.{IsRefusedLine, IsRigFault, SaysPresent, explain_status, passing_line};
+ghost use Rattle.rdm_port.specs.Explanation.{IsPartExplanation, IsRigFault, SaysPresent, explain_status, form_of};
 ghost use Rattle.rdm_port.specs.Explanation.{rigs, without};
 ghost use Rattle.rdm_port.specs.Fault.{IsTextFault, SaysFile};
-ghost use Rattle.rdm_port.specs.body.Texts.{answer_bytes};
-ghost use Rattle.rdm_reports.specs.Report.{line_of};
-ghost use Rattle.std.specs.Prelude.{codes, decimal, length};
+ghost use Rattle.rdm_port.specs.Outcome.{IsPrinted};
+ghost use Rattle.rdm_port.specs.body.Parts.{IsNoWriterFault, WritesPart};
 
-use crate::answer::{Answer, Answered, Refused};
+use crate::answer::Refused;
 use crate::fault::Fault;
 use crate::input::{bytes_of_file, no_json};
 use crate::line_values::devices_of;
+use crate::performing::{NOT_WRITTEN, print_text};
 use crate::reason::Reason;
 use crate::remark::remark_on;
-use itoa::Buffer;
 use rdm_arguments::ExplainJob;
 use rdm_files::{FileKind, RigFile, SceneFault, read_rig, unknown_in_scene};
-use rdm_findings::{LogFault, explain_log};
-use rdm_reports::Progress;
+use rdm_findings::{
+    Form, LogFault, document_end, document_start, document_stop, explain_log, memory_stop,
+};
+use rdm_reports::{Progress, write_all};
 use rdm_wire::{MOST_DEVICES, Uid, UidSet};
 use serde_json::Value;
 use std::alloc::{AllocError, Global};
-use std::io::{BufReader, Read};
+use std::io::{BufReader, ErrorKind, Read, Write};
 
-/// What a log shows: the findings about its runs, or that a line isn't a log's. The rig is the scene file with devices
-/// that were present, if the arguments name one. The progress receives what people should know about it.
-pub fn answer_explain<'a, R: Read, S: Read, P: Progress>(
+/// Prints what a log shows: the findings about its runs, each when it has ended, and then a fault, if it isn't
+/// explained to its end. Returns the status, and the reason for a fault. Err: nothing was printed. The rig is the scene
+/// file with devices that were present, if the arguments name one. The progress receives what people should know about
+/// it.
+pub fn print_explanation<'a, R: Read, S: Read, W: Write, P: Progress>(
     alloc: Global,
     job: &ExplainJob<'a>,
     reader: &mut R,
     rig: &mut S,
+    writer: &mut W,
     progress: &mut P,
-) -> Result<Answered<'a>, Refused<'a>>
-    ensures ok { IfOk result (λ a. Explains job.now (R.remaining reader.old) (S.remaining rig.old) (answer_bytes a.text)
-        a.status) }
+) -> Result<(u8, Option<Reason<'a>>), Refused<'a>>
+    ensures ok { IfOk result (λ p. (text : List ℕ) × (status : ℕ)
+        × Explains job.now (R.remaining reader.old) (S.remaining rig.old) text status
+        × IsPrinted (W.contents writer.old) (W.contents writer.new) text status p.0) }
     ensures fault { IfErr result (λ e. IsExplainFault job.now (S.remaining rig.old) e.0) }
+    ensures unprinted { OnErr result (writer.new ≡ writer.old) }
 {
     let devices = match listed(alloc, job, rig, progress) {
         Ok(devices) => devices,
         Err(refused) => return Err(refused),
     };
-    explained(alloc, job.log, &devices, reader)
+    let form = form_of(job.json);
+    let Ok(start) = document_start(alloc, form, &devices.passing) else {
+        return Err((Fault::Memory, None));
+    };
+    Ok(print_log(alloc, form, job.log, &devices, &start, reader, writer))
 }
 
 // The devices that an explanation is about.
@@ -172,95 +184,106 @@ fn push_others(uids: &mut Vec<Uid>, given: &UidSet, others: &[Uid]) -> Result<()
     Ok(())
 }
 
-// What is printed for the log in the reader's file, which is the one at the path.
-fn explained<'a, R: Read>(
+// Prints what the log in the reader's file shows, which is the one at the path. The start is what precedes the first
+// run.
+fn print_log<'a, R: Read, W: Write>(
     alloc: Global,
+    form: Form,
     path: &'a str,
     devices: &Devices,
+    start: &[u8],
     reader: &mut R,
-) -> Result<Answered<'a>, Refused<'a>>
-    ensures ok { IfOk result (λ a.
-        IsExplanation devices.now.present.items devices.now.passing.items (R.remaining reader.old)
-        (answer_bytes a.text) a.status
-        ⊎ IsRefusedLine (R.remaining reader.old) (answer_bytes a.text) a.status) }
-    ensures fault { IfErr result (λ e. (e.0 ≡ Fault.File) ⊎ (e.0 ≡ Fault.Memory)) }
+    writer: &mut W,
+) -> (u8, Option<Reason<'a>>)
+    requires start { start.now ≡ document_start form devices.now.passing.items }
+    ensures { (text : List ℕ) × (status : ℕ)
+        × (IsExplanation form devices.now.present.items devices.now.passing.items (R.remaining reader.old) text status
+        ⊎ IsPartExplanation form devices.now.present.items devices.now.passing.items (R.remaining reader.old) text
+        status)
+        × IsPrinted (W.contents writer.old) (W.contents writer.new) text status result.0 }
 {
-    let Ok(mut text) = passing_text(alloc, &devices.passing) else {
-        return Err((Fault::Memory, None));
-    };
-    match write_findings(alloc, reader, devices, &mut text) {
-        Ok(broken) => Ok(Answered {
-            text: Answer::Lines(text),
-            status: explain_status(broken),
-            reason: None,
-        }),
-        Err(LogFault::Line(number)) => refused_line(alloc, path, number),
-        Err(LogFault::Unread(kind)) => Err((Fault::File, Some(Reason::Unreadable(path, kind)))),
-        Err(LogFault::Unwritten(_) | LogFault::NoMemory) => Err((Fault::Memory, None)),
+    if let Err(kind) = write_all(writer, start) {
+        return (NOT_WRITTEN, Some(Reason::Unwritten(kind)));
+    }
+    match write_runs(alloc, form, reader, devices, writer) {
+        Ok(broken) => print_text(
+            writer,
+            document_end(form, broken).as_bytes(),
+            explain_status(broken),
+            None,
+        ),
+        Err(fault) => match writer_fault(fault) {
+            Some(kind) => (NOT_WRITTEN, Some(Reason::Unwritten(kind))),
+            None => print_stop(alloc, form, path, fault, writer),
+        },
     }
 }
 
-// Writes a line for each device that comes or leaves.
-fn passing_text(alloc: Global, passing: &[Uid]) -> Result<Vec<u8>, AllocError>
-    ensures { IfOk result (λ text. text.items ≡ flat_map passing_line passing.now) }
+// How the writer failed, if it did.
+fn writer_fault(fault: LogFault) -> Option<ErrorKind>
+    ensures { is_some result ≡ false → IsNoWriterFault fault }
 {
-    let mut text = Vec::new(alloc);
-    'passing: for uid in passing {
-        write_passing(&mut text, *uid)?;
+    match fault {
+        LogFault::Unwritten(kind) => Some(kind),
+        LogFault::Line(_) => None,
+        LogFault::Unread(_) => None,
+        LogFault::NoMemory => None,
     }
-    Ok(text)
 }
 
-const PASSING: &str =
-    " can't be judged: it comes or leaves, and may have been absent when it was asked";
-
-fn write_passing(text: &mut Vec<u8>, uid: Uid) -> Result<(), AllocError>
-    ensures { OnOk result (text.new.items ≡ text.old.items ++ passing_line uid) }
-{
-    write_uid_line(text, uid, PASSING)
-}
-
-// Writes a line about a UID.
-fn write_uid_line(text: &mut Vec<u8>, uid: Uid, last: &str) -> Result<(), AllocError>
-    ensures { OnOk result (text.new.items ≡ text.old.items ++ uid_line uid last.now) }
-{
-    text.extend_from_slice(&uid.to_text())?;
-    write_line(text, last)
-}
-
-// Writes a text and the end of its line.
-fn write_line(text: &mut Vec<u8>, line: &str) -> Result<(), AllocError>
-    ensures { OnOk result (text.new.items ≡ text.old.items ++ line_of line.now) }
-{
-    text.extend_from_slice(line.as_bytes())?;
-    text.extend_from_slice(b"\n")
-}
-
-// Writes the findings about the reader's log after a text, and returns whether a rule was broken.
-fn write_findings<R: Read>(
+// Writes the findings about the reader's log, and returns whether a rule was broken.
+fn write_runs<R: Read, W: Write>(
     alloc: Global,
+    form: Form,
     reader: &mut R,
     devices: &Devices,
-    text: &mut Vec<u8>,
+    writer: &mut W,
 ) -> Result<bool, LogFault>
     ensures explained { IfOk result (λ broken. (lines : List LogLine) × (findings : List ℕ)
         × IfSome (R.remaining reader.old) (λ bytes. bytes ≡ lines_text lines)
-        × IsLogText devices.now.present.items devices.now.passing.items (runs_of lines) findings broken
-        × (text.new.items ≡ text.old.items ++ findings)) }
-    ensures refused { (n : ℕ) → result ≡ Err (LogFault.Line n) → (lines : List LogLine) × (others : List ℕ)
-        × IfSome (R.remaining reader.old) (λ bytes. bytes ≡ lines_text lines ++ others)
-        × (length lines + 1 ≡ n) }
+        × IsLogText form devices.now.present.items devices.now.passing.items (runs_of lines) findings broken
+        × Appends (W.contents writer.old) (W.contents writer.new) findings) }
+    ensures stopped { IfErr result (WritesPart form devices.now.present.items devices.now.passing.items
+        (R.remaining reader.old) (W.contents writer.old) (W.contents writer.new)) }
 {
     let Ok(mut buffered) = BufReader::new(alloc, &mut *reader) else {
         return Err(LogFault::NoMemory);
     };
     explain_log(
         alloc,
+        form,
         &mut buffered,
         &devices.present,
         &devices.passing,
-        text,
+        writer,
     )
+}
+
+// Prints that the log at the path isn't explained to its end, because of this fault, or because there was no memory.
+fn print_stop<'a, W: Write>(
+    alloc: Global,
+    form: Form,
+    path: &'a str,
+    fault: LogFault,
+    writer: &mut W,
+) -> (u8, Option<Reason<'a>>)
+    ensures { (shown : LogFault) × ((n : ℕ) → shown ≡ LogFault.Line n → fault ≡ LogFault.Line n)
+        × IsPrinted (W.contents writer.old) (W.contents writer.new) (document_stop form shown) 1 result.0 }
+{
+    match document_stop(alloc, form, fault) {
+        Ok(text) => print_text(writer, &text, 1, reason_of(path, fault)),
+        Err(_) => print_text(writer, memory_stop(form).as_bytes(), 1, None),
+    }
+}
+
+// Why the log at the path isn't explained to its end; none if memory ran out.
+fn reason_of<'a>(path: &'a str, fault: LogFault) -> Option<Reason<'a>> {
+    match fault {
+        LogFault::Line(number) => Some(Reason::NoLogLine(path, number)),
+        LogFault::Unread(kind) => Some(Reason::Unreadable(path, kind)),
+        LogFault::Unwritten(kind) => Some(Reason::Unwritten(kind)),
+        LogFault::NoMemory => None,
+    }
 }
 
 /// The status if a rule was broken.
@@ -272,28 +295,9 @@ fn explain_status(broken: bool) -> u8
     if broken { BROKEN } else { 0 }
 }
 
-// That this line of the log at the path isn't a log's.
-fn refused_line<'a>(alloc: Global, path: &'a str, number: u64) -> Result<Answered<'a>, Refused<'a>>
-    ensures text { IfOk result (λ a. answer_bytes a.text ≡ line_of (codes "fault: line " ++ decimal number)) }
-    ensures status { IfOk result (λ a. a.status ≡ 1) }
-    ensures fault { IfErr result (λ e. e.0 ≡ Fault.Memory) }
+// How findings are printed: as JSON, if the arguments say so.
+fn form_of(json: bool) -> Form
+    ensures { result ≡ form_of json }
 {
-    match line_fault(alloc, number) {
-        Ok(text) => Ok(Answered {
-            text: Answer::Lines(text),
-            status: 1,
-            reason: Some(Reason::NoLogLine(path, number)),
-        }),
-        Err(_) => Err((Fault::Memory, None)),
-    }
-}
-
-// The line that says which line isn't a log's.
-fn line_fault(alloc: Global, number: u64) -> Result<Vec<u8>, AllocError>
-    ensures { IfOk result (λ text. text.items ≡ line_of (codes "fault: line " ++ decimal number)) }
-{
-    let mut text = Vec::from_slice(alloc, b"fault: line ")?;
-    text.extend_from_slice(Buffer::new().format(number).as_bytes())?;
-    text.extend_from_slice(b"\n")?;
-    Ok(text)
+    if json { Form::Json } else { Form::Lines }
 }

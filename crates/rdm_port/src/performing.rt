@@ -5,19 +5,20 @@ ghost use Rattle.rdm_reports.specs.Report.{line_of};
 ghost use Rattle.rdm_port.specs.Fault.{fault_line, fault_status};
 ghost use Rattle.rdm_port.specs.Outcome.{IsLogged, IsPrinted};
 ghost use Rattle.rdm_port.specs.Program.{Answers, IsFaultOf, IsLoggedWith, IsOutcome, has_log};
+ghost use Rattle.rdm_port.specs.body.Explained.{IsExplainOutcome, IsNoExplanation};
 ghost use Rattle.rdm_port.specs.body.Logged.{HasLogged, HasTextAndStatus, status_after};
 ghost use Rattle.rdm_port.specs.body.Texts.{answer_bytes};
 
 use crate::answer::{Answer, Answered, Refused};
 use crate::branch::{decode, encode};
 use crate::discovering::answer_discover;
-use crate::explaining::answer_explain;
+use crate::explaining::print_explanation;
 use crate::fault::Fault;
 use crate::logging::{NoLog, after_log};
 use crate::opening::{NoLine, Opens};
 use crate::reason::Reason;
 use crate::run::answer_run;
-use rdm_arguments::{Job, WordsFault};
+use rdm_arguments::{ExplainJob, Job, WordsFault};
 use rdm_files::Remark;
 use rdm_line::{Line, SimLine};
 use rdm_reports::{LogOutput, OpensLog, Progress, write_all};
@@ -114,12 +115,56 @@ pub fn carry_out<
         × IsLogged (has_log job.entry) log.old.contents log.new.contents logged status status_printed
         × IsPrinted (W.contents writer.old) (W.contents writer.new) text status_printed result.0 }
 {
+    let job = match explanation_of(job) {
+        Ok(explanation) => {
+            return print_explained(alloc, &explanation, reader, rig, writer, progress);
+        }
+        Err(job) => job,
+    };
     let path = match &job {
         Ok(job) => job.log(),
         Err(_) => None,
     };
-    let answer = answer(rt, alloc, job, reader, rig, opener, log, progress);
+    let answer = answer(rt, alloc, job, reader, opener, log, progress);
     print(writer, log, path, answer)
+}
+
+// The explanation that a command is. Err: it is this other one.
+fn explanation_of<'a>(
+    job: Result<Job<'a>, WordsFault>,
+) -> Result<ExplainJob<'a>, Result<Job<'a>, WordsFault>>
+    ensures explanation { IfOk result (λ e. job.entry ≡ Ok (Job.Explain e)) }
+    ensures same { IfErr result (λ other. other ≡ job.entry) }
+    ensures other { IfErr result IsNoExplanation }
+{
+    match job {
+        Ok(Job::Explain(explanation)) => Ok(explanation),
+        Ok(Job::Decode(digits)) => Err(Ok(Job::Decode(digits))),
+        Ok(Job::Encode(uid)) => Err(Ok(Job::Encode(uid))),
+        Ok(Job::Discover(discovery)) => Err(Ok(Job::Discover(discovery))),
+        Ok(Job::Run(session)) => Err(Ok(Job::Run(session))),
+        Err(fault) => Err(Err(fault)),
+    }
+}
+
+// Prints what a log shows, or the line of a fault. It is printed while the log is read, so that memory doesn't grow
+// with what it shows.
+fn print_explained<'a, R: Read, S: Read, W: Write, P: Progress>(
+    alloc: Global,
+    job: &ExplainJob<'a>,
+    reader: &mut R,
+    rig: &mut S,
+    writer: &mut W,
+    progress: &mut P,
+) -> (u8, Option<Reason<'a>>)
+    ensures { (text : List ℕ) × (status : ℕ)
+        × IsExplainOutcome job.now (R.remaining reader.old) (S.remaining rig.old) text status
+        × IsPrinted (W.contents writer.old) (W.contents writer.new) text status result.0 }
+{
+    match print_explanation(alloc, job, reader, rig, writer, progress) {
+        Ok(printed) => printed,
+        Err(refused) => write_answer(writer, to_print(Err(refused))),
+    }
 }
 
 // Prints an answer, or the line of its fault. The status is also 1 if the log at this path has failed, or if the writer
@@ -163,7 +208,19 @@ fn write_answer<'a, W: Write>(writer: &mut W, answered: Answered<'a>) -> (u8, Op
         status,
         reason,
     } = answered;
-    match write_all(writer, text.as_slice()) {
+    print_text(writer, text.as_slice(), status, reason)
+}
+
+/// Prints a text. Returns the status and the reason, unless the writer fails.
+pub(crate) fn print_text<'a, W: Write>(
+    writer: &mut W,
+    text: &[u8],
+    status: u8,
+    reason: Option<Reason<'a>>,
+) -> (u8, Option<Reason<'a>>)
+    ensures { IsPrinted (W.contents writer.old) (W.contents writer.new) text.now status result.0 }
+{
+    match write_all(writer, text) {
         Ok(()) => (status, reason),
         Err(kind) => (NOT_WRITTEN, Some(Reason::Unwritten(kind))),
     }
@@ -189,13 +246,12 @@ impl Progress for Silent {
     fn report_exchanges(&mut self, _exchanges: usize) {}
 }
 
-// The answer to a command.
+// The answer to a command that isn't an explanation.
 fn answer<
     'a,
     L: Line + Send + Drop,
     O: Opens<L>,
     R: Read,
-    S: Read,
     G: OpensLog,
     P: Progress + Send,
     T: Threads + Wait + Sync,
@@ -204,19 +260,18 @@ fn answer<
     alloc: Global,
     job: Result<Job<'a>, WordsFault>,
     reader: &mut R,
-    rig: &mut S,
     opener: &mut O,
     log: &mut LogOutput<G>,
     progress: &mut P,
 ) -> Result<Answered<'a>, Refused<'a>>
+    requires other { IsNoExplanation job }
     requires closed { log.old.is_open ≡ false }
     requires sound { log.old.is_failed ≡ false }
     ensures ok { IfOk result (λ a. (logged : List ℕ)
         × ((j : Job) × (job.entry ≡ Ok j)
-        × Answers L L.step (O.opens opener.old) j (R.remaining reader.old) (S.remaining rig.old) (answer_bytes a.text)
-        logged a.status)
+        × Answers L L.step (O.opens opener.old) j (R.remaining reader.old) None (answer_bytes a.text) logged a.status)
         × HasLogged (has_log job.entry) log.old log.new logged) }
-    ensures fault { IfErr result (λ e. IsFaultOf job.entry (R.remaining reader.old) (S.remaining rig.old) e.0) }
+    ensures fault { IfErr result (λ e. IsFaultOf job.entry (R.remaining reader.old) None e.0) }
     ensures logged { IfErr result (λ e. (logged : List ℕ)
         × IsLoggedWith L L.step (O.opens opener.old) job.entry (R.remaining reader.old) e.0 logged
         × HasLogged (has_log job.entry) log.old log.new logged) }
@@ -228,9 +283,7 @@ fn answer<
             answer_discover(alloc, &discovery, reader, opener, log, progress)
         }
         Ok(Job::Run(session)) => answer_run(rt, alloc, session, reader, opener, log, progress),
-        Ok(Job::Explain(explanation)) => {
-            answer_explain(alloc, &explanation, reader, rig, progress)
-        }
+        Ok(Job::Explain(_)) => unreachable!(),
         Err(WordsFault::Words) => Err((Fault::CommandLine, Some(Reason::Arguments))),
         Err(WordsFault::NoMemory) => Err((Fault::Memory, None)),
     }

@@ -26,6 +26,7 @@ use rdm_files::{
     FileKind, SceneFault, SessionFile, discovery_command, read_session, unknown_in_session,
 };
 use rdm_line::{Line, SimLine};
+use rdm_locked::Blank;
 use rdm_reports::{LogOutput, OpensLog, Progress, session_text, write_log};
 use rdm_serving::{ServeFault, Served, all_entries, serve};
 use serde_json::Value;
@@ -33,7 +34,6 @@ use std::alloc::Global;
 use std::io::{Read, Write};
 use std::marker::Brand;
 use std::sync::Wait;
-use std::sync::ledger::Blank;
 use std::thread::Threads;
 
 /// What is printed for the session in the reader's file: for each client its requests in order, and then its

@@ -1,8 +1,8 @@
 -- What is known of the devices of a list, exchange by exchange, and whether it shows that an exchange is stray.
 use Rattle.std.specs.Prelude.{◌≡◌, ℕ, ◌≤◌, Bool, true, false, ◌&&◌, not, ◌==◌, List, map, Option, Some, None}
-use Rattle.std.specs.Prelude.{MatchOption, if◌then◌else◌}
+use Rattle.std.specs.Prelude.{MatchOption, is_some, if◌then◌else◌}
 use Rattle.std.specs.List.{list_any, list_all}
-use Rattle.rdm_wire.specs.Uid.{is_within}
+use Rattle.rdm_wire.specs.Uid.{has, is_within}
 use Rattle.rdm_wire.specs.Honest.{Asked, Heard, Seen, is_silent}
 use Rattle.rdm_wire.specs.Honest.Asked.{Unmute, Branch, Mute, Other}
 use Rattle.rdm_wire.specs.Honest.Heard.{Silent}
@@ -15,7 +15,7 @@ use Rattle.rdm_explain.specs.declared.standing.Standing.{Standing}
 use Rattle.rdm_explain.specs.declared.watch.Watch.{Watch}
 use Rattle.rdm_explain.specs.Exchanges.{seen_all}
 use Rattle.rdm_explain.specs.Rules.{IsFirstBreach}
-use Rattle.rdm_explain.specs.body.Standings.{is_alive, after, at_start, standing}
+use Rattle.rdm_explain.specs.body.Standings.{is_alive, after, at_start, standing, is_moved}
 
 abbrev pub rule_heard : Asked → Heard → Rule
 rule_heard (Branch lo hi) heard = SilentBranches
@@ -43,6 +43,10 @@ heard_with at e w None = with_standing (record { at = at; rule = rule_by e }) w 
 -- a device after an exchange, the one at this index
 abbrev pub heard_by : ℕ → Seen → Watch → Watch
 heard_by at e w = heard_with at e w w.breach
+
+-- whether an exchange may change what is known of a device
+abbrev pub is_moved_watch : Seen → Watch → Bool
+is_moved_watch e w = not (is_some w.breach) && is_moved w.uid w.standing e
 
 -- what it counts is at most this
 pub record IsCounted (n : ℕ) (w : Watch) : Type 0 where
@@ -80,12 +84,17 @@ are_quiet lo hi ws = list_all (λ w. is_quiet_one lo hi w) ws
 abbrev pub is_listed : ℕ → List Watch → Bool
 is_listed u ws = list_any (λ w. u == w.uid) ws
 
-abbrev pub is_stray_by : List Watch → Asked → Heard → Bool
-is_stray_by ws (Branch lo hi) heard = not (is_silent heard) && are_quiet lo hi ws
-is_stray_by ws Unmute heard = false
-is_stray_by ws (Mute u) heard = not (is_silent heard) && not (is_listed u ws)
-is_stray_by ws Other heard = false
+-- whether each device of a list is outside of the range, or stays muted
+abbrev pub are_muted : ℕ → ℕ → (ℕ → Bool) → List ℕ → Bool
+are_muted lo hi muted ps = list_all (λ u. if is_within lo hi u then muted u else true) ps
 
--- whether an exchange that didn't fail is stray
-abbrev pub is_stray : List Watch → Seen → Bool
-is_stray ws e = is_stray_by ws e.asked e.heard
+abbrev pub is_stray_by : List Watch → List ℕ → (ℕ → Bool) → Asked → Heard → Bool
+is_stray_by ws ps muted (Branch lo hi) heard =
+    not (is_silent heard) && (are_quiet lo hi ws && are_muted lo hi muted ps)
+is_stray_by ws ps muted Unmute heard = false
+is_stray_by ws ps muted (Mute u) heard = not (is_silent heard) && (not (is_listed u ws) && not (has ps u))
+is_stray_by ws ps muted Other heard = false
+
+-- whether an exchange that didn't fail is stray, by which devices that come or leave stay muted
+abbrev pub is_stray : List Watch → List ℕ → (ℕ → Bool) → Seen → Bool
+is_stray ws ps muted e = is_stray_by ws ps muted e.asked e.heard

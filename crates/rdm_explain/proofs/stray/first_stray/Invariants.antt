@@ -1,7 +1,9 @@
-use Rattle.std.proofs.Common.{ℕ, ◌<◌, take}
+use Rattle.std.proofs.Common.{◌≤◌, length, take}
 use Rattle.rdm_explain.specs.Exchanges.{seen_all}
 use Rattle.rdm_explain.specs.Strays.{IsStray}
-use Rattle.rdm_explain.proofs.StrayLemmas.{NoFailure}
+use Rattle.rdm_explain.specs.body.Noting.{SightedTo}
+use Rattle.rdm_explain.specs.body.Trees.{in_tree}
+use Rattle.rdm_explain.proofs.StrayLemmas.{NoFailure, Knows}
 use Rattle.rdm_explain.proofs.WatchLemmas.{WatchesAll}
 use Rattle.rdm_explain.proofs.stray.first_stray.Given as goal
 
@@ -9,4 +11,6 @@ abbrev pub invariant-loop-at : goal.invariant-loop-at
 invariant-loop-at l =
     NoFailure (seen_all (take l.at l.exchanges))
     × WatchesAll (take l.at l.exchanges) l.uids l.watches.items
-    × ((j : ℕ) → j < l.at → IsStray l.uids l.exchanges j → ⊥)
+    × SightedTo (IsStray l.uids l.passing l.exchanges) l.at l.found
+    × Knows (in_tree l.muted) (seen_all (take l.at l.exchanges))
+    × (l.at ≤ length l.exchanges)

@@ -1,4 +1,4 @@
-use Rattle.std.proofs.Common.{◌≡◌, ◌||◌, [], sym, ap, ◌∙◌}
+use Rattle.std.proofs.Common.{◌||◌, [], sym, ap, ◌∙◌}
 use Rattle.std.specs.List.{cons_option}
 use Rattle.rdm_wire.specs.Uid.{has}
 use Rattle.rdm_explain.proofs.ReadLemmas.{has_one_more}

@@ -1,7 +1,8 @@
-use Rattle.std.proofs.Common.{◌≡◌, [], ◌∙◌, ◌||◌, arith}
+use Rattle.std.proofs.Common.{◌≡◌, [], ◌∙◌, ◌||◌, Err, inl, inr, sym, ap, arith}
 use Rattle.std.proofs.lemmas.Grind.{common_steps}
 use Rattle.std.proofs.lemmas.List.{nil_from_length}
 use Rattle.rdm_findings.proofs.LogLemmas.{nothing_more, line_more, log_end, either_broke, other_broke}
+use Rattle.rdm_findings.proofs.StopLemmas.{passed_on, stopped_before, stopped_after, stopped_last}
 use Rattle.rdm_findings.proofs.log.explain_log.Goals as goal
 use Rattle.rdm_findings.proofs.log.explain_log.Goals.{then-any, else-any}
 use Rattle.rdm_findings.proofs.log.explain_log.Goals.{then-broken, else-broken, then-broken-2, else-broken-2}
@@ -16,9 +17,11 @@ returns-then-is_empty-clause-explained g c =
       | then-broken w ↦ either_broke was breaks c.if-broken.result w.if-broken.true w.result-is
       | else-broken w ↦ other_broke was breaks c.if-broken.result w.if-broken.false w.result-is
     ] in
-    log_end c.args.present.now c.args.passing.now _ _ _ _ _ c.lines.reading c.lines.any was breaks c.if-broken.result
+    log_end c.args.form
+    c.args.present.now c.args.passing.now _ _ _ _ _ c.lines.reading c.lines.any was breaks c.if-broken.result
     c.lines.number
-    (nothing_more c.args.present.now c.args.passing.now _ _ _ _ _ c.lines.reading c.lines.any was c.lines.number
+    (nothing_more c.args.form
+    c.args.present.now c.args.passing.now _ _ _ _ _ c.lines.reading c.lines.any was c.lines.number
     c.read_next.new.text.items c.lines.invariant c.in_ok-read_next.ensures.text none)
     either c.in_ok-breaks.ensures.explained
 
@@ -35,7 +38,51 @@ lines-preserved g c =
       | then-any w ↦ either_broke c.lines.any ends c.if-any.any w.if-any.true w.any-is
       | else-any w ↦ other_broke c.lines.any ends c.if-any.any w.if-any.false w.any-is
     ] in
-    line_more c.args.present.now c.args.passing.now _ _ _ _ _ _ c.lines.reading c.take_line.new.reading c.lines.any
+    line_more c.args.form
+    c.args.present.now c.args.passing.now _ _ _ _ _ _ c.lines.reading c.take_line.new.reading c.lines.any
     c.if-any.any was breaks c.if-broken-2.broken c.lines.number c.in_ok-line.line c.read_next.new.text.items
     c.lines.invariant c.in_ok-read_next.ensures.text (c.in_ok-line.ensures.line ∙ c.deref.ensures.value)
     c.in_ok-take_line.ensures.taken (rw c.ends_run-ends.ensures at some) either c.in_ok-breaks-2.ensures.explained
+
+pub returns-in_err-read_next-clause-stopped : goal.returns-in_err-read_next-clause-stopped
+returns-in_err-read_next-clause-stopped g c =
+    passed_on _ _ _ c.from_residual.ensures.1
+    (stopped_before c.args.form c.args.present.now c.args.passing.now _ _ _ _ _ c.lines.reading c.lines.any
+    c.lines.broken c.lines.number _ c.lines.invariant
+    (λ n is. let r = c.in_err-read_next.ensures.refused n (ap Err is) in
+    (c.read_next.new.text.items, r.1, sym r.0)))
+
+pub returns-in_err-breaks-clause-stopped : goal.returns-in_err-breaks-clause-stopped
+returns-in_err-breaks-clause-stopped g c =
+    passed_on _ _ _ c.from_residual-in_err-breaks.ensures.1
+    (stopped_last c.args.form c.args.present.now c.args.passing.now _ _ _ _ _ _ c.lines.reading c.lines.any
+    c.lines.broken c.lines.number _ c.lines.invariant (λ n is. c.in_err-breaks.ensures.fault n (ap Err is))
+    c.in_err-breaks.ensures.stopped)
+
+pub returns-in_err-line-clause-stopped : goal.returns-in_err-line-clause-stopped
+returns-in_err-line-clause-stopped g c =
+    passed_on _ _ _ c.from_residual-in_err-line.ensures.1
+    (stopped_before c.args.form c.args.present.now c.args.passing.now _ _ _ _ _ c.lines.reading c.lines.any
+    c.lines.broken c.lines.number _ c.lines.invariant
+    (λ n is. (
+      c.read_next.new.text.items,
+      c.in_ok-read_next.ensures.text,
+      sym (c.in_err-line.ensures.refused n (ap Err is)),
+    )))
+
+pub returns-in_err-breaks-2-clause-stopped : goal.returns-in_err-breaks-2-clause-stopped
+returns-in_err-breaks-2-clause-stopped g c =
+    passed_on _ _ _ c.from_residual-in_err-breaks-2.ensures.1
+    (stopped_after c.args.form c.args.present.now c.args.passing.now _ _ _ _ _ _ c.lines.reading c.lines.any
+    c.lines.broken c.lines.number c.in_ok-line.line c.read_next.new.text.items _ c.lines.invariant
+    c.in_ok-read_next.ensures.text (c.in_ok-line.ensures.line ∙ c.deref.ensures.value)
+    (λ n is. c.in_err-breaks-2.ensures.fault n (ap Err is)) c.in_err-breaks-2.ensures.stopped)
+
+pub returns-in_err-take_line-clause-stopped : goal.returns-in_err-take_line-clause-stopped
+returns-in_err-take_line-clause-stopped g c =
+    let h = c.in_ok-breaks-2.ensures.explained in
+    passed_on _ _ _ c.from_residual-in_err-take_line.ensures.1
+    (stopped_after c.args.form c.args.present.now c.args.passing.now _ _ _ _ _ _ c.lines.reading c.lines.any
+    c.lines.broken c.lines.number c.in_ok-line.line c.read_next.new.text.items _ c.lines.invariant
+    c.in_ok-read_next.ensures.text (c.in_ok-line.ensures.line ∙ c.deref.ensures.value)
+    (λ n is. c.in_err-take_line.ensures.fault n (ap Err is)) (inr (h.0, c.in_ok-breaks-2.breaks, h.1, inl h.2)))

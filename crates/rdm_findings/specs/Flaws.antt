@@ -1,0 +1,85 @@
+-- Why bytes that came after a mute don't acknowledge it, by the reader of responses.
+use Rattle.std.specs.Prelude.{ℕ, Bool, true, false, ◌||◌, not, List, length, Option, Some, None, Result}
+use Rattle.std.specs.Prelude.{Ok, Err, codes, ◌==◌, if◌then◌else◌}
+use Rattle.arrayvec.specs.ArrayVec.{ArrayVec}
+use Rattle.rdm_wire.specs.Commands.{command_read}
+use Rattle.rdm_wire.specs.Responses.{decoded}
+use Rattle.rdm_wire.specs.declared.command.Command.{Command}
+use Rattle.rdm_wire.specs.declared.command.Command.TheVariants as asks
+use Rattle.rdm_wire.specs.declared.response.Response.{Response}
+use Rattle.rdm_wire.specs.declared.response.RespClass.{RespClass}
+use Rattle.rdm_wire.specs.declared.response.RespClass.TheVariants.{Discovery}
+use Rattle.rdm_wire.specs.declared.response.AckType.{AckType}
+use Rattle.rdm_wire.specs.declared.response.AckType.TheVariants as types
+use Rattle.rdm_wire.specs.declared.response.PacketFault.{PacketFault}
+use Rattle.rdm_wire.specs.declared.response.PacketFault.TheVariants as packets
+use Rattle.rdm_join.specs.declared.event.LineEvent.{LineEvent}
+use Rattle.rdm_join.specs.declared.event.LineEvent.TheVariants as events
+use Rattle.rdm_findings.specs.declared.flaw.Flaw.{Flaw}
+use Rattle.rdm_findings.specs.declared.flaw.Flaw.TheVariants as flaws
+
+-- whether a response is to a discovery command
+abbrev pub is_discovery : RespClass → Bool
+is_discovery Discovery = true
+is_discovery _ = false
+
+-- why a response of this type, with so many bytes of data, is no acknowledgement of a mute
+abbrev pub flaw_of_type : AckType → ℕ → Option Flaw
+flaw_of_type types.Ack n = if (n == 2) || (n == 8) then None else Some flaws.Length
+flaw_of_type types.Nack n = Some flaws.Nack
+flaw_of_type _ n = Some flaws.Type
+
+-- why a response doesn't acknowledge a mute of u that s sent with this transaction number
+abbrev pub flaw_of_response : (u s tn : ℕ) → Response → Option Flaw
+flaw_of_response u s tn r =
+    if not (is_discovery r.class) || not (r.pid == 2) then Some flaws.Command
+    else (if not (r.source == u) then Some flaws.Source
+    else (if not (r.dest == s) then Some flaws.Controller
+    else (if not (r.tn == tn) then Some flaws.Number else flaw_of_type r.ack (length r.param.items))))
+
+-- why what bytes decode to doesn't
+abbrev pub flaw_of_decoded : (u s tn : ℕ) → Result Response PacketFault → Option Flaw
+flaw_of_decoded u s tn (Err fault) = Some (flaws.Packet fault)
+flaw_of_decoded u s tn (Ok r) = flaw_of_response u s tn r
+
+-- why bytes don't acknowledge a command, if it is a mute
+abbrev pub flaw_after : Command → (s tn : ℕ) → List ℕ → Option Flaw
+flaw_after (asks.Mute u) s tn bytes = if length bytes == 0 then None else flaw_of_decoded u s tn (decoded bytes)
+flaw_after _ s tn bytes = None
+
+-- the same of the command that was read
+abbrev pub flaw_read : Option (Command × ℕ × ℕ) → List ℕ → Option Flaw
+flaw_read None bytes = None
+flaw_read (Some (command, s, tn)) bytes = flaw_after command s tn bytes
+
+-- why the line's answer to a frame doesn't acknowledge it, if the frame is a mute, and bytes came
+abbrev pub flaw_of : ArrayVec ℕ → LineEvent → Option Flaw
+flaw_of frame events.Failed = None
+flaw_of frame (events.Reply bytes) = flaw_read (command_read frame.items) bytes.items
+
+-- the first flaw, with one more exchange
+abbrev pub first_flaw : Option Flaw → ArrayVec ℕ → LineEvent → Option Flaw
+first_flaw None frame event = flaw_of frame event
+first_flaw (Some flaw) frame event = Some flaw
+
+-- why bytes are no response
+abbrev pub packet_text : PacketFault → List ℕ
+packet_text packets.TooShort = codes "they are too short for a response"
+packet_text packets.WrongStart = codes "they don't begin with the start code"
+packet_text packets.WrongSubStart = codes "their sub start code is wrong"
+packet_text packets.LengthMismatch = codes "their message length is wrong"
+packet_text packets.ParamLengthMismatch = codes "their parameter data length is wrong"
+packet_text packets.Checksum = codes "their checksum is wrong"
+packet_text packets.InvalidClass = codes "their command class isn't that of a response"
+packet_text packets.InvalidResponseType = codes "their response type is unknown"
+
+-- a flaw
+abbrev pub flaw_text : Flaw → List ℕ
+flaw_text (flaws.Packet fault) = packet_text fault
+flaw_text flaws.Command = codes "they answer another command"
+flaw_text flaws.Source = codes "they are from another UID"
+flaw_text flaws.Controller = codes "they are for another controller"
+flaw_text flaws.Number = codes "they have another transaction number"
+flaw_text flaws.Nack = codes "they are a NACK"
+flaw_text flaws.Type = codes "they are no ACK"
+flaw_text flaws.Length = codes "they have neither 2 bytes of data nor 8"

@@ -1,0 +1,160 @@
+//! Why bytes that came after a mute don't acknowledge it.
+ghost use Rattle.std.specs.Prelude.{◌≡◌, length};
+ghost use Rattle.rdm_wire.specs.Commands.{command_read};
+ghost use Rattle.rdm_wire.specs.Responses.{decoded};
+ghost use Rattle.rdm_findings.specs.Flaws.{is_discovery, flaw_of_type, flaw_of_response, flaw_of_decoded, flaw_after};
+ghost use Rattle.rdm_findings.specs.Flaws.{flaw_read, flaw_of, first_flaw, packet_text, flaw_text};
+
+use rdm_join::LineEvent;
+use rdm_wire::{
+    AckType, Command, Frame, PacketFault, RespClass, Response, Uid, decode_response, read_command,
+};
+
+// The parameter of a mute (E1.20, discovery mute).
+const DISC_MUTE: u16 = 2;
+
+/// Why bytes don't acknowledge a mute, in the order in which it is tested.
+#[derive(Clone, Copy, Debug, PartialEq, Eq)]
+pub enum Flaw {
+    /// They are no response.
+    Packet(PacketFault),
+    /// They answer another command.
+    Command,
+    /// They are from another UID than that of the mute.
+    Source,
+    /// They are for another controller than the mute's.
+    Controller,
+    /// They have another transaction number than the mute.
+    Number,
+    /// They refuse it.
+    Nack,
+    /// They are neither ACK nor NACK.
+    Type,
+    /// They have neither 2 bytes of data nor 8.
+    Length,
+}
+
+/// The first flaw, with one more exchange.
+pub(crate) fn first_flaw(flaw: Option<Flaw>, frame: &Frame, event: &LineEvent) -> Option<Flaw>
+    ensures { result ≡ first_flaw flaw frame.now event.now }
+{
+    match flaw {
+        Some(flaw) => Some(flaw),
+        None => flaw_of(frame, event),
+    }
+}
+
+// Why the line's answer to a frame doesn't acknowledge it, if the frame is a mute, and bytes came.
+fn flaw_of(frame: &Frame, event: &LineEvent) -> Option<Flaw>
+    ensures { result ≡ flaw_of frame.now event.now }
+{
+    match event {
+        LineEvent::Failed => None,
+        LineEvent::Reply(bytes) => flaw_of_bytes(frame.as_slice(), bytes.as_slice()),
+    }
+}
+
+fn flaw_of_bytes(frame: &[u8], bytes: &[u8]) -> Option<Flaw>
+    ensures { result ≡ flaw_read (command_read frame.now) bytes.now }
+{
+    match read_command(frame) {
+        Some((command, source, tn)) => flaw_after(&command, source, tn, bytes),
+        None => None,
+    }
+}
+
+fn flaw_after(command: &Command, source: Uid, tn: u8, bytes: &[u8]) -> Option<Flaw>
+    ensures { result ≡ flaw_after command.now source tn bytes.now }
+{
+    match command {
+        Command::Mute(uid) => {
+            if bytes.is_empty() {
+                None
+            } else {
+                flaw_in(*uid, source, tn, bytes)
+            }
+        }
+        _ => None,
+    }
+}
+
+fn flaw_in(uid: Uid, source: Uid, tn: u8, bytes: &[u8]) -> Option<Flaw>
+    ensures { result ≡ flaw_of_decoded uid source tn (decoded bytes.now) }
+{
+    match decode_response(bytes) {
+        Ok(response) => flaw_of_response(uid, source, tn, &response),
+        Err(fault) => Some(Flaw::Packet(fault)),
+    }
+}
+
+fn flaw_of_response(uid: Uid, source: Uid, tn: u8, response: &Response) -> Option<Flaw>
+    ensures { result ≡ flaw_of_response uid source tn response.now }
+{
+    if !is_discovery(response.class) || response.pid != DISC_MUTE {
+        Some(Flaw::Command)
+    } else if response.source != uid {
+        Some(Flaw::Source)
+    } else if response.dest != source {
+        Some(Flaw::Controller)
+    } else if response.tn != tn {
+        Some(Flaw::Number)
+    } else {
+        flaw_of_type(response.ack, response.param.len())
+    }
+}
+
+fn is_discovery(class: RespClass) -> bool
+    ensures { result ≡ is_discovery class }
+{
+    match class {
+        RespClass::Discovery => true,
+        _ => false,
+    }
+}
+
+fn flaw_of_type(ack: AckType, length: usize) -> Option<Flaw>
+    ensures { result ≡ flaw_of_type ack length }
+{
+    match ack {
+        AckType::Ack => {
+            if length == 2 || length == 8 {
+                None
+            } else {
+                Some(Flaw::Length)
+            }
+        }
+        AckType::Nack => Some(Flaw::Nack),
+        _ => Some(Flaw::Type),
+    }
+}
+
+/// A flaw in words.
+pub(crate) fn flaw_text(flaw: Flaw) -> &'static str
+    ensures { result.now ≡ flaw_text flaw }
+{
+    match flaw {
+        Flaw::Packet(fault) => packet_text(fault),
+        Flaw::Command => "they answer another command",
+        Flaw::Source => "they are from another UID",
+        Flaw::Controller => "they are for another controller",
+        Flaw::Number => "they have another transaction number",
+        Flaw::Nack => "they are a NACK",
+        Flaw::Type => "they are no ACK",
+        Flaw::Length => "they have neither 2 bytes of data nor 8",
+    }
+}
+
+fn packet_text(fault: PacketFault) -> &'static str
+    ensures { result.now ≡ packet_text fault }
+{
+    match fault {
+        PacketFault::TooShort => "they are too short for a response",
+        PacketFault::WrongStart => "they don't begin with the start code",
+        PacketFault::WrongSubStart => "their sub start code is wrong",
+        PacketFault::LengthMismatch => "their message length is wrong",
+        PacketFault::ParamLengthMismatch => "their parameter data length is wrong",
+        PacketFault::Checksum => "their checksum is wrong",
+        PacketFault::InvalidClass => "their command class isn't that of a response",
+        PacketFault::InvalidResponseType => "their response type is unknown",
+    }
+}
