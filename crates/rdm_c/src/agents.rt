@@ -17,7 +17,7 @@ ghost use Rattle.rdm_handles.specs.Handles.{holds, a_discovery, Opens, Closes, S
 use rdm_handles::status::{
     ALREADY_OPEN, BUFFER_TOO_SMALL, DONE, HAS_ENDED, NOT_ENDED, NOT_OPEN, OUT_OF_MEMORY,
 };
-use rdm_handles::{DeviceForC, Handle, StartForC, agents, controllers};
+use rdm_handles::{DeviceForC, Discovery, Handle, StartForC, agents, controllers};
 use std::alloc::Global;
 
 /// Opens a handle: a run that begins like this, and knows these UIDs.
@@ -37,18 +37,7 @@ pub extern "C" fn wurst_agent_start(
         × (handle.new.discovery.tn ≡ start.now.tn) × HasRunBy (search_of start.now.search) (kind_of start.now.kind)
         (known_set [] known.now) start.now.budget false [] handle.new.discovery.agent }
 {
-    if handle.is_open() {
-        return ALREADY_OPEN;
-    }
-    let discovery = match agents::start(start, known) {
-        Ok(discovery) => discovery,
-        Err(fault) => return fault,
-    };
-    let Ok(boxed) = Box::new(alloc, discovery) else {
-        return OUT_OF_MEMORY;
-    };
-    handle.put_discovery(boxed);
-    DONE
+    on_closed!(handle, alloc, agents::start(start, known))
 }
 
 /// Ends the run of an open handle, frees its memory, and closes the handle. No effect on any other handle.
@@ -56,7 +45,7 @@ pub extern "C" fn wurst_agent_start(
 pub extern "C" fn wurst_agent_dispose(alloc: Global, handle: &mut Handle)
     ensures closes { Closes a_discovery handle.old handle.new }
 {
-    drop(handle.take_discovery(alloc));
+    drop(handle.take::<Discovery>(alloc));
 }
 
 /// Writes what the run asks next, 0 for an unmute of all, 1 for a mute, 2 for a branch, and its frame at the front of a
@@ -78,12 +67,9 @@ pub extern "C" fn wurst_agent_next(
     ensures unchanged { result ≢ DONE → (operation.new ≡ operation.old) × (len.new ≡ len.old)
         × (frame.new ≡ frame.old) }
 {
-    let Some(discovery) = handle.take_discovery(alloc) else {
-        return NOT_OPEN;
-    };
-    let status = agents::next(&discovery, operation, frame, len);
-    handle.put_discovery(discovery);
-    status
+    on_held!(discovery: Discovery in handle, alloc => {
+        agents::next(discovery, operation, frame, len)
+    })
 }
 
 /// Takes the bytes that the line answered to the run's frame. No bytes are silence.
@@ -101,12 +87,7 @@ pub extern "C" fn wurst_agent_hear(alloc: Global, handle: &mut Handle, reply: &[
         × (handle.new.discovery.source ≡ handle.old.discovery.source) }
     ensures unchanged { result ≢ DONE → handle.new.discovery ≡ handle.old.discovery }
 {
-    let Some(mut discovery) = handle.take_discovery(alloc) else {
-        return NOT_OPEN;
-    };
-    let status = agents::hear_reply(&mut discovery, reply);
-    handle.put_discovery(discovery);
-    status
+    on_held!(discovery: Discovery in handle, alloc => agents::hear_reply(discovery, reply))
 }
 
 /// Records that the line failed, which ends the run.
@@ -124,12 +105,7 @@ pub extern "C" fn wurst_agent_fail(alloc: Global, handle: &mut Handle) -> u32
         × (handle.new.discovery.source ≡ handle.old.discovery.source) }
     ensures unchanged { result ≢ DONE → handle.new.discovery ≡ handle.old.discovery }
 {
-    let Some(mut discovery) = handle.take_discovery(alloc) else {
-        return NOT_OPEN;
-    };
-    let status = agents::hear(&mut discovery, None);
-    handle.put_discovery(discovery);
-    status
+    on_held!(discovery: Discovery in handle, alloc => agents::hear(discovery, None))
 }
 
 /// Ends the run, as aborted. No effect if it has ended.
@@ -145,12 +121,10 @@ pub extern "C" fn wurst_agent_stop(alloc: Global, handle: &mut Handle) -> u32
     ensures unchanged { holds a_discovery handle.old ≡ true → next_op handle.old.discovery.agent ≡ End →
         handle.new.discovery.agent ≡ handle.old.discovery.agent }
 {
-    let Some(mut discovery) = handle.take_discovery(alloc) else {
-        return NOT_OPEN;
-    };
-    discovery.agent.stop();
-    handle.put_discovery(discovery);
-    DONE
+    on_held!(discovery: Discovery in handle, alloc => {
+        discovery.agent.stop();
+        DONE
+    })
 }
 
 /// Writes the devices found so far at the front of a buffer, and how many there are; with `BUFFER_TOO_SMALL` only that.
@@ -172,12 +146,9 @@ pub extern "C" fn wurst_agent_devices(
         (λ run. IsReport run.exchanges handle.old.discovery.agent.found) }
     ensures unchanged { result ≢ DONE → devices.new ≡ devices.old }
 {
-    let Some(discovery) = handle.take_discovery(alloc) else {
-        return NOT_OPEN;
-    };
-    let status = controllers::devices(discovery.agent.found(), devices, count);
-    handle.put_discovery(discovery);
-    status
+    on_held!(discovery: Discovery in handle, alloc => {
+        controllers::devices(discovery.agent.found(), devices, count)
+    })
 }
 
 /// Writes why the run ended early: the fault's number, or 0 if it has none, and the fault's UID, or 0.
@@ -195,12 +166,7 @@ pub extern "C" fn wurst_agent_fault(
         × (corrupt.new ≡ corrupt_uid (fault_of handle.old.discovery.agent.phase)) }
     ensures unchanged { result ≢ DONE → (fault.new ≡ fault.old) × (corrupt.new ≡ corrupt.old) }
 {
-    let Some(discovery) = handle.take_discovery(alloc) else {
-        return NOT_OPEN;
-    };
-    let status = agents::fault(&discovery, fault, corrupt);
-    handle.put_discovery(discovery);
-    status
+    on_held!(discovery: Discovery in handle, alloc => agents::fault(discovery, fault, corrupt))
 }
 
 /// Writes how many exchanges the run has made.
@@ -209,10 +175,8 @@ pub extern "C" fn wurst_agent_frames(alloc: Global, handle: &mut Handle, frames:
     ensures reports { Reports a_discovery handle.old handle.new result (frames.new ≡ handle.old.discovery.agent.frames)
         (frames.new ≡ frames.old) }
 {
-    let Some(discovery) = handle.take_discovery(alloc) else {
-        return NOT_OPEN;
-    };
-    *frames = discovery.agent.frames();
-    handle.put_discovery(discovery);
-    DONE
+    on_held!(discovery: Discovery in handle, alloc => {
+        *frames = discovery.agent.frames();
+        DONE
+    })
 }

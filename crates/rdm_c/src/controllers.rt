@@ -31,6 +31,7 @@ use rdm_handles::{
     CompletionForC, DeviceForC, EndForC, Handle, RequestForC, SetupForC, controllers,
 };
 use rdm_join::LineEvent;
+use rdm_queue::Controller;
 use std::alloc::Global;
 
 /// Opens a handle: a controller with this set-up, without clients.
@@ -46,18 +47,7 @@ pub extern "C" fn wurst_controller_open(
         ⊎ (result ≡ DONE) }
     ensures opened { result ≡ DONE → IsSetUp (setup_of setup.now) handle.new.controller }
 {
-    if handle.is_open() {
-        return ALREADY_OPEN;
-    }
-    let controller = match controllers::open(alloc, setup) {
-        Ok(controller) => controller,
-        Err(fault) => return fault,
-    };
-    let Ok(boxed) = Box::new(alloc, controller) else {
-        return OUT_OF_MEMORY;
-    };
-    handle.put_controller(boxed);
-    DONE
+    on_closed!(handle, alloc, controllers::open(alloc, setup))
 }
 
 /// Ends the controller of an open handle, frees its memory, and closes the handle. No effect on any other handle.
@@ -65,7 +55,7 @@ pub extern "C" fn wurst_controller_open(
 pub extern "C" fn wurst_controller_dispose(alloc: Global, handle: &mut Handle)
     ensures closes { Closes a_controller handle.old handle.new }
 {
-    drop(handle.take_controller(alloc));
+    drop(handle.take::<Controller>(alloc));
 }
 
 /// Lets a client join with this queue depth, and writes its number.
@@ -81,12 +71,9 @@ pub extern "C" fn wurst_controller_join(
         (λ k. JoinAdds k.opening k.entries places (join_answer result client.new)) handle.new.controller }
     ensures unchanged { result ≢ DONE → (handle.new.controller ≡ handle.old.controller) × (client.new ≡ client.old) }
 {
-    let Some(mut controller) = handle.take_controller(alloc) else {
-        return NOT_OPEN;
-    };
-    let status = controllers::join(&mut controller, alloc, places, client);
-    handle.put_controller(controller);
-    status
+    on_held!(controller: Controller in handle, alloc => {
+        controllers::join(controller, alloc, places, client)
+    })
 }
 
 /// Accepts a client's request with these parameter data, and writes its number.
@@ -108,12 +95,9 @@ pub extern "C" fn wurst_controller_submit(
         (submit_answer result number.new (request_of request.now param_bytes.now))) handle.new.controller }
     ensures unchanged { result ≢ DONE → (handle.new.controller ≡ handle.old.controller) × (number.new ≡ number.old) }
 {
-    let Some(mut controller) = handle.take_controller(alloc) else {
-        return NOT_OPEN;
-    };
-    let status = controllers::submit(&mut controller, client, request, param_bytes, number);
-    handle.put_controller(controller);
-    status
+    on_held!(controller: Controller in handle, alloc => {
+        controllers::submit(controller, client, request, param_bytes, number)
+    })
 }
 
 /// Accepts a client's discovery, 0 full or 1 incremental, and writes its number.
@@ -132,12 +116,9 @@ pub extern "C" fn wurst_controller_discover(
         handle.new.controller }
     ensures unchanged { result ≢ DONE → (handle.new.controller ≡ handle.old.controller) × (number.new ≡ number.old) }
 {
-    let Some(mut controller) = handle.take_controller(alloc) else {
-        return NOT_OPEN;
-    };
-    let status = controllers::discover(&mut controller, client, kind, number);
-    handle.put_controller(controller);
-    status
+    on_held!(controller: Controller in handle, alloc => {
+        controllers::discover(controller, client, kind, number)
+    })
 }
 
 /// Begins no run and sends no request until `wurst_controller_resume`.
@@ -149,12 +130,10 @@ pub extern "C" fn wurst_controller_pause(alloc: Global, handle: &mut Handle) -> 
     ensures unchanged { holds a_controller handle.old ≡ true → ForEachLog handle.old.controller
         (λ o h. can_pause o h ≡ false → handle.new.controller ≡ handle.old.controller) }
 {
-    let Some(mut controller) = handle.take_controller(alloc) else {
-        return NOT_OPEN;
-    };
-    controller.pause();
-    handle.put_controller(controller);
-    DONE
+    on_held!(controller: Controller in handle, alloc => {
+        controller.pause();
+        DONE
+    })
 }
 
 /// Begins runs and sends requests again.
@@ -166,12 +145,10 @@ pub extern "C" fn wurst_controller_resume(alloc: Global, handle: &mut Handle) ->
     ensures unchanged { holds a_controller handle.old ≡ true → ForEachLog handle.old.controller
         (λ o h. can_resume o h ≡ false → handle.new.controller ≡ handle.old.controller) }
 {
-    let Some(mut controller) = handle.take_controller(alloc) else {
-        return NOT_OPEN;
-    };
-    controller.resume();
-    handle.put_controller(controller);
-    DONE
+    on_held!(controller: Controller in handle, alloc => {
+        controller.resume();
+        DONE
+    })
 }
 
 /// Refuses all later joins, submits and discovers, and sends nothing more.
@@ -183,12 +160,10 @@ pub extern "C" fn wurst_controller_close(alloc: Global, handle: &mut Handle) -> 
     ensures unchanged { holds a_controller handle.old ≡ true → ForEachLog handle.old.controller
         (λ o h. is_closed o h ≡ true → handle.new.controller ≡ handle.old.controller) }
 {
-    let Some(mut controller) = handle.take_controller(alloc) else {
-        return NOT_OPEN;
-    };
-    controller.close();
-    handle.put_controller(controller);
-    DONE
+    on_held!(controller: Controller in handle, alloc => {
+        controller.close();
+        DONE
+    })
 }
 
 /// Writes the next frame for the line at the front of a buffer of 257 bytes, and how many bytes it has.
@@ -211,12 +186,7 @@ pub extern "C" fn wurst_controller_take(
     ensures unchanged { result ≢ DONE → (handle.new.controller ≡ handle.old.controller) × (len.new ≡ len.old)
         × (frame.new ≡ frame.old) }
 {
-    let Some(mut controller) = handle.take_controller(alloc) else {
-        return NOT_OPEN;
-    };
-    let status = controllers::take(&mut controller, frame, len);
-    handle.put_controller(controller);
-    status
+    on_held!(controller: Controller in handle, alloc => controllers::take(controller, frame, len))
 }
 
 /// Takes the bytes that the line answered to the last frame. No bytes are silence.
@@ -231,12 +201,9 @@ pub extern "C" fn wurst_controller_deliver(alloc: Global, handle: &mut Handle, r
     ensures not_asked { result ≡ NOT_ASKED → ForEachLog handle.old.controller (λ o h. awaited h ≡ false) }
     ensures unchanged { result ≢ DONE → handle.new.controller ≡ handle.old.controller }
 {
-    let Some(mut controller) = handle.take_controller(alloc) else {
-        return NOT_OPEN;
-    };
-    let status = controllers::deliver(&mut controller, alloc, reply);
-    handle.put_controller(controller);
-    status
+    on_held!(controller: Controller in handle, alloc => {
+        controllers::deliver(controller, alloc, reply)
+    })
 }
 
 /// Records that the line failed at the last frame.
@@ -249,12 +216,9 @@ pub extern "C" fn wurst_controller_fail(alloc: Global, handle: &mut Handle) -> u
     ensures not_asked { result ≡ NOT_ASKED → ForEachLog handle.old.controller (λ o h. awaited h ≡ false) }
     ensures unchanged { result ≢ DONE → handle.new.controller ≡ handle.old.controller }
 {
-    let Some(mut controller) = handle.take_controller(alloc) else {
-        return NOT_OPEN;
-    };
-    let status = controllers::hear(&mut controller, alloc, LineEvent::Failed);
-    handle.put_controller(controller);
-    status
+    on_held!(controller: Controller in handle, alloc => {
+        controllers::hear(controller, alloc, LineEvent::Failed)
+    })
 }
 
 /// Writes the kind of a client's oldest outcome: 0 for a request's, 1 for a discovery's.
@@ -272,12 +236,9 @@ pub extern "C" fn wurst_controller_oldest(
         (λ o h. option_map number_of_outcome_kind (oldest_kind o h client) ≡ Some kind.new) }
     ensures unchanged { result ≢ DONE → kind.new ≡ kind.old }
 {
-    let Some(controller) = handle.take_controller(alloc) else {
-        return NOT_OPEN;
-    };
-    let status = controllers::oldest(&controller, client, kind);
-    handle.put_controller(controller);
-    status
+    on_held!(controller: Controller in handle, alloc => {
+        controllers::oldest(controller, client, kind)
+    })
 }
 
 /// Collects a client's oldest outcome if it is a request's, and writes how it ended, with its data at the front of
@@ -307,12 +268,9 @@ pub extern "C" fn wurst_controller_next_completion(
     ensures kept { result ≢ DONE → result ≢ BUFFER_TOO_SMALL → completion.new ≡ completion.old }
     ensures unchanged { result ≢ DONE → (handle.new.controller ≡ handle.old.controller) × (buffer.new ≡ buffer.old) }
 {
-    let Some(mut controller) = handle.take_controller(alloc) else {
-        return NOT_OPEN;
-    };
-    let status = controllers::next_completion(&mut controller, client, completion, buffer);
-    handle.put_controller(controller);
-    status
+    on_held!(controller: Controller in handle, alloc => {
+        controllers::next_completion(controller, client, completion, buffer)
+    })
 }
 
 /// Collects a client's oldest outcome if it is a discovery's, and writes how it ended, with its devices at the
@@ -340,12 +298,9 @@ pub extern "C" fn wurst_controller_next_discovery(
     ensures unchanged { result ≢ DONE → (handle.new.controller ≡ handle.old.controller)
         × (devices.new ≡ devices.old) }
 {
-    let Some(mut controller) = handle.take_controller(alloc) else {
-        return NOT_OPEN;
-    };
-    let status = controllers::next_discovery(&mut controller, client, end, devices);
-    handle.put_controller(controller);
-    status
+    on_held!(controller: Controller in handle, alloc => {
+        controllers::next_discovery(controller, client, end, devices)
+    })
 }
 
 /// Writes the devices of the last run without fault at the front of a buffer, and how many there are; with
@@ -367,12 +322,9 @@ pub extern "C" fn wurst_controller_devices(
         (λ o h. take count.new devices.new ≡ map form_of_device (known_devices o h)) }
     ensures unchanged { result ≢ DONE → devices.new ≡ devices.old }
 {
-    let Some(controller) = handle.take_controller(alloc) else {
-        return NOT_OPEN;
-    };
-    let status = controllers::devices(controller.devices(), devices, count);
-    handle.put_controller(controller);
-    status
+    on_held!(controller: Controller in handle, alloc => {
+        controllers::devices(controller.devices(), devices, count)
+    })
 }
 
 /// Writes the number of the run that found the devices; 0 before the first.
@@ -385,12 +337,10 @@ pub extern "C" fn wurst_controller_devices_run(
     ensures reports { Reports a_controller handle.old handle.new result
         (ForEachLog handle.old.controller (λ o h. run.new ≡ devices_run o h)) (run.new ≡ run.old) }
 {
-    let Some(controller) = handle.take_controller(alloc) else {
-        return NOT_OPEN;
-    };
-    *run = controller.devices_run();
-    handle.put_controller(controller);
-    DONE
+    on_held!(controller: Controller in handle, alloc => {
+        *run = controller.devices_run();
+        DONE
+    })
 }
 
 /// Writes whether the queue is idle: no call waits or is being served, and no outcome is uncollected.
@@ -403,12 +353,10 @@ pub extern "C" fn wurst_controller_is_idle(
     ensures reports { Reports a_controller handle.old handle.new result
         (ForEachLog handle.old.controller (λ o h. answer.new ≡ is_idle h)) (answer.new ≡ answer.old) }
 {
-    let Some(controller) = handle.take_controller(alloc) else {
-        return NOT_OPEN;
-    };
-    *answer = controller.is_idle();
-    handle.put_controller(controller);
-    DONE
+    on_held!(controller: Controller in handle, alloc => {
+        *answer = controller.is_idle();
+        DONE
+    })
 }
 
 /// Writes whether sending is paused.
@@ -421,12 +369,10 @@ pub extern "C" fn wurst_controller_is_paused(
     ensures reports { Reports a_controller handle.old handle.new result
         (ForEachLog handle.old.controller (λ o h. answer.new ≡ is_paused o h)) (answer.new ≡ answer.old) }
 {
-    let Some(controller) = handle.take_controller(alloc) else {
-        return NOT_OPEN;
-    };
-    *answer = controller.is_paused();
-    handle.put_controller(controller);
-    DONE
+    on_held!(controller: Controller in handle, alloc => {
+        *answer = controller.is_paused();
+        DONE
+    })
 }
 
 /// Writes whether the queue is closed.
@@ -439,12 +385,10 @@ pub extern "C" fn wurst_controller_is_closed(
     ensures reports { Reports a_controller handle.old handle.new result
         (ForEachLog handle.old.controller (λ o h. answer.new ≡ is_closed o h)) (answer.new ≡ answer.old) }
 {
-    let Some(controller) = handle.take_controller(alloc) else {
-        return NOT_OPEN;
-    };
-    *answer = controller.is_closed();
-    handle.put_controller(controller);
-    DONE
+    on_held!(controller: Controller in handle, alloc => {
+        *answer = controller.is_closed();
+        DONE
+    })
 }
 
 /// Writes whether a reply is awaited.
@@ -457,10 +401,8 @@ pub extern "C" fn wurst_controller_awaits(
     ensures reports { Reports a_controller handle.old handle.new result
         (ForEachLog handle.old.controller (λ o h. answer.new ≡ awaited h)) (answer.new ≡ answer.old) }
 {
-    let Some(controller) = handle.take_controller(alloc) else {
-        return NOT_OPEN;
-    };
-    *answer = controller.awaits();
-    handle.put_controller(controller);
-    DONE
+    on_held!(controller: Controller in handle, alloc => {
+        *answer = controller.awaits();
+        DONE
+    })
 }

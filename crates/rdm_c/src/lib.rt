@@ -9,6 +9,42 @@
 
 ghost use Rattle.std.specs.Prelude.{◌≡◌};
 
+/// Opens a handle with what is made for it, and returns the status. An open one is refused, and unchanged.
+macro_rules! on_closed {
+    ($handle:ident, $alloc:ident, $made:expr) => {
+        if $handle.is_open() {
+            ALREADY_OPEN
+        } else {
+            match $made {
+                Err(fault) => fault,
+                Ok(made) => match Box::new($alloc, made) {
+                    Err(_) => OUT_OF_MEMORY,
+                    Ok(boxed) => {
+                        $handle.put(boxed);
+                        DONE
+                    }
+                },
+            }
+        }
+    };
+}
+
+/// Makes a call on what a handle holds, and returns its status. A handle that holds nothing of this type is refused,
+/// and unchanged.
+macro_rules! on_held {
+    ($held:ident: $type:ident in $handle:ident, $alloc:ident => $call:expr) => {
+        match $handle.take::<$type>($alloc) {
+            None => NOT_OPEN,
+            Some(mut boxed) => {
+                let $held = &mut *boxed;
+                let status = $call;
+                $handle.put(boxed);
+                status
+            }
+        }
+    };
+}
+
 mod agents;
 mod controllers;
 mod logs;

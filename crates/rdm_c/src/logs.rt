@@ -13,6 +13,8 @@ use rdm_handles::status::{
     ALREADY_OPEN, BUFFER_TOO_SMALL, DONE, LOG_FULL, NO_ENTRY, NOT_OPEN, OUT_OF_MEMORY,
 };
 use rdm_handles::{EntryForC, Handle, entries, sessions};
+use rdm_log::Log;
+use rdm_queue::Session;
 use std::alloc::Global;
 
 /// Writes how many entries of the log are free: neither used nor reserved.
@@ -25,12 +27,10 @@ pub extern "C" fn wurst_session_free_entries(
     ensures reports { Reports a_session handle.old handle.new result (count.new ≡ free_entries handle.old.session)
         (count.new ≡ count.old) }
 {
-    let Some(session) = handle.take_session(alloc) else {
-        return NOT_OPEN;
-    };
-    *count = session.free();
-    handle.put_session(session);
-    DONE
+    on_held!(session: Session in handle, alloc => {
+        *count = session.free();
+        DONE
+    })
 }
 
 /// Writes how many entries the log stores. With those that it doesn't store it is legal, and keeps all that clients are
@@ -46,12 +46,10 @@ pub extern "C" fn wurst_session_entry_count(
     ensures legal { holds a_session handle.old ≡ true → Legal handle.old.session.opening handle.old.session.entries }
     ensures promised { holds a_session handle.old ≡ true → Promised handle.old.session }
 {
-    let Some(session) = handle.take_session(alloc) else {
-        return NOT_OPEN;
-    };
-    *count = session.log().entries().len();
-    handle.put_session(session);
-    DONE
+    on_held!(session: Session in handle, alloc => {
+        *count = session.log().entries().len();
+        DONE
+    })
 }
 
 /// Writes the stored entry with this index, from 0, with its bytes at the front of a buffer. `BUFFER_TOO_SMALL` writes
@@ -76,12 +74,9 @@ pub extern "C" fn wurst_session_entry(
     ensures kept { result ≢ DONE → result ≢ BUFFER_TOO_SMALL → entry.new ≡ entry.old }
     ensures unchanged { result ≢ DONE → buffer.new ≡ buffer.old }
 {
-    let Some(session) = handle.take_session(alloc) else {
-        return NOT_OPEN;
-    };
-    let status = entries::read(session.log(), index, entry, buffer);
-    handle.put_session(session);
-    status
+    on_held!(session: Session in handle, alloc => {
+        entries::read(session.log(), index, entry, buffer)
+    })
 }
 
 /// Continues with a new log of this many entries, and opens a closed handle with the old one. An open one of any kind
@@ -116,14 +111,14 @@ pub extern "C" fn wurst_session_rotate(
     if log.is_open() {
         return ALREADY_OPEN;
     }
-    let Some(mut session) = handle.take_session(alloc) else {
+    let Some(mut session) = handle.take::<Session>(alloc) else {
         return NOT_OPEN;
     };
     let rotated = sessions::rotate(&mut session, alloc, entries);
-    handle.put_session(session);
+    handle.put(session);
     match rotated {
         Ok(held) => {
-            log.put_log(held);
+            log.put(held);
             DONE
         }
         Err(fault) => fault,
@@ -170,24 +165,24 @@ pub extern "C" fn wurst_session_drain(
     if log.is_open() && !log.holds(LOG) {
         return NOT_OPEN;
     }
-    let Some(mut session) = handle.take_session(alloc) else {
+    let Some(mut session) = handle.take::<Session>(alloc) else {
         return NOT_OPEN;
     };
     let number = session.log().first_stored();
-    if let Some(mut page) = log.take_log(alloc) {
+    if let Some(mut page) = log.take::<Log>(alloc) {
         let status = sessions::drain_into(&mut session, &mut page);
-        log.put_log(page);
-        handle.put_session(session);
+        log.put(page);
+        handle.put(session);
         if status == DONE {
             *first = number;
         }
         return status;
     }
     let drained = sessions::drain(&mut session, alloc, entries);
-    handle.put_session(session);
+    handle.put(session);
     match drained {
         Ok(page) => {
-            log.put_log(page);
+            log.put(page);
             *first = number;
             DONE
         }
@@ -200,7 +195,7 @@ pub extern "C" fn wurst_session_drain(
 pub extern "C" fn wurst_log_dispose(alloc: Global, handle: &mut Handle)
     ensures closes { Closes a_log handle.old handle.new }
 {
-    drop(handle.take_log(alloc));
+    drop(handle.take::<Log>(alloc));
 }
 
 /// Writes how many entries the log stores.
@@ -213,12 +208,10 @@ pub extern "C" fn wurst_log_entry_count(
     ensures reports { Reports a_log handle.old handle.new result (count.new ≡ length (stored handle.old.log))
         (count.new ≡ count.old) }
 {
-    let Some(log) = handle.take_log(alloc) else {
-        return NOT_OPEN;
-    };
-    *count = log.entries().len();
-    handle.put_log(log);
-    DONE
+    on_held!(log: Log in handle, alloc => {
+        *count = log.entries().len();
+        DONE
+    })
 }
 
 /// Writes the log's entry with this index, as `wurst_session_entry` does.
@@ -241,10 +234,5 @@ pub extern "C" fn wurst_log_entry(
     ensures kept { result ≢ DONE → result ≢ BUFFER_TOO_SMALL → entry.new ≡ entry.old }
     ensures unchanged { result ≢ DONE → buffer.new ≡ buffer.old }
 {
-    let Some(log) = handle.take_log(alloc) else {
-        return NOT_OPEN;
-    };
-    let status = entries::read(&log, index, entry, buffer);
-    handle.put_log(log);
-    status
+    on_held!(log: Log in handle, alloc => entries::read(log, index, entry, buffer))
 }

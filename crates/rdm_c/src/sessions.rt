@@ -32,6 +32,7 @@ use rdm_handles::{
     CompletionForC, DeviceForC, EndForC, Handle, RequestForC, SetupForC, controllers, sessions,
 };
 use rdm_join::LineEvent;
+use rdm_queue::Session;
 use std::alloc::Global;
 
 /// Opens a handle: a session with this set-up, without clients, and with a log of this many entries.
@@ -49,18 +50,7 @@ pub extern "C" fn wurst_session_open(
         ⊎ (result ≡ DONE) }
     ensures opened { result ≡ DONE → handle.new.session ≡ begun (setup_of setup.now) (blank_log (entries + 1)) }
 {
-    if handle.is_open() {
-        return ALREADY_OPEN;
-    }
-    let session = match sessions::open(alloc, setup, entries) {
-        Ok(session) => session,
-        Err(fault) => return fault,
-    };
-    let Ok(boxed) = Box::new(alloc, session) else {
-        return OUT_OF_MEMORY;
-    };
-    handle.put_session(boxed);
-    DONE
+    on_closed!(handle, alloc, sessions::open(alloc, setup, entries))
 }
 
 /// Opens a handle: a session with this set-up, without clients, whose log keeps nothing. So it can last for years.
@@ -76,18 +66,7 @@ pub extern "C" fn wurst_session_open_without_log(
         ⊎ (result ≡ DONE) }
     ensures opened { result ≡ DONE → handle.new.session ≡ begun (setup_of setup.now) nothing_log }
 {
-    if handle.is_open() {
-        return ALREADY_OPEN;
-    }
-    let session = match sessions::open_without_log(alloc, setup) {
-        Ok(session) => session,
-        Err(fault) => return fault,
-    };
-    let Ok(boxed) = Box::new(alloc, session) else {
-        return OUT_OF_MEMORY;
-    };
-    handle.put_session(boxed);
-    DONE
+    on_closed!(handle, alloc, sessions::open_without_log(alloc, setup))
 }
 
 /// Ends the session of an open handle, frees its memory and that of its log, and closes the handle. No effect on
@@ -96,7 +75,7 @@ pub extern "C" fn wurst_session_open_without_log(
 pub extern "C" fn wurst_session_dispose(alloc: Global, handle: &mut Handle)
     ensures closes { Closes a_session handle.old handle.new }
 {
-    drop(handle.take_session(alloc));
+    drop(handle.take::<Session>(alloc));
 }
 
 /// Lets a client join with this queue depth, and writes its number.
@@ -114,12 +93,7 @@ pub extern "C" fn wurst_session_join(
     ensures legal { holds a_session handle.old ≡ true → Legal handle.new.session.opening handle.new.session.entries }
     ensures unchanged { result ≢ DONE → client.new ≡ client.old }
 {
-    let Some(mut session) = handle.take_session(alloc) else {
-        return NOT_OPEN;
-    };
-    let status = sessions::join(&mut session, alloc, places, client);
-    handle.put_session(session);
-    status
+    on_held!(session: Session in handle, alloc => sessions::join(session, alloc, places, client))
 }
 
 /// Accepts a client's request with these parameter data, and writes its number.
@@ -145,12 +119,9 @@ pub extern "C" fn wurst_session_submit(
         Legal handle.new.session.opening handle.new.session.entries }
     ensures unchanged { result ≢ DONE → number.new ≡ number.old }
 {
-    let Some(mut session) = handle.take_session(alloc) else {
-        return NOT_OPEN;
-    };
-    let status = sessions::submit(&mut session, client, request, param_bytes, number);
-    handle.put_session(session);
-    status
+    on_held!(session: Session in handle, alloc => {
+        sessions::submit(session, client, request, param_bytes, number)
+    })
 }
 
 /// Accepts a client's discovery, 0 full or 1 incremental, and writes its number.
@@ -173,12 +144,7 @@ pub extern "C" fn wurst_session_discover(
         handle.new.session.entries }
     ensures unchanged { result ≢ DONE → number.new ≡ number.old }
 {
-    let Some(mut session) = handle.take_session(alloc) else {
-        return NOT_OPEN;
-    };
-    let status = sessions::discover(&mut session, client, kind, number);
-    handle.put_session(session);
-    status
+    on_held!(session: Session in handle, alloc => sessions::discover(session, client, kind, number))
 }
 
 /// Begins no run and sends no request until `wurst_session_resume`.
@@ -191,12 +157,7 @@ pub extern "C" fn wurst_session_pause(alloc: Global, handle: &mut Handle) -> u32
     ensures legal { holds a_session handle.old ≡ true → Legal handle.new.session.opening handle.new.session.entries }
     ensures unchanged { result ≢ DONE → handle.new.session ≡ handle.old.session }
 {
-    let Some(mut session) = handle.take_session(alloc) else {
-        return NOT_OPEN;
-    };
-    let status = sessions::pause(&mut session);
-    handle.put_session(session);
-    status
+    on_held!(session: Session in handle, alloc => sessions::pause(session))
 }
 
 /// Begins runs and sends requests again.
@@ -209,12 +170,7 @@ pub extern "C" fn wurst_session_resume(alloc: Global, handle: &mut Handle) -> u3
     ensures legal { holds a_session handle.old ≡ true → Legal handle.new.session.opening handle.new.session.entries }
     ensures unchanged { result ≢ DONE → handle.new.session ≡ handle.old.session }
 {
-    let Some(mut session) = handle.take_session(alloc) else {
-        return NOT_OPEN;
-    };
-    let status = sessions::resume(&mut session);
-    handle.put_session(session);
-    status
+    on_held!(session: Session in handle, alloc => sessions::resume(session))
 }
 
 /// Refuses all later joins, submits and discovers, and sends nothing more.
@@ -225,12 +181,10 @@ pub extern "C" fn wurst_session_close(alloc: Global, handle: &mut Handle) -> u32
         (CloseAdds handle.old.session.opening handle.old.session.entries) handle.new.session }
     ensures legal { holds a_session handle.old ≡ true → Legal handle.new.session.opening handle.new.session.entries }
 {
-    let Some(mut session) = handle.take_session(alloc) else {
-        return NOT_OPEN;
-    };
-    session.close();
-    handle.put_session(session);
-    DONE
+    on_held!(session: Session in handle, alloc => {
+        session.close();
+        DONE
+    })
 }
 
 /// Writes the next frame for the line at the front of a buffer of 257 bytes, and how many bytes it has.
@@ -256,12 +210,7 @@ pub extern "C" fn wurst_session_take(
     ensures unchanged { result ≢ DONE → (handle.new.session ≡ handle.old.session) × (len.new ≡ len.old)
         × (frame.new ≡ frame.old) }
 {
-    let Some(mut session) = handle.take_session(alloc) else {
-        return NOT_OPEN;
-    };
-    let status = sessions::take(&mut session, frame, len);
-    handle.put_session(session);
-    status
+    on_held!(session: Session in handle, alloc => sessions::take(session, frame, len))
 }
 
 /// Takes the bytes that the line answered to the last frame. No bytes are silence.
@@ -278,12 +227,7 @@ pub extern "C" fn wurst_session_deliver(alloc: Global, handle: &mut Handle, repl
         handle.new.session.entries }
     ensures unchanged { result ≢ DONE → handle.new.session ≡ handle.old.session }
 {
-    let Some(mut session) = handle.take_session(alloc) else {
-        return NOT_OPEN;
-    };
-    let status = sessions::deliver(&mut session, alloc, reply);
-    handle.put_session(session);
-    status
+    on_held!(session: Session in handle, alloc => sessions::deliver(session, alloc, reply))
 }
 
 /// Records that the line failed at the last frame.
@@ -297,12 +241,7 @@ pub extern "C" fn wurst_session_fail(alloc: Global, handle: &mut Handle) -> u32
     ensures legal { holds a_session handle.old ≡ true → Legal handle.new.session.opening handle.new.session.entries }
     ensures unchanged { result ≢ DONE → handle.new.session ≡ handle.old.session }
 {
-    let Some(mut session) = handle.take_session(alloc) else {
-        return NOT_OPEN;
-    };
-    let status = sessions::hear(&mut session, alloc, LineEvent::Failed);
-    handle.put_session(session);
-    status
+    on_held!(session: Session in handle, alloc => sessions::hear(session, alloc, LineEvent::Failed))
 }
 
 /// Writes the kind of a client's oldest outcome: 0 for a request's, 1 for a discovery's.
@@ -320,12 +259,7 @@ pub extern "C" fn wurst_session_oldest(
         handle.old.session.entries client) ≡ Some kind.new }
     ensures unchanged { result ≢ DONE → kind.new ≡ kind.old }
 {
-    let Some(session) = handle.take_session(alloc) else {
-        return NOT_OPEN;
-    };
-    let status = sessions::oldest(&session, client, kind);
-    handle.put_session(session);
-    status
+    on_held!(session: Session in handle, alloc => sessions::oldest(session, client, kind))
 }
 
 /// Collects a client's oldest outcome if it is a request's, and writes how it ended, with its data at the front of
@@ -356,12 +290,9 @@ pub extern "C" fn wurst_session_next_completion(
     ensures legal { result ≡ DONE → Legal handle.new.session.opening handle.new.session.entries }
     ensures unchanged { result ≢ DONE → (handle.new.session ≡ handle.old.session) × (buffer.new ≡ buffer.old) }
 {
-    let Some(mut session) = handle.take_session(alloc) else {
-        return NOT_OPEN;
-    };
-    let status = sessions::next_completion(&mut session, client, completion, buffer);
-    handle.put_session(session);
-    status
+    on_held!(session: Session in handle, alloc => {
+        sessions::next_completion(session, client, completion, buffer)
+    })
 }
 
 /// Collects a client's oldest outcome if it is a discovery's, and writes how it ended, with its devices at the
@@ -388,12 +319,9 @@ pub extern "C" fn wurst_session_next_discovery(
     ensures legal { result ≡ DONE → Legal handle.new.session.opening handle.new.session.entries }
     ensures unchanged { result ≢ DONE → (handle.new.session ≡ handle.old.session) × (devices.new ≡ devices.old) }
 {
-    let Some(mut session) = handle.take_session(alloc) else {
-        return NOT_OPEN;
-    };
-    let status = sessions::next_discovery(&mut session, client, end, devices);
-    handle.put_session(session);
-    status
+    on_held!(session: Session in handle, alloc => {
+        sessions::next_discovery(session, client, end, devices)
+    })
 }
 
 /// Writes the devices of the last run without fault at the front of a buffer, and how many there are; with
@@ -415,12 +343,9 @@ pub extern "C" fn wurst_session_devices(
         (known_devices handle.old.session.opening handle.old.session.entries) }
     ensures unchanged { result ≢ DONE → devices.new ≡ devices.old }
 {
-    let Some(session) = handle.take_session(alloc) else {
-        return NOT_OPEN;
-    };
-    let status = controllers::devices(session.devices(), devices, count);
-    handle.put_session(session);
-    status
+    on_held!(session: Session in handle, alloc => {
+        controllers::devices(session.devices(), devices, count)
+    })
 }
 
 /// Writes the number of the run that found the devices; 0 before the first.
@@ -433,12 +358,10 @@ pub extern "C" fn wurst_session_devices_run(
     ensures reports { Reports a_session handle.old handle.new result (run.new ≡ devices_run handle.old.session.opening
         handle.old.session.entries) (run.new ≡ run.old) }
 {
-    let Some(session) = handle.take_session(alloc) else {
-        return NOT_OPEN;
-    };
-    *run = session.devices_run();
-    handle.put_session(session);
-    DONE
+    on_held!(session: Session in handle, alloc => {
+        *run = session.devices_run();
+        DONE
+    })
 }
 
 /// Writes whether the queue is idle: no call waits or is being served, and no outcome is uncollected.
@@ -451,12 +374,10 @@ pub extern "C" fn wurst_session_is_idle(
     ensures reports { Reports a_session handle.old handle.new result (answer.new ≡ is_idle handle.old.session.entries)
         (answer.new ≡ answer.old) }
 {
-    let Some(session) = handle.take_session(alloc) else {
-        return NOT_OPEN;
-    };
-    *answer = session.is_idle();
-    handle.put_session(session);
-    DONE
+    on_held!(session: Session in handle, alloc => {
+        *answer = session.is_idle();
+        DONE
+    })
 }
 
 /// Writes whether sending is paused.
@@ -469,12 +390,10 @@ pub extern "C" fn wurst_session_is_paused(
     ensures reports { Reports a_session handle.old handle.new result (answer.new ≡ is_paused handle.old.session.opening
         handle.old.session.entries) (answer.new ≡ answer.old) }
 {
-    let Some(session) = handle.take_session(alloc) else {
-        return NOT_OPEN;
-    };
-    *answer = session.is_paused();
-    handle.put_session(session);
-    DONE
+    on_held!(session: Session in handle, alloc => {
+        *answer = session.is_paused();
+        DONE
+    })
 }
 
 /// Writes whether the queue is closed.
@@ -487,12 +406,10 @@ pub extern "C" fn wurst_session_is_closed(
     ensures reports { Reports a_session handle.old handle.new result (answer.new ≡ is_closed handle.old.session.opening
         handle.old.session.entries) (answer.new ≡ answer.old) }
 {
-    let Some(session) = handle.take_session(alloc) else {
-        return NOT_OPEN;
-    };
-    *answer = session.is_closed();
-    handle.put_session(session);
-    DONE
+    on_held!(session: Session in handle, alloc => {
+        *answer = session.is_closed();
+        DONE
+    })
 }
 
 /// Writes whether a reply is awaited.
@@ -501,10 +418,8 @@ pub extern "C" fn wurst_session_awaits(alloc: Global, handle: &mut Handle, answe
     ensures reports { Reports a_session handle.old handle.new result (answer.new ≡ awaited handle.old.session.entries)
         (answer.new ≡ answer.old) }
 {
-    let Some(session) = handle.take_session(alloc) else {
-        return NOT_OPEN;
-    };
-    *answer = session.awaits();
-    handle.put_session(session);
-    DONE
+    on_held!(session: Session in handle, alloc => {
+        *answer = session.awaits();
+        DONE
+    })
 }

@@ -1,8 +1,9 @@
 //! What a handle holds: it is tested, taken out and put in.
 //!
 //! Tests take a `&mut`, since a field of a value that owns memory can't be read through a `&`.
-ghost use Rattle.std.specs.Prelude.{◌≡◌, false, true, IfSome, IfNone};
-ghost use Rattle.rdm_handles.specs.Handles.{is_open_as, holds, a_controller, a_session, a_log, a_discovery};
+ghost use Rattle.std.specs.Prelude.{◌≡◌, ℕ, false, true, IfSome, IfNone};
+ghost use Rattle.rdm_handles.specs.Handles.{is_open_as};
+ghost use Rattle.rdm_handles.specs.declared.handle.Handle.{Handle};
 
 use crate::discovery::Discovery;
 use crate::handle::{CONTROLLER, DISCOVERY, Handle, LOG, SESSION};
@@ -12,6 +13,27 @@ use rdm_queue::{Controller, Session};
 use std::alloc::Global;
 use std::mem::replace;
 use std::ptr::null_mut;
+
+/// A type that a handle can hold.
+pub trait Held: Sized + Drop {
+    /// The number of its kind.
+    const KIND: u32;
+
+    ghost KIND: { ℕ };
+
+    // What an open handle of this kind holds.
+    ghost held: { Handle → Self };
+
+    /// A handle that owns what the pointer owns.
+    fn handle_of(pointer: Loose<Self, Global>) -> Handle
+        ensures open { is_open_as KIND result ≡ true }
+        ensures value { held result ≡ pointer.value };
+
+    /// The pointer of a handle of this kind.
+    fn pointer_of(handle: Handle, alloc: Global) -> Loose<Self, Global>
+        requires held { is_open_as KIND handle ≡ true }
+        ensures { result.value ≡ held handle };
+}
 
 impl Handle {
     /// A closed handle.
@@ -46,12 +68,40 @@ impl Handle {
         self.is_open() && self.kind() == kind
     }
 
-    // A handle that owns what the pointer owns.
-    fn of_controller(held: Loose<Controller, Global>) -> Handle
-        ensures open { holds a_controller result ≡ true }
-        ensures value { result.controller ≡ held.value }
+    /// Takes the value out of a handle of its kind, and closes it. None: it holds none of this kind, and is unchanged.
+    pub fn take<T: Held>(&mut self, alloc: Global) -> Option<Box<T>>
+        ensures some { IfSome result (λ held. (is_open_as T.KIND self.old ≡ true) × (held.value ≡ T.held self.old)) }
+        ensures closed { IfSome result (λ held. self.new.is_open ≡ false) }
+        ensures none { IfNone result ((is_open_as T.KIND self.old ≡ false) × (self.new ≡ self.old)) }
     {
-        let Loose { at, alloc: _ } = held;
+        if !self.holds(T::KIND) {
+            return None;
+        }
+        Some(T::pointer_of(replace(self, Handle::closed()), alloc).into_box())
+    }
+
+    /// Puts a value into a closed handle. What an open one holds would never be freed.
+    pub fn put<T: Held>(&mut self, held: Box<T>)
+        requires closed { self.old.is_open ≡ false }
+        ensures open { is_open_as T.KIND self.new ≡ true }
+        ensures value { T.held self.new ≡ held.value }
+    {
+        *self = T::handle_of(Loose::of(held));
+    }
+}
+
+impl Held for Controller {
+    const KIND: u32 = CONTROLLER;
+
+    ghost KIND = { 1 };
+
+    ghost held = { λ h. h.controller };
+
+    fn handle_of(pointer: Loose<Controller, Global>) -> Handle
+        ensures open { is_open_as 1 result ≡ true }
+        ensures value { result.controller ≡ pointer.value }
+    {
+        let Loose { at, alloc: _ } = pointer;
         Handle {
             at: at as *mut u8,
             is_open: true,
@@ -59,54 +109,31 @@ impl Handle {
         }
     }
 
-    // The pointer of a handle that holds a controller.
-    fn into_controller(self, alloc: Global) -> Loose<Controller, Global>
-        requires held { holds a_controller self ≡ true }
-        ensures { result.value ≡ self.controller }
-    {
+    fn pointer_of(handle: Handle, alloc: Global) -> Loose<Controller, Global> {
         let Handle {
             at,
             is_open: _,
             kind: _,
-        } = self;
+        } = handle;
         Loose {
             at: at as *mut Controller,
             alloc,
         }
     }
+}
 
-    /// Takes the controller out of a handle that holds one, and closes it. None: it holds none, and is unchanged.
-    pub fn take_controller(&mut self, alloc: Global) -> Option<Box<Controller>>
-        ensures some { IfSome result (λ held. (holds a_controller self.old ≡ true)
-            × (held.value ≡ self.old.controller)) }
-        ensures closed { IfSome result (λ held. self.new.is_open ≡ false) }
-        ensures none { IfNone result ((holds a_controller self.old ≡ false) × (self.new ≡ self.old)) }
-    {
-        if !self.holds(CONTROLLER) {
-            return None;
-        }
-        Some(
-            replace(self, Handle::closed())
-                .into_controller(alloc)
-                .into_box(),
-        )
-    }
+impl Held for Session {
+    const KIND: u32 = SESSION;
 
-    /// Puts a controller into a closed handle. What an open one holds would never be freed.
-    pub fn put_controller(&mut self, held: Box<Controller>)
-        requires closed { self.old.is_open ≡ false }
-        ensures open { holds a_controller self.new ≡ true }
-        ensures value { self.new.controller ≡ held.value }
-    {
-        *self = Handle::of_controller(Loose::of(held));
-    }
+    ghost KIND = { 2 };
 
-    // A handle that owns what the pointer owns.
-    fn of_session(held: Loose<Session, Global>) -> Handle
-        ensures open { holds a_session result ≡ true }
-        ensures value { result.session ≡ held.value }
+    ghost held = { λ h. h.session };
+
+    fn handle_of(pointer: Loose<Session, Global>) -> Handle
+        ensures open { is_open_as 2 result ≡ true }
+        ensures value { result.session ≡ pointer.value }
     {
-        let Loose { at, alloc: _ } = held;
+        let Loose { at, alloc: _ } = pointer;
         Handle {
             at: at as *mut u8,
             is_open: true,
@@ -114,53 +141,31 @@ impl Handle {
         }
     }
 
-    // The pointer of a handle that holds a session.
-    fn into_session(self, alloc: Global) -> Loose<Session, Global>
-        requires held { holds a_session self ≡ true }
-        ensures { result.value ≡ self.session }
-    {
+    fn pointer_of(handle: Handle, alloc: Global) -> Loose<Session, Global> {
         let Handle {
             at,
             is_open: _,
             kind: _,
-        } = self;
+        } = handle;
         Loose {
             at: at as *mut Session,
             alloc,
         }
     }
+}
 
-    /// Takes the session out of a handle that holds one, and closes it. None: it holds none, and is unchanged.
-    pub fn take_session(&mut self, alloc: Global) -> Option<Box<Session>>
-        ensures some { IfSome result (λ held. (holds a_session self.old ≡ true) × (held.value ≡ self.old.session)) }
-        ensures closed { IfSome result (λ held. self.new.is_open ≡ false) }
-        ensures none { IfNone result ((holds a_session self.old ≡ false) × (self.new ≡ self.old)) }
-    {
-        if !self.holds(SESSION) {
-            return None;
-        }
-        Some(
-            replace(self, Handle::closed())
-                .into_session(alloc)
-                .into_box(),
-        )
-    }
+impl Held for Log {
+    const KIND: u32 = LOG;
 
-    /// Puts a session into a closed handle. What an open one holds would never be freed.
-    pub fn put_session(&mut self, held: Box<Session>)
-        requires closed { self.old.is_open ≡ false }
-        ensures open { holds a_session self.new ≡ true }
-        ensures value { self.new.session ≡ held.value }
-    {
-        *self = Handle::of_session(Loose::of(held));
-    }
+    ghost KIND = { 3 };
 
-    // A handle that owns what the pointer owns.
-    fn of_log(held: Loose<Log, Global>) -> Handle
-        ensures open { holds a_log result ≡ true }
-        ensures value { result.log ≡ held.value }
+    ghost held = { λ h. h.log };
+
+    fn handle_of(pointer: Loose<Log, Global>) -> Handle
+        ensures open { is_open_as 3 result ≡ true }
+        ensures value { result.log ≡ pointer.value }
     {
-        let Loose { at, alloc: _ } = held;
+        let Loose { at, alloc: _ } = pointer;
         Handle {
             at: at as *mut u8,
             is_open: true,
@@ -168,49 +173,31 @@ impl Handle {
         }
     }
 
-    // The pointer of a handle that holds a log.
-    fn into_log(self, alloc: Global) -> Loose<Log, Global>
-        requires held { holds a_log self ≡ true }
-        ensures { result.value ≡ self.log }
-    {
+    fn pointer_of(handle: Handle, alloc: Global) -> Loose<Log, Global> {
         let Handle {
             at,
             is_open: _,
             kind: _,
-        } = self;
+        } = handle;
         Loose {
             at: at as *mut Log,
             alloc,
         }
     }
+}
 
-    /// Takes the log out of a handle that holds one, and closes it. None: it holds none, and is unchanged.
-    pub fn take_log(&mut self, alloc: Global) -> Option<Box<Log>>
-        ensures some { IfSome result (λ held. (holds a_log self.old ≡ true) × (held.value ≡ self.old.log)) }
-        ensures closed { IfSome result (λ held. self.new.is_open ≡ false) }
-        ensures none { IfNone result ((holds a_log self.old ≡ false) × (self.new ≡ self.old)) }
-    {
-        if !self.holds(LOG) {
-            return None;
-        }
-        Some(replace(self, Handle::closed()).into_log(alloc).into_box())
-    }
+impl Held for Discovery {
+    const KIND: u32 = DISCOVERY;
 
-    /// Puts a log into a closed handle. What an open one holds would never be freed.
-    pub fn put_log(&mut self, held: Box<Log>)
-        requires closed { self.old.is_open ≡ false }
-        ensures open { holds a_log self.new ≡ true }
-        ensures value { self.new.log ≡ held.value }
-    {
-        *self = Handle::of_log(Loose::of(held));
-    }
+    ghost KIND = { 4 };
 
-    // A handle that owns what the pointer owns.
-    fn of_discovery(held: Loose<Discovery, Global>) -> Handle
-        ensures open { holds a_discovery result ≡ true }
-        ensures value { result.discovery ≡ held.value }
+    ghost held = { λ h. h.discovery };
+
+    fn handle_of(pointer: Loose<Discovery, Global>) -> Handle
+        ensures open { is_open_as 4 result ≡ true }
+        ensures value { result.discovery ≡ pointer.value }
     {
-        let Loose { at, alloc: _ } = held;
+        let Loose { at, alloc: _ } = pointer;
         Handle {
             at: at as *mut u8,
             is_open: true,
@@ -218,44 +205,15 @@ impl Handle {
         }
     }
 
-    // The pointer of a handle that holds a discovery run.
-    fn into_discovery(self, alloc: Global) -> Loose<Discovery, Global>
-        requires held { holds a_discovery self ≡ true }
-        ensures { result.value ≡ self.discovery }
-    {
+    fn pointer_of(handle: Handle, alloc: Global) -> Loose<Discovery, Global> {
         let Handle {
             at,
             is_open: _,
             kind: _,
-        } = self;
+        } = handle;
         Loose {
             at: at as *mut Discovery,
             alloc,
         }
-    }
-
-    /// Takes the discovery run out of a handle that holds one, and closes it. None: it holds none, and is unchanged.
-    pub fn take_discovery(&mut self, alloc: Global) -> Option<Box<Discovery>>
-        ensures some { IfSome result (λ held. (holds a_discovery self.old ≡ true) × (held.value ≡ self.old.discovery)) }
-        ensures closed { IfSome result (λ held. self.new.is_open ≡ false) }
-        ensures none { IfNone result ((holds a_discovery self.old ≡ false) × (self.new ≡ self.old)) }
-    {
-        if !self.holds(DISCOVERY) {
-            return None;
-        }
-        Some(
-            replace(self, Handle::closed())
-                .into_discovery(alloc)
-                .into_box(),
-        )
-    }
-
-    /// Puts a discovery run into a closed handle. What an open one holds would never be freed.
-    pub fn put_discovery(&mut self, held: Box<Discovery>)
-        requires closed { self.old.is_open ≡ false }
-        ensures open { holds a_discovery self.new ≡ true }
-        ensures value { self.new.discovery ≡ held.value }
-    {
-        *self = Handle::of_discovery(Loose::of(held));
     }
 }

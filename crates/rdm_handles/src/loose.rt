@@ -6,7 +6,7 @@ use std::alloc::Allocator;
 use std::marker::Model;
 
 /// A pointer to a value on the heap, which owns it and the right to free its block.
-pub(crate) struct Loose<T, A: Allocator> {
+pub struct Loose<T, A: Allocator> {
     pub(crate) at: *mut T,
     pub(crate) alloc: A,
     pub(crate) ghost value: { T },

@@ -1,11 +1,11 @@
 use Rattle.rdm_c.proofs.controllers.wurst_controller_next_discovery.Goals as goal
 
-pub returns-clause-collected : goal.returns-clause-collected
-returns-clause-collected c done =
+pub returns-in-Some-clause-collected : goal.returns-in-Some-clause-collected
+returns-in-Some-clause-collected c done =
     rw (
       ← c.in-Some.ensures.some.1,
-      ← c.deref_mut.ensures.value,
-      c.put_controller.ensures.value,
-      c.deref_mut.ensures.writes_back,
+      ← c.deref_mut-controller.ensures.value,
+      c.put.ensures.value,
+      c.deref_mut-controller.ensures.writes_back,
     )
     (c.next_discovery-status.ensures.collected done)

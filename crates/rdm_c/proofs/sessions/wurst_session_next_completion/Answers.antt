@@ -1,11 +1,11 @@
 use Rattle.rdm_c.proofs.sessions.wurst_session_next_completion.Goals as goal
 
-pub returns-clause-collected : goal.returns-clause-collected
-returns-clause-collected c done =
+pub returns-in-Some-clause-collected : goal.returns-in-Some-clause-collected
+returns-in-Some-clause-collected c done =
     rw (
       ← c.in-Some.ensures.some.1,
-      ← c.deref_mut.ensures.value,
-      c.put_session.ensures.value,
-      c.deref_mut.ensures.writes_back,
+      ← c.deref_mut-session.ensures.value,
+      c.put.ensures.value,
+      c.deref_mut-session.ensures.writes_back,
     )
     (c.next_completion-status.ensures.collected done)
