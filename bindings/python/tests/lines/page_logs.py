@@ -1,12 +1,14 @@
 """Logs for tests of pages: of discoveries of rigs, of a session with a few clients, and long ones."""
 from __future__ import annotations
 
+import json
 import random
 from dataclasses import dataclass
-from typing import Any, Dict, Iterator, List, Optional, Sequence
+from typing import Any, Dict, Iterator, List, Optional, Sequence, Tuple
 
 import common  # noqa: F401  (it makes the package known)
 from search import Controller, Corrupt
+from wurstlinen.front.page_frames import Came, answer_to, command_in
 from wurstlinen.lines import Rig
 from wurstlinen.lines.numbers import ResponseType
 from wurstlinen.lines.packets import Packet, decode_packet, encode_branch_reply
@@ -22,6 +24,8 @@ SESSION_OPENING = ('{"entry":"opening","source":"7a70:00000100","budget":384008,
 OPERATIONS = {1: "branch", 2: "mute", 3: "unmute"}
 # One that is no packet, since these tests don't care.
 FRAME = "cc"
+# The first finding about a run.
+HEAD = {"judgement": "undecided", "sentence": "discovery: x"}
 
 
 def exchange_line(number: int, operation: str, frame: bytes, reply: Optional[bytes]) -> str:
@@ -53,6 +57,56 @@ def discovered(made: Scene) -> str:
     except Corrupt:
         pass
     return "".join(line.lines)
+
+
+def found_in(log: str, *counts: int, findings: Sequence[Dict[str, Any]] = (), **members: Any) -> bytes:
+    """What the program prints as JSON of a log, whose runs have so many exchanges: one has all, unless they are said.
+
+    The last run has these findings and members.
+    """
+    made = list(exchanges_in(log))
+    runs: List[Dict[str, Any]] = []
+    place = 0
+    for number, count in enumerate(counts or ([len(made)] if made else []), 1):
+        first, _ = made[place]
+        heard = "".join(letter for _, letter in made[place:place + count])
+        place += count
+        beginning = {"first": 0, "run": number} if first is None else {"first": first}
+        runs.append({"exchanges": count, **beginning, "devices": 0, "heard": heard, "findings": [HEAD]})
+    if runs:
+        runs[-1] = {**runs[-1], **members, "findings": [HEAD, *findings]}
+    return document(runs)
+
+
+def exchanges_in(log: str) -> Iterator[Tuple[Optional[int], str]]:
+    """The number of each exchange of a run, if it has one, and a letter for what it heard."""
+    frame: Optional[str] = None
+    for line in log.splitlines():
+        entry = json.loads(line)
+        if "operation" in entry:
+            yield entry["number"], heard_in(entry["frame"], entry)
+        elif entry["entry"] == "send":
+            frame = entry["frame"] if "run" in entry else None
+        elif entry["entry"] == "came" and frame is not None:
+            yield None, heard_in(frame, entry)
+            frame = None
+
+
+def heard_in(frame: str, entry: Dict[str, Any]) -> str:
+    """A letter for what came after a frame."""
+    reply = None if "failed" in entry else bytes.fromhex(entry["reply"])
+    came = answer_to(command_in(bytes.fromhex(frame)), bytes.fromhex(frame), reply).came
+    return {Came.SILENCE: "s", Came.ONE: "o", Came.ACKNOWLEDGED: "a", Came.FAILED: "f"}.get(came, "n")
+
+
+def finding(judgement: str, sentence: str, **about: Any) -> Dict[str, Any]:
+    """A finding, as the program prints it."""
+    return {"judgement": judgement, "sentence": sentence, **about}
+
+
+def document(runs: Sequence[Dict[str, Any]], **members: Any) -> bytes:
+    """What the program prints as JSON of these runs."""
+    return (json.dumps({"passing": [], "runs": list(runs), "broken": False, **members}) + "\n").encode()
 
 
 def session_of(entries: Sequence[str]) -> str:

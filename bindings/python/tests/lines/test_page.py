@@ -14,22 +14,28 @@ import sys
 import time
 import unittest
 import zlib
+from dataclasses import replace
 from pathlib import Path
-from typing import Any, Dict, List, Optional
+from typing import Any, Dict, List, Optional, Sequence
 from unittest import mock
 
 from common import PACKAGE, ROOT, TestCase, folder, scene
-from page_logs import DISCOVERY_OPENING, FEW_CLIENTS, SOURCE, discovered, exchange_line, session_of
+from page_logs import (
+    DISCOVERY_OPENING, FEW_CLIENTS, HEAD, SOURCE, discovered, document, exchange_line, finding, found_in,
+    session_of,
+)
 from wurstlinen.front import page, page_findings, page_frames, page_log
 from wurstlinen.front.frames import Parts, answer_text, command_of
 from wurstlinen.front.page_frames import Asked, Came
 from wurstlinen.front.trace import exchanges
 from wurstlinen.lines.numbers import ResponseType
 from wurstlinen.lines.packets import Packet, decode_packet, encode_branch_reply
-from wurstlinen.lines.uids import ALL_DEVICES, parse_uid, uid_text
+from wurstlinen.lines.uids import ALL_DEVICES, parse_uid
 from wurstlinen.tool import explaining
 
 LOGS = ROOT / "cases/logs.txt"
+UNDECIDED = "It isn't decided whether the discovery is complete."
+RUNS = [page_findings.Run("discovery", 0, "s" * 9, page_findings.Outcome.COMPLETE, 0)]
 COMMAND = [sys.executable, "-m", "wurstlinen.tool"]
 LEFT, RIGHT, SILENT = "1234:00000001", "1234:00000002", "1234:00000009"
 # It prints what the file `lines` beside it has, and ends with the status in `status`, after what `script` does.
@@ -77,9 +83,11 @@ def details_in(text: str) -> List[List[Optional[str]]]:
             for each in json.loads(zlib.decompress(base64.b64decode(element(text, f"piece{number}"))))]
 
 
-def page_text(log: str, *lines: str, is_broken: bool = False, name: str = "log") -> str:
-    """The page of a log."""
-    return page.page_of(name, io.BytesIO(log.encode()), lines, is_broken)
+def page_text(log: str, *findings: Dict[str, Any], name: str = "log", counts: Sequence[int] = (), **found: Any) -> str:
+    """The page of a log, whose runs have so many exchanges; the last one has these findings."""
+    text = json.loads(found_in(log, *counts, findings=findings))
+    read = page_findings.findings_in(json.dumps({**text, **found}).encode())
+    return page.page_of(name, io.BytesIO(log.encode()), read)
 
 
 class Frames(TestCase):
@@ -163,22 +171,19 @@ class Logs(TestCase):
 
     def test_texts_are_those_of_trace(self) -> None:
         log = discovered(scene(devices=[{"uid": LEFT}, {"uid": RIGHT}, {"uid": "9abc:00000002"}]))
-        text = page_text(log)
-        found = details_in(text)
+        found = details_in(page_text(log))
         wanted = list(exchanges("log", io.StringIO(log)))
         self.assertGreater(len(wanted), 50)
         self.assertEqual(
             [[frame, reply, command, answer] for _, frame, reply, command, answer in found],
             [[frame.hex(), None if reply is None else reply.hex(), command_of(frame),
-              answer_text(frame, Parts().joined(frame, reply))]
-             for frame, reply in wanted])
+              answer_text(frame, Parts().joined(frame, reply))] for frame, reply, _ in wanted])
         self.assertEqual([each[0] for each in found], [f"exchange {number}" for number in range(len(found))])
 
     def test_every_log_of_the_cases(self) -> None:
         text = LOGS.read_text(encoding="utf-8").partition("text exchanges\n")[2].partition("\n\n")[0]
         lines = [line.strip() for line in text.splitlines()]
-        found = page_text("\n".join(lines))
-        self.assertEqual(head_in(found)["count"], len(lines))
+        self.assertEqual(head_in(page_text("\n".join(lines)))["count"], len(lines))
         logs = re.findall(r"^log\n((?:    \{\".*\n)+)", LOGS.read_text(encoding="utf-8"), re.M)
         self.assertGreater(len(logs), 8)
         for log in logs:
@@ -192,10 +197,10 @@ class Logs(TestCase):
             DISCOVERY_OPENING, exchange_line(0, "branch", branch.encode(), encode_branch_reply(parse_uid(LEFT))),
             exchange_line(1, "mute", mute.encode(), mute.answer(parse_uid(LEFT), ResponseType.ACK, b"\0\0").encode()),
             exchange_line(2, "branch", branch.encode(), None)])
-        text = page_text(log, is_broken=True, name="a log")
+        text = page_text(log, name="a log", broken=True)
         head = head_in(text)
         self.assertEqual((head["name"], head["count"], head["verdict"], head["rows"], head["clients"]),
-                         ("a log", 3, ["A rule was broken."], [LEFT], []))
+                         ("a log", 3, ["A rule was broken.", UNDECIDED], [LEFT], []))
         self.assertEqual(head["runs"], [{"name": "discovery", "first": 0, "count": 3}])
         found = columns_in(text, head)
         uid = parse_uid(LEFT)
@@ -211,7 +216,7 @@ class Logs(TestCase):
 
     def session(self) -> Any:
         """The page of a session with three clients."""
-        text = page_text(session_of(FEW_CLIENTS.entries))
+        text = page_text(session_of(FEW_CLIENTS.entries), counts=(2, 1))
         head = head_in(text)
         self.assertEqual([each[0] for each in details_in(text)], FEW_CLIENTS.names)
         return head, columns_in(text, head)
@@ -240,10 +245,45 @@ class Logs(TestCase):
                      '{"operation":"branch","number":0,"frame":"cc"}', "[" * 100_000, "{" * 200,
                      '{"number":' + "1" * 5_000 + "}", '{"entry":"' + "x" * page_log.MOST_LINE):
             with self.assertRaisesRegex(page_log.NoLog, "line 2 isn't an entry of a log"):
-                page_log.read_log(io.BytesIO(f"{good}{line}\n{good}".encode()))
+                page_log.read_log(io.BytesIO(f"{good}{line}\n{good}".encode()), RUNS)
         for data in (b"\xff\n", b"\x00\n", bytes(range(256)), b'{"entry":"pause"}\x80\n', "{}".encode("utf-16")):
             with self.assertRaisesRegex(page_log.NoLog, "line 1 "):
-                page_log.read_log(io.BytesIO(data))
+                page_log.read_log(io.BytesIO(data), RUNS)
+
+    def test_a_log_with_other_exchanges(self) -> None:
+        lines = [exchange_line(number, "unmute", b"\xcc", b"") for number in range(3)]
+        session = session_of(['{"entry":"send","run":1,"frame":"cc"}', '{"entry":"came","reply":""}'])
+        for log, counts in (("".join(lines), (2,)), ("".join(lines), (2, 2)), ("".join(lines), (1,)), ("", (1,)),
+                            (session, (2,))):
+            runs = [page_findings.Run("run 1", sum(counts[:number]), "s" * count, page_findings.Outcome.COMPLETE, 0)
+                    for number, count in enumerate(counts)]
+            with self.assertRaisesRegex(page_log.OtherLog, "it has other exchanges than were explained"):
+                page_log.read_log(io.BytesIO(log.encode()), runs)
+        with self.assertRaises(page_log.OtherLog):
+            page_log.read_log(io.BytesIO("".join(lines).encode()), [])
+
+    def test_what_the_program_heard_is_drawn(self) -> None:
+        # The page colours an answer as the program read it, whatever it is.
+        branch = Packet(ALL_DEVICES, SOURCE, 1, 1, 0, 0, 0x10, 1, bytes(6) + b"\xff" * 6).encode()
+        mute = Packet(parse_uid(LEFT), SOURCE, 2, 1, 0, 0, 0x10, 2)
+        ack = mute.answer(parse_uid(LEFT), ResponseType.ACK, b"\0\0").encode()
+        spelled = encode_branch_reply(parse_uid(LEFT))
+        for frame, reply, heard, came in (
+                (branch, spelled, "n", Came.COLLISION), (branch, spelled, "o", Came.ONE),
+                (branch, b"", "f", Came.FAILED),
+                (mute.encode(), ack, "n", Came.OTHER_RESPONSE), (mute.encode(), ack, "a", Came.ACKNOWLEDGED),
+                (mute.encode(), b"\xff", "n", Came.DAMAGED), (mute.encode(), b"\xff", "a", Came.ACKNOWLEDGED),
+                (mute.encode(), b"", "s", Came.SILENCE)):
+            log = exchange_line(0, "branch", frame, reply)
+            run = page_findings.Run("discovery", 0, heard, page_findings.Outcome.COMPLETE, 0)
+            self.assertEqual(page_log.read_log(io.BytesIO(log.encode()), [run]).columns.came[0], came)
+
+    def test_a_log_that_is_too_long(self) -> None:
+        line = exchange_line(0, "unmute", b"\xcc", b"").encode()
+        with mock.patch.object(page_log, "MOST_ENTRIES", 3):
+            self.assertEqual(len(page_log.read_log(io.BytesIO(line * 3), [replace(RUNS[0], heard="sss")])), 3)
+            self.assertRaisesRegex(page_log.NoLog, "^more than 3 entries$",
+                                   page_log.read_log, io.BytesIO(line * 4), RUNS)
 
     def test_a_log_that_ends_within_an_exchange(self) -> None:
         log = session_of(['{"entry":"send","run":1,"frame":"cc"}', '{"entry":"came","reply":""}',
@@ -259,24 +299,20 @@ class Logs(TestCase):
         ended = [*sent, '{"entry":"answer","number":0,"run":1,"fault":3}']
         ask = '{"entry":"ask","client":2,"number":0,"discover":"full"}'
         later = [line.replace('"run":1', '"run":2') for line in sent]
-        for entries, names, served in (
-                ([ask, *ended, ask, *ended], ["run 1", "run 1"], [4, 4]),
-                ([ask, *ended, *ended], ["run 1", "run 1"], [4, 0]),
-                ([ask, *later, *sent], ["run 2", "run 1"], [4, 0]),
-                ([ask, *sent, *sent], ["run 1"], [4, 4]),
-                ([ask, *sent, ask.replace('"number":0', '"number":1'), *later], ["run 1", "run 2"], [4, 4])):
+        for entries, served in (
+                ([ask, *ended, ask, *ended], [4, 4]), ([ask, *ended, *ended], [4, 0]), ([ask, *later, *sent], [4, 0]),
+                ([ask, *sent, *sent], [4, 4]),
+                ([ask, *sent, ask.replace('"number":0', '"number":1'), *later], [4, 4])):
             text = page_text("".join(f"{entry}\n" for entry in entries))
-            head = head_in(text)
-            self.assertEqual([run["name"] for run in head["runs"]], names, entries)
-            self.assertEqual(columns_in(text, head)["served"], served, entries)
+            self.assertEqual(columns_in(text, head_in(text))["served"], served, entries)
 
     def test_runs_of_a_log_with_gaps(self) -> None:
         lines = [exchange_line(number, "unmute", b"\xcc", b"") for number in (7, 8, 10, 0, 1)]
-        text = page_text("".join(lines), "discovery: x", "discovery: y", "exchange 10 failed", "exchange 9 failed")
+        text = page_text("".join(lines), finding("failure", "exchange 1 failed", exchange=1), counts=(2, 1, 2))
         head = head_in(text)
         self.assertEqual([(run["first"], run["count"]) for run in head["runs"]], [(0, 2), (2, 1), (3, 2)])
         self.assertEqual([each[0] for each in details_in(text)], [f"exchange {number}" for number in (7, 8, 10, 0, 1)])
-        self.assertEqual([finding["place"] for finding in head["findings"]], [None, None, 2, None])
+        self.assertEqual([finding["place"] for finding in head["findings"]], [None, None, None, 4])
 
     def test_rows_have_a_limit(self) -> None:
         entries = []
@@ -285,78 +321,9 @@ class Logs(TestCase):
             entries += [f'{{"entry":"send","request":{number},"frame":"{get.encode().hex()}"}}',
                         f'{{"entry":"came","reply":"{get.answer(number, ResponseType.ACK, b"").encode().hex()}"}}']
         with mock.patch.object(page, "MOST_ROWS", 10):
-            rows = head_in(page_text(session_of(entries), "discovery: x", f"{SILENT} was never heard"))["rows"]
+            rows = head_in(page_text(
+                session_of(entries), passing=[finding("passing", "it comes", uid=SILENT)]))["rows"]
         self.assertEqual((len(rows), SILENT in rows, rows), (10, True, sorted(rows)))
-
-
-class Findings(TestCase):
-    """What is taken from the program's lines."""
-
-    RUNS = [page_log.Run("run 1"), page_log.Run("run 2")]
-
-    def setUp(self) -> None:
-        self.RUNS[0].exchanges[:] = self.RUNS[0].exchanges[:0]
-        for run, places in zip(self.RUNS, (range(10, 60), range(100, 150))):
-            run.exchanges = type(run.exchanges)("I", places)
-
-    def found(self, *lines: str) -> List[Any]:
-        findings = page_findings.findings_in(lines, self.RUNS)
-        self.assertEqual([each.text for each in findings], list(lines))
-        return [(each.is_head, None if each.uid is None else uid_text(each.uid), each.place(self.RUNS))
-                for each in findings]
-
-    def test_lines(self) -> None:
-        self.assertEqual(self.found(
-            "run 1: full, quick, 50 exchanges, no fault, 2 devices; its certificate is complete",
-            f"{LEFT} was found, and followed the rules",
-            f"{SILENT} was never heard: exchange 12 is the fifth silence in a row in a range that holds it",
-            "exchange 40: bytes came from 5000:00000000 to 5fff:ffffffff, where no listed device was due",
-            "run 2: 50 exchanges, fault 1 1234:00000009, 2 devices; its certificate is incomplete",
-            "exchange 3 failed: check the adapter and the cable",
-            f"the device {RIGHT} comes or leaves, so nothing is decided",
-            "exchange 7: bytes came after a mute of 1234:00000005, which isn't listed",
-            f"{LEFT} didn't mute: exchange 49 is the fifth mute of it in a row without an answer"), [
-                (True, None, None), (False, LEFT, None), (False, SILENT, 22), (False, None, 50), (True, None, None),
-                (False, None, 103), (False, RIGHT, None), (False, None, 107), (False, LEFT, 149)])
-
-    def test_lines_that_are_not_known(self) -> None:
-        self.assertEqual(self.found("exchange 3 before any run", "", "run", "run 1: x", "exchange 50 isn't there",
-                                    "exchanges 4 and 5", "exchange 99999999999999999999999999", "run 1: again",
-                                    "exchange 1", "run 9: x", "exchange 1", "discoverys", "discovery: x"),
-                         [(False, None, None)] * 3 + [(True, None, None)] + [(False, None, None)] * 3
-                         + [(True, None, None), (False, None, None)] * 2 + [(False, None, None), (True, None, None)])
-
-    def test_the_headline_is_that_of_the_worst_run(self) -> None:
-        complete = "discovery: full, steady, 10 exchanges, 1 device; its certificate is complete"
-        failed = "discovery: full, steady, 9 exchanges, fault 1 1234:00000001, 0 devices; its certificate is incomplete"
-        spent = "run 1: full, 1 exchange, fault 3, 0 devices; its certificate is incomplete: its budget is used up"
-        incomplete = "discovery: full, steady, 3 exchanges, 0 devices; its certificate is incomplete"
-        cut = f"{incomplete}, or the log ends within the run"
-        begun = "discovery: 6 exchanges, 0 devices; its certificate can't be decided, since the log begins within it"
-        unknown = "run 2: 9 exchanges, 1 device; its certificate is complete but for what depends on its kind, which"
-        line_failed = "exchange 1 failed: check the adapter and the cable"
-        unbroken, undecided = "No broken rule was seen.", "It isn't decided whether the discovery is complete."
-        for lines, wanted in (
-                (["the log has no exchange of a discovery"], ["No discovery.", unbroken]),
-                ([complete], [unbroken]), ([complete] * 2, [unbroken]),
-                ([failed], ["The discovery failed.", unbroken]), ([spent], ["The discovery failed.", unbroken]),
-                ([incomplete], ["The discovery is incomplete.", unbroken]),
-                ([incomplete, line_failed], ["The discovery failed.", unbroken]),
-                ([cut], [undecided, unbroken]), ([begun], [undecided, unbroken]), ([unknown], [undecided, unbroken]),
-                ([complete, incomplete, failed, cut, failed], ["2 of 5 discoveries failed.", unbroken]),
-                ([complete, incomplete, cut], ["1 of 3 discoveries are incomplete.", unbroken]),
-                ([cut, complete], ["It isn't decided whether 1 of 2 discoveries are complete.", unbroken])):
-            findings = page_findings.findings_in(lines, [])
-            self.assertEqual(page_findings.verdict_of(findings, False), wanted)
-            broken = [each for each in wanted if each not in (unbroken, "No discovery.")]
-            self.assertEqual(page_findings.verdict_of(findings, True), ["A rule was broken.", *broken])
-
-    def test_each_line_is_shown(self) -> None:
-        lines = ["discovery: x", "who knows?", f"{SILENT} was never heard: exchange 0"]
-        head = head_in(page_text(exchange_line(0, "unmute", b"\xcc", b""), *lines))
-        self.assertEqual([each["text"] for each in head["findings"]], lines)
-        self.assertEqual([each["place"] for each in head["findings"]], [None, None, 0])
-        self.assertEqual(head["rows"], [SILENT])
 
 
 class Html(TestCase):
@@ -364,12 +331,21 @@ class Html(TestCase):
 
     SCRIPT = "</script><script>alert(1)</script><img src=x onerror=alert(1)>&amp;'\"\u2028"
 
+    def test_each_finding_is_shown(self) -> None:
+        text = page_text(exchange_line(0, "unmute", b"\xcc", b""), finding("who knows", "who knows?"),
+                         finding("broke", "it hides", uid=SILENT, exchange=0))
+        head = head_in(text)
+        self.assertEqual([each["text"] for each in head["findings"]], [HEAD["sentence"], "who knows?", "it hides"])
+        self.assertEqual([each["place"] for each in head["findings"]], [None, None, 0])
+        self.assertEqual(head["rows"], [SILENT])
+
+
     def test_texts_are_no_script(self) -> None:
-        text = page_text(exchange_line(0, "unmute", b"\xcc", b""), f"discovery: {self.SCRIPT}", name=self.SCRIPT)
+        text = page_text(exchange_line(0, "unmute", b"\xcc", b""), finding("gap", self.SCRIPT), name=self.SCRIPT)
         self.assertNotIn("alert(1)</script>", text)
         self.assertNotIn("<img", text)
         self.assertEqual(head_in(text)["name"], self.SCRIPT)
-        self.assertEqual(head_in(text)["findings"][0]["text"], f"discovery: {self.SCRIPT}")
+        self.assertEqual(head_in(text)["findings"][1]["text"], self.SCRIPT)
         # Texts of a log are packed, so they have no such characters.
         for number in range(2):
             self.assertRegex(element(text, ["columns", "piece0"][number]), r"\A[A-Za-z0-9+/=]+\Z")
@@ -390,8 +366,9 @@ class Html(TestCase):
 class Command(TestCase):
     """The command, with a stand-in for the proved program."""
 
-    LINES = (f"discovery: full, steady\n{LEFT} was found, and followed the rules\n"
-             f"{SILENT} was never heard: exchange 5 is the fifth\n")
+    FINDINGS = (finding("found", f"{LEFT} was found, and followed the rules", uid=LEFT),
+                finding("broke", f"{SILENT} was never heard: exchange 5 is the fifth", uid=SILENT, exchange=5))
+    LINES = "".join(f"{each['sentence']}\n" for each in (HEAD, *FINDINGS))
 
     def setUp(self) -> None:
         context = folder()
@@ -402,7 +379,11 @@ class Command(TestCase):
         self.program = self.place / "program"
         self.program.write_text(STAND_IN.format(python=sys.executable))
         self.program.chmod(0o755)
-        self.stand_in(self.LINES, 3)
+        self.stand_in(self.printed(3), 3)
+
+    def printed(self, status: int) -> str:
+        """What the program prints as JSON."""
+        return json.dumps({**json.loads(found_in(self.log.read_text(), findings=self.FINDINGS)), "broken": status == 3})
 
     def stand_in(self, lines: str, status: int, script: str = "") -> None:
         """What the program does."""
@@ -428,14 +409,16 @@ class Command(TestCase):
 
     def test_a_page(self) -> None:
         for status in (3, 0):
-            self.stand_in(self.LINES, status)
+            self.stand_in(self.printed(status), status)
             self.assertEqual(self.called("log", "--page", "page.html"), (status, self.LINES, ""))
             head = head_in(self.page.read_text(encoding="utf-8"))
             self.assertEqual("A rule was broken." in head["verdict"], status == 3)
             self.assertEqual([each["text"] for each in head["findings"]], self.LINES.splitlines())
             self.assertEqual(head["count"], self.log.read_text().count("\n") - 1)
         self.assertEqual(stat.S_IMODE(self.page.stat().st_mode) & 0o600, 0o600)
-        self.assertEqual((self.place / "called").read_text(), "explain\nlog")
+        self.assertEqual((self.place / "called").read_text(), "explain\n--json\nlog")
+        self.assertEqual(self.called("log", "--json", "--page", "page.html"), (0, self.printed(0), ""))
+        self.assertEqual((self.place / "called").read_text(), "explain\nlog\n--json")
 
     def test_the_words_of_the_program(self) -> None:
         for words, wanted in (
@@ -443,19 +426,32 @@ class Command(TestCase):
                  ["--present", LEFT, "log", "--present", RIGHT, "--rig=rig"]),
                 (["--present", LEFT, "--page", "page.html", "--", "log"], ["--present", LEFT, "--", "log"])):
             self.assertEqual(self.called(*words)[0], 3)
-            self.assertEqual((self.place / "called").read_text().split("\n")[1:], wanted)
+            self.assertEqual((self.place / "called").read_text().split("\n")[2:], wanted)
             self.page.unlink()
 
+    def test_a_log_with_times(self) -> None:
+        """The program reads a copy without them, and what it says is of the log."""
+        plain = self.log.read_text()
+        self.log.write_text(plain.replace('"}\n', '","microseconds":17}\n'))
+        said = "sys.stderr.write(f'\"{sys.argv[3]}\" has {Path(sys.argv[3]).read_text()}')"
+        self.stand_in(self.printed(3), 3, said)
+        for words in ([], ["--page", "page.html"]):
+            self.assertEqual(self.called("log", *words), (3, self.LINES, f'"log" has {plain}'))
+        self.assertEqual(head_in(self.page.read_text(encoding="utf-8"))["count"], plain.count("\n") - 1)
+
     def test_without_a_page_it_is_the_program(self) -> None:
-        self.assertEqual(self.called("log", "--present", LEFT), (3, self.LINES, ""))
+        self.assertEqual(self.called("log", "--present", LEFT), (3, self.printed(3), ""))
         self.assertEqual((self.place / "called").read_text(), f"explain\nlog\n--present\n{LEFT}")
         self.assert_nothing()
         status, out, errors = self.called("--help")
         self.assertEqual((status, errors, "--page FILE" in out), (0, "", True))
 
     def test_faults_of_the_program(self) -> None:
-        for status, lines in ((1, "fault: file\n"), (1, "fault: line 7\n"), (2, "fault: command line\n"), (125, "")):
-            self.stand_in(lines, status, "sys.stderr.write('wurstlinen: why\\n')")
+        stopped = document([], fault="line 7").decode()
+        for status, printed, lines in (
+                (1, "fault: file\n", "fault: file\n"), (1, stopped, "fault: line 7\n"),
+                (2, "fault: command line\n", "fault: command line\n"), (125, "", "")):
+            self.stand_in(printed, status, "sys.stderr.write('wurstlinen: why\\n')")
             self.assertEqual(self.called("log", "--page", "page.html"), (status, lines, "wurstlinen: why\n"))
             self.assert_nothing()
             self.page.write_text("old")
@@ -464,9 +460,9 @@ class Command(TestCase):
             self.page.unlink()
 
     def test_a_program_that_is_killed(self) -> None:
-        self.stand_in(self.LINES, 0, "os.kill(os.getpid(), signal.SIGKILL)")
+        self.stand_in(self.printed(0), 0, "os.kill(os.getpid(), signal.SIGKILL)")
         self.assertEqual(self.called("log", "--page", "page.html"),
-                         (137, self.LINES, "wurstlinen: the program was ended by signal 9\n"))
+                         (137, "", "wurstlinen: the program was ended by signal 9\n"))
         self.assert_nothing()
 
     def test_a_program_that_is_not_there(self) -> None:
@@ -518,7 +514,7 @@ class Command(TestCase):
         full = OSError(errno.ENOSPC, os.strerror(errno.ENOSPC))
         with mock.patch("os.fsync", side_effect=full), mock.patch("sys.stdout", io.TextIOWrapper(io.BytesIO())):
             with self.assertRaisesRegex(Exception, "No space left on device"):
-                explaining.explain(self.program, ["explain", str(self.log)], str(self.page), [str(self.log)])
+                explaining.explain(self.program, ["explain", str(self.log)], str(self.page), [str(self.log)], False)
         self.assertEqual(self.page.read_text(), "old")
         self.assertEqual([each.name for each in self.place.glob(".page*")], [])
 
@@ -538,7 +534,7 @@ class Command(TestCase):
                        "os.rename('log', 'old'); Path('log').write_bytes(Path('old').read_bytes())",
                        "os.utime('log', (1, 1))", "open('log', 'r+b').write(b'x')"):
             self.log.write_text(discovered(scene(devices=[{"uid": LEFT}])))
-            self.stand_in(self.LINES, 0, script)
+            self.stand_in(self.printed(0), 0, script)
             status, out, errors = self.called("log", "--page", "page.html")
             self.assertEqual((status, out), (1, self.LINES), script)
             self.assertRegex(errors, "^wurstlinen: log.*, so no page is written\n$")
@@ -568,10 +564,8 @@ class Command(TestCase):
 
     def test_interrupts(self) -> None:
         for number, wanted in ((signal.SIGINT, 130), (signal.SIGTERM, 143), (signal.SIGHUP, 129)):
-            self.stand_in(self.LINES, 0, "Path('pid').write_text(str(os.getpid())); time.sleep(50)")
+            self.stand_in(self.printed(0), 0, "Path('pid').write_text(str(os.getpid())); time.sleep(50)")
             with self.started("log", "--page", "page.html") as child:
-                assert child.stdout is not None
-                self.assertEqual("".join(child.stdout.readline() for _ in self.LINES.splitlines()), self.LINES)
                 while not (self.place / "pid").exists() or not (self.place / "pid").read_text():
                     time.sleep(0.01)
                 program = int((self.place / "pid").read_text())
@@ -581,13 +575,11 @@ class Command(TestCase):
             (self.place / "pid").unlink()
             self.assert_nothing()
 
-    def test_lines_of_any_bytes(self) -> None:
-        script = "sys.stdout.buffer.write(b'\\xff\\x00 exchange 1\\n')"
-        self.stand_in("discovery: x\n", 0, script)
-        status, _, errors = self.called("log", "--page", "page.html", encoding="utf-8", errors="replace")
-        self.assertEqual((status, errors), (0, ""))
-        found = head_in(self.page.read_text(encoding="utf-8"))["findings"]
-        self.assertEqual((found[1]["text"], found[1]["place"]), ("\ufffd\x00 exchange 1", 1))
+    def test_what_is_no_json(self) -> None:
+        self.stand_in("", 0, "sys.stdout.buffer.write(b'\\xff\\x00 exchange 1\\n')")
+        found = self.called("log", "--page", "page.html", encoding="utf-8", errors="replace")
+        self.assertEqual(found, (1, "\ufffd\x00 exchange 1\n", ""))
+        self.assert_nothing()
 
 
 if __name__ == "__main__":

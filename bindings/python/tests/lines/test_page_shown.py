@@ -5,12 +5,14 @@ import io
 import time
 import unittest
 from pathlib import Path
-from typing import Any, Dict
+from typing import Any, Dict, Sequence
 
 from browser import Page, browser, needs_chromium
 from common import TestCase, folder, scene
-from page_logs import DISCOVERY_OPENING, FEW_CLIENTS, SOURCE, discovered, exchange_line, long_log, session_of
-from wurstlinen.front import page
+from page_logs import (
+    DISCOVERY_OPENING, FEW_CLIENTS, HEAD, SOURCE, discovered, document, exchange_line, found_in, long_log, session_of,
+)
+from wurstlinen.front import page, page_findings
 from wurstlinen.lines.packets import Packet
 from wurstlinen.lines.uids import ALL_DEVICES
 
@@ -18,10 +20,13 @@ LEFT, SILENT = "1234:00000001", "1234:00000009"
 MANY = 100_000
 # On a quiet machine it takes one. A page that decodes all of it at once takes much longer.
 SECONDS_TO_OPEN = 10.0
-FINDINGS = ("discovery: full, steady, no fault, 1 device; its certificate is complete",
-            f"{LEFT} was found, and followed the rules",
-            f"{SILENT} was never heard: exchange 8 is the fifth silence in a row in a range that holds it",
-            "exchange 3: bytes came from 0000:00000000 to ffff:ffffffff, where no listed device was due")
+# Findings of the program after a run's first one, and the sentences of all.
+FINDINGS: Sequence[Dict[str, Any]] = (
+    {"judgement": "found", "uid": LEFT, "sentence": f"{LEFT} was found, and followed the rules"},
+    {"judgement": "broke", "uid": SILENT, "exchange": 8, "sentence": f"{SILENT} was never heard"},
+    {"judgement": "stray", "exchange": 3, "sentence": "bytes came where no listed device was due"})
+SENTENCES = [each["sentence"] for each in (HEAD, *FINDINGS)]
+FAILURE = {"judgement": "failure", "exchange": 1, "sentence": "exchange 1 failed"}
 # The place of an exchange in the window, by what the page itself computes.
 PLACE = """(() => {{
     const box = view.getBoundingClientRect();
@@ -45,11 +50,17 @@ SERVED = "51,82,122"
 WAITING = "201,217,234"
 
 
-def written(place: Path, log: str, *lines: str) -> Path:
-    """A file with the page of a log."""
+def written(place: Path, log: str, *findings: Dict[str, Any], counts: Sequence[int] = ()) -> Path:
+    """A file with the page of a log, whose runs have so many exchanges; the last one has these findings."""
     file = place / "page.html"
-    file.write_text(page.page_of("a <b>log</b>", io.BytesIO(log.encode()), lines, True), encoding="utf-8")
+    file.write_text(drawn("a <b>log</b>", log, found_in(log, *counts, findings=findings)), encoding="utf-8")
     return file
+
+
+def drawn(name: str, log: str, found: bytes) -> str:
+    """The page of a log in which the program has found this, and a broken rule."""
+    broken = found.replace(b'"broken": false', b'"broken": true')
+    return page.page_of(name, io.BytesIO(log.encode()), page_findings.findings_in(broken))
 
 
 @needs_chromium
@@ -69,8 +80,9 @@ class Shown(TestCase):
 
     @classmethod
     def setUpClass(cls) -> None:
-        lines = [*FINDINGS, *(f"1234:{number:08x} was found, and followed the rules" for number in range(1, 1001))]
-        cls.many = page.page_of("log", io.BytesIO("".join(long_log(MANY)).encode()), lines, True)
+        others = [{"judgement": "found", "uid": f"1234:{number:08x}", "sentence": "x"} for number in range(1, 1001)]
+        log = "".join(long_log(MANY))
+        cls.many = drawn("log", log, found_in(log, findings=[*FINDINGS, *others]))
 
     def tearDown(self) -> None:
         self.assertEqual(self.page.errors, [])
@@ -97,14 +109,14 @@ class Shown(TestCase):
     def test_a_discovery(self) -> None:
         self.page.open(written(self.place, discovered(scene(devices=[{"uid": LEFT}])), *FINDINGS))
         texts = self.page.value("[...document.querySelectorAll('#findings li')].map((each) => each.textContent)")
-        self.assertEqual(texts, [FINDINGS[0], FINDINGS[1], f"\u25bc{FINDINGS[2]}", f"\u25bc{FINDINGS[3]}"])
+        self.assertEqual(texts, [*SENTENCES[:2], f"\u25bc{SENTENCES[2]}", f"\u25bc{SENTENCES[3]}"])
         self.assertEqual(self.page.value("get('title').textContent"), "explain: a <b>log</b>")
         self.assertIn("A rule was broken.", self.page.value("get('verdict').textContent"))
         found = self.clicked(3)
         self.assertEqual(found["title"], ["exchange 3"])
         self.assertEqual(found["command"], ["BRANCH 0000:00000000-ffff:ffffffff"])
         self.assertEqual(found["answer"], [LEFT])
-        self.assertEqual(found["found"], [f"\u25bc {FINDINGS[3]}"])
+        self.assertEqual(found["found"], [f"\u25bc {SENTENCES[3]}"])
         self.assertIn("PID0001", found["fields"])
         self.assertIn("preamblefefefefefefefe", found["fields"])
         found = self.clicked(4)
@@ -120,7 +132,7 @@ class Shown(TestCase):
         x = self.page.value("xOf(5) + size.width / 2")
         self.assertEqual(self.colours(x - 6, 33, 12, 12).get(INK, 0), 0)
         self.page.value("document.querySelectorAll('#findings button')[0].click()")
-        self.assertEqual(self.detail(8)["found"], [f"\u25bc {FINDINGS[2]}"])
+        self.assertEqual(self.detail(8)["found"], [f"\u25bc {SENTENCES[2]}"])
         y = self.page.value("topOfRow(1) + size.row / 2 - view.scrollTop")
         ring = self.colours(self.page.value("xOf(8) + size.width / 2") - 9, y - 9, 18, 18)
         self.assertGreater(ring.get(INK, 0), 40)
@@ -128,7 +140,7 @@ class Shown(TestCase):
     def test_an_unmute_that_failed(self) -> None:
         frame = Packet(ALL_DEVICES, SOURCE, 0, 1, 0, 0, 0x10, 3).encode()
         log = DISCOVERY_OPENING + exchange_line(0, "unmute", frame, b"") + exchange_line(1, "unmute", frame, None)
-        self.page.open(written(self.place, log, "discovery: x", "exchange 1 failed: y"))
+        self.page.open(written(self.place, log, FAILURE))
         for at, has_failed in ((0, False), (1, True)):
             found = self.colours(self.page.value(f"xOf({at})"), 60, 20, 100)
             # The edges of the strokes are paler, by how a browser draws them.
@@ -148,7 +160,7 @@ class Shown(TestCase):
         self.assertEqual([round(each, 6) for each in after], [round(each, 6) for each in before])
 
     def test_clients(self) -> None:
-        self.page.open(written(self.place, session_of(FEW_CLIENTS.entries), "run 1: x", "exchange 1 failed"))
+        self.page.open(written(self.place, session_of(FEW_CLIENTS.entries), counts=(2, 1)))
         self.assertEqual(self.clicked(3)["title"], ["run 1, exchange 1, for clients 0, 2 (exchange 3 of the log)"])
         for client, waits in enumerate(([0, 1, 2, 3], [0, 2, 3, 4], [0, 1, 2, 3])):
             for at in range(6):
@@ -173,14 +185,17 @@ class Shown(TestCase):
         self.assertLess(time.monotonic() - began, SECONDS_TO_OPEN)
 
     def test_nothing_was_sent(self) -> None:
-        self.page.open(written(self.place, "", "who knows?"))
-        self.assertEqual(self.page.value("get('findings').textContent"), "who knows?")
+        file = self.place / "page.html"
+        none = {"exchanges": 0, "devices": 0, "heard": "", "findings": [{"judgement": "no run", "sentence": "none"}]}
+        file.write_text(drawn("log", "", document([none])), encoding="utf-8")
+        self.page.open(file)
+        self.assertEqual(self.page.value("get('findings').textContent"), "none")
 
     def test_texts_are_no_script(self) -> None:
         bad = "</script><script>window.bad = 1</script><img src=x onerror='window.bad = 1'>"
-        self.page.open(written(self.place, discovered(scene(devices=[])), f"discovery: {bad}", f"exchange 1 {bad}"))
+        self.page.open(written(self.place, discovered(scene(devices=[])), {**FAILURE, "sentence": bad}))
         self.page.value("document.querySelector('#findings button').click()")
-        self.assertEqual(self.detail(1)["found"], [f"\u25bc exchange 1 {bad}"])
+        self.assertEqual(self.detail(1)["found"], [f"\u25bc {bad}"])
         self.assertEqual(self.page.value("[window.bad ?? 0, document.images.length, document.scripts.length]"),
                          [0, 0, 4])
 

@@ -9,10 +9,19 @@ import servers
 from browser import needs_chromium
 from common import LongTestCase, folder, needs_library
 from web_pages import (
-    BACK, DESK, HOUSE, LEFT, PHONE, RIGHT, SECOND, at_each_size, folder_of_downloads, opened, row,
+    BACK, DESK, HOUSE, LEFT, PHONE, RIGHT, SECOND, Window, at_each_size, folder_of_downloads, opened, row,
 )
+from wurstlinen.tool.places import program
 
 BAD = "<img src=x onerror=top.bad=1>"
+
+
+def way(seen: Window, from_slot: int, to_slot: int) -> Tuple[float, float]:
+    """How far it is from one slot to another."""
+    x, y = seen.page.value(f"""(() => {{ const [from, to] = [{from_slot}, {to_slot}].map((slot) =>
+        document.querySelectorAll(".universe i")[slot - 1].getBoundingClientRect());
+        return [to.left - from.left, to.top - from.top]; }})()""")
+    return x, y
 
 
 @needs_chromium
@@ -196,9 +205,8 @@ class OtherViews(LongTestCase):
             seen.until(f"document.querySelector(\"{piece}\")")
             self.assertEqual(seen.page.value("[...document.querySelectorAll('button.crowded')].map((each) => "
                                              "each.dataset.uid)"), [LEFT, HOUSE, SECOND])
-            size = seen.page.value("(() => { const box = document.querySelector('.universe').getBoundingClientRect();"
-                                   " return [box.width / 32, box.height / 16]; })()")
-            seen.drag(piece, 3 * size[0], 2 * size[1])
+            x, y = way(seen, 8, 8 + 3 + 64)
+            seen.drag(piece, x, y)
             events.until(lambda parts: parts.get(f"fixture/{RIGHT}", {}).get("address") == 8 + 3 + 64)
 
     def test_slots_by_finger(self) -> None:
@@ -207,8 +215,8 @@ class OtherViews(LongTestCase):
             seen.until(f"document.querySelector(\"{piece}\")")
             at = seen.page.value(f"""(() => {{ document.querySelector("{piece}").scrollIntoView({{block: "center"}});
                 const box = document.querySelector("{piece}").getBoundingClientRect();
-                const all = document.querySelector('.universe').getBoundingClientRect();
-                return [box.left + 8, box.top + 8, all.width / 16, all.height / 32]; }})()""")
+                return [box.left + 8, box.top + 8]; }})()""")
+            by_the_way, there = way(seen, 8, 8 + 17), way(seen, 8, 8 + 48)
 
             def touch(kind: str, dx: float = 0, dy: float = 0) -> None:
                 points = [] if kind == "touchEnd" else [{"x": at[0] + dx, "y": at[1] + dy}]
@@ -219,10 +227,26 @@ class OtherViews(LongTestCase):
             touch("touchEnd")
             seen.until(f"document.activeElement?.dataset.uid === '{RIGHT}'")
             touch("touchStart")
-            touch("touchMove", at[2], at[3])
-            touch("touchMove", 0, 3 * at[3])
+            touch("touchMove", *by_the_way)
+            touch("touchMove", *there)
             touch("touchEnd")
             events.until(lambda parts: parts.get(f"fixture/{RIGHT}", {}).get("address") == 8 + 48)
+
+    @at_each_size
+    def test_labels_at_one_slot_are_all_seen(self, size: Tuple[int, int]) -> None:
+        with opened(size, "slots") as (seen, _, _rig):
+            seen.until("document.querySelectorAll('button.crowded').length === 3")
+            found = seen.page.value("""[...document.querySelectorAll("button.piece")].map((each) => {
+                const range = new Range();
+                range.selectNodeContents(each);
+                const { left, right, top, height } = range.getBoundingClientRect();
+                const places = [1, 20, 40, 60].map((x) => left + x).filter((x) => x < right);
+                return places.map((x) => document.elementFromPoint(x, top + height / 2) === each);
+            })""")
+            self.assertEqual(len(found), 5)
+            for places in found:
+                self.assertGreaterEqual(len(places), 3)
+                self.assertEqual(places, [True] * len(places))
 
     def test_slots_by_keys(self) -> None:
         with opened(DESK, "slots") as (seen, web, _), web.follow() as events:
@@ -254,8 +278,8 @@ class OtherViews(LongTestCase):
             seen.until("document.querySelector('.result').textContent.startsWith('4 fixtures found with')")
             seen.until("[...document.querySelectorAll('li')].some((each) => "
                        "each.textContent.includes('Back truss (454e:0a000017)'))")
-            if seen.page.value("!document.querySelector('iframe').hidden"):
-                seen.until("document.querySelector('iframe').src.includes('/picture/')")
+            if program() is not None:
+                seen.until("document.querySelector('iframe')?.src.includes('/picture/')")
 
     @at_each_size
     def test_the_line(self, size: Tuple[int, int]) -> None:

@@ -2,15 +2,19 @@
 from __future__ import annotations
 
 import contextlib
+import os
 import resource
 import socket
+import stat
 import time
 import unittest
 from typing import Dict, List
+from unittest import mock
 
 from common import LongTestCase, TestCase, needs_library
+from servers import runtime
 from web_pages import LEFT, Web, five
-from wurstlinen.web import door
+from wurstlinen.web import door, tokens
 
 MANY = 10_000
 # What one process may have open besides, on each side.
@@ -31,6 +35,20 @@ def sent(web: Web, data: bytes, wait: float = 10.0) -> bytes:
                     break
                 found += data
         return found
+
+
+class Files(TestCase):
+    """The file with the tokens."""
+
+    def test_only_its_user_can_read_it(self) -> None:
+        before = os.umask(0)
+        self.addCleanup(os.umask, before)
+        # A umask is that of all threads.
+        with runtime() as made, mock.patch("os.umask", side_effect=AssertionError):
+            kept = tokens.kept("rig:/it", False)
+            self.assertEqual(tokens.kept("rig:/it", False), kept)
+            self.assertNotEqual(tokens.kept("rig:/it", True), kept)
+            self.assertEqual([stat.S_IMODE(path.stat().st_mode) for path in made.rglob("web-*.token")], [0o600])
 
 
 @needs_library
@@ -57,8 +75,8 @@ class Strangers(TestCase):
                 parts = events.until(lambda parts: f"fixture/{LEFT}" in parts)
                 self.assertEqual(parts["role"], "looks")
             headers = {"Authorization": f"Bearer {web.tokens.looking}"}
-            for name in ("change", "undo", "identify", "read", "forget", "show", "set", "discover", "pause", "save",
-                         "load", "apply"):
+            for name in ("change", "undo", "identify", "forget", "show", "set", "discover", "pause", "save", "load",
+                         "apply"):
                 self.assertEqual(web.ask("POST", f"/api/{name}", b"{}", headers), (
                     403, b"this address is only for looking"), name)
             self.assertEqual(rig.exchanges, before)
@@ -129,7 +147,7 @@ class Attacks(LongTestCase):
             self.assertLess(self.works(web), 5.0)
             # A page that is open isn't thrown out.
             events.until(lambda parts: parts.get(f"fixture/{LEFT}", {}).get("identifies"))
-            self.assertLessEqual(len(web.door._visitors), door.MOST_CONNECTIONS)
+            self.assertLessEqual(web.door.connections, door.MOST_CONNECTIONS)
 
     def test_one_that_is_slow_with_its_request(self) -> None:
         with five() as (web, _):

@@ -174,6 +174,9 @@ class Worse(TestCase):
                                  and parts["discovery"].get("others") != ["looking at what it shows ..."])
             if web_has_program():
                 self.assertIn("4444:00000001", json.dumps(parts["discovery"]))
+                # Only the UID isn't said twice.
+                said = {each["uid"]: each["text"] for each in parts["discovery"]["devices"]}
+                self.assertRegex(said["4444:00000001"], r"^exchange [0-9]+: bytes came from 4444:00000001 alone")
                 status, body = web.ask("GET", f"/picture/{parts['discovery']['picture']}")
                 self.assertEqual(status, 200)
                 self.assertIn(b"4444:00000001", body)

@@ -10,11 +10,11 @@ import html
 import json
 import pkgutil
 from collections import Counter
-from typing import Any, BinaryIO, Dict, List, Sequence, Set
+from typing import Any, BinaryIO, Dict, List, Optional, Set
 
 from ..lines.uids import uid_text
 from .page_details import PIECE, packed
-from .page_findings import Finding, findings_in, verdict_of
+from .page_findings import Finding, Findings
 from .page_log import Log, read_log
 
 # So many rows can be drawn at once. Devices of findings come first, then those that answered most.
@@ -44,31 +44,35 @@ PAGE = """\
 """
 
 
-def page_of(name: str, file: BinaryIO, lines: Sequence[str], is_broken: bool) -> str:
-    """The page of an open log and what the program printed about it. Raises NoLog and OSError."""
-    log = read_log(file)
-    findings = findings_in(lines, log.runs)
+def page_of(name: str, file: BinaryIO, findings: Findings) -> str:
+    """The page of an open log and what the program found in it. Raises NoLog, OtherLog and OSError."""
+    log = read_log(file, findings.runs)
     script, style, body = "".join(map(resource, SCRIPTS)), resource("page.css"), resource("page.html")
     pieces = "\n".join(f'<script type="text/plain" id="piece{number}">{piece}</script>'
                        for number, piece in enumerate(log.details.pieces()))
     return PAGE.format(
         policy=html.escape(POLICY.format(script=digest(script), style=digest(style))), style=style, script=script,
         title=html.escape(f"wurstlinen explain {printable(name)}"), body=body,
-        head=in_script(head_of(printable(name), log, findings, is_broken)), columns=packed(log.columns.data()),
+        head=in_script(head_of(printable(name), log, findings)), columns=packed(log.columns.data()),
         pieces=pieces)
 
 
-def head_of(name: str, log: Log, findings: Sequence[Finding], is_broken: bool) -> Dict[str, Any]:
+def head_of(name: str, log: Log, findings: Findings) -> Dict[str, Any]:
     """What a page knows at once."""
     rows = rows_of(log, findings)
     return {
-        "name": name, "count": len(log), "piece": PIECE, "verdict": verdict_of(findings, is_broken),
+        "name": name, "count": len(log), "piece": PIECE, "verdict": findings.verdict(),
         "came": counts(log.columns.came), "asked": counts(log.columns.asked), "clients": sorted(log.clients),
-        "runs": [{"name": run.name, "first": run.exchanges[0], "count": len(run.exchanges)}
-                 for run in log.runs if run.exchanges],
+        "runs": [{"name": run.name, "first": log.places[run.place], "count": len(run.heard)}
+                 for run in findings.runs if run.heard],
         "rows": [uid_text(uid) for uid in rows],
-        "findings": [{"text": printable(finding.text), "isHead": finding.is_head, "place": finding.place(log.runs),
-                      "uid": None if finding.uid is None else uid_text(finding.uid)} for finding in findings]}
+        "findings": [{"text": printable(finding.text), "isHead": finding.is_head, "place": place_of(finding, log),
+                      "uid": None if finding.uid is None else uid_text(finding.uid)} for finding in findings.all]}
+
+
+def place_of(finding: Finding, log: Log) -> Optional[int]:
+    """The exchange in the log that a finding is about."""
+    return None if finding.place is None else log.places[finding.place]
 
 
 def counts(column: bytearray) -> Dict[int, int]:
@@ -76,10 +80,10 @@ def counts(column: bytearray) -> Dict[int, int]:
     return dict(sorted(Counter(column).items()))
 
 
-def rows_of(log: Log, findings: Sequence[Finding]) -> List[int]:
+def rows_of(log: Log, findings: Findings) -> List[int]:
     """The UIDs that have rows of their own, in ascending order."""
     rows: Set[int] = set()
-    for uid in (*(finding.uid for finding in findings), *(uid for uid, _ in log.senders.most_common())):
+    for uid in (*(finding.uid for finding in findings.all), *(uid for uid, _ in log.senders.most_common())):
         if uid is not None and len(rows) < MOST_ROWS:
             rows.add(uid)
     return sorted(rows)

@@ -1,28 +1,23 @@
-"""The findings that the proved program prints, the places in a picture that they name, and what they say in all.
+"""The findings of the proved program about a log, as its JSON has them, and what they say in all.
 
-Their words are the program's. Its numbers of exchanges and its UIDs are looked for, and of a run's first line how it
-ended, and whether its certificate is complete. A line without any is a finding all the same.
+docs/FORMATS.md has the names. Sentences are shown as they are, and nothing is read from them.
 """
 from __future__ import annotations
 
 import enum
-import re
-from collections import defaultdict
+import json
 from dataclasses import dataclass
-from typing import Dict, Iterable, List, Optional, Sequence
+from typing import Any, Dict, Iterator, List, Optional, Sequence
 
 from ..lines.uids import parse_uid
-from .page_log import Run
 
-# The first line of a run.
-HEAD = re.compile(r"(run \d+|discovery)\b")
-UID = re.compile(r"\b[0-9a-f]{4}:[0-9a-f]{8}\b")
-EXCHANGE = re.compile(r"\bexchange (\d+)\b")
-# What a run's first line says of its end, and its certificate; and the line about an exchange that failed.
-FAULT = re.compile(r", fault \d")
-COMPLETE = re.compile(r"; its certificate is complete$")
-INCOMPLETE = re.compile(r"; its certificate is incomplete(?!, or )")
-FAILED = re.compile(r"exchange \d+ failed: ")
+NO_FAULT = "no fault"
+NO_RUN = "no run"
+FAILURE = "failure"
+
+
+class NoFindings(Exception):
+    """A text that isn't the program's JSON."""
 
 
 class Outcome(enum.IntEnum):
@@ -34,6 +29,7 @@ class Outcome(enum.IntEnum):
     FAILED = 3
 
 
+JUDGED = {"complete": Outcome.COMPLETE, "incomplete": Outcome.INCOMPLETE, "undecided": Outcome.UNDECIDED}
 # What is said of one discovery, and of some of many.
 OUTCOMES = {
     Outcome.UNDECIDED: ("It isn't decided whether the discovery is complete.",
@@ -42,87 +38,114 @@ OUTCOMES = {
     Outcome.FAILED: ("The discovery failed.", "{} of {} discoveries failed."),
 }
 BROKEN, UNBROKEN, NO_DISCOVERY = "A rule was broken.", "No broken rule was seen.", "No discovery."
+COMPLETE = "{} found; nothing else can be on this line if it is honest."
+ALL_COMPLETE = "The last of {} discoveries: {} found; nothing else can be on this line if it is honest."
 
 
 @dataclass(frozen=True)
 class Finding:
-    """A line, the run that it is of, the device that it is about, and the number of an exchange of that run."""
+    """A sentence, what it says, the device that it is about, and the place of an exchange among those of all runs."""
 
     text: str
-    is_head: bool = False
-    run: Optional[int] = None
+    judgement: str
     uid: Optional[int] = None
-    exchange: Optional[int] = None
-
-    def place(self, runs: Sequence[Run]) -> Optional[int]:
-        """The exchange in the log that it is about."""
-        if self.run is None or self.exchange is None:
-            return None
-        run = runs[self.run]
-        at = self.exchange - run.first
-        return run.exchanges[at] if 0 <= at < len(run.exchanges) else None
+    place: Optional[int] = None
+    is_head: bool = False
 
 
-def findings_in(lines: Iterable[str], runs: Sequence[Run]) -> List[Finding]:
-    """What these lines say of a log's runs, which are in the same order."""
-    left: Dict[str, List[int]] = defaultdict(list)
-    for number, run in enumerate(runs):
-        left[run.name].append(number)
-    current: Optional[int] = None
-    found = []
-    for line in lines:
-        head = HEAD.match(line)
-        if head is not None:
-            current = left[head[1]].pop(0) if left[head[1]] else None
-            found.append(Finding(line, True, current))
-        else:
-            found.append(finding_in(line, current))
-    return found
+@dataclass(frozen=True)
+class Run:
+    """A run: its name, the place of its first exchange among those of all runs, and a letter for what each heard."""
+
+    name: str
+    place: int
+    heard: str
+    outcome: Outcome
+    devices: int
 
 
-def finding_in(line: str, run: Optional[int]) -> Finding:
-    """What a line says that isn't a run's first one."""
-    exchange, uid = EXCHANGE.search(line), UID.search(line)
-    # A UID in the middle of a line about an exchange may be the end of a range.
-    is_about = uid is not None and (uid.start() == 0 or exchange is None)
-    return Finding(line, run=run, uid=parse_uid(uid[0]) if uid is not None and is_about else None,
-                   exchange=None if exchange is None else int(exchange[1]))
+@dataclass(frozen=True)
+class Findings:
+    """What the program found in a log."""
+
+    runs: Sequence[Run]
+    all: Sequence[Finding]
+    is_broken: bool
+    # Why the log isn't explained to its end, if it isn't.
+    fault: Optional[str]
+
+    def lines(self) -> Iterator[str]:
+        """What the program prints without --json."""
+        for finding in self.all:
+            yield finding.text
+        if self.fault is not None:
+            yield f"fault: {self.fault}"
+
+    def verdict(self) -> List[str]:
+        """What they say in all, the worst first."""
+        if self.is_broken:
+            return [BROKEN, *worst_of(self.runs)]
+        return [*(worst_of(self.runs) or [complete_of(self.runs)]), UNBROKEN]
 
 
-def verdict_of(findings: Sequence[Finding], is_broken: bool) -> List[str]:
-    """What findings say in all, the worst first."""
-    said = said_of(outcomes_of(findings))
-    if is_broken:
-        return [BROKEN, *(each for each in said if each != NO_DISCOVERY)]
-    return [*said, UNBROKEN]
+def findings_in(text: bytes) -> Findings:
+    """What the program's JSON says. Raises NoFindings."""
+    try:
+        found = json.loads(text)
+        runs: List[Run] = []
+        findings = [finding_in(each, None) for each in found["passing"]]
+        place = 0
+        for run in found["runs"]:
+            findings += run_findings(run, place)
+            if run["findings"][0]["judgement"] != NO_RUN:
+                runs.append(Run(name_of(run), place, run["heard"], outcome_of(run), run["devices"]))
+            place += run["exchanges"]
+        return Findings(runs, findings, found.get("broken", False), found.get("fault"))
+    except (ValueError, TypeError, KeyError, IndexError, AttributeError, RecursionError) as fault:
+        raise NoFindings(f"{type(fault).__name__}: {fault}") from None
 
 
-def said_of(outcomes: Sequence[Outcome]) -> List[str]:
-    """What is said of the discoveries of a log; nothing if all are complete."""
-    if not outcomes:
+def run_findings(run: Dict[str, Any], place: int) -> List[Finding]:
+    """The findings about a run whose first exchange has this place."""
+    # The first exchange that the log has, if that isn't known, has the number 0.
+    start = place - run.get("first", 0)
+    head, *others = run["findings"]
+    return [finding_in(head, start, True), *(finding_in(each, start) for each in others)]
+
+
+def finding_in(found: Dict[str, Any], start: Optional[int], is_head: bool = False) -> Finding:
+    """A finding, about a run whose exchange 0 would have this place."""
+    uid, exchange = found.get("uid"), found.get("exchange")
+    place = None if start is None or exchange is None else start + exchange
+    return Finding(found["sentence"], found["judgement"], None if uid is None else parse_uid(uid), place, is_head)
+
+
+def name_of(run: Dict[str, Any]) -> str:
+    """A run of a session has a number."""
+    return f"run {run['run']}" if "run" in run else "discovery"
+
+
+def outcome_of(run: Dict[str, Any]) -> Outcome:
+    """What is known of a run."""
+    if run.get("end", NO_FAULT) != NO_FAULT or any(each["judgement"] == FAILURE for each in run["findings"]):
+        return Outcome.FAILED
+    return JUDGED[run["findings"][0]["judgement"]]
+
+
+def worst_of(runs: Sequence[Run]) -> List[str]:
+    """What is said of the worst discoveries of a log; nothing if all are complete."""
+    if not runs:
         return [NO_DISCOVERY]
-    worst = max(outcomes)
+    worst = max(run.outcome for run in runs)
     if worst is Outcome.COMPLETE:
         return []
     one, many = OUTCOMES[worst]
-    return [one if len(outcomes) == 1 else many.format(outcomes.count(worst), len(outcomes))]
+    count = sum(run.outcome is worst for run in runs)
+    return [one if len(runs) == 1 else many.format(count, len(runs))]
 
 
-def outcomes_of(findings: Iterable[Finding]) -> List[Outcome]:
-    """The outcome of each run."""
-    outcomes: List[Outcome] = []
-    for finding in findings:
-        if finding.is_head:
-            outcomes.append(outcome_of(finding.text))
-        elif outcomes and FAILED.match(finding.text):
-            outcomes[-1] = Outcome.FAILED
-    return outcomes
-
-
-def outcome_of(head: str) -> Outcome:
-    """The outcome that a run's first line says."""
-    if FAULT.search(head):
-        return Outcome.FAILED
-    if INCOMPLETE.search(head):
-        return Outcome.INCOMPLETE
-    return Outcome.COMPLETE if COMPLETE.search(head) else Outcome.UNDECIDED
+def complete_of(runs: Sequence[Run]) -> str:
+    """What is said if all discoveries are complete, and no rule was broken."""
+    count = runs[-1].devices
+    fixtures = f"{count or 'No'} fixture{'' if count < 2 else 's'}"
+    return COMPLETE.format(fixtures) if len(runs) == 1 else ALL_COMPLETE.format(len(runs), fixtures)

@@ -1,7 +1,8 @@
 """The exchanges of a log as columns, from which a picture is drawn.
 
-The proved program has read the log before, and has refused what isn't one. So what is refused here is a log that has
-changed since, or that only the program understands.
+The proved program has read the log before, and has refused what isn't one. It says which runs the log has, and what
+each of their exchanges heard. So what is refused here is a log that has changed since, or that only the program
+understands.
 """
 from __future__ import annotations
 
@@ -10,16 +11,19 @@ import sys
 from array import array
 from collections import Counter
 from dataclasses import dataclass, field
-from typing import Any, BinaryIO, Callable, Dict, Iterator, List, Optional, Set, Tuple
+from typing import Any, BinaryIO, Callable, Dict, Iterator, List, Optional, Sequence, Set, Tuple
 
 from .files import MOST_LINE
 from .page_details import Details
-from .page_frames import NO_UID, Came, answer_to, command_in
+from .page_findings import Run
+from .page_frames import NO_UID, Answer, Asked, Came, answer_to, command_in
 
 MOST_CLIENTS = 16
 # As many as a session can store. A page of so many exchanges takes minutes, and some 500 MB of memory.
 MOST_ENTRIES = 1_000_000
-NO_RUN = "discovery"
+# What the program's letters mean. After a branch other bytes are a collision.
+HEARD = {"a": Came.ACKNOWLEDGED, "f": Came.FAILED, "o": Came.ONE, "s": Came.SILENCE}
+OTHER_BYTES = "n"
 
 
 class NoLog(Exception):
@@ -30,17 +34,11 @@ class NoLog(Exception):
         super().__init__(f"more than {MOST_ENTRIES} entries" if is_last else f"line {line} isn't an entry of a log")
 
 
-@dataclass
-class Run:
-    """A run, and the places of its exchanges in the log."""
+class OtherLog(Exception):
+    """A log with other exchanges than those that the program has read."""
 
-    name: str
-    # The run's number in its session, and whether the log has its end.
-    number: Optional[int] = None
-    is_over: bool = False
-    # The number of its first exchange.
-    first: int = 0
-    exchanges: "array[int]" = field(default_factory=lambda: array("I"))
+    def __init__(self) -> None:
+        super().__init__("it has other exchanges than were explained")
 
 
 @dataclass
@@ -71,7 +69,8 @@ class Log:
     """What was read of a log."""
 
     columns: Columns = field(default_factory=Columns)
-    runs: List[Run] = field(default_factory=list)
+    # Where the exchanges of runs are, in order.
+    places: "array[int]" = field(default_factory=lambda: array("I"))
     details: Details = field(default_factory=Details)
     # How many answers each device sent.
     senders: "Counter[int]" = field(default_factory=Counter)
@@ -81,15 +80,19 @@ class Log:
         return len(self.columns.asked)
 
 
-# A frame that waits for its answer: what it is for, its text as the log has it, and its clients' bits.
-Sent = Tuple[str, str, int]
+# A frame that waits for its answer: what it is for, its text as the log has it, its clients' bits, and whether it is a
+# run's.
+Sent = Tuple[str, str, int, bool]
 
 
 class Reader:
-    """Reads a log, entry by entry, and divides it into runs as the proved program does."""
+    """Reads a log with these runs, entry by entry."""
 
-    def __init__(self) -> None:
+    def __init__(self, runs: Sequence[Run]) -> None:
         self.log = Log()
+        self._runs = runs
+        # Which of them has the next exchange.
+        self._next = 0
         self._forget(False)
         self._steps: Dict[str, Callable[[Dict[str, Any]], None]] = {
             "opening": self._opening, "join": self._join, "accept": self._accept, "ask": self._ask, "send": self._send,
@@ -99,7 +102,9 @@ class Reader:
     def _forget(self, is_session: bool) -> None:
         """The log of another session, or of a discovery, begins."""
         self._is_session = is_session
-        self._run: Optional[Run] = None
+        # The number of the run in progress, and whether the log has its end.
+        self._run: Optional[int] = None
+        self._is_over = False
         self._sent: Optional[Sent] = None
         # The number of the last discovery that was answered.
         self._answered: Optional[int] = None
@@ -151,15 +156,14 @@ class Reader:
         self._waiting |= 1 << client
 
     def _finish(self, entry: Dict[str, Any]) -> None:
-        self._end(self._requests, entry)
+        self._end_call(self._requests, entry)
 
     def _answer(self, entry: Dict[str, Any]) -> None:
-        self._end(self._asks, entry)
+        self._end_call(self._asks, entry)
         self._answered = number_in(entry, "number")
-        if self._run is not None and self._run.number == number_in(entry, "run"):
-            self._run.is_over = True
+        self._is_over = self._is_over or self._run == number_in(entry, "run")
 
-    def _end(self, calls: Dict[int, int], entry: Dict[str, Any]) -> None:
+    def _end_call(self, calls: Dict[int, int], entry: Dict[str, Any]) -> None:
         # A log may begin after the call.
         client = calls.pop(number_in(entry, "number"), None)
         if client is not None:
@@ -170,56 +174,63 @@ class Reader:
     def _send(self, entry: Dict[str, Any]) -> None:
         if "run" in entry:
             number = number_in(entry, "run")
-            if self._run is None or self._run.number != number or self._run.is_over:
-                self._begin_session_run(number)
-            clients = sorted(client for client in range(MOST_CLIENTS) if self._run_clients >> client & 1)
-            name = f"run {number}, exchange {len(self._current().exchanges)}"
-            self._sent = name + for_clients(clients), entry["frame"], self._run_clients
+            if self._run != number or self._is_over:
+                self._begin_run(number)
+            clients = [client for client in range(MOST_CLIENTS) if self._run_clients >> client & 1]
+            self._sent = for_clients(clients), entry["frame"], self._run_clients, True
             return
         number = number_in(entry, "request")
         client = self._requests.get(number)
         name = f"request {number}" + for_clients([] if client is None else [client])
-        self._sent = name, entry["frame"], 0 if client is None else 1 << client
+        self._sent = name, entry["frame"], 0 if client is None else 1 << client, False
 
-    def _begin_session_run(self, number: int) -> None:
+    def _begin_run(self, number: int) -> None:
         # Runs of a session have ascending numbers, so this one may be another session's.
-        if self._run is not None and self._run.number is not None and number <= self._run.number:
+        if self._run is not None and number <= self._run:
             self._forget(True)
-        self._begin_run(Run(f"run {number}", number))
-
-    def _begin_run(self, run: Run) -> None:
-        self._run = run
+        self._run, self._is_over = number, False
         self._run_clients = bits(self._asks.values())
-        self.log.runs.append(run)
-
-    def _current(self) -> Run:
-        assert self._run is not None
-        return self._run
 
     def _came(self, entry: Dict[str, Any]) -> None:
         if self._sent is not None:
-            sent, self._sent = self._sent, None
-            self._add(*sent, entry)
-            if sent[0].startswith("run"):
-                self._current().exchanges.append(len(self.log) - 1)
+            (name, frame, clients, is_of_run), self._sent = self._sent, None
+            if is_of_run:
+                self._add_of_run(name, frame, clients, entry)
+            else:
+                self._add(name, frame, clients, entry, None)
 
     def _exchange(self, entry: Dict[str, Any]) -> None:
         """An exchange of a discovery's log."""
-        number = number_in(entry, "number")
-        run = self._run
-        if run is None or self._is_session or number != run.first + len(run.exchanges):
+        if self._is_session:
             self._forget(False)
-            run = Run(NO_RUN, first=number)
-            self._begin_run(run)
-        self._add(f"exchange {number}", entry["frame"], 0, entry)
-        run.exchanges.append(len(self.log) - 1)
+        number = number_in(entry, "number")
+        self._add(f"exchange {number}", entry["frame"], 0, entry, self._heard())
 
-    def _add(self, name: str, frame: str, clients: int, entry: Dict[str, Any]) -> None:
-        """The next exchange, whose answer an entry has."""
+    def _add_of_run(self, name: str, frame: str, clients: int, entry: Dict[str, Any]) -> None:
+        """The next exchange of a session's run."""
+        heard = self._heard()
+        run = self._runs[self._next]
+        self._add(f"{run.name}, exchange {len(self.log.places) - 1 - run.place}{name}", frame, clients, entry, heard)
+
+    def _heard(self) -> str:
+        """What the next exchange of a run heard, by the program. Raises OtherLog."""
+        at = len(self.log.places)
+        while self._next < len(self._runs) and at >= end_of(self._runs[self._next]):
+            self._next += 1
+        if self._next == len(self._runs):
+            raise OtherLog
+        self.log.places.append(len(self.log))
+        run = self._runs[self._next]
+        return run.heard[at - run.place]
+
+    def _add(self, name: str, frame: str, clients: int, entry: Dict[str, Any], heard: Optional[str]) -> None:
+        """The next exchange, whose answer an entry has, and which the program read as this letter, if it is a run's."""
         reply = None if "failed" in entry else bytes.fromhex(entry["reply"])
         sent = bytes.fromhex(frame)
         command = command_in(sent)
         answer = answer_to(command, sent, reply)
+        if heard is not None:
+            answer = answer._replace(came=heard_as(heard, command.asked, answer))
         columns = self.log.columns
         columns.asked.append(command.asked)
         columns.came.append(answer.came)
@@ -231,6 +242,11 @@ class Reader:
         if answer.came is not Came.ONE and answer.uid != NO_UID:
             self.log.senders[int.from_bytes(answer.uid, "big")] += 1
         self.log.details.add(name, frame, None if reply is None else entry["reply"], command.text, answer.text)
+
+
+def end_of(run: Run) -> int:
+    """The place after a run's last exchange."""
+    return run.place + len(run.heard)
 
 
 def ignore(entry: Dict[str, Any]) -> None:
@@ -272,12 +288,23 @@ def lines_of(file: BinaryIO) -> Iterator[bytes]:
         yield line
 
 
-def read_log(file: BinaryIO) -> Log:
-    """Reads a log. Raises NoLog and OSError."""
-    reader = Reader()
+def heard_as(heard: str, asked: Asked, answer: Answer) -> Came:
+    """How an answer is drawn that the program read as this letter."""
+    if heard != OTHER_BYTES:
+        return HEARD[heard]
+    if asked is Asked.BRANCH:
+        return Came.COLLISION
+    return Came.DAMAGED if answer.came is Came.DAMAGED else Came.OTHER_RESPONSE
+
+
+def read_log(file: BinaryIO, runs: Sequence[Run]) -> Log:
+    """Reads a log with these runs. Raises NoLog, OtherLog and OSError."""
+    reader = Reader(runs)
     for number, line in enumerate(lines_of(file), 1):
         try:
             reader.take(json.loads(line.decode()))
         except (ValueError, TypeError, KeyError, AttributeError, RecursionError):
             raise NoLog(number) from None
+    if len(reader.log.places) != sum(len(run.heard) for run in runs):
+        raise OtherLog
     return reader.log

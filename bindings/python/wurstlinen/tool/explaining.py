@@ -1,23 +1,28 @@
-"""The command explain with --page: what the proved program finds in a log, and a page that shows it.
+"""The command explain with --page, or of a log with times: what the proved program finds, and a page that shows it.
 
 The program's output, its errors and its status are the command's. The page has only what the program has found.
 """
 from __future__ import annotations
 
+import json
 import os
 import subprocess
 import sys
-from typing import BinaryIO, List, Optional, Sequence, Tuple
+import tempfile
+from typing import IO, BinaryIO, Optional, Sequence, Tuple
 
-from ..front.files import file_of
+from .._times import timeless
+from ..front.files import MOST_LINE, file_of
 from ..front.output import BAD_ARGUMENTS, FAILED, Failure, Output
 from ..front.page import page_of
-from ..front.page_log import NoLog
+from ..front.page_findings import Findings, NoFindings, findings_in
+from ..front.page_log import NoLog, OtherLog
 from . import serving
 from .places import NO_PROGRAM
 
 FOLLOWED = 0
 BROKEN = 3
+JSON = "--json"
 # Where a file is, how long it is, and when it was changed.
 State = Tuple[int, int, int, int, int]
 
@@ -38,14 +43,20 @@ class NoOutput(Exception):
         self.fault = fault
 
 
-def explain(program: str, words: Sequence[str], page: str, files: Sequence[str]) -> int:
-    """Runs the program with these words, of which `files` are its files, the log first. Raises Failure and OSError."""
-    check(page, files)
+def explain(program: str, words: Sequence[str], page: Optional[str], files: Sequence[str], has_times: bool) -> int:
+    """Runs the program with these words, of which `files` are its files, the log first. Raises Failure and OSError.
+
+    It reads a log with times as a copy without them.
+    """
+    timed = files[0] if has_times else None
     try:
+        if page is None:
+            return explained(program, words, timed)[0]
+        check(page, files)
         with file_of(page) as made:
             before = state_of(files[0]) if files else None
-            status, lines = explained(program, words)
-            made.write(drawn(files[0], before, lines, status == BROKEN))
+            status, findings = explained(program, words, timed)
+            made.write(drawn(files[0], before, findings))
     except NoPage as end:
         return end.status
     except NoOutput as end:
@@ -67,47 +78,75 @@ def check(page: str, files: Sequence[str]) -> None:
             raise Failure(BAD_ARGUMENTS, f"{name} is no file on a disk, and --page has to read it twice", reason="file")
 
 
-def explained(program: str, words: Sequence[str]) -> Tuple[int, List[str]]:
-    """The program's status, and what it prints about a log, which is printed here too. Raises NoPage and NoOutput."""
-    lines: List[str] = []
+def explained(program: str, words: Sequence[str], timed: Optional[str]) -> Tuple[int, Findings]:
+    """The program's status, and what it finds in a log, which is printed here too. Raises NoPage and NoOutput.
+
+    If the log has times, this is its name.
+    """
+    wanted = words if JSON in words else [*words[:1], JSON, *words[1:]]
+    status, printed = called(program, wanted) if timed is None else called_without_times(program, wanted, timed)
     try:
-        child = subprocess.Popen(["wurstlinen", *words], executable=program, stdout=subprocess.PIPE)
+        findings = findings_in(printed)
+    except NoFindings:
+        # A fault before the log is read, and after arguments that the program doesn't take.
+        show(printed)
+        raise NoPage(status if status not in (FOLLOWED, BROKEN) else FAILED) from None
+    show(printed if JSON in words else "".join(f"{line}\n" for line in findings.lines()).encode())
+    if status not in (FOLLOWED, BROKEN):
+        raise NoPage(status)
+    return status, findings
+
+
+def called_without_times(program: str, words: Sequence[str], name: str) -> Tuple[int, bytes]:
+    """The same of a log with times, of which it reads a copy. What it says of the copy is of the log."""
+    with open(name, encoding="latin-1", newline="") as log, tempfile.TemporaryFile() as said, \
+            tempfile.NamedTemporaryFile("w", prefix="wurstlinen.", encoding="latin-1", newline="") as copy:
+        copy.writelines(map(timeless, iter(lambda: log.readline(MOST_LINE), "")))
+        copy.flush()
+        try:
+            return called(program, [copy.name if word == name else word for word in words], said)
+        finally:
+            said.seek(0)
+            text = said.read().decode(errors="replace").replace(json.dumps(copy.name), json.dumps(name))
+            print(text, end="", file=sys.stderr, flush=True)
+
+
+def called(program: str, words: Sequence[str], errors: Optional[IO[bytes]] = None) -> Tuple[int, bytes]:
+    """The program's status, and what it prints. Raises NoPage."""
+    try:
+        child = subprocess.Popen(["wurstlinen", *words], executable=program, stdout=subprocess.PIPE, stderr=errors)
     except OSError as fault:
         Output(False).note(f"{program}: {fault.strerror}")
         raise NoPage(NO_PROGRAM) from None
     try:
         assert child.stdout is not None
-        with child.stdout as printed:
-            for line in printed:
-                show(line)
-                lines.append(line.decode(errors="replace").rstrip("\n"))
+        with child.stdout as output:
+            printed = output.read()
         status = child.wait()
     finally:
         serving.end(child)
     if status < 0:
         Output(False).note(f"the program was ended by signal {-status}")
         raise NoPage(128 - status)
-    if status not in (FOLLOWED, BROKEN):
-        raise NoPage(status)
-    return status, lines
+    return status, printed
 
 
-def show(line: bytes) -> None:
-    """Prints a line of the program's. Raises NoOutput."""
+def show(text: bytes) -> None:
+    """Prints a text. Raises NoOutput."""
     try:
-        sys.stdout.buffer.write(line)
+        sys.stdout.buffer.write(text)
         sys.stdout.buffer.flush()
     except OSError as fault:
         raise NoOutput(fault) from None
 
 
-def drawn(name: str, before: Optional[State], lines: Sequence[str], is_broken: bool) -> str:
+def drawn(name: str, before: Optional[State], findings: Findings) -> str:
     """The page of a log that is still as it was. Raises Failure."""
     try:
         with open(name, "rb") as file:
-            text = page_of(name, file, lines, is_broken)
+            text = page_of(name, file, findings)
             is_same = before == state_in(file) == state_of(name)
-    except NoLog as fault:
+    except (NoLog, OtherLog) as fault:
         raise Failure(FAILED, f"{name}: {fault}, so no page is written", reason="file") from None
     except OSError as fault:
         raise Failure(FAILED, f"{name}: {fault.strerror}, so no page is written", reason="file") from None

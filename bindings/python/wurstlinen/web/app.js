@@ -1,7 +1,7 @@
 // The frame of the page: its views, how things are, and messages.
 
 import { button, make, setText } from "/dom.js";
-import { call, follow, mayUse, onChange, parts, state, token } from "/server.js";
+import { call, follow, mayUse, parts, state, token } from "/server.js";
 import * as discovery from "/discovery.js";
 import * as fixture from "/fixture.js";
 import * as fixtures from "/fixtures.js";
@@ -20,34 +20,37 @@ export function addressOf(view, rest = "") {
 
 // Says what happened. What went wrong stays until somebody has read it.
 export function say(text, { isBad = false, action = null } = {}) {
-    const message = make("div", { class: isBad ? "bad message" : "message" }, make("p", {}, text));
-    const buttons = make("p", {});
-    if (action) {
-        buttons.append(button(action.text, () => (message.remove(), action.act())));
-    }
-    buttons.append(button(action ? "Leave it" : "Close", () => message.remove()));
-    message.append(buttons);
+    const message = make("div", { class: isBad ? "bad message" : "message" }, make("p", {}, text),
+        action && button(action.text, () => (message.remove(), action.act())),
+        button(action ? "Leave it" : "Close", () => message.remove()));
     get("messages").replaceChildren(message);
     if (!isBad) {
         setTimeout(() => message.remove(), MESSAGE_TIME);
     }
 }
 
-// Does something, and says how it ended. If slots would overlap, it is done only if that is wanted.
-export async function act(name, keys, done = "") {
+// The answer to a call; null if it is a fault, which is said.
+export async function asked(name, keys) {
     const answer = await call(name, keys);
     if (answer.error) {
         say(answer.error, { isBad: true });
-    } else if (answer.problems?.length && !answer.made && !answer.failures.length) {
+    }
+    return answer.error ? null : answer;
+}
+
+// Does something, and says how it ended. If slots would overlap, it is done only if that is wanted.
+export async function act(name, keys, done = "") {
+    const answer = await asked(name, keys);
+    const { made = 0, failures = [], problems = [] } = answer ?? {};
+    if (failures.length) {
+        say(failures.join("; "), { isBad: true });
+    } else if (problems.length && !made) {
         const again = { text: "Do it anyway", act: () => act(name, { ...keys, force: true }, done) };
-        say(`Not done: ${answer.problems.join("; ")}.`, { isBad: true, action: again });
-        return false;
-    } else if (answer.failures?.length) {
-        say(answer.failures.join("; "), { isBad: true });
-    } else if (done) {
+        say(`Not done: ${problems.join("; ")}.`, { isBad: true, action: again });
+    } else if (answer && done) {
         say(done);
     }
-    return !answer.error && !answer.failures?.length;
+    return Boolean(answer) && !failures.length;
 }
 
 function statusText() {
@@ -61,7 +64,7 @@ function statusText() {
     if (!now.there) {
         return [now.served ? `The adapter isn't there: ${now.reason}` : `No line: ${now.reason}`, true];
     }
-    const mode = state.role === "looks" ? " · only for looking" : "";
+    const mode = parts.get("role") === "looks" ? " · only for looking" : "";
     return [now.paused ? `${now.name} · paused: nothing is sent` : `${now.name}${mode}`, now.paused];
 }
 
@@ -101,6 +104,7 @@ function draw() {
 
 let isWaiting = false;
 
+// A page in the background draws nothing until it is seen.
 export function redraw() {
     if (!isWaiting) {
         isWaiting = true;
@@ -113,9 +117,7 @@ export function redraw() {
 
 addEventListener("hashchange", () => (location.hash.slice(1).split("/")[0] === token ? draw() : location.reload()));
 get("undo").addEventListener("click", () => act("undo", {}, "Taken back."));
-// A page in the background draws nothing until it is seen.
-onChange(redraw);
 draw();
 if (token) {
-    follow();
+    follow(redraw);
 }

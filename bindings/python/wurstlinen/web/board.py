@@ -3,7 +3,7 @@ from __future__ import annotations
 
 import threading
 import time
-from typing import Any, Dict, Iterator, Mapping, Optional, Set
+from typing import Any, Dict, Iterator, List, Mapping, Set
 
 # How long changes are gathered, and after how long without one a page gets a sign that all is well.
 GATHERING_SECONDS = 0.03
@@ -17,7 +17,8 @@ class Board:
     def __init__(self) -> None:
         self._parts: Parts = {}
         self._changed = threading.Condition()
-        self._followers: Set[Follower] = set()
+        # For each page, the names of the parts that have changed since it got them.
+        self._followers: List[Set[str]] = []
         self._has_ended = False
 
     def put(self, name: str, value: Any) -> None:
@@ -25,27 +26,19 @@ class Board:
         with self._changed:
             if self._parts.get(name) == value:
                 return
+            self._parts[name] = value
             if value is None:
                 del self._parts[name]
-            else:
-                self._parts[name] = value
-            for follower in self._followers:
-                follower.changed.add(name)
+            for changed in self._followers:
+                changed.add(name)
             self._changed.notify_all()
 
     def put_all(self, prefix: str, values: Mapping[str, Any]) -> None:
         """Those parts whose names begin so are these, and no others."""
         with self._changed:
-            gone = [name for name in self._parts if name.startswith(prefix) and name[len(prefix):] not in values]
-        for name in gone:
-            self.put(name, None)
-        for key, value in values.items():
-            self.put(f"{prefix}{key}", value)
-
-    def get(self, name: str) -> Any:
-        """The value of a part."""
-        with self._changed:
-            return self._parts.get(name)
+            before = [name[len(prefix):] for name in self._parts if name.startswith(prefix)]
+        for key in {*before, *values}:
+            self.put(f"{prefix}{key}", values.get(key))
 
     def end(self) -> None:
         """Nobody follows it any more."""
@@ -53,33 +46,36 @@ class Board:
             self._has_ended = True
             self._changed.notify_all()
 
-    def follow(self) -> Iterator[Optional[Parts]]:
-        """All parts, then those that change; None if nothing did for a while. Who is slow gets the newest values."""
-        follower = Follower()
+    def follow(self) -> Iterator[Parts]:
+        """All parts, then those that change; none if nothing did for a while. Who is slow gets the newest values."""
+        changed: Set[str] = set()
         with self._changed:
-            self._followers.add(follower)
+            self._followers.append(changed)
             everything = dict(self._parts)
         try:
             yield everything
             while not self._has_ended:
-                yield self._next(follower)
+                yield self._next(changed)
         finally:
             with self._changed:
-                self._followers.discard(follower)
+                self._followers = [each for each in self._followers if each is not changed]
 
-    def _next(self, follower: Follower) -> Optional[Parts]:
+    def _next(self, changed: Set[str]) -> Parts:
         with self._changed:
-            if not self._changed.wait_for(lambda: follower.changed or self._has_ended, BEAT_SECONDS):
-                return None
+            is_new = self._changed.wait_for(lambda: changed or self._has_ended, BEAT_SECONDS)
         # What belongs together comes together.
-        time.sleep(GATHERING_SECONDS)
+        time.sleep(GATHERING_SECONDS if is_new else 0)
         with self._changed:
-            changed, follower.changed = follower.changed, set()
-            return {name: self._parts.get(name) for name in changed}
+            found: Parts = {name: self._parts.get(name) for name in changed}
+            changed.clear()
+            return found
 
 
-class Follower:
-    """The names of the parts that have changed since a page has got them."""
-
-    def __init__(self) -> None:
-        self.changed: Set[str] = set()
+def latest(kept: Dict[Any, Any], key: Any, value: Any, most: int) -> List[Any]:
+    """Keeps a value as the newest of so many, and returns the keys of those that aren't kept any more."""
+    kept.pop(key, None)
+    kept[key] = value
+    gone = list(kept)[:-most]
+    for each in gone:
+        del kept[each]
+    return gone

@@ -1,49 +1,60 @@
 """Discoveries that a page asks for: how they end, what they didn't find, and their pictures."""
 from __future__ import annotations
 
+import contextlib
+import io
+import secrets
 import threading
-from collections import OrderedDict
-from typing import Any, Callable, Dict, List, Optional, Sequence, Tuple
+from dataclasses import dataclass, field
+from typing import Any, Dict, List, Optional, Sequence, Tuple
 
 from .. import Device, Uid
+from ..front.discovery_log import explanation
 from ..front.output import BAD_ARGUMENTS, FAILED, LINE_FAILED, Failure
+from ..front.page import page_of
+from ..front.page_findings import NoFindings, findings_in
+from ..front.page_log import NoLog, OtherLog
 from ..front.shared_line import SharedLine
 from ..front.work import Work
 from ..line import LineFailed
-from .board import Board
-from .findings import Findings, findings_of
+from ..tool.places import program
+from .board import Board, latest
 from .rig import Rig
 
 KEY = "discovery"
 MOST_PICTURES = 3
 # More UIDs can't be named to the proved program.
 MOST_EXPECTED = 1024
+# The judgement on a device that did all as it should.
+GOOD = "found"
+
+
+@dataclass
+class Findings:
+    """What is said of each device, of those that did something wrong, and of others; and the picture, a page."""
+
+    of_devices: Dict[Uid, str] = field(default_factory=dict)
+    bad: List[Uid] = field(default_factory=list)
+    others: List[str] = field(default_factory=list)
+    picture: str = ""
 
 
 class Discoveries:
-    """Makes one discovery at a time. `planned` gives the devices of the file that is loaded."""
+    """Makes one discovery at a time."""
 
-    def __init__(self, board: Board, rig: Rig, planned: Callable[[], Sequence[Uid]]) -> None:
+    def __init__(self, board: Board, rig: Rig) -> None:
         self._board = board
         self._rig = rig
-        self._planned = planned
-        self._starting = threading.Lock()
-        self._runs = False
-        # Pages that explain what was found, by their names.
-        self.pictures: "OrderedDict[str, str]" = OrderedDict()
+        # Held while one is under way or waits.
+        self._running = threading.Lock()
         self.findings = Findings()
-
-    @property
-    def runs(self) -> bool:
-        """Whether one is under way or waits."""
-        return self._runs
+        # Pages that explain what was found, by their names, which nobody can guess.
+        self.pictures: Dict[str, str] = {}
 
     def begin(self) -> None:
         """Begins one. Raises Failure if one runs."""
-        with self._starting:
-            if self._runs:
-                raise Failure(BAD_ARGUMENTS, "a discovery is under way", reason="discovery")
-            self._runs = True
+        if not self._running.acquire(blocking=False):
+            raise Failure(BAD_ARGUMENTS, "a discovery is under way", reason="discovery")
         self._board.put(KEY, {"runs": True})
         self._rig.hands.do(KEY, self._run).add_done_callback(self._end)
 
@@ -51,49 +62,71 @@ class Discoveries:
         """If it has failed, that is what is shown."""
         fault = future.exception()
         if fault is not None:
-            self._board.put(KEY, {"runs": False, "fault": str(fault), "found": 0, "frames": 0, **Findings().keys()})
-        self._runs = False
+            self._show(str(fault), 0, 0, Findings())
+        self._running.release()
+
+    def take(self, devices: Optional[Sequence[Device]]) -> None:
+        """A run of any program has found these; None: no run has been made, so that one is made."""
+        if devices is None:
+            # Somebody may have begun one at the same time.
+            with contextlib.suppress(Failure):
+                self.begin()
+        elif not self._running.locked():
+            self._rig.adopt(devices, None, reads_all=False)
 
     def _run(self, work: Work) -> None:
         log: List[str] = []
-        devices, fault = self._searched(work, log)
+        devices, fault = searched(work, log)
         # The first line is the log's opening.
-        keys = {"runs": False, "fault": fault, "found": len(devices), "frames": max(0, len(log) - 1)}
-        self._board.put(KEY, {**keys, **Findings(others=["looking at what it shows ..."]).keys()})
-        with self._rig.lock:
-            known = {*self._rig.entries, *self._planned(), *(device.uid for device in devices)}
+        frames = max(0, len(log) - 1)
+        self._show(fault, len(devices), frames, Findings(others=["looking at what it shows ..."]))
+        expected = {*self._rig.known(), *(device.uid for device in devices)}
         self._rig.adopt(devices, fault, reads_all=True)
-        expected = sorted(known, key=lambda uid: uid.number)[:MOST_EXPECTED]
-        self.findings, picture = findings_of(log, expected)
-        if self.findings.picture is not None:
-            self.pictures[self.findings.picture] = picture
-            while len(self.pictures) > MOST_PICTURES:
-                self.pictures.popitem(last=False)
-        self._board.put(KEY, {**keys, **self.findings.keys()})
-        self._say_why()
-        self._rig.changed.set()
+        self.findings = findings_of(log, sorted(expected, key=lambda uid: uid.number)[:MOST_EXPECTED])
+        self._show(fault, len(devices), frames, self.findings)
+        self._rig.explain(self.findings.of_devices)
 
-    def _say_why(self) -> None:
-        """What the proved program says about fixtures that weren't found goes with them."""
-        with self._rig.lock:
-            missing = [entry for entry in self._rig.entries.values() if entry.missing]
-        for entry in missing:
-            said = self.findings.of_devices.get(entry.device.uid)
-            if said is not None:
-                entry.missing = said
-                self._rig.show(entry)
+    def _show(self, fault: Optional[str], found: int, frames: int, findings: Findings) -> None:
+        """Shows how it ended."""
+        name = secrets.token_urlsafe(16) if findings.picture else None
+        if name is not None:
+            latest(self.pictures, name, findings.picture, MOST_PICTURES)
+        bad = [{"uid": str(uid), "text": findings.of_devices[uid]} for uid in findings.bad]
+        self._board.put(KEY, {"runs": False, "fault": fault, "found": found, "frames": frames, "devices": bad,
+                              "others": findings.others, "picture": name})
 
-    @staticmethod
-    def _searched(work: Work, log: List[str]) -> Tuple[Sequence[Device], Optional[str]]:
-        """The devices, why the discovery ended early, and its log. Raises Failure."""
-        assert isinstance(work.line, SharedLine)
-        try:
-            return work.discover(log.append)
-        except LineFailed as fault:
-            raise Failure(FAILED, str(fault), reason=LINE_FAILED) from None
-        finally:
-            work.line.leave()
 
-    def reasons(self) -> Dict[Uid, str]:
-        """Why devices weren't found."""
-        return self.findings.of_devices
+def searched(work: Work, log: List[str]) -> Tuple[Sequence[Device], Optional[str]]:
+    """The devices, why the discovery ended early, and its log. Raises Failure."""
+    assert isinstance(work.line, SharedLine)
+    try:
+        return work.discover(log.append)
+    except LineFailed as fault:
+        raise Failure(FAILED, str(fault), reason=LINE_FAILED) from None
+    finally:
+        work.line.leave()
+
+
+def findings_of(log: Sequence[str], expected: Sequence[Uid]) -> Findings:
+    """What is found in a discovery's log about devices that should be on the line."""
+    place = program()
+    if place is None:
+        return unsaid("the proved program isn't installed")
+    try:
+        said = findings_in(explanation(place, log, expected, "--json")[1])
+        if said.fault is not None:
+            return unsaid(said.fault)
+        found = Findings(picture=page_of("the page's last discovery", io.BytesIO("".join(log).encode()), said))
+    except (OSError, NoFindings, NoLog, OtherLog) as fault:
+        return unsaid(str(fault))
+    about = [(each, None if each.uid is None else Uid.from_number(each.uid)) for each in said.all if not each.is_head]
+    found.others = [each.text for each, uid in about if uid is None]
+    found.of_devices = {uid: each.text.removeprefix(f"{uid} ") for each, uid in about if uid is not None}
+    good = {uid for each, uid in about if each.judgement == GOOD}
+    found.bad = [uid for uid in found.of_devices if uid not in good]
+    return found
+
+
+def unsaid(reason: str) -> Findings:
+    """Nothing is known, for this reason."""
+    return Findings(others=[f"why a fixture is missing can't be said: {reason}"])

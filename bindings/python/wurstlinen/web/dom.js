@@ -5,9 +5,11 @@ export function make(kind, attributes = {}, ...children) {
     for (const [name, value] of Object.entries(attributes)) {
         if (name.startsWith("on")) {
             made.addEventListener(name.slice(2), value);
-        } else if (value === true || value === false) {
+        } else if (name === "style") {
+            made.style.cssText = value;
+        } else if (typeof value === "boolean") {
             made.toggleAttribute(name, value);
-        } else if (value !== null && value !== undefined) {
+        } else if (value !== null) {
             made.setAttribute(name, value);
         }
     }
@@ -26,21 +28,26 @@ export function button(text, onclick, attributes = {}) {
     return make("button", { type: "button", onclick, ...attributes }, text);
 }
 
-// Puts the elements of a list in this order; one for each key, which `makeOne` makes when it is first seen. While
-// somebody types in one of them, the order stays: a browser takes the focus from what is moved.
-export function keep(list, kept, keys, makeOne) {
+export function plural(count, what) {
+    return count === 1 ? `1 ${what}` : `${count} ${what}s`;
+}
+
+// Has a list show an element for each key, in this order, and returns them by their keys. `makeOne` makes one when its
+// key is first seen. While somebody types in one, the order stays: a browser takes the focus from what is moved.
+export function keep(list, keys, makeOne) {
+    const before = list.kept ?? new Map();
     const isHeld = list.contains(document.activeElement) && document.activeElement.matches("input, select");
-    for (const key of [...kept.keys()].filter((each) => !keys.includes(each))) {
-        kept.get(key).element.remove();
-        kept.delete(key);
-    }
-    keys.forEach((key, at) => {
-        if (!kept.has(key)) {
-            kept.set(key, makeOne(key));
-        }
-        const element = kept.get(key).element;
+    list.kept = new Map(keys.map((key) => [key, before.get(key) ?? makeOne(key)]));
+    [...before].filter(([key]) => !list.kept.has(key)).forEach(([, element]) => element.remove());
+    [...list.kept.values()].forEach((element, at) => {
         if (!element.isConnected || (!isHeld && list.children[at] !== element)) {
             list.insertBefore(element, list.children[at] ?? null);
         }
     });
+    return list.kept;
+}
+
+// The same for texts, or for what else JSON has.
+export function keepValues(list, values, makeOne = (text) => make("li", {}, text)) {
+    keep(list, values.map((each) => JSON.stringify(each)), (key) => makeOne(JSON.parse(key)));
 }

@@ -3,15 +3,13 @@ from __future__ import annotations
 
 import sys
 import threading
-from collections import deque
 from concurrent.futures import Future
 from dataclasses import dataclass, field
-from typing import Any, Callable, Deque, List, Optional, Set, TypeVar
+from typing import Any, Callable, List, Optional, Set, Tuple, TypeVar
 
 from .. import Fault
 from ..front.output import FAILED, LINE_FAILED, Failure, Output
-from ..front.shared_line import SharedLine
-from ..front.work import Work
+from ..front.work import Work, shared_work
 from ..line import LineFailed
 from ..shared.client import SharedClient
 
@@ -24,13 +22,15 @@ Made = TypeVar("Made")
 
 
 class Silent(Output):
-    """What commands print for people isn't printed."""
+    """What commands print for people isn't printed. `take` gets the remarks."""
 
-    def __init__(self) -> None:
+    def __init__(self, take: Callable[[str], object] = bool) -> None:
         super().__init__(False)
+        self._take = take
 
-    def _remark(self, text: str) -> None:
-        """Nobody reads it."""
+    def note(self, text: str) -> None:
+        """A remark."""
+        self._take(text)
 
     def progress(self, text: str) -> None:
         """The pages show it in another way."""
@@ -55,7 +55,7 @@ class Hands:
 
     def __init__(self, connect: Callable[[], SharedClient]) -> None:
         self._connect = connect
-        self._waiting: Deque[Task] = deque()
+        self._waiting: List[Task] = []
         self._busy: Set[str] = set()
         self._has_changed = threading.Condition()
         self._has_ended = False
@@ -93,12 +93,8 @@ class Hands:
             alike = next((each for each in self._waiting if name and (each.key, each.name) == (key, name)), None)
             if alike is not None:
                 return alike.end
-            if is_urgent:
-                # Behind the other urgent ones.
-                at = next((at for at, each in enumerate(self._waiting) if not each.is_urgent), len(self._waiting))
-                self._waiting.insert(at, task)
-            else:
-                self._waiting.append(task)
+            self._waiting.append(task)
+            self._waiting.sort(key=lambda each: not each.is_urgent)
             self._has_changed.notify_all()
         return task.end
 
@@ -106,55 +102,40 @@ class Hands:
         """The next task that can be done; None at the end."""
         with self._has_changed:
             while not self._has_ended:
-                for task in self._waiting:
-                    if task.key not in self._busy:
-                        self._waiting.remove(task)
-                        self._busy.add(task.key)
-                        return task
+                task = next((each for each in self._waiting if each.key not in self._busy), None)
+                if task is not None:
+                    self._waiting.remove(task)
+                    self._busy.add(task.key)
+                    return task
                 self._has_changed.wait()
             return None
 
     def _run(self) -> None:
-        client: Optional[SharedClient] = None
-        work: Optional[Work] = None
-        while True:
-            task = self._next()
-            if task is None:
-                return
+        connected: Optional[Tuple[SharedClient, Work]] = None
+        while (task := self._next()) is not None:
             try:
-                if client is not None and not is_alive(client):
-                    self._drop(client)
-                    client = None
-                if client is None or work is None:
-                    client, work = self._connected()
-                task.end.set_result(task.work(work))
+                connected = self._connected(connected)
+                task.end.set_result(task.work(connected[1]))
             except Failure as failure:
                 task.end.set_exception(failure)
-            except (Fault, LineFailed) as fault:
-                self._drop(client)
-                client = None
-                task.end.set_exception(Failure(FAILED, str(fault), reason=LINE_FAILED))
-            except Exception as fault:  # Only this task has a fault, whatever it is.
-                self._drop(client)
-                client = None
-                print(f"wurstlinen: the page has a fault: {fault!r}", file=sys.stderr, flush=True)
-                task.end.set_exception(Failure(FAILED, f"the page has a fault: {fault!r}", reason="fault"))
+            except Exception as fault:  # Only this task has a fault, whatever it is. No answer can be trusted any more.
+                if connected is not None:
+                    connected[0].close()
+                task.end.set_exception(failure_of(fault))
             with self._has_changed:
                 self._busy.discard(task.key)
                 self._has_changed.notify_all()
 
-    def _connected(self) -> "tuple[SharedClient, Work]":
+    def _connected(self, before: Optional[Tuple[SharedClient, Work]]) -> Tuple[SharedClient, Work]:
+        """The connection before, or another one if that has ended."""
+        if before is not None:
+            if is_alive(before[0]):
+                return before
+            before[0].close()
+            self._clients.remove(before[0])
         client = self._connect()
         self._clients.append(client)
-        output = Silent()
-        line = SharedLine(client.queue, output, None)
-        return client, Work(line, client.queue.source, client, WAIT_SECONDS, output)
-
-    def _drop(self, client: Optional[SharedClient]) -> None:
-        """A connection whose answers can't be trusted any more is ended; the next task gets another."""
-        if client is not None:
-            client.close()
-            self._clients.remove(client)
+        return client, shared_work(client, Silent(), None, None, WAIT_SECONDS)
 
 
 def is_alive(client: SharedClient) -> bool:
@@ -165,3 +146,11 @@ def is_alive(client: SharedClient) -> bool:
         return True
     except (Fault, LineFailed):
         return False
+
+
+def failure_of(fault: Exception) -> Failure:
+    """What pages say of a fault. One of their program's own goes to standard error, too."""
+    if isinstance(fault, (Fault, LineFailed)):
+        return Failure(FAILED, str(fault), reason=LINE_FAILED)
+    print(f"wurstlinen: the page has a fault: {fault!r}", file=sys.stderr, flush=True)
+    return Failure(FAILED, f"the page has a fault: {fault!r}", reason="fault")

@@ -5,17 +5,16 @@ browsers keep no cookie. It is in the part of the address behind the #, which br
 """
 from __future__ import annotations
 
-import contextlib
 import json
 import pkgutil
 import socket
-from typing import Any, Callable, Dict, Mapping, Optional, Sequence, Tuple
+from typing import Any, Callable, Dict, Mapping, Optional
 from urllib.parse import urlsplit
 
-from .. import Device, Fault, Uid
+from .. import Fault, Uid
 from ..front.output import Failure
 from ..line import LineFailed
-from .board import Board, Parts
+from .board import Board
 from .details import Details
 from .discoveries import Discoveries
 from .door import Door, Handler, Refusal
@@ -39,17 +38,17 @@ LOOPBACK = "127.0.0.1"
 
 
 class Pages:
-    """Answers requests. What is asked for under /api/ is done by the method of its name in `CALLS`."""
+    """Answers requests. What is asked for under /api/ is done by what has its name in `CALLS`."""
 
-    def __init__(self, board: Board, rig: Rig, tokens: Tokens, watcher: Watcher) -> None:
+    def __init__(self, board: Board, rig: Rig, tokens: Tokens, discoveries: Discoveries, plans: Plans,
+                 watcher: Watcher) -> None:
         self.board = board
         self.rig = rig
         self.tokens = tokens
-        self.plans = Plans(board, rig)
-        self.discoveries = Discoveries(board, rig, self.plans.uids)
-        self.plans.reasons = self.discoveries.reasons
-        self.details = Details(board, rig)
+        self.discoveries = discoveries
+        self.plans = plans
         self.watcher = watcher
+        self.details = Details(board, rig)
 
     def serve_at(self, door: Door) -> None:
         """Answers what comes through a door."""
@@ -95,7 +94,7 @@ class Pages:
         if role == LOOKS:
             raise Refusal(403, "this address is only for looking")
         try:
-            keys = call(self, keys_in(body))
+            keys = call(self, keys_in(body)) or {}
         except (Failure, Fault, LineFailed) as fault:
             keys = {"error": str(fault)}
         handler.reply(200, json.dumps(keys, default=float).encode(), JSON)
@@ -104,51 +103,24 @@ class Pages:
         """All that the page shows, and each change. A page that doesn't read loses its connection, and nothing else."""
         with handler.server.stream():
             handler.begin_stream("text/event-stream")
-            handler.wfile.write(event_of({"role": role}))
+            first = {"role": role}
             for parts in self.board.follow():
-                handler.wfile.write(event_of({} if parts is None else parts))
+                # JSON has no newlines.
+                text = json.dumps({**parts, **first}, separators=(",", ":"), default=float)
+                handler.wfile.write(f"data: {text}\n\n".encode())
+                first = {}
 
-    def change(self, keys: Keys) -> Keys:
+    def change(self, keys: Keys) -> Optional[Keys]:
         """A value in the table."""
         change = self.rig.planned(uid_in(keys), text_in(keys, "column"), text_in(keys, "value"))
-        return {} if change is None else self.rig.change([change], flag_in(keys, "force")).keys()
+        return None if change is None else vars(self.rig.change([change], flag_in(keys, "force")))
 
-    def undo(self, keys: Keys) -> Keys:
-        """Takes the last change back."""
-        return self.rig.undo().keys()
-
-    def identify(self, keys: Keys) -> Keys:
-        """Has a fixture show itself, or not."""
-        self.rig.identify(uid_in(keys), flag_in(keys, "on"), flag_in(keys, "only"))
-        return {}
-
-    def read(self, keys: Keys) -> Keys:
-        """Asks a fixture for what the table has."""
-        self.rig.read(self.rig.entry(uid_in(keys)).device, is_urgent=True).result()
-        return {}
-
-    def forget(self, keys: Keys) -> Keys:
-        """Takes away a fixture that isn't there."""
-        self.rig.forget(uid_in(keys))
-        return {}
-
-    def show(self, keys: Keys) -> Keys:
-        """Asks a fixture for all that it supports."""
-        self.details.read(uid_in(keys))
-        return {}
-
-    def set(self, keys: Keys) -> Keys:
+    def set(self, keys: Keys) -> None:
         """Sets any parameter."""
         words = keys.get("words")
         if not isinstance(words, list) or not all(isinstance(each, str) for each in words):
             raise Refusal(400, "words isn't a list of texts")
         self.details.set(uid_in(keys), text_in(keys, "parameter"), words)
-        return {}
-
-    def discover(self, keys: Keys) -> Keys:
-        """Begins a discovery."""
-        self.discoveries.begin()
-        return {}
 
     def pause(self, keys: Keys) -> Keys:
         """Pauses the queue for all programs, or has it go on."""
@@ -156,56 +128,39 @@ class Pages:
         (queue.pause if flag_in(keys, "on") else queue.resume)()
         return {"paused": queue.is_paused()}
 
-    def save(self, keys: Keys) -> Keys:
-        """The fixtures as a file."""
-        return {"text": self.plans.saved()}
-
-    def load(self, keys: Keys) -> Keys:
+    def load(self, keys: Keys) -> None:
         """Takes a file, from which differences are shown; without a text there is none any more."""
         if keys.get("text") is None:
             self.plans.unload()
         else:
             self.plans.load(text_in(keys, "name"), text_in(keys, "text").encode(errors="surrogatepass"))
-        return {}
-
-    def apply(self, keys: Keys) -> Keys:
-        """Makes the fixtures as the file says, or shows what that would change."""
-        return self.plans.apply(flag_in(keys, "force"), flag_in(keys, "dry")).keys()
-
-    def found(self, devices: Optional[Sequence[Device]]) -> None:
-        """A run of any program has found these; None: no run has been made, so that one is made."""
-        if self.discoveries.runs:
-            return
-        if devices is not None:
-            self.rig.adopt(devices, None, reads_all=False)
-            return
-        # Somebody may have begun one at the same time.
-        with contextlib.suppress(Failure):
-            self.discoveries.begin()
 
 
-CALLS: Mapping[str, Callable[[Pages, Keys], Keys]] = {
-    name: getattr(Pages, name) for name in ("change", "undo", "identify", "read", "forget", "show", "set", "discover",
-                                            "pause", "save", "load", "apply")}
-
-
-def event_of(parts: Parts) -> bytes:
-    """An event. JSON has no newlines."""
-    return b"data: " + json.dumps(parts, separators=(",", ":"), default=float).encode() + b"\n\n"
+CALLS: Mapping[str, Callable[[Pages, Keys], Optional[Keys]]] = {
+    "change": Pages.change,
+    "undo": lambda pages, keys: vars(pages.rig.undo()),
+    "identify": lambda pages, keys: pages.rig.identify(uid_in(keys), flag_in(keys, "on"), flag_in(keys, "only")),
+    "forget": lambda pages, keys: pages.rig.forget(uid_in(keys)),
+    # Asks a fixture for all that it supports.
+    "show": lambda pages, keys: pages.details.read(uid_in(keys)),
+    "set": Pages.set,
+    "discover": lambda pages, keys: pages.discoveries.begin(),
+    "pause": Pages.pause,
+    "save": lambda pages, keys: {"text": pages.plans.saved()},
+    "load": Pages.load,
+    # Makes the fixtures as the file says, or shows what that would change.
+    "apply": lambda pages, keys: vars(pages.plans.apply(flag_in(keys, "force"), flag_in(keys, "dry"))),
+}
 
 
 def check_host(handler: Handler) -> None:
     """Raises Refusal if the request is for a name that isn't this machine's: another site's name may lead here."""
     address, port = handler.connection.getsockname()[:2]
-    names = {address, "localhost"} if address == LOOPBACK else {address, *names_of_machine()}
-    if (handler.headers.get("Host") or "").lower() not in {f"{name}:{port}" for name in names}:
-        raise Refusal(421, f"this page is at http://{address}:{port}")
-
-
-def names_of_machine() -> Tuple[str, str]:
-    """What other machines on the network may call this one."""
+    # What other machines on the network may call this one.
     name = socket.gethostname().lower()
-    return name, f"{name}.local"
+    names = [address, "localhost"] if address == LOOPBACK else [address, name, f"{name}.local"]
+    if (handler.headers.get("Host") or "").lower() not in [f"{each}:{port}" for each in names]:
+        raise Refusal(421, f"this page is at http://{address}:{port}")
 
 
 def check_origin(handler: Handler) -> None:
@@ -247,5 +202,3 @@ def uid_in(keys: Keys) -> Uid:
         return Uid.parse(text_in(keys, "uid"))
     except Fault as fault:
         raise Refusal(400, f"uid: {fault}") from None
-
-

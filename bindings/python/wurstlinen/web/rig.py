@@ -5,10 +5,11 @@ import threading
 from concurrent.futures import Future
 from dataclasses import dataclass, field, replace
 from functools import partial
-from typing import Any, Dict, List, Mapping, Optional, Sequence, Tuple
+from typing import Any, Callable, Dict, List, Mapping, Optional, Sequence, Set, Tuple
 
 from .. import Device, Uid
 from ..front.applying import make
+from ..front.checking import VALUES
 from ..front.csv_files import COLUMNS, LABEL, Change, differs
 from ..front.fixtures import (
     ADDRESS_FIELD, FOOTPRINT_FIELD, SLOW, Fixture, keys_of, look_at, part_of, values_of,
@@ -17,12 +18,11 @@ from ..front.guarding import ADDRESS, PERSONALITY, Problem, named, problems_of
 from ..front.output import BAD_ARGUMENTS, FAILED, REFUSED, Failure
 from ..front.requests import OFF, ON, identify
 from ..front.work import Work
-from ..parameters import STANDARD, WordFault, encode
+from ..parameters import WordFault, encode
 from ..parameters.words import whole
 from .board import Board
 from .hands import Hands
 
-IDENTIFY = STANDARD.named("identify_device")
 MOST_UNDOS = 100
 # What reading a device is called among tasks.
 READ = "read"
@@ -53,17 +53,12 @@ class Entry:
 
 @dataclass
 class Plan:
-    """Changes that are to be made, what would be wrong after them, and what was made of them."""
+    """Changes that are to be made, what would be wrong after them, and what was made of them, for a page."""
 
-    changes: List[Change]
-    problems: List[str] = field(default_factory=list)
+    changes: List[str]
+    problems: List[str]
     made: int = 0
     failures: List[str] = field(default_factory=list)
-
-    def keys(self) -> Dict[str, Any]:
-        """The same for a page."""
-        return {"changes": [change.text for change in self.changes], "problems": self.problems, "made": self.made,
-                "failures": self.failures}
 
 
 class Rig:
@@ -76,7 +71,9 @@ class Rig:
         self.entries: Dict[Uid, Entry] = {}
         self._personalities: Dict[Model, List[Dict[str, Any]]] = {}
         self._undos: List[Change] = []
-        # What is called when something about fixtures has changed.
+        # The devices of the file that is loaded.
+        self.planned_uids: Sequence[Uid] = ()
+        # Set when something about fixtures has changed.
         self.changed = threading.Event()
 
     def fixtures(self) -> List[Fixture]:
@@ -96,19 +93,31 @@ class Rig:
         with self.lock:
             fixture = entry.fixture
             keys = keys_of(fixture)
-            keys["notes"] = [note for note in fixture.notes
-                             if note not in (SLOW, part_of(fixture)) and not note.startswith(END_NOTE)]
-            personalities = self._personalities.get(entry.model, [])
-            number = fixture.number("current_personality")
-            keys.update(first=(fixture.slots or (None,))[0], last=(fixture.slots or (None,))[-1],
-                        root=str(fixture.root), identifies=entry.identifies, is_read=entry.is_read,
-                        missing=entry.missing, is_slow=SLOW in fixture.notes,
-                        personalities=personalities, is_gone=fixture.is_gone)
+            first, last = fixture.slots or (None, None)
+            elsewhere = (SLOW, part_of(fixture))
+            keys.update(first=first, last=last, root=str(fixture.root), identifies=entry.identifies,
+                        is_read=entry.is_read, missing=entry.missing, is_slow=SLOW in fixture.notes,
+                        personalities=self._personalities.get(entry.model, []), is_gone=fixture.is_gone,
+                        notes=[note for note in fixture.notes
+                               if note not in elsewhere and not note.startswith(END_NOTE)])
             if fixture.personality is None:
-                keys["personality_name"] = next((each["name"] for each in personalities if each["number"] == number),
-                                                None)
+                keys["personality_name"] = next((each["name"] for each in keys["personalities"]
+                                                 if each["number"] == keys["personality"]), None)
         self._board.put(f"fixture/{fixture.uid}", keys)
         self.changed.set()
+
+    def known(self) -> Set[Uid]:
+        """The devices that are shown, and those of the file that is loaded."""
+        with self.lock:
+            return {*self.entries, *self.planned_uids}
+
+    def explain(self, reasons: Mapping[Uid, str]) -> None:
+        """Has pages show why devices are missing."""
+        with self.lock:
+            gone = [entry for uid, entry in self.entries.items() if entry.missing and uid in reasons]
+        for entry in gone:
+            entry.missing = reasons[entry.device.uid]
+            self.show(entry)
 
     def adopt(self, devices: Sequence[Device], fault: Optional[str], reads_all: bool) -> None:
         """These devices are on the line, and with a fault perhaps more."""
@@ -116,42 +125,36 @@ class Rig:
         why = "the last discovery didn't find it" if fault is None else f"the last discovery ended early: {fault}"
         with self.lock:
             gone = [entry for uid, entry in self.entries.items() if uid not in found and entry.missing != why]
-            for entry in gone:
-                entry.missing = why
-            known = self.entries
-            asked = [device for device in devices if reads_all or device.uid not in known
-                     or known[device.uid].missing or known[device.uid].fixture.is_gone]
+            known = {uid for uid, entry in self.entries.items() if not entry.missing and not entry.fixture.is_gone}
         for entry in gone:
+            entry.missing = why
             self.show(entry)
-        for device in asked:
-            self.read(device)
+        for device in devices:
+            if reads_all or device.uid not in known:
+                self.read(device)
 
     def read(self, device: Device, is_urgent: bool = False) -> "Future[None]":
         """Has a device asked for all that the table has."""
         with self.lock:
-            entry = self.entries.get(device.uid)
-            if entry is None:
-                entry = Entry(device, Fixture(device.uid, root=device.binding or device.uid))
-                self.entries[device.uid] = entry
-            entry.missing = ""
-            entry.device = device
+            new = Entry(device, Fixture(device.uid, root=device.binding or device.uid))
+            entry = self.entries.setdefault(device.uid, new)
+            entry.device, entry.missing = device, ""
         self.show(entry)
         return self.hands.do(str(device.uid), partial(self._read, entry), is_urgent, READ)
 
     def read_again(self, uid: Uid) -> None:
         """Has a device asked again, since another program may have changed it; all devices for a broadcast UID."""
-        with self.lock:
-            devices = [entry.device for entry in self.entries.values()
-                       if not entry.missing and (uid.is_broadcast or entry.device.uid == uid)]
-        for device in devices:
-            self.read(device, is_urgent=not uid.is_broadcast)
+        self._read_those(lambda entry: uid.is_broadcast or entry.device.uid == uid, not uid.is_broadcast)
 
     def read_rest(self) -> None:
         """Has those devices asked that couldn't be asked so far."""
+        self._read_those(lambda entry: not entry.is_read, False)
+
+    def _read_those(self, is_wanted: Callable[[Entry], bool], is_urgent: bool) -> None:
         with self.lock:
-            devices = [entry.device for entry in self.entries.values() if not entry.is_read and not entry.missing]
-        for device in devices:
-            self.read(device)
+            wanted = [entry.device for entry in self.entries.values() if not entry.missing and is_wanted(entry)]
+        for device in wanted:
+            self.read(device, is_urgent)
 
     def forget(self, uid: Uid) -> None:
         """Takes a device away that isn't there. Raises Failure."""
@@ -165,35 +168,34 @@ class Rig:
     def _read(self, entry: Entry, work: Work) -> None:
         """Asks a device."""
         fixture = look_at(work, entry.device)
-        identifies = entry.identifies
-        if not fixture.is_gone:
-            identifies = identifies_of(work, fixture)
+        identifies = entry.identifies if fixture.is_gone else identifies_of(work, fixture.uid)
         with self.lock:
             # What it has said before is better than nothing.
             if fixture.is_gone and entry.fixture.info is not None:
                 fixture = replace(entry.fixture, notes=fixture.notes, is_gone=True)
             entry.fixture, entry.is_read, entry.identifies = fixture, True, identifies
-            lacks = (fixture.number("personality_count") or 0) > 1 and entry.model not in self._personalities
+            count = 0 if fixture.is_gone else fixture.number("personality_count") or 0
+            lacks = count > 1 and entry.model not in self._personalities
             if lacks:
                 self._personalities[entry.model] = []
         self.show(entry)
-        if lacks and not fixture.is_gone:
-            self.hands.do(str(fixture.uid), partial(self._read_personalities, entry), is_urgent=False)
+        if lacks:
+            asking = partial(self._read_personalities, fixture.uid, entry.model, count)
+            self.hands.do(str(fixture.uid), asking, is_urgent=False)
 
-    def _read_personalities(self, entry: Entry, work: Work) -> None:
+    def _read_personalities(self, uid: Uid, model: Model, count: int, work: Work) -> None:
         """Asks a device for what all of its model have."""
-        found = []
-        asked = Fixture(entry.device.uid)
-        for number in range(1, (entry.fixture.number("personality_count") or 0) + 1):
-            values = values_of(work, asked, "dmx_personality_description", bytes([number]))
-            if values is not None:
-                found.append({"number": number, "name": str(values["description"]), "slots": values["slots_required"]})
+        asked = Fixture(uid)
+        numbers = range(1, count + 1)
+        answers = [values_of(work, asked, "dmx_personality_description", bytes([number])) for number in numbers]
         with self.lock:
             if asked.is_gone:
-                del self._personalities[entry.model]
+                del self._personalities[model]
                 return
-            self._personalities[entry.model] = found
-            alike = [each for each in self.entries.values() if each.model == entry.model]
+            self._personalities[model] = [
+                {"number": number, "name": str(values["description"]), "slots": values["slots_required"]}
+                for number, values in zip(numbers, answers) if values is not None]
+            alike = [each for each in self.entries.values() if each.model == model]
         for each in alike:
             self.show(each)
 
@@ -212,7 +214,7 @@ class Rig:
         entry.identifies = None
         try:
             identify(work, entry.device.uid, ON if is_on else OFF)
-            found = identifies_of(work, entry.fixture)
+            found = identifies_of(work, entry.device.uid)
             entry.identifies = is_on if found is None else found
         finally:
             self.show(entry)
@@ -231,12 +233,12 @@ class Rig:
             return None
         return Change(uid, column, before or "", value)
 
-    def change(self, changes: Sequence[Change], is_forced: bool, is_undo: bool = False) -> Plan:
+    def change(self, changes: Sequence[Change], is_forced: bool = False, is_dry: bool = False, is_undo: bool = False
+               ) -> Plan:
         """Makes changes, those of a device in their order, unless slots would overlap or end after the last one."""
-        plan = Plan(list(changes))
-        found = self.problems_after(changes)
-        plan.problems = [f"after this, {named(each.fixture)} {each.slots_text}" for each in found]
-        if plan.problems and not is_forced:
+        plan = Plan([change.text for change in changes], [f"after this, {named(each.fixture)} {each.slots_text}"
+                                                          for each in self._problems_after(changes)])
+        if is_dry or (plan.problems and not is_forced):
             return plan
         for change, end in [(each, self.hands.do(str(each.uid), partial(self._make, each, is_undo)))
                             for each in changes]:
@@ -260,53 +262,45 @@ class Rig:
         self._take(entry, change, found, work)
         # What wasn't known can't be set again.
         if not is_undo and (change.before or change.column == LABEL):
-            self._remember(change)
+            with self.lock:
+                self._set_undos([*self._undos, change])
 
     def _take(self, entry: Entry, change: Change, found: str, work: Work) -> None:
         """Notes what was read back. Another personality has other slots, and perhaps another address."""
         fixture = entry.fixture
-        if change.column == PERSONALITY or (change.column == ADDRESS and fixture.info is None):
+        if change.column == LABEL:
+            fixture.label = found
+        elif change.column == ADDRESS and fixture.info is not None:
+            fixture.info = {**fixture.info, ADDRESS_FIELD: whole(found)}
+        else:
             self._read(entry, work)
             return
-        with self.lock:
-            if change.column == LABEL:
-                fixture.label = found
-            elif fixture.info is not None:
-                fixture.info = {**fixture.info, ADDRESS_FIELD: whole(found)}
         self.show(entry)
 
-    def problems_after(self, changes: Sequence[Change]) -> List[Problem]:
+    def _problems_after(self, changes: Sequence[Change]) -> List[Problem]:
         """What would be wrong with the slots of devices that are moved, as `apply` sees it."""
-        moved = {change.uid: change for change in changes if change.column in (ADDRESS, PERSONALITY)}
-        if not moved:
-            return []
-        after = []
-        for fixture in self.fixtures():
-            info = dict(fixture.info or {})
-            for change in (each for each in changes if each.uid == fixture.uid and fixture.info is not None):
-                info.update(self._info_after(fixture.uid, change))
-            after.append(replace(fixture, info=info or None))
-        return [each for each in problems_of(after) if any(uid in moved for uid in each.devices)]
+        moved = {change.uid for change in changes if change.column in (ADDRESS, PERSONALITY)}
+        after = [self._changed(fixture, changes) if fixture.uid in moved else fixture for fixture in self.fixtures()]
+        return [each for each in problems_of(after) if moved.intersection(each.devices)] if moved else []
 
-    def _info_after(self, uid: Uid, change: Change) -> Mapping[str, Any]:
-        """What a change makes of a device's DEVICE_INFO. A personality that isn't known has no slots."""
-        if change.column == ADDRESS:
-            return {ADDRESS_FIELD: whole(change.after)}
-        if change.column != PERSONALITY:
-            return {}
-        known = self._personalities.get(self.entry(uid).model, [])
-        slots = next((each["slots"] for each in known if each["number"] == whole(change.after)), 0)
-        return {FOOTPRINT_FIELD: slots}
+    def _changed(self, fixture: Fixture, changes: Sequence[Change]) -> Fixture:
+        """A device as it will be. With a personality that isn't known it has no slots."""
+        if fixture.info is None:
+            return fixture
+        info = dict(fixture.info)
+        for change in (each for each in changes if each.uid == fixture.uid):
+            if change.column == ADDRESS:
+                info[ADDRESS_FIELD] = whole(change.after)
+            elif change.column == PERSONALITY:
+                known = self._personalities.get(self.entry(fixture.uid).model, [])
+                slots = {each["number"]: each["slots"] for each in known}
+                info[FOOTPRINT_FIELD] = slots.get(whole(change.after), 0)
+        return replace(fixture, info=info)
 
-    def _remember(self, change: Change) -> None:
-        with self.lock:
-            self._undos = [*self._undos, change][-MOST_UNDOS:]
-        self._show_undo()
-
-    def _show_undo(self) -> None:
-        with self.lock:
-            last = self._undos[-1] if self._undos else None
-            self._board.put("undo", None if last is None else {"text": last.text, "count": len(self._undos)})
+    def _set_undos(self, undos: List[Change]) -> None:
+        """These changes can be taken back, the last one first."""
+        self._undos = undos[-MOST_UNDOS:]
+        self._board.put("undo", {"text": undos[-1].text, "count": len(self._undos)} if undos else None)
 
     def undo(self) -> Plan:
         """Takes the last change back, to what was there before, whatever overlaps then.
@@ -319,33 +313,24 @@ class Rig:
             last = self._undos[-1]
             now = value_in(self.entry(last.uid).fixture, last.column)
             if now is not None and differs(last.column, now, last.after):
-                self._undos.pop()
-                self._show_undo()
+                self._set_undos(self._undos[:-1])
                 raise Failure(FAILED, f"{last.uid} has {last.column} {now} by now, so it isn't taken back",
                               reason="undo")
         plan = self.change([Change(last.uid, last.column, last.after, last.before)], is_forced=True, is_undo=True)
         if plan.made:
             with self.lock:
-                self._undos = [each for each in self._undos if each is not last]
-            self._show_undo()
+                self._set_undos([each for each in self._undos if each is not last])
         return plan
 
 
-def identifies_of(work: Work, fixture: Fixture) -> Optional[bool]:
+def identifies_of(work: Work, uid: Uid) -> Optional[bool]:
     """Whether a device shows itself; None if it doesn't say."""
-    try:
-        values = work.read(fixture.uid, IDENTIFY).values or {}
-    except Failure as failure:
-        if failure.is_of_line:
-            raise
-        return None
+    values = values_of(work, Fixture(uid), "identify_device") or {}
     found = next(iter(values.values()), None)
     return found if isinstance(found, bool) else None
 
 
 def value_in(fixture: Fixture, column: str) -> Optional[str]:
     """What a device has in a column; None if it isn't known."""
-    if column == LABEL:
-        return fixture.label
-    number = fixture.number(ADDRESS_FIELD if column == ADDRESS else "current_personality")
-    return None if number is None else str(number)
+    value = VALUES[column](fixture)
+    return None if value is None else str(value)

@@ -11,20 +11,20 @@ import subprocess
 import sys
 import threading
 from fcntl import ioctl
-from typing import Iterator, List
+from typing import List
 
-from .. import Uid
 from .._endings import end_by
-from ..front.opening import OLA
+from ..front.opening import OLA, failures_of_lines
 from ..front.output import BAD_ARGUMENTS, DONE, FAILED, Failure, Output
-from ..line import LineFailed
 from ..lines.waiting import when_free
 from ..shared.client import SharedClient
 from ..shared.place import canonical
 from .board import Board
+from .discoveries import Discoveries
 from .door import HOUSEKEEPING_SECONDS, Door
 from .hands import Hands
 from .pages import LOOPBACK, Pages
+from .plans import Plans
 from .rig import Rig
 from .server_of_line import ServerOfLine
 from .tokens import Tokens, kept
@@ -41,18 +41,11 @@ def run_web(chosen: argparse.Namespace, output: Output) -> int:
     if chosen.line.startswith(OLA):
         raise Failure(BAD_ARGUMENTS, f"olad has the line {chosen.line}, and the page needs a line that 'wurstlinen "
                                      "serve' can have", reason="line")
-    try:
+    with failures_of_lines():
         line = canonical(chosen.line)
         tokens = kept(line, chosen.new_tokens)
         server = ServerOfLine(line)
         first = when_free(lambda: server.connect_or_start(patience=0.0), chosen.wait_line, output.note)
-    except OSError as fault:
-        raise Failure(FAILED, f"{fault.filename or 'the tokens'} can't be used: {fault.strerror}",
-                      reason="place") from None
-    except ValueError as fault:
-        raise Failure(BAD_ARGUMENTS, str(fault), reason="line") from None
-    except LineFailed as fault:
-        raise Failure(FAILED, str(fault), reason="line") from None
     with first, opened(chosen) as door:
         # The signal's handler runs in the thread that serves, which can't wait for itself.
         end_by(lambda number, frame: threading.Thread(target=door.shutdown).start(),
@@ -62,49 +55,40 @@ def run_web(chosen: argparse.Namespace, output: Output) -> int:
     return DONE
 
 
-@contextlib.contextmanager
-def opened(chosen: argparse.Namespace) -> Iterator[Door]:
-    """The door, for the duration of a `with`. Raises Failure."""
-    address = ANYWHERE if chosen.allow_network else LOOPBACK
+def opened(chosen: argparse.Namespace) -> Door:
+    """The door. Raises Failure."""
     try:
-        door = Door((address, chosen.port))
+        return Door((ANYWHERE if chosen.allow_network else LOOPBACK, chosen.port))
     except OSError as fault:
         raise Failure(FAILED, f"port {chosen.port}: {fault.strerror}; --port N takes another", reason="port") from None
-    with door:
-        yield door
 
 
 def serve(door: Door, server: ServerOfLine, tokens: Tokens, first: SharedClient) -> None:
     """Serves what comes through a door, until that is shut."""
     board = Board()
-    hands = Hands(server.connect)
-    rig = Rig(board, hands)
-    waiting: List[SharedClient] = [first]
-    watcher = Watcher(board, lambda: waiting.pop() if waiting else server.connect_or_start())
-    pages = Pages(board, rig, tokens, watcher)
-    watcher.own = lambda: hands.numbers
-    watcher.on_set = lambda uid: rig.read_again(Uid.from_number(uid))
-    watcher.on_devices = pages.found
-    watcher.on_there = rig.read_rest
-    pages.serve_at(door)
-    hands.start()
-    pages.plans.start()
+    rig = Rig(board, Hands(server.connect))
+    discoveries = Discoveries(board, rig)
+    plans = Plans(board, rig, discoveries)
+    waiting = [first]
+    watcher = Watcher(board, lambda: waiting.pop() if waiting else server.connect_or_start(), rig, discoveries)
+    Pages(board, rig, tokens, discoveries, plans, watcher).serve_at(door)
+    rig.hands.start()
+    plans.start()
     watcher.start()
     try:
         door.serve_forever(HOUSEKEEPING_SECONDS)
     finally:
         board.end()
         watcher.end()
-        pages.plans.end()
-        hands.end()
+        plans.end()
+        rig.hands.end()
 
 
 def tell(line: str, door: Door, tokens: Tokens, chosen: argparse.Namespace, output: Output) -> None:
     """Prints the addresses, and the first one as a QR code if that is for a phone."""
-    port = door.server_address[1]
     hosts = addresses() if chosen.allow_network else [LOOPBACK]
-    using = [f"http://{host}:{port}/#{tokens.using}" for host in hosts]
-    looking = [f"http://{host}:{port}/#{tokens.looking}" for host in hosts]
+    using, looking = ([f"http://{host}:{door.server_address[1]}/#{token}" for host in hosts]
+                      for token in (tokens.using, tokens.looking))
     output.result([f"{line} is at", *(f"  {each}" for each in using), "only for looking at",
                    *(f"  {each}" for each in looking)], line=line, addresses=using, looking=looking)
     if chosen.allow_network and not output.is_json and sys.stdout.isatty():

@@ -2,26 +2,26 @@
 
 const LATE = 12_000;
 const AGAIN = 1_000;
+const ABSENT = "the program of this page doesn't answer";
 
 // The address has it behind the #, which browsers send to nobody.
 export const token = location.hash.slice(1).split("/")[0];
-// The parts that the program shows, by their names.
+// The parts that the program shows, by their names; and why these are old, if they are.
 export const parts = new Map();
-export const state = { role: null, lost: "connecting ...", is_known: false };
+export const state = { lost: "connecting ..." };
 
 const headers = { Authorization: `Bearer ${token}` };
-let changed = () => undefined;
-
-export function onChange(take) {
-    changed = take;
-}
 
 export function partsOf(prefix) {
     return [...parts].filter(([name]) => name.startsWith(prefix)).map(([, value]) => value);
 }
 
+export function fixtureOf(uid) {
+    return parts.get(`fixture/${uid}`);
+}
+
 export function mayUse() {
-    return state.role === "uses" && !state.lost;
+    return parts.get("role") === "uses" && !state.lost;
 }
 
 export async function call(name, keys = {}) {
@@ -37,58 +37,51 @@ export async function call(name, keys = {}) {
 function take(text) {
     const found = JSON.parse(text.slice("data: ".length));
     if (found.role) {
-        state.role = found.role;
-        state.is_known = false;
-        return;
+        // These are all that there are.
+        parts.clear();
     }
-    // The first ones are all that there are.
-    const names = state.is_known ? Object.keys(found) : [...new Set([...parts.keys(), ...Object.keys(found)])];
-    for (const name of names) {
-        if (found[name] === null || found[name] === undefined) {
+    for (const [name, value] of Object.entries(found)) {
+        if (value === null) {
             parts.delete(name);
         } else {
-            parts.set(name, found[name]);
+            parts.set(name, value);
         }
     }
-    state.is_known = true;
     state.lost = "";
-    changed(names);
 }
 
-async function listen() {
+function inTime(work) {
+    return Promise.race([work, new Promise((_, fail) => setTimeout(fail, LATE, new Error(ABSENT)))]);
+}
+
+async function listen(changed) {
     const ending = new AbortController();
-    let timer = setTimeout(() => ending.abort(), LATE);
     try {
-        const answer = await fetch("/api/events", { headers, signal: ending.signal });
+        const answer = await inTime(fetch("/api/events", { headers, signal: ending.signal }));
         if (!answer.ok) {
             throw new Error(await answer.text());
         }
         const reader = answer.body.pipeThrough(new TextDecoderStream()).getReader();
         for (let left = ""; ;) {
-            const { value, done } = await reader.read();
+            const { value, done } = await inTime(reader.read());
             if (done) {
                 throw new Error("the connection was closed");
             }
-            clearTimeout(timer);
-            timer = setTimeout(() => ending.abort(), LATE);
             const events = (left + value).split("\n\n");
             left = events.pop();
             events.forEach(take);
+            changed();
         }
     } finally {
-        clearTimeout(timer);
         ending.abort();
     }
 }
 
-export async function follow() {
+// Calls `changed` whenever what the program shows has changed.
+export async function follow(changed) {
     for (;;) {
-        try {
-            await listen();
-        } catch (fault) {
-            state.lost = fault.name === "Error" ? fault.message : "the program of this page doesn't answer";
-            changed([]);
-        }
+        await listen(changed).catch((fault) => (state.lost = fault.name === "Error" ? fault.message : ABSENT));
+        changed();
         await new Promise((done) => setTimeout(done, AGAIN));
     }
 }

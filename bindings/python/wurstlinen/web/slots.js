@@ -1,183 +1,140 @@
 // The universe as 512 slots: who has which. Fixtures are moved by drag, or by keys.
 
-import { act, addressOf, say } from "/app.js";
-import { make, setText } from "/dom.js";
-import { nameOf } from "/fixtures.js";
-import { mayUse, parts, partsOf } from "/server.js";
+import { act, addressOf, redraw } from "/app.js";
+import { keepValues, make, setText } from "/dom.js";
+import { nameOf, problemOf, slotsOf } from "/fixtures.js";
+import { fixtureOf, mayUse, parts, partsOf } from "/server.js";
 
 const LAST = 512;
-const WIDE = 32, NARROW = 16;
 const HELP = matchMedia("(pointer: coarse)").matches ? "Tap a fixture to select it, and then drag it."
     : "Drag a fixture, or select it and use the arrow keys; Enter moves it, Escape leaves it where it was.";
-let counts, grid, hint, list, moving = null, width = 0;
-
 const isNarrow = matchMedia("(max-width: 700px)");
-const placed = () => partsOf("fixture/").filter((found) => found.first && !found.missing)
-    .sort((one, other) => one.first - other.first || (one.uid < other.uid ? -1 : 1));
+const width = () => (isNarrow.matches ? 16 : 32);
+const rowOf = (slot) => Math.ceil(slot / width());
+// The fixture that is being moved, and where it is now.
+let counts, grid, hint, list, moving = null;
+
+// The fixtures that have slots, by address. Those that share slots are in lanes, one below another.
+function placed() {
+    const ends = [];
+    const all = partsOf("fixture/").filter((found) => found.first && !found.missing)
+        .sort((one, other) => one.first - other.first || (one.uid < other.uid ? -1 : 1));
+    return all.map((found) => {
+        const free = ends.findIndex((end) => end < found.first), lane = free < 0 ? ends.length : free;
+        ends[lane] = found.last;
+        return { ...found, lane, ...(found.uid === moving?.uid ? moving : {}) };
+    });
+}
 
 // How many fixtures have each slot; parts of one device may share slots.
-function shares(fixtures) {
-    const roots = Array.from({ length: LAST + 1 }, () => new Set());
-    for (const found of fixtures) {
-        for (let slot = found.first; slot <= Math.min(found.last, LAST); slot++) {
-            roots[slot].add(found.root);
-        }
-    }
-    return roots.map((each) => each.size);
+function ownersOf(fixtures) {
+    return Array.from({ length: LAST }, (_, at) => new Set(fixtures.filter(({ first, last }) =>
+        first <= at + 1 && at + 1 <= last).map(({ root }) => root)).size);
 }
 
-function firstOf(found) {
-    return moving?.uid === found.uid ? moving.first : found.first;
-}
-
-function move(found, first) {
-    if (!mayUse()) {
-        return;
-    }
-    const size = found.last - found.first + 1;
-    moving = { uid: found.uid, first: Math.min(Math.max(first, 1), LAST + 1 - Math.min(size, LAST)) };
-    const others = placed().filter((each) => each.uid !== found.uid && each.root !== found.root
-        && each.first < moving.first + size && each.last >= moving.first);
-    setText(hint, `${nameOf(found)}: ${found.first}–${found.last} → ${moving.first}–${moving.first + size - 1}, `
+function move(uid, to) {
+    const found = fixtureOf(uid), size = found.last - found.first + 1;
+    const first = Math.min(Math.max(to, 1), LAST + 1 - Math.min(size, LAST)), last = first + size - 1;
+    moving = { uid, first, last, lane: 0 };
+    const others = placed().filter((each) => each.root !== found.root && each.first <= last && each.last >= first);
+    setText(hint, `${nameOf(found)}: ${found.first}–${found.last} → ${first}–${last}, `
         + (others.length ? `overlaps ${others.map(nameOf).join(", ")}` : "free"));
     draw();
 }
 
-async function finish(found, isWanted) {
-    const first = moving?.first;
+async function finish(isWanted) {
+    const { uid, first } = moving ?? {};
     moving = null;
     setText(hint, HELP);
     draw();
-    if (isWanted && first && first !== found.first) {
-        await act("change", { uid: found.uid, column: "address", value: String(first) },
-            `${nameOf(found)} moved to ${first}.`);
+    if (isWanted && uid && first !== fixtureOf(uid)?.first) {
+        await act("change", { uid, column: "address", value: String(first) },
+            `${nameOf(fixtureOf(uid))} moved to ${first}.`);
     }
 }
 
-function keyed(event, found) {
-    const now = firstOf(found);
-    const steps = { ArrowLeft: now - 1, ArrowRight: now + 1, ArrowUp: now - width, ArrowDown: now + width, Home: 1,
+function keyed(event) {
+    const { uid } = event.target.dataset, now = moving?.uid === uid ? moving.first : fixtureOf(uid)?.first;
+    const steps = { ArrowLeft: now - 1, ArrowRight: now + 1, ArrowUp: now - width(), ArrowDown: now + width(), Home: 1,
         End: LAST };
-    if (event.key in steps) {
+    if (event.key in steps && mayUse()) {
         event.preventDefault();
-        move(found, steps[event.key]);
-    } else if (event.key === "Enter" && moving) {
+        move(uid, steps[event.key]);
+    } else if (moving && ["Enter", "Escape"].includes(event.key)) {
         event.preventDefault();
-        finish(found, true);
-    } else if (event.key === "Escape") {
-        finish(found, false);
+        finish(event.key === "Enter");
     }
 }
 
-function slotAt(event) {
-    const box = grid.getBoundingClientRect();
-    const column = Math.floor((event.clientX - box.left) / box.width * width);
-    const row = Math.floor((event.clientY - box.top) / box.height * (LAST / width));
-    return row * width + Math.min(Math.max(column, 0), width - 1) + 1;
+function slotAt({ clientX, clientY }) {
+    return Number(document.elementsFromPoint(clientX, clientY).find((each) => each.matches("i"))?.textContent);
 }
 
-function dragged(event, found) {
+function dragged(event) {
+    const { uid } = event.target.dataset;
     // On a phone a finger scrolls, unless the fixture was selected before.
-    if (!mayUse() || (event.pointerType === "touch" && document.activeElement?.dataset.uid !== found.uid)) {
+    if (!uid || !mayUse() || (event.pointerType === "touch" && document.activeElement?.dataset.uid !== uid)) {
         return;
     }
-    const within = slotAt(event) - firstOf(found);
-    const follow = (moved) => move(found, slotAt(moved) - within);
-    const drop = (dropped) => {
-        removeEventListener("pointermove", follow);
-        removeEventListener("pointerup", drop);
-        removeEventListener("pointercancel", drop);
-        finish(found, dropped.type === "pointerup");
-    };
-    addEventListener("pointermove", follow);
-    addEventListener("pointerup", drop);
-    addEventListener("pointercancel", drop);
+    const within = slotAt(event) - fixtureOf(uid).first, over = new AbortController(), { signal } = over;
+    // Beside the slots it stays where it was.
+    addEventListener("pointermove", (moved) => slotAt(moved) && move(uid, slotAt(moved) - within), { signal });
+    for (const name of ["pointerup", "pointercancel"]) {
+        addEventListener(name, () => (over.abort(), finish(name === "pointerup")), { signal });
+    }
+}
+
+function areaOf(from, to) {
+    return `grid-area: ${rowOf(from)} / ${(from - 1) % width() + 1} / auto / span ${to - from + 1};`;
 }
 
 // The parts of a fixture in the rows of the grid. The first one is the fixture for keys and for who listens.
-function piecesOf(found, owners, lane) {
-    const first = firstOf(found), last = Math.min(first + found.last - found.first, LAST);
-    const pieces = [];
-    for (let from = first; from <= last;) {
-        const row = Math.floor((from - 1) / width), to = Math.min(last, (row + 1) * width);
-        const isCrowded = Array.from({ length: to - from + 1 }, (_, at) => owners[from + at] > 1).some(Boolean);
-        const piece = make(from === first ? "button" : "div", { class: isCrowded ? "piece crowded" : "piece",
-            "data-uid": found.uid, title: `${nameOf(found)}, ${first}–${last}`,
-            onpointerdown: (event) => dragged(event, found) }, from === first ? nameOf(found) : "");
-        piece.classList.toggle("moving", moving?.uid === found.uid);
-        piece.style.setProperty("--lane", String(lane % 3));
-        piece.style.gridRow = String(row + 1);
-        piece.style.gridColumn = `${(from - 1) % width + 1} / span ${to - from + 1}`;
-        if (from === first) {
-            piece.type = "button";
-            piece.setAttribute("aria-label",
-                `${nameOf(found)}, slots ${first} to ${last}${isCrowded ? ", overlaps another" : ""}`);
-            piece.addEventListener("keydown", (event) => keyed(event, found));
-            piece.addEventListener("dblclick", () => (location.hash = addressOf("fixture", found.uid)));
-        } else {
-            piece.setAttribute("aria-hidden", "true");
-        }
-        pieces.push(piece);
-        from = to + 1;
+function piecesOf(found, owners) {
+    const { uid, first, last, lane } = found, end = Math.min(last, LAST), pieces = [];
+    for (let from = first; from <= end; from = rowOf(from) * width() + 1) {
+        const to = Math.min(end, rowOf(from) * width()), isFirst = from === first;
+        const isCrowded = owners.slice(from - 1, to).some((count) => count > 1);
+        const attributes = isFirst ? { type: "button", "aria-label":
+            `${nameOf(found)}, slots ${first} to ${last}${isCrowded ? ", overlaps another" : ""}` }
+            : { "aria-hidden": "true" };
+        pieces.push(make(isFirst ? "button" : "div", { ...attributes, "data-uid": uid,
+            class: `piece${isCrowded ? " crowded" : ""}${moving?.uid === uid ? " moving" : ""}`,
+            title: `${nameOf(found)}, ${first}–${last}`, style: `${areaOf(from, to)} --lane: ${lane}` },
+        isFirst ? nameOf(found) : ""));
     }
     return pieces;
 }
 
-// Those that share slots stand one below another.
-function lanesOf(fixtures) {
-    const lanes = [];
-    for (const found of fixtures) {
-        const used = lanes.filter((_, at) => fixtures[at].last >= found.first && fixtures[at].first <= found.last);
-        lanes.push([0, 1].find((lane) => !used.includes(lane)) ?? 2);
-    }
-    return lanes;
-}
-
 function draw() {
-    const fixtures = placed();
-    width = isNarrow.matches ? NARROW : WIDE;
-    const focused = grid.contains(document.activeElement) ? document.activeElement.dataset.uid : null;
-    const moved = fixtures.map((each) => ({ ...each, first: firstOf(each),
-        last: firstOf(each) + each.last - each.first }));
-    const owners = shares(moved), lanes = lanesOf(moved);
-    grid.style.setProperty("--columns", String(width));
-    const numbers = Array.from({ length: LAST }, (_, at) => {
-        const slot = make("i", { class: owners[at + 1] > 1 ? "crowded" : null }, String(at + 1));
-        slot.style.gridRow = String(Math.floor(at / width) + 1);
-        slot.style.gridColumn = String(at % width + 1);
-        return slot;
-    });
-    grid.replaceChildren(...numbers, ...fixtures.flatMap((found, at) => piecesOf(found, owners, lanes[at])));
-    if (focused) {
-        grid.querySelector(`button[data-uid="${focused}"]`)?.focus({ preventScroll: true });
-    }
-    const crowded = owners.filter((each) => each > 1).length;
-    const free = owners.slice(1).filter((each) => !each).length;
+    const fixtures = placed(), owners = ownersOf(fixtures);
+    const focused = grid.contains(document.activeElement) ? document.activeElement.dataset.uid : "";
+    grid.style.setProperty("--columns", String(width()));
+    grid.replaceChildren(...owners.map((count, at) => make("i", { class: count > 1 ? "crowded" : null,
+        style: areaOf(at + 1, at + 1) }, String(at + 1))), ...fixtures.flatMap((found) => piecesOf(found, owners)));
+    grid.querySelector(`button[data-uid="${focused}"]`)?.focus({ preventScroll: true });
+    const crowded = owners.filter((each) => each > 1).length, free = owners.filter((each) => !each).length;
     setText(counts, `${free} slots are free${crowded ? `, ${crowded} overlap` : ""}.`);
 }
 
 export function open() {
     moving = null;
-    grid = make("div", { class: "universe", role: "group", "aria-label": "512 slots" });
+    grid = make("div", { class: "universe", role: "group", "aria-label": "512 slots", onkeydown: keyed,
+        onpointerdown: dragged, ondblclick: ({ target: { dataset: { uid } } }) =>
+            uid && (location.hash = addressOf("fixture", uid)) });
     hint = make("p", { class: "hint", role: "status" }, HELP);
-    counts = make("p", {});
-    list = make("ul", { class: "problems" });
-    grid.dataset.drawn = "";
+    [counts, list] = [make("p"), make("ul", { class: "problems" })];
     return [make("h2", { class: "hidden" }, "Slots"), hint, counts, list, grid];
 }
 
 export function update() {
-    const now = JSON.stringify(placed().map((each) => [each.uid, each.first, each.last, nameOf(each), each.root]));
-    if (grid.dataset.drawn !== now && !moving) {
-        grid.dataset.drawn = now;
+    const now = JSON.stringify([width(), placed()]);
+    if (grid.drawn !== now && !moving) {
+        grid.drawn = now;
         draw();
     }
-    const problems = (parts.get("problems") ?? [])
-        .map((each) => `${nameOf(parts.get(`fixture/${each.uid}`))} ${each.text}`);
-    if (list.dataset.texts !== problems.join("\n")) {
-        list.dataset.texts = problems.join("\n");
-        list.replaceChildren(...problems.map((text) => make("li", {}, text)));
-    }
+    const named = (found) => (found ? `${nameOf(found)} ${slotsOf(found)}` : "");
+    keepValues(list, (parts.get("problems") ?? []).map((each) => [each.uid, named(fixtureOf(each.uid)),
+        problemOf(each, each.uid)]), ([, name, text]) => make("li", {}, `${name} ${text}`));
 }
 
-isNarrow.addEventListener("change", () => grid?.isConnected && draw());
+isNarrow.addEventListener("change", redraw);

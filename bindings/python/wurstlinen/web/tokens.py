@@ -4,17 +4,16 @@ from __future__ import annotations
 import contextlib
 import hashlib
 import hmac
-import json
 import os
 import secrets
 from dataclasses import dataclass
 from typing import Optional
 
-from ..front.files import file_of
+from ..front.files import PRIVATE_MODE, file_of
 from ..shared.listening import made_folder
 
 TOKEN_BYTES = 16
-MOST_BYTES = 4096
+MOST_TEXT = 4096
 USES, LOOKS = "uses", "looks"
 
 
@@ -23,7 +22,11 @@ class Tokens:
     """Both tokens. They are the same as long as the user is logged in, so that pages survive a restart."""
 
     using: str
-    looking: str
+
+    @property
+    def looking(self) -> str:
+        """The token for looking, from which nobody can tell the other one."""
+        return hashlib.sha256(self.using.encode()).hexdigest()[:2 * TOKEN_BYTES]
 
     def role(self, said: str) -> Optional[str]:
         """What somebody with this token may do; None: nothing."""
@@ -34,23 +37,17 @@ class Tokens:
 
 def made() -> Tokens:
     """New tokens."""
-    return Tokens(secrets.token_urlsafe(TOKEN_BYTES), secrets.token_urlsafe(TOKEN_BYTES))
+    return Tokens(secrets.token_urlsafe(TOKEN_BYTES))
 
 
 def kept(line: str, wants_new: bool) -> Tokens:
     """The tokens of a line's page, in a file of the user's own. Raises BadPlace and OSError."""
-    path = os.path.join(made_folder(None), f"web-{hashlib.sha256(os.fsencode(line)).hexdigest()[:TOKEN_BYTES]}.json")
-    if not wants_new:
-        with contextlib.suppress(OSError, ValueError, KeyError, TypeError), open(path, "rb") as file:
-            keys = json.loads(file.read(MOST_BYTES))
-            found = Tokens(str(keys["using"]), str(keys["looking"]))
-            if min(len(found.using), len(found.looking)) >= TOKEN_BYTES:
-                return found
+    path = made_folder(None) / f"web-{hashlib.sha256(os.fsencode(line)).hexdigest()[:TOKEN_BYTES]}.token"
+    with contextlib.suppress(OSError, ValueError):
+        found = "" if wants_new else path.read_text(encoding="ascii")[:MOST_TEXT]
+        if len(found) >= TOKEN_BYTES:
+            return Tokens(found)
     new = made()
-    mask = os.umask(0o077)
-    try:
-        with file_of(path) as written:
-            written.write(json.dumps(vars(new)))
-    finally:
-        os.umask(mask)
+    with file_of(str(path), new_mode=PRIVATE_MODE) as written:
+        written.write(new.using)
     return new

@@ -1,12 +1,11 @@
 """What happens on the line, whoever does it: programs, requests and their results, discoveries, pauses."""
 from __future__ import annotations
 
-import sys
 import threading
 import time
-from typing import Any, Callable, Dict, Optional, Sequence, Set, Tuple
+from typing import Any, Callable, Dict, Optional, Tuple
 
-from .. import Device, Fault
+from .. import Uid
 from ..front.frames import Parts, answer_text, command_of
 from ..front.watched import Watched
 from ..line import LineFailed
@@ -17,12 +16,15 @@ from ..parameters import STANDARD
 from ..shared.client import SharedClient
 from ..shared.connection import Refused
 from ..shared.words import FRAMES, Keys
-from .board import Board
-from .hands import END_SECONDS, Silent
+from .board import Board, latest
+from .discoveries import Discoveries
+from .hands import END_SECONDS, Silent, failure_of
+from .rig import Rig
 
 MOST_REQUESTS = 100
-# How often it is asked who is connected, and tried to reach a server again.
+# How often it is asked who is connected, and how long a part of that is waited for something to come.
 LOOK_SECONDS = 1.0
+SLICE_SECONDS = 0.25
 # How often a page hears of a discovery's progress.
 PROGRESS_SECONDS = 0.1
 # The parameters whose SET changes what the table shows.
@@ -35,28 +37,26 @@ MOST_TEXT = 300
 class Watcher:
     """Watches the server of the line by a connection of its own, and puts what it sees on the board.
 
-    `connect` makes a client. `on_set` is called with the device that another program has changed, `on_devices` with
-    what a run has found; with None at first, if the server has had no run yet. `on_there` is called when the adapter
-    is there again.
+    `connect` makes a client. The rig asks the devices again that other programs change.
     """
 
-    def __init__(self, board: Board, connect: Callable[[], SharedClient]) -> None:
+    def __init__(self, board: Board, connect: Callable[[], SharedClient], rig: Rig, discoveries: Discoveries) -> None:
         self._board = board
         self._connect = connect
+        self._rig = rig
+        self._discoveries = discoveries
         self._client: Optional[SharedClient] = None
         self._has_ended = threading.Event()
         self._thread = threading.Thread(target=self._run, name="watcher", daemon=True)
+        # The last requests, by their numbers, and how many there were.
         self._requests: Dict[int, Dict[str, Any]] = {}
         self._numbers = 0
         self._parts = Parts()
+        # The run that is seen, how far it is, and when a page hears of that.
         self._run_number = 0
         self._progress = Watched(Silent(), None)
         self._next_progress = 0.0
         self._last_frame = 0.0
-        self.own: Callable[[], Set[int]] = set
-        self.on_set: Callable[[int], None] = lambda uid: None
-        self.on_devices: Callable[[Optional[Sequence[Device]]], None] = lambda devices: None
-        self.on_there: Callable[[], None] = lambda: None
         self._was_there = True
         # The last run whose devices were told.
         self._told_run: Optional[int] = None
@@ -83,12 +83,9 @@ class Watcher:
             try:
                 self._client = self._connect()
                 self._watch(self._client)
-            except (Fault, LineFailed) as fault:
-                self._gone(str(fault))
             except Exception as fault:  # Whatever it is, the page goes on with another connection.
-                print(f"wurstlinen: the page has a fault: {fault!r}", file=sys.stderr, flush=True)
-                self._gone("the page has a fault")
-            self._has_ended.wait(LOOK_SECONDS / 4)
+                self._gone(str(failure_of(fault)))
+            self._has_ended.wait(SLICE_SECONDS)
 
     def _gone(self, reason: str) -> None:
         """There is no server now."""
@@ -111,13 +108,13 @@ class Watcher:
                 self._look(client)
                 next_look = time.monotonic() + LOOK_SECONDS
             self._tell_line(client)
-            queue.connection.receive(LOOK_SECONDS / 4)
+            queue.connection.receive(SLICE_SECONDS)
             self._tell_progress()
 
     def _tell_line(self, client: SharedClient) -> None:
         queue = client.queue
         if queue.is_there and not self._was_there:
-            self.on_there()
+            self._rig.read_rest()
         self._was_there = queue.is_there
         self._board.put("line", {"served": True, "there": queue.is_there, "reason": queue.reason, "name": queue.name,
                                  "paused": queue.is_paused(), "source": str(queue.source), "process": queue.process})
@@ -127,62 +124,56 @@ class Watcher:
         run = client.queue.devices_run()
         if run != self._told_run:
             self._told_run = run
-            self.on_devices(client.queue.devices() if run else None)
+            self._discoveries.take(client.queue.devices() if run else None)
         try:
             clients = client.queue.clients()
         except Refused:
             # An older server doesn't say.
             return
-        own = {*self.own(), client.queue.number}
-        for each in clients:
-            each["is_page"] = each["client"] in own
-        self._board.put_all("client/", {str(each["client"]): each for each in clients})
+        own = {*self._rig.hands.numbers, client.queue.number}
+        self._board.put_all("client/", {str(each["client"]): {**each, "is_page": each["client"] in own}
+                                        for each in clients})
 
     def _take(self, keys: Keys) -> None:
         """An exchange."""
         frame = bytes.fromhex(keys["frame"])
         reply = None if "failed" in keys else bytes.fromhex(keys["reply"])
-        if "run" in keys:
-            self._take_run(int(keys["run"]), frame, reply)
-        else:
+        if "run" not in keys:
             self._take_request(keys, frame, reply)
-
-    def _take_run(self, run: int, frame: bytes, reply: Optional[bytes]) -> None:
-        if run != self._run_number:
-            self._run_number = run
-            self._progress = Watched(Silent(), None)
-            self._progress.found = set()
+            return
+        if keys["run"] != self._run_number:
+            self._run_number, self._progress = keys["run"], Watched(Silent(), None)
+            self._progress.begin(None)
         self._progress.saw(frame, reply)
         self._last_frame = time.monotonic()
         self._tell_progress()
 
     def _tell_progress(self) -> None:
         """Shows how far a run is; not each frame, since there are many."""
-        if not self._run_number or time.monotonic() < self._next_progress:
+        now = time.monotonic()
+        if not self._run_number or now < self._next_progress:
             return
-        self._next_progress = time.monotonic() + PROGRESS_SECONDS
-        found = sorted(self._progress.found or ())
+        self._next_progress = now + PROGRESS_SECONDS
         self._board.put("progress", {"run": self._run_number, "frames": self._progress.frames,
-                                     "found": list(map(uid_text, found)),
-                                     "is_over": time.monotonic() > self._last_frame + LOOK_SECONDS})
+                                     "found": list(map(uid_text, sorted(self._progress.found or ()))),
+                                     "is_over": now > self._last_frame + LOOK_SECONDS})
 
     def _take_request(self, keys: Keys, frame: bytes, reply: Optional[bytes]) -> None:
         """Shows a request with what came last for it."""
-        number, command = int(keys["request"]), decode_packet(frame)
+        number, client, command = keys["request"], keys.get("client"), decode_packet(frame)
         known = self._requests.get(number)
         if known is None:
-            known = self._requests[number] = {"at": self._numbers, "number": number, "frames": 0}
+            known = {"at": self._numbers, "number": number, "frames": 0}
             self._numbers += 1
-        while len(self._requests) > MOST_REQUESTS:
-            del self._requests[next(iter(self._requests))]
+            latest(self._requests, number, known, MOST_REQUESTS)
         text, is_good = outcome_of(frame, command, reply, self._parts)
-        known.update(client=keys.get("client"), command=command_of(frame)[:MOST_TEXT], answer=text[:MOST_TEXT],
-                     is_good=is_good, frames=known["frames"] + 1)
+        known.update(client=client, command=command_of(frame)[:MOST_TEXT], answer=text[:MOST_TEXT], is_good=is_good,
+                     frames=known["frames"] + 1)
         self._board.put(f"request/{known['at'] % MOST_REQUESTS}", dict(known))
-        is_set = command is not None and command.command_class == CommandClass.SET and command.pid in SHOWN
-        if command is not None and is_set and keys.get("client") not in self.own():
-            if is_good or is_broadcast(command.destination):
-                self.on_set(command.destination)
+        if command is None or command.command_class != CommandClass.SET or command.pid not in SHOWN:
+            return
+        if client not in self._rig.hands.numbers and (is_good or is_broadcast(command.destination)):
+            self._rig.read_again(Uid.from_number(command.destination))
 
 
 def outcome_of(frame: bytes, command: Optional[Packet], reply: Optional[bytes], parts: Parts) -> Tuple[str, bool]:
