@@ -92,10 +92,10 @@ class Unserved(Unanswered):
 class Incomplete(Unanswered):
     """A GET was made six times, and each answer may lack its first parts.
 
-    Before each of them, another GET of the same broke off.
+    Before each of them, another GET of the same broke off, or more than 1,024 others had.
     """
 
-    WHY = "no whole answer came: other GETs of the same break off again and again"
+    WHY = "no whole answer came: other GETs of the same, or over 1,024 others, break off again and again"
 
 
 class Answer(NamedTuple):

@@ -209,7 +209,7 @@ class Completion(NamedTuple):
     status: Status
     head: Optional[ReplyHead]
     data: bytes
-    # Its first parts may be missing, since the last GET of it broke off. Then GET it again.
+    # Its first parts may be missing, since a GET of it, or over 1,024 others, broke off. Then GET it again.
     may_be_incomplete: bool = False
 
 

@@ -1,4 +1,4 @@
-"""Fuzzes what reads bytes from outside: messages, lines, tables, rigs' files and logs, by Hypothesis.
+"""Fuzzes what reads bytes from outside, by Hypothesis: messages, lines, tables, rigs' files, logs, and programs' words.
 
 usage: readers.py [--seconds N] [--seed N]
   --seconds  how long each reader takes, 10 if absent
@@ -26,12 +26,18 @@ from hypothesis import strategies as some
 sys.dont_write_bytecode = True
 ROOT = Path(__file__).resolve().parents[4]
 sys.path.insert(0, str(ROOT / "bindings/python"))
-from wurstlinen.front.page_log import NoLog, read_log  # noqa: E402
+from wurstlinen.front.output import Failure  # noqa: E402
+from wurstlinen.front.page_findings import NoFindings, Outcome, Run, findings_in  # noqa: E402
+from wurstlinen.front.page_log import NoLog, OtherLog, read_log  # noqa: E402
 from wurstlinen.front.sheets import NoSheet, Sheet, sheet_of  # noqa: E402
+from wurstlinen.front.trace import exchanges  # noqa: E402
 from wurstlinen.lines.keys import SceneFault  # noqa: E402
 from wurstlinen.lines.messages import LENGTHS_FROM_ADAPTER, START, Message, MessageReader  # noqa: E402
 from wurstlinen.lines.scene import parse_scene, read_scene  # noqa: E402
 from wurstlinen.lines.streams import MOST_LINE_BYTES, LineReader  # noqa: E402
+from wurstlinen.olad import wire  # noqa: E402
+from wurstlinen.shared import words  # noqa: E402
+from wurstlinen.shared.connection import hello_in  # noqa: E402
 
 EXAMPLES = 200
 
@@ -50,6 +56,22 @@ entries = some.sampled_from(
 names = some.sampled_from(
     "entry number operation frame reply source budget search discover known client clients request run fault".split())
 log_lines = some.dictionaries(names, values | entries, max_size=8).map(json.dumps)
+# Runs that a log may have, and what the program may print of one.
+RUNS = [Run("discovery", 0, "sfaon", Outcome.COMPLETE, 1)]
+members = some.sampled_from(
+    "passing runs broken fault exchanges first run kind search end uid devices heard findings judgement sentence "
+    "exchange".split())
+found_values = some.recursive(values, lambda inner: some.dictionaries(members, inner, max_size=8) | some.lists(inner))
+documents = some.fixed_dictionaries({"passing": found_values, "runs": some.lists(found_values)}).map(
+    lambda found: json.dumps(found).encode())
+# What a program that shares a line may say, and what its server may.
+said = some.sampled_from(("get", "set", "discover", "1234:00000001", "0082", "c0", "full")) | values
+asks = some.dictionaries(some.sampled_from("do id uid pid data sub kind name".split()), said, max_size=6)
+answers = some.dictionaries(
+    some.sampled_from("request status ack response pid sub data discovery run fault uid devices line source".split()),
+    said | some.integers(0, 9) | some.lists(some.dictionaries(some.sampled_from(("uid", "control", "binding")), said)),
+    max_size=9)
+NOT_OF_PROTOCOL = (KeyError, TypeError, ValueError, RecursionError, words.BadRequest)
 
 
 def pieces_of(data: bytes, cuts: Sequence[int]) -> List[bytes]:
@@ -147,13 +169,80 @@ def any_log(text: List[str]) -> None:
     """A log is read, or the number of a line that can't be."""
     data = "\n".join(text).encode("utf-8", "surrogatepass")
     try:
-        read_log(io.BytesIO(data))
+        read_log(io.BytesIO(data), RUNS)
+    except OtherLog:
+        pass
     except NoLog as why:
         assert 1 <= int(str(why).split()[1]) <= data.count(b"\n") + 1
 
 
+@given(some.lists(log_lines | values.map(json.dumps), max_size=8))
+def any_trace(text: List[str]) -> None:
+    """The exchanges of a log are read, or it is none."""
+    try:
+        list(exchanges("log", io.StringIO("\n".join(text))))
+    except Failure as why:
+        assert str(why).startswith("log: line ")
+
+
+@given(some.binary(max_size=200) | documents)
+def any_findings(text: bytes) -> None:
+    """The program's JSON is read, or it is none."""
+    try:
+        findings_in(text)
+    except NoFindings as why:
+        assert str(why)
+
+
+@given(asks.map(json.dumps) | some.text(max_size=20), some.lists(some.integers(0, 300), max_size=6))
+def any_ask(text: str, cuts: List[int]) -> None:
+    """A program's line is a request, which is written as it was read, or there is a reason."""
+    split = words.Lines(words.MOST_LINE_BYTES)
+    try:
+        for line in (line for piece in pieces_of(text.encode("utf-8", "surrogatepass") + b"\n", cuts)
+                     for line in split.add(piece)):
+            keys = words.object_of(line)
+            words.number_in(keys, "id", words.MOST_ID)
+            words.choice_in(keys, "do", words.REQUEST_CLASSES)
+            request = words.request_in(keys)
+            assert words.request_in(words.keys_of_request(request)) == request
+    except words.BadRequest as why:
+        assert len(str(why)) < 2 * words.MOST_NAME + 40
+
+
+@given(answers)
+def any_answer(keys: words.Keys) -> None:
+    """What a server says is an outcome, or none of the protocol."""
+    for read in (words.completion_of, words.discovery_of, words.devices_of, hello_in):
+        try:
+            found = read(keys)
+        except NOT_OF_PROTOCOL:
+            continue
+        assert not hasattr(found, "number") or words.is_number(found.number, words.MOST_NUMBER)
+
+
+@given(some.binary(max_size=60))
+def any_message_of_olad(data: bytes) -> None:
+    """What olad says is a message, or it is none."""
+    try:
+        fields = wire.decode(data)
+        for field in fields:
+            wire.text_in(fields, field)
+            wire.messages_in(fields, field)
+    except wire.BadMessage as why:
+        assert str(why)
+
+
+@given(some.lists(some.tuples(some.integers(1, 1 << 28), some.integers(0, 1 << 63) | some.binary(max_size=9))))
+def messages_for_olad(fields: List[Tuple[int, Any]]) -> None:
+    """What is written to it is read."""
+    found = wire.decode(wire.encode(fields))
+    assert found == {number: [value for each, value in fields if each == number] for number, _ in fields}
+
+
 READERS: Tuple[Callable[[], None], ...] = (
-    whole_messages, any_messages, lines, any_sheet, written_sheets, any_scene, any_scene_file, any_log)
+    whole_messages, any_messages, lines, any_sheet, written_sheets, any_scene, any_scene_file, any_log,
+    any_trace, any_findings, any_ask, any_answer, any_message_of_olad, messages_for_olad)
 
 
 def fuzz(number: int, seconds: float, first: int) -> Tuple[bool, str]:

@@ -10,7 +10,9 @@ from unittest import mock
 
 from common import PACKAGE, folder, needs_library
 from fronts import LEFT, SLOW, OneRig, called
+from wurstlinen._times import now, timeless
 from wurstlinen.front import discovery_log
+from wurstlinen.front.page_findings import Outcome, Run
 from wurstlinen.front.page_log import read_log
 from wurstlinen.lines.numbers import ResponseType
 
@@ -99,7 +101,10 @@ class Check(OneRig):
                                               str(place / "our.log"))
             self.assertEqual((status, lines[:2]), (3, [f"missing  {GONE}  Nine  was never heard",
                                                        "missing  1234:00000008  was never heard"]))
-            self.assertEqual(log.read_text(), (place / "our.log").read_text())
+            # The program reads no times.
+            ours = (place / "our.log").read_text()
+            self.assertIn("microseconds", ours)
+            self.assertEqual(log.read_text(), "".join(map(timeless, ours.splitlines(True))))
             # A program that can't be run.
             program.write_text("")
             with mock.patch.dict(os.environ, {"WURSTLINEN_PROGRAM": str(program)}):
@@ -143,6 +148,7 @@ class Logs(OneRig):
         with folder() as place:
             log = place / "fixtures.log"
             log.write_text("old")
+            began = now()
             self.assertEqual(self.run_command("fixtures", "--log", str(log))[0], 1)
             lines = log.read_text().splitlines()
             self.assertEqual(json.loads(lines[0]), {
@@ -152,9 +158,12 @@ class Logs(OneRig):
             self.assertEqual([each["number"] for each in exchanges], list(range(10)))
             self.assertEqual([each["operation"] for each in exchanges[:4]], ["unmute"] * 3 + ["branch"])
             self.assertEqual([bytes.fromhex(each["frame"]) for each in exchanges], self.frames[:10])
-            self.assertEqual((list(exchanges[3]), list(exchanges[9])), (["number", "operation", "frame", "reply"],
-                                                                        ["number", "operation", "frame", "failed"]))
-            self.assertEqual(len(read_log(io.BytesIO(log.read_bytes()))), 10)
+            for exchange, came in ((exchanges[3], "reply"), (exchanges[9], "failed")):
+                self.assertEqual(list(exchange), ["number", "operation", "frame", came, "microseconds"])
+            times = [began, *(each["microseconds"] for each in exchanges), now()]
+            self.assertEqual(times, sorted(times))
+            run = Run("discovery", 0, "s" * 9 + "f", Outcome.FAILED, 0)
+            self.assertEqual(len(read_log(io.BytesIO(log.read_bytes()), [run])), 10)
             self.assertEqual(called("trace", str(log))[0], 0)
 
     def test_an_interrupted_discovery_has_a_log(self) -> None:

@@ -1,4 +1,4 @@
-"""A close from another thread, wherever something waits: both return soon, and what waited says why."""
+"""A close from another thread, wherever something waits: both return soon. So does a wait for a turn."""
 from __future__ import annotations
 
 import os
@@ -13,6 +13,7 @@ from common import ENTTEC, ListLine, TestCase, folder, needs_library
 from moments import held
 from test_text import FRAME, Pipes, fill
 from wurstlinen import Asker, Closed, Controller, NotOpen
+from wurstlinen._turns import Turns
 from wurstlinen.line import LineFailed
 from wurstlinen.lines import EnttecPro, TextLine
 from wurstlinen.lines.emulator import Emulator, Widget
@@ -57,6 +58,35 @@ class Waiting:
         test.assertRegex(str(self.fault), text)
 
 
+class Fair(TestCase):
+    def test_who_waits_has_the_next_turn(self) -> None:
+        """Beside a thread that takes a turn again at once. A busy machine may hold up some that begin to wait."""
+        waited = [self.turns_of_another() for _ in range(30)]
+        self.assertLessEqual(sorted(waited)[20], 1)
+
+    @staticmethod
+    def turns_of_another() -> int:
+        """How many turns another thread begins while this one waits for one."""
+        turns, has_begun, is_over = Turns(), threading.Event(), threading.Event()
+        begun = [0]
+
+        def work() -> None:
+            begun[0] += 1
+            has_begun.set()
+            time.sleep(0.002)
+
+        def run() -> None:
+            while not is_over.is_set():
+                turns.alone(work)
+        thread = threading.Thread(target=run)
+        thread.start()
+        has_begun.wait()
+        before = begun[0]
+        turns.alone(is_over.set)
+        thread.join()
+        return begun[0] - before
+
+
 class Texts(TestCase):
     def test_a_reply_is_awaited(self) -> None:
         for seconds in (None, 100.0):
@@ -80,7 +110,7 @@ class Texts(TestCase):
             others = [Waiting(lambda: pipes.line.exchange(FRAME)) for _ in range(3)]
             Waiting(lambda: pipes.line.exchange(FRAME)).ends(self, pipes.line.close, LineFailed, "closed")
             for other in others:
-                other.ends(self, pipes.line.close, LineFailed, "closed") if other._thread.is_alive() else None
+                other._thread.join(10 * STANDSTILL)
                 self.assertIsInstance(other.fault, LineFailed)
 
     def test_commands(self) -> None:

@@ -293,7 +293,6 @@ class WithTheLibrary(TestCase):
     def test_discover(self) -> None:
         *devices, frames = self.lines("discover")
         self.assertEqual(devices, [*UIDS[:4], f"{UIDS[4]} 0002 {UIDS[3]}"])
-        # README.md and LINES.md show this number.
         self.assertEqual(frames, "frames 525")
         self.assertEqual(self.lines("discover", "--quick")[:-1], devices)
         known = [word for uid in UIDS for word in ("--known", uid)]

@@ -16,7 +16,9 @@ from unittest import mock
 
 from common import PACKAGE, ROOT, TestCase, folder, needs_library
 from fronts import FIVE, LEFT, SLOW, OneRig, called
+from moments import Trace
 from wurstlinen import Session, Uid, commands, entries
+from wurstlinen._times import has_times
 from wurstlinen.front import files, frames, naming, pids
 from wurstlinen.front.output import Output
 from wurstlinen.lines import open_line
@@ -419,6 +421,15 @@ class Frames(TestCase):
             {"number": 1, "text": f"GET {LEFT} device_info", "frame": get, "answer": {"text": "silence"},
              "reply": ""}])
 
+    def test_times(self) -> None:
+        get = "cc01181234000000017a70000001000001000000200060000298"
+        text = (f'{{"frame":"{get}"}}\n{{"reply":"","microseconds":1700000000}}\n'
+                f'{{"frame":"{get}","reply":"","microseconds":1701250001}}\n{{"frame":"{get}","reply":""}}\n')
+        wanted = [f"{it}  GET {LEFT} device_info  -> silence" for it in ("0000  0.000000", "0001  1.250001", "0002")]
+        self.assertEqual(called("trace", "-", text=text), (0, "\n".join(wanted) + "\n", ""))
+        printed = called("trace", "-", "--json", text=text)[1].splitlines()
+        self.assertEqual([json.loads(line).get("microseconds") for line in printed], [1700000000, 1701250001, None])
+
     def test_answers_as_json(self) -> None:
         scene = open_line(FIVE_LINE)
         label = {"uid": LEFT, "parameter": "device_label", "pid": "0x0082"}
@@ -456,11 +467,29 @@ class Frames(TestCase):
         self.assertEqual(found[2:6], [{"text": "silence"}, {"text": LEFT, "uid": LEFT},
                                       {"text": "ACK 0x0002123400000005", "uid": LEFT}, {"text": "silence"}])
 
+    def test_a_log_that_is_truncated_while_it_is_read(self) -> None:
+        with folder() as place:
+            log = place / "log"
+            log.write_bytes(bytes(1 << 16))
+            trace = Trace()
+            trace.run(lambda: has_times(str(log)))
+            for moment in trace.moments():
+                log.write_bytes(bytes(1 << 16))
+                child = os.fork()
+                if not child:
+                    Trace(moment, action=lambda: os.truncate(log, 0)).run(lambda: has_times(str(log)))
+                    os._exit(0)
+                self.assertEqual(os.waitpid(child, 0)[1], 0, str(moment))
+
     def test_files_that_are_no_logs(self) -> None:
-        for text in ("[" * 100_000, "x\n", "7\n", "null\n",
-                     '{"frame":"0"}\n', '{"frame":7}\n', '{"frame":"00","reply":[]}\n', "\n"):
+        for text in ("[" * 100_000, "x\n", "7\n", "null\n", "[]\n",
+                     '{"frame":"0"}\n', '{"frame":7}\n', '{"frame":"00","reply":[]}\n', "\n",
+                     *(f'{{"frame":"00","reply":"","microseconds":{each}}}\n' for each in ("1e3", "-1", 1 << 63))):
             self.assertEqual(called("trace", "-", text=text),
                              (2, "", "wurstlinen: -: line 1 isn't an entry of a log\n"), text)
+        for text in ('["failed"]', '"failed"'):
+            self.assertEqual(called("trace", "-", text=f'{{"frame":"00"}}\n{text}\n'),
+                             (2, "", "wurstlinen: -: line 2 isn't an entry of a log\n"))
         self.assertEqual(called("trace", "-", text="{}".ljust(262_142) + "\n"), (0, "", ""))
         for name, text in (("-", "{}".ljust(262_143) + "\n"), ("/dev/zero", "")):
             self.assertEqual(called("trace", name, text=text),

@@ -7,14 +7,14 @@ from __future__ import annotations
 import contextlib
 import json
 import unittest
-from typing import Any, Iterator, List, Sequence
+from typing import Any, Iterator, List, Sequence, Union
 from unittest import mock
 
-from asking import DEVICE, Clock
+from asking import DEVICE, Clock, Device, ack
 from common import TestCase, folder, needs_library, scene
 from fronts import called
 from servers import Program, here
-from wurstlinen import AckType, Asker, Completion, Controller, Incomplete, Session, Status, Unanswered, connect
+from wurstlinen import AckType, Asker, Completion, Controller, Incomplete, Session, Status, Uid, Unanswered, connect
 from wurstlinen.lines import Rig
 from wurstlinen.lines.numbers import Pid
 from wurstlinen.lines.scene import Scene
@@ -139,6 +139,58 @@ class Asks(TestCase):
                                                        if isinstance(each, Completion)]), (WHOLE, [b""]))
 
 
+class Fixtures:
+    """A client that polls fixtures. Each has timed out once."""
+
+    def __init__(self, queue: Union[Controller, Session], count: int) -> None:
+        self.is_off = True
+        self.client = queue.join(1)
+        self.line = Device(lambda command: None if self.is_off else ack(command.pid, WHOLE))
+        assert {self.polled(number).status for number in range(count)} == {Status.TIMEOUT}
+        self.is_off = False
+
+    def polled(self, number: int) -> Completion:
+        """How a GET of this fixture ends."""
+        self.client.get(Uid(0x1234, number), LABEL)
+        self.client.queue.run(self.line)
+        done = self.client.next_completion()
+        assert done is not None
+        return done
+
+    def flagged(self, numbers: Sequence[int]) -> List[int]:
+        """Those of them whose answers may be incomplete."""
+        return [number for number in numbers if self.polled(number).may_be_incomplete]
+
+
+@needs_library
+class Polls(TestCase):
+    """Many fixtures are off for a while."""
+
+    def test_each_answer_is_flagged_once(self) -> None:
+        for count in (100, 1_024):
+            numbers = list(range(count))
+            with Controller("7a70:00000100") as queue:
+                fixtures = Fixtures(queue, count)
+                self.assertEqual([fixtures.flagged(numbers) for _ in range(3)], [numbers, [], []])
+
+    def test_a_rotation_goes_on(self) -> None:
+        with Session("7a70:00000100", 2_000) as queue:
+            fixtures = Fixtures(queue, 100)
+            queue.rotate(2_000).dispose()
+            numbers = list(range(100))
+            self.assertEqual([fixtures.flagged(numbers) for _ in range(2)], [numbers, []])
+
+    def test_more_than_are_noted(self) -> None:
+        numbers = list(range(1_025))
+        with Controller("7a70:00000100") as queue:
+            fixtures = Fixtures(queue, len(numbers))
+            self.assertEqual(fixtures.flagged(numbers), numbers)
+            # The 1,024 that were last whole aren't flagged.
+            self.assertEqual(fixtures.flagged(numbers[1:]), [])
+            self.assertEqual(fixtures.flagged([0, 0]), [0])
+            self.assertEqual(fixtures.flagged([2, 1]), [1])
+
+
 @needs_library
 class Served(TestCase):
     """The same by a server."""
@@ -187,7 +239,7 @@ class Served(TestCase):
                 self.assertIn(text, file.read_text())
 
     def test_commands_that_get_no_whole_answer(self) -> None:
-        why = "no whole answer came: other GETs of the same break off again and again"
+        why = "no whole answer came: other GETs of the same, or over 1,024 others, break off again and again"
 
         class Broken(Controller):
             """A queue whose answers may all be incomplete."""

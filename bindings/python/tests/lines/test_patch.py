@@ -9,6 +9,7 @@ from unittest import mock
 
 from common import TestCase, folder, needs_library
 from fronts import LEFT, OneRig, called
+from wurstlinen.front.output import Output
 from wurstlinen.front.sheets import NoSheet, sheet_of
 
 RIGHT = "1234:00000002"
@@ -67,6 +68,17 @@ class Guarded(OneRig):
         self.assertEqual(self.apply(f"uid,address\n{LEFT},9\n", "--force"),
                          (0, change + problem + truss + "1 change\n", ""))
         self.assertEqual(self.sets(), 1)
+
+    def test_set_says_what_overlaps_on_a_terminal(self) -> None:
+        words = ("set", LEFT, "dmx_start_address")
+        self.assertEqual(self.run_command(*words, "9"), (0, "", ""))
+        overlaps = f"wurstlinen: {LEFT} Left 9-15 overlaps {RIGHT} Right 15-21\n"
+        with mock.patch.object(Output, "is_seen", True):
+            status, out, errors = self.run_command(*words, "9")
+            self.assertEqual((status, out), (0, ""))
+            self.assertIn(overlaps, errors)
+            self.assertIn(f"wurstlinen: {LEFT} Left 510-516 ends after 512\n", self.run_command(*words, "510")[2])
+            self.assertNotIn("overlaps", self.run_command(*words, "100")[2])
 
     def test_a_personality(self) -> None:
         self.run_command("set", LEFT, "dmx_start_address", "2")

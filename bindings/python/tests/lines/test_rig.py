@@ -196,6 +196,12 @@ class Parts(TestCase):
         self.assertEqual(controller.set(LAMP, 0x0082, b"x"), Answer(ACK, b"", 0x0082))
         self.assertEqual(controller.get(LAMP, 0x0082).data, b"ab")
 
+    def test_a_broadcast_get_moves_no_answer_on(self) -> None:
+        params = [{"pid": "0082", "parts": ["61", "62"]}]
+        controller = Controller(Rig(scene(devices=[{"uid": "1234:00000001", "params": params}])))
+        self.assertIs(controller.get(ALL_DEVICES, 0x0082), TIMEOUT)
+        self.assertEqual(controller.get(LAMP, 0x0082).data, b"ab")
+
 
 class Timers(TestCase):
     def setUp(self) -> None:

@@ -30,7 +30,10 @@ class Logs(LongTestCase):
                 program.next("data")
             entries = [json.loads(line) for line in log.read_text().splitlines()]
             self.assertEqual([each["entry"] for each in entries[:17]], ["opening", *["join"] * 16])
-            self.assertEqual(entries[-1], {"entry": "close"})
+            self.assertEqual(list(entries[-1].items())[0], ("entry", "close"))
+            times = [each["microseconds"] for each in entries[1:] if each["entry"] in ("send", "came")]
+            self.assertEqual((times, "microseconds" in entries[0]), (sorted(times), False))
+            self.assertGreater(len(set(times)), len(times) // 2)
             self.assertEqual(sum(each["entry"] == "accept" for each in entries),
                              sum(each["entry"] == "finish" for each in entries))
             done = command(made, "trace", str(log))

@@ -1,7 +1,9 @@
 """The client's end of a connection to a server: servers of another version, and a close from another thread."""
 from __future__ import annotations
 
+import itertools
 import json
+import math
 import threading
 from typing import Callable, List
 from unittest import mock
@@ -11,9 +13,9 @@ from moments import held
 from servers import SECONDS, here, runtime
 from test_closing import Waiting
 from test_serve import FIVE, LEFT, Gate
-from wurstlinen import LineFailed, SharedClient, connect
+from wurstlinen import LineBusy, LineFailed, SharedClient, connect
 from wurstlinen.lines import OpenLine, Rig
-from wurstlinen.shared import worker
+from wurstlinen.shared import connection, peer, worker
 from wurstlinen.shared.listening import Place
 
 
@@ -62,11 +64,24 @@ class Strangers(TestCase):
                 self.assertRaisesRegex(LineFailed, "says what is no object of the protocol", connect, "rig:/it")
             self.assertEqual(held(), before)
 
+    def test_refusals_that_pass(self) -> None:
+        """On a busy machine a hello may be late, too."""
+        for name in ("Closed", "NoHello", "TooManyClients", "TooManyConnections"):
+            with runtime(), Stranger({"error": name, "text": "not now"}):
+                self.assertRaisesRegex(LineBusy, "refused it: not now", connect, "rig:/it")
+        with runtime(), Stranger({"error": "OtherUser", "text": "not here"}), self.assertRaises(LineFailed) as caught:
+            connect("rig:/it")
+        self.assertNotIsInstance(caught.exception, LineBusy)
+        # A program waits as long as its server does.
+        self.assertGreaterEqual(connection.ANSWER_SECONDS, peer.STALL_SECONDS)
+
     def test_results(self) -> None:
         for said in ({"status": 0}, {"status": 99, "request": 0}, {"status": 0, "request": 0, "ack": 0},
                      {"fault": 9, "discovery": 0, "run": 1, "devices": []}, {"fault": 0, "discovery": 0, "run": 1},
-                     {"fault": 0, "discovery": 0, "run": 1, "devices": [{"uid": "1"}]}, {"event": "pause"},
-                     {"event": "line"}, {"event": "missed", "count": "x"}):
+                     {"fault": 0, "discovery": 0, "run": 1, "devices": [{"uid": "1"}]},
+                     {"fault": 0, "discovery": 0, "run": 1, "devices": "x"}, {"status": 0, "request": "0"},
+                     {"fault": 0, "discovery": 0, "run": None, "devices": []}, {"event": "pause"}, {"event": "line"},
+                     {"event": "missed", "count": "x"}):
             with runtime(), Stranger(GREETING, said), connect("rig:/it") as client:
                 self.assertRaisesRegex(LineFailed, "says what is no object of the protocol", client.queue._sleep, 1.0)
                 self.assertRaisesRegex(LineFailed, "isn't connected any more", client.get, LEFT, 0x82)
@@ -77,8 +92,9 @@ class Strangers(TestCase):
         calls: List[Callable[[SharedClient], object]] = [
             lambda client: client.get(LEFT, 0x82), SharedClient.discover, lambda client: client.queue.pause(),
             lambda client: client.queue.resume(), devices, lambda client: client.queue.devices_run()]
-        for call in calls:
-            with runtime(), Stranger(GREETING, {"id": 2}), connect("rig:/it") as client:
+        infinite = {"id": 2, **dict.fromkeys(("request", "discovery", "run"), math.inf)}
+        for call, said in itertools.product(calls, ({"id": 2}, infinite)):
+            with runtime(), Stranger(GREETING, said), connect("rig:/it") as client:
                 self.assertRaisesRegex(LineFailed, "says what is no object of the protocol", call, client)
 
 

@@ -13,6 +13,7 @@ from typing import Any, Callable, List, Optional, Tuple
 from unittest import mock
 
 from common import ENTTEC, LongTestCase, folder, needs_library, one
+from page_logs import found_in
 from test_page import STAND_IN
 from test_text import get
 from wurstlinen import tool
@@ -219,8 +220,8 @@ class Signals(LongTestCase):
         log.write_text(LOG)
         program.write_text(STAND_IN.format(python=sys.executable))
         program.chmod(0o755)
-        for name, text in (("lines", "discovery: full, steady\n"), ("status", "0"), ("script", "")):
-            (self.place / name).write_text(text)
+        for name, text in (("lines", found_in(LOG)), ("status", b"0"), ("script", b"")):
+            (self.place / name).write_bytes(text)
         os.environ["WURSTLINEN_PROGRAM"] = str(program)
         self.addCleanup(os.environ.pop, "WURSTLINEN_PROGRAM")
 

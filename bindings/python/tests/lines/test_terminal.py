@@ -14,7 +14,7 @@ from typing import Any, List
 from unittest import mock
 
 from common import ListLine, TestCase, folder
-from wurstlinen.line import LineFailed
+from wurstlinen.line import LineBusy, LineFailed
 from wurstlinen.lines import EnttecPro
 from wurstlinen.lines.emulator import Emulator
 from wurstlinen.lines.terminal import Terminal
@@ -79,6 +79,14 @@ class Locks(TestCase):
             with EnttecPro(emulator.path, locks):
                 self.assertTrue(is_exclusive(emulator.path))
             self.assertFalse(is_exclusive(emulator.path))
+
+    def test_a_device_that_an_ended_program_has_left_so(self) -> None:
+        fault = OSError(errno.EBUSY, os.strerror(errno.EBUSY))
+        with folder() as locks, Emulator(ListLine()) as emulator, \
+                mock.patch("wurstlinen.lines.terminal._make_raw", side_effect=fault):
+            with self.assertRaisesRegex(LineBusy, "busy; if no program uses it, plug it in again, or start the rig"):
+                EnttecPro(emulator.path, locks)
+            self.assertEqual(os.listdir(locks), [])
 
     def test_a_stale_lock_is_replaced(self) -> None:
         ended = subprocess.Popen([sys.executable, "-c", ""])

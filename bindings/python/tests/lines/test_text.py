@@ -531,7 +531,7 @@ class Openings(TestCase):
         self.assertLess(time.monotonic() - began, 10)
 
     def test_texts_that_name_no_line(self) -> None:
-        for text in ("", "enttec", "enttec:", "serial:/dev/ttyUSB0", "/dev/ttyUSB0"):
+        for text in ("", "enttec", "enttec:", "serial:/dev/ttyUSB0", "/nowhere/ttyUSB0"):
             with self.assertRaises(ValueError):
                 open_line(text)
         for text, reason in (("exec: ", "without a command"), ("exec:'a", "can't be split into words: No closing")):

@@ -17,6 +17,7 @@ from wurstlinen import tool
 from wurstlinen.front.frames import Parts
 from wurstlinen.front.output import Failure, Output
 from wurstlinen.front.watched import WatchedLine
+from wurstlinen.line import LineFailed
 from wurstlinen.lines import open_line
 from wurstlinen.lines.keys import SceneFault
 from wurstlinen.lines.numbers import CommandClass, Pid, ResponseType
@@ -126,6 +127,9 @@ class Lines(TestCase):
     def test_a_device_is_an_adapter(self) -> None:
         with self.assertRaisesRegex(Exception, "/dev/null can't be opened: Inappropriate ioctl"):
             open_line("/dev/null")
+        for text in ("/dev/ttyUSB99", "enttec:/dev/ttyUSB99"):
+            with self.assertRaisesRegex(LineFailed, "^/dev/ttyUSB99 can't be opened: No such file or directory$"):
+                open_line(text)
         for text in ("/nowhere", str(FIVE), "foo", "a\0b", ""):
             with self.assertRaisesRegex(ValueError, "names no line; a line is enttec:DEVICE, "):
                 open_line(text)

@@ -3,9 +3,10 @@ from __future__ import annotations
 
 import contextlib
 import json
-from typing import Callable, Dict, Iterator, List, Optional, Sequence, Tuple
+from typing import Callable, Dict, Iterator, Optional, Sequence, Tuple
 
 from .. import DEFAULT_BUDGET, Uid
+from .._times import now, timeless
 from ..lines.numbers import Pid
 from ..lines.packets import decode_packet
 from .output import FAILED, Failure
@@ -24,12 +25,13 @@ class DiscoveryLog:
         self._write(entry="opening", source=str(source), budget=DEFAULT_BUDGET, search="quick", discover="full",
                     known=[])
 
-    def add(self, frame: bytes, reply: Optional[bytes]) -> None:
-        """An exchange. None is a line that failed."""
+    def add(self, frame: bytes, reply: Optional[bytes], microseconds: Optional[int] = None) -> None:
+        """An exchange, whose reply came at this time, or now. None is a line that failed."""
         command = decode_packet(frame)
         assert command is not None
         came: Dict[str, object] = {"failed": True} if reply is None else {"reply": reply.hex()}
-        self._write(number=self._number, operation=OPERATIONS[Pid(command.pid)], frame=frame.hex(), **came)
+        self._write(number=self._number, operation=OPERATIONS[Pid(command.pid)], frame=frame.hex(), **came,
+                    microseconds=microseconds or now())
         self._number += 1
 
     def _write(self, **keys: object) -> None:
@@ -63,18 +65,19 @@ def sink_of(name: Optional[str]) -> Iterator[Optional[Sink]]:
 
 def explained(program: str, lines: Sequence[str], uids: Sequence[Uid]) -> Dict[Uid, str]:
     """What the proved program says of devices that were on the line, by a discovery's log. Raises OSError."""
-    said = {uid: text for uid, _, text in (line.partition(" ") for line in explanation(program, lines, uids)[1])}
+    printed = explanation(program, lines, uids)[1].decode(errors="replace").splitlines()
+    said = {uid: text for uid, _, text in (line.partition(" ") for line in printed)}
     return {uid: said[str(uid)] for uid in uids if said.get(str(uid))}
 
 
-def explanation(program: str, lines: Sequence[str], uids: Sequence[Uid]) -> Tuple[int, List[str]]:
-    """The proved program's status, and all lines that it prints about that. Raises OSError."""
+def explanation(program: str, lines: Sequence[str], uids: Sequence[Uid], *options: str) -> Tuple[int, bytes]:
+    """The proved program's status, and all that it prints about that. Raises OSError."""
     import subprocess
     import tempfile
     with tempfile.NamedTemporaryFile("w", prefix="wurstlinen.", suffix=".log") as log:
-        log.writelines(lines)
+        log.writelines(map(timeless, lines))
         log.flush()
         words = [word for uid in uids for word in ("--present", str(uid))]
-        done = subprocess.run(["wurstlinen", "explain", log.name, *words], executable=program, check=False,
-                              stdout=subprocess.PIPE, stderr=subprocess.DEVNULL, encoding="utf-8", errors="replace")
-    return done.returncode, done.stdout.splitlines()
+        done = subprocess.run(["wurstlinen", "explain", log.name, *options, *words], executable=program, check=False,
+                              stdout=subprocess.PIPE, stderr=subprocess.DEVNULL)
+    return done.returncode, done.stdout

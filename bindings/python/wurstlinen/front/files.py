@@ -30,10 +30,11 @@ class NewFile:
 
 
 @contextlib.contextmanager
-def file_of(name: str, encoding: str = "utf-8") -> Iterator[NewFile]:
+def file_of(name: str, encoding: str = "utf-8", new_mode: int = NEW_MODE) -> Iterator[NewFile]:
     """A file for the duration of a `with`, which replaces a file of this name at its end, with its mode and owner.
 
-    What is no file on a disk, such as a device or a FIFO, is written to. Raises OSError, at once if there is no place.
+    A new one has at most `new_mode`. What is no file on a disk, such as a device or a FIFO, is written to. Raises
+    OSError, at once if there is no place.
     """
     if not name:
         raise FileNotFoundError(errno.ENOENT, os.strerror(errno.ENOENT), name)
@@ -45,7 +46,7 @@ def file_of(name: str, encoding: str = "utf-8") -> Iterator[NewFile]:
     path = os.path.realpath(name)
     made = os.path.join(os.path.dirname(path), f".wurstlinen.{os.urandom(8).hex()}")
     # A new file gets the usual mode from the system. Another one is nobody else's until it has the old one's mode.
-    mode = NEW_MODE if old is None else PRIVATE_MODE
+    mode = new_mode if old is None else PRIVATE_MODE
     try:
         with open(made, "x", encoding=encoding, opener=lambda path, flags: os.open(path, flags, mode)) as file:
             if old is not None:

@@ -52,9 +52,10 @@ class Parts:
         return Reply(reply, response)
 
 
-def exchange_text(number: int, frame: bytes, reply: Reply) -> str:
-    """A frame and its reply, on one line."""
-    return f"{number:04d}  {command_of(frame)}  -> {answer_text(frame, reply)}"
+def exchange_text(number: int, frame: bytes, reply: Reply, seconds: Optional[float] = None) -> str:
+    """A frame and its reply, on one line, with its time if that is known."""
+    time = "" if seconds is None else f"{seconds:.6f}  "
+    return f"{number:04d}  {time}{command_of(frame)}  -> {answer_text(frame, reply)}"
 
 
 def bytes_of(frame: bytes, reply: Optional[bytes]) -> Iterator[str]:

@@ -78,6 +78,14 @@ def guard(work: Work, rows: Sequence[Row], changes: Sequence[Change], is_forced:
                       reason="patch")
 
 
+def note_problems(work: Work, uid: Uid) -> None:
+    """Notes what is wrong with the slots of a device that was moved. Raises Failure."""
+    for problem in problems_of(fixtures_of(work, [uid])):
+        if uid in problem.devices:
+            label_all(work, [], (problem.fixture, problem.other))
+            work.output.note(f"{named(problem.fixture)} {problem.slots_text}")
+
+
 def fixtures_of(work: Work, moved: Iterable[Uid]) -> List[Fixture]:
     """The devices on the line, and those that are to be moved, as they are now."""
     devices, fault = work.discover()

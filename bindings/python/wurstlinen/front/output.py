@@ -42,9 +42,14 @@ class Output:
         self._progress = ""
         self._lock = RLock()
 
+    @property
+    def is_seen(self) -> bool:
+        """Whether a person sees remarks as they come."""
+        return not self.is_json and self._errors.isatty()
+
     def progress(self, text: str) -> None:
         """How far a command is: on a terminal, until something else is printed."""
-        if self.is_json or not self._errors.isatty():
+        if not self.is_seen:
             return
         # The work goes on, even if nobody can see it.
         with self._lock, contextlib.suppress(OSError):

@@ -19,6 +19,8 @@ ON = b"\x01"
 OFF = b"\x00"
 PID_DIGITS = 4
 IDENTIFY_DEVICE = 0x1000
+# What gives a device other slots.
+MOVES = ("dmx_start_address", "dmx_personality")
 
 
 class Asked(NamedTuple):
@@ -122,6 +124,10 @@ def run_set(chosen: argparse.Namespace, output: Output) -> int:
             output.reading(str(uid), parameter, decode(parameter, True, completion.data))
         elif output.is_json:
             output.result([], uid=str(uid), parameter=parameter.name, pid=f"0x{pid:04x}", done=True)
+        # That takes a discovery, which a script that sets many doesn't want.
+        if parameter.name in MOVES and not chosen.sub and not uid.is_broadcast and output.is_seen:
+            from .guarding import note_problems
+            note_problems(work, uid)
     return DONE
 
 

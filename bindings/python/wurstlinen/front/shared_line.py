@@ -26,7 +26,7 @@ class SharedLine(Watched):
         self._queue = queue
         # The run whose exchanges come now, these for the log, and what was known before.
         self._run = 0
-        self._exchanges: List[Tuple[bytes, Optional[bytes]]] = []
+        self._exchanges: List[Tuple[bytes, Optional[bytes], Optional[int]]] = []
         self._before: Tuple[int, Set[int]] = (0, set())
         # How many frames didn't come, since they weren't read in time.
         self._missed = 0
@@ -62,8 +62,8 @@ class SharedLine(Watched):
         if log is not None and self._missed:
             raise LineFailed(f"{self._missed} frames weren't read in time, so there is no log")
         if log is not None:
-            for frame, reply in self._exchanges:
-                log.add(frame, reply)
+            for exchange in self._exchanges:
+                log.add(*exchange)
 
     def leave(self) -> None:
         """The exchanges don't matter from now on."""
@@ -78,7 +78,8 @@ class SharedLine(Watched):
             return
         if run is not None and run != self._run:
             self._begin_run(run)
-        self.saw(bytes.fromhex(keys["frame"]), None if "failed" in keys else bytes.fromhex(keys["reply"]))
+        self.saw(bytes.fromhex(keys["frame"]), None if "failed" in keys else bytes.fromhex(keys["reply"]),
+                 keys.get("microseconds"))
 
     def _begin_run(self, run: int) -> None:
         """Forgets the run before, which was for others."""
@@ -87,6 +88,6 @@ class SharedLine(Watched):
         self.frames, self.talkative = self._before[0], set(self._before[1])
         self._exchanges = []
 
-    def _record(self, frame: bytes, reply: Optional[bytes]) -> None:
+    def _record(self, frame: bytes, reply: Optional[bytes], microseconds: Optional[int]) -> None:
         if self.log is not None:
-            self._exchanges.append((frame, reply))
+            self._exchanges.append((frame, reply, microseconds))

@@ -54,11 +54,11 @@ class Watched:
         self.found = self.log = None
         self._output.end_progress()
 
-    def saw(self, frame: bytes, reply: Optional[bytes]) -> None:
-        """An exchange was made. None is a line that failed."""
+    def saw(self, frame: bytes, reply: Optional[bytes], microseconds: Optional[int] = None) -> None:
+        """An exchange was made, at this time or now. None is a line that failed."""
         self._show(self.frames, frame, reply)
         self.frames += 1
-        self._record(frame, reply)
+        self._record(frame, reply, microseconds)
         if self.found is not None and reply is not None:
             self._note(self.found, frame, reply)
 
@@ -78,9 +78,9 @@ class Watched:
         if self._shown is None:
             self._output.progress(f"{len(found)} found, {self.frames} frames")
 
-    def _record(self, frame: bytes, reply: Optional[bytes]) -> None:
+    def _record(self, frame: bytes, reply: Optional[bytes], microseconds: Optional[int]) -> None:
         if self.log is not None:
-            self.log.add(frame, reply)
+            self.log.add(frame, reply, microseconds)
 
     def _show(self, number: int, frame: bytes, reply: Optional[bytes]) -> None:
         if self._shown is None:

@@ -77,9 +77,11 @@ class Fixture:
         """What it sends after a command for it that isn't a branch; no bytes if it doesn't answer."""
         if exchange != self._parted_at + 1 or self._parted != _identity(command):
             self._parted = None
+        # A broadcast GET has no effect: nobody answers it, so an answer in parts doesn't go on either.
+        is_done = command.command_class == CommandClass.SET or not is_broadcast(command.destination)
         if command.command_class == CommandClass.DISCOVERY:
             response = self._discovered(command, exchange)
-        elif command.command_class in (CommandClass.GET, CommandClass.SET):
+        elif command.command_class in (CommandClass.GET, CommandClass.SET) and is_done:
             response = self._requested(command, exchange, now)
         else:
             response = None

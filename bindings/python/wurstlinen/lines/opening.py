@@ -48,9 +48,9 @@ def open_line(text: str, seconds: Optional[float] = None) -> OpenLine:
 
 
 def is_device(text: str) -> bool:
-    """Whether a text is the name of a device, such as a terminal."""
+    """Whether a text is the name of a device, such as a terminal; perhaps of one that isn't plugged in."""
     try:
-        return stat.S_ISCHR(os.stat(text).st_mode)
+        return text.startswith("/dev/tty") or stat.S_ISCHR(os.stat(text).st_mode)
     except (OSError, ValueError):
         return False
 

@@ -35,8 +35,9 @@ class Terminal:
         except (OSError, termios.error) as error:
             failure = self._closed(f"{path} can't be opened: {_reason(error)}")
             # Who has it made it exclusive, and has no lock file.
-            is_busy = getattr(error, "errno", None) == errno.EBUSY
-            raise (LineBusy(str(failure)) if is_busy else failure) from error
+            if getattr(error, "errno", None) == errno.EBUSY:
+                failure = LineBusy(f"{failure}; if no program uses it, plug it in again, or start the rig again")
+            raise failure from error
         except BaseException:
             self.close()
             raise

@@ -14,7 +14,8 @@ from .._types import (
 )
 from ..line import Line, LineFailed
 from .connection import Connection, NotServed, dict_of
-from .words import Keys, completion_of, devices_of, discovery_of, keys_of_request, uid_in
+from .words import (
+    MOST_NUMBER, Keys, completion_of, devices_of, discovery_of, keys_of_request, number_in, uid_in)
 
 KIND_WORDS = {Kind.FULL: "full", Kind.INCREMENTAL: "incremental"}
 SLICE_SECONDS = 0.1
@@ -123,7 +124,7 @@ class SharedQueue:
 
     def devices_run(self) -> int:
         """The number of the run that found them; 0 before the first."""
-        return self.connection.ask({"do": "devices"}, lambda keys: int(keys["run"]))
+        return self.connection.ask({"do": "devices"}, lambda keys: number_in(keys, "run", MOST_NUMBER))
 
     def subscribe(self, to: Iterable[str]) -> None:
         """Has these changes reported, and no others."""
@@ -182,7 +183,7 @@ class SharedClient:
         """Has a call accepted, and returns its number."""
         def submitted() -> int:
             """In one step, since another thread may receive the result."""
-            number = self.queue.connection.ask(keys, lambda answer: int(answer[name]))
+            number = self.queue.connection.ask(keys, lambda answer: number_in(answer, name, MOST_NUMBER))
             self.queue.outstanding.add((kind, number))
             return number
 

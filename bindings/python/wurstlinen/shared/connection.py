@@ -19,16 +19,17 @@ from .words import MOST_ANSWER_BYTES, MOST_NAME, VERSION, BadRequest, Keys, Line
 
 Made = TypeVar("Made")
 READ_BYTES = 1 << 16
-# A server that says nothing for this time is asked whether it is still there, and has so long to answer.
+# A server that says nothing for this time is asked whether it is still there, and has so long to answer: a busy machine
+# may let it stand still for ten seconds.
 QUIET_SECONDS = 2.0
-ANSWER_SECONDS = 10.0
+ANSWER_SECONDS = 30.0
 MILLISECONDS = 1000
 # SHUT_RDWR of the module socket, which a command doesn't load.
 BOTH_DIRECTIONS = 2
 # What a server says of itself, and of how things are.
 HELLO = {"line": str, "source": str, "process": int, "depth": int, "paused": bool, "there": bool, "clients": int}
 # What a server says, or does, to which the answer is to try again.
-PASSING = ("Closed", "HasEnded", "TooManyClients", "TooManyConnections")
+PASSING = ("Closed", "HasEnded", "NoHello", "TooManyClients", "TooManyConnections")
 
 
 class NotServed(LineFailed):

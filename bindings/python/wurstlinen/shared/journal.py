@@ -54,9 +54,9 @@ def opening_keys(source: Uid, search: Search) -> Dict[str, Any]:
             "next_request": 0, "next_ask": 0, "next_run": 1, "next_tn": 0, "number": 0}
 
 
-def entry_keys(entry: Entry) -> Dict[str, Any]:
-    """An entry as its line in a log has it."""
-    return {"entry": type(entry).__name__.lower(), **FORMS[type(entry)](entry)}
+def entry_keys(entry: Entry, microseconds: int) -> Dict[str, Any]:
+    """An entry of this time as its line in a log has it."""
+    return {"entry": type(entry).__name__.lower(), **FORMS[type(entry)](entry), "microseconds": microseconds}
 
 
 def entry_line(keys: Dict[str, Any]) -> bytes:
@@ -125,8 +125,8 @@ class Exchange:
         # Whose requests these are that haven't ended.
         self._clients: Dict[int, int] = {}
 
-    def keys(self, entry: Entry) -> Optional[Dict[str, Any]]:
-        """What a subscriber of frames gets, once the reply of a frame has come."""
+    def keys(self, entry: Entry, microseconds: int) -> Optional[Dict[str, Any]]:
+        """What a subscriber of frames gets, once the reply of a frame has come, at this time."""
         if isinstance(entry, Send):
             self._sent = entry
         elif isinstance(entry, Accept):
@@ -137,4 +137,5 @@ class Exchange:
             return None
         sent, self._sent = self._sent, None
         client = None if sent.number is None else self._clients.get(sent.number)
-        return {"event": "frame", **_send(sent), **({} if client is None else {"client": client}), **_came(entry)}
+        return {"event": "frame", **_send(sent), **({} if client is None else {"client": client}), **_came(entry),
+                "microseconds": microseconds}

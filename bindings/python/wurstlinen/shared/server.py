@@ -65,6 +65,7 @@ class Server:
             end.setblocking(False)
         self._worker: Optional[Worker] = None
         self._is_ending = False
+        self._is_paused = False
         self._listens = False
         self._listens_from = 0.0
         self._devices_run = 0
@@ -256,7 +257,7 @@ class Server:
         check_keys(keys, ())
         self._set_pause(self._is_paused_by(other for other in self._peers if other is not peer))
         peer.has_paused = False
-        return {"paused": self._session.is_paused()}
+        return {"paused": self._is_paused}
 
     @staticmethod
     def _is_paused_by(peers: Iterable[Peer]) -> bool:
@@ -264,9 +265,10 @@ class Server:
 
     def _set_pause(self, wanted: bool) -> None:
         """Pauses the queue, or has it go on."""
-        if wanted == self._session.is_paused() or self._is_ending:
+        if wanted == self._is_paused or self._is_ending:
             return
         (self._session.pause if wanted else self._session.resume)()
+        self._is_paused = wanted
         self.worker.wake()
         self._tell({"event": "pause", "paused": wanted})
 
@@ -297,8 +299,7 @@ class Server:
     def _status(self) -> Keys:
         clients = sum(lane.owner is not None for lane in self._lanes)
         keys: Keys = {"line": self._facts.line, "there": self.worker.is_line_there,
-                      "paused": self._session.is_paused(), "clients": clients,
-                      "outstanding": self._backlog.outstanding}
+                      "paused": self._is_paused, "clients": clients, "outstanding": self._backlog.outstanding}
         return keys if keys["there"] else {**keys, "reason": self.worker.absence}
 
     def _hand_out(self) -> None:
@@ -321,7 +322,7 @@ class Server:
 
     def _hand_on(self) -> None:
         """Gives the queue what it can do now. Else it stays here, where it can be dropped with its program."""
-        if self._is_ending or self._session.is_paused() or self.worker.is_waiting:
+        if self._is_ending or self._is_paused or self.worker.is_waiting:
             return
         # Without room in the log or memory, a later turn does it.
         with contextlib.suppress(Fault):

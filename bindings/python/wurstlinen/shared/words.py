@@ -19,6 +19,7 @@ MOST_LINE_BYTES = 4096
 # A result with 65,535 bytes of data is the longest answer.
 MOST_ANSWER_BYTES = 1 << 18
 MOST_ID = 2 ** 53
+MOST_NUMBER = 2 ** 64 - 1
 MOST_NAME = 64
 Keys = Dict[str, Any]
 
@@ -136,9 +137,9 @@ def completion_of(keys: Keys) -> Completion:
     head = None
     if "ack" in keys:
         head = ReplyHead(AckType(keys["ack"]), CLASSES_OF_RESPONSES[keys["response"]], int(keys["pid"], 16),
-                         keys["sub"])
-    return Completion(keys["request"], Status(keys["status"]), head, bytes.fromhex(keys.get("data", "")),
-                      bool(keys.get("may_be_incomplete", False)))
+                         number_in(keys, "sub", 0xFFFF))
+    return Completion(number_in(keys, "request", MOST_NUMBER), Status(keys["status"]), head,
+                      bytes.fromhex(keys.get("data", "")), bool(keys.get("may_be_incomplete", False)))
 
 
 def keys_of_device(device: Device) -> Keys:
@@ -149,8 +150,9 @@ def keys_of_device(device: Device) -> Keys:
 
 def device_of(keys: Mapping[str, str]) -> Device:
     """The same, read by a client."""
-    binding = keys.get("binding")
-    return Device(uid_in(keys["uid"]), int(keys["control"], 16), None if binding is None else uid_in(binding))
+    # What isn't an object has no such key.
+    uid, binding = keys["uid"], keys.get("binding")
+    return Device(uid_in(uid), int(keys["control"], 16), None if binding is None else uid_in(binding))
 
 
 def keys_of_discovery(found: Discovery) -> Keys:
@@ -168,7 +170,8 @@ def discovery_of(keys: Keys) -> Discovery:
     if keys["fault"]:
         uid = keys.get("uid")
         fault = RunFault(RunFaultKind(keys["fault"]), None if uid is None else uid_in(uid))
-    return Discovery(keys["discovery"], keys["run"], fault, devices_of(keys))
+    return Discovery(number_in(keys, "discovery", MOST_NUMBER), number_in(keys, "run", MOST_NUMBER), fault,
+                     devices_of(keys))
 
 
 def devices_of(keys: Keys) -> Tuple[Device, ...]:

@@ -7,7 +7,8 @@ from collections import deque
 from typing import Any, Callable, Deque, Dict, List, Optional
 
 from .. import LineFailed, LogFull, Session
-from ..entries import Entry
+from .._times import now
+from ..entries import Came, Entry, Send
 from ..lines import OpenLine
 from .journal import CAPACITY, Exchange, Journal, entry_keys, entry_line
 from .log_file import LogWriter
@@ -44,6 +45,8 @@ class Worker:
         self._journal = Journal(session)
         self._recording = threading.Lock()
         self._exchange_shown = Exchange()
+        # When the last frame was sent, and the last reply came.
+        self._sent_at = self._came_at = 0
         self._has_work = threading.Event()
         self._is_ending = threading.Event()
         self._gone_since: Optional[float] = None
@@ -113,11 +116,14 @@ class Worker:
             return True
         if frame is None:
             return False
+        self._sent_at = now()
         try:
             reply = self._reply(frame)
         except BaseException:
             self._session.fail()
             raise
+        finally:
+            self._came_at = now()
         self._report(reply)
         return True
 
@@ -197,7 +203,7 @@ class Worker:
             self._exchange_shown = Exchange()
             return []
         entries = [*self._journal.new(), *self._journal.drain()]
-        shown = [self._exchange_shown.keys(entry) for entry in entries]
+        shown = [self._exchange_shown.keys(entry, self._came_at) for entry in entries]
         self.events.extend(filter(None, shown if self.shows_frames else []))
         return entries
 
@@ -206,4 +212,5 @@ class Worker:
         with self._recording:
             entries = self._session._turns.alone(show)
             if self._log is not None:
-                self._log.add([entry_line(entry_keys(entry)) for entry in entries])
+                times = {Send: self._sent_at, Came: self._came_at}
+                self._log.add([entry_line(entry_keys(entry, times.get(type(entry)) or now())) for entry in entries])

@@ -79,6 +79,7 @@ def add_explain(made: Any, name: str) -> None:
     command.add_argument("file", metavar="LOG", help="a log that discover or run wrote")
     command.add_argument("--present", metavar="UID", action="append", help="a device that was on the line")
     command.add_argument("--rig", metavar="FILE", help="a scene file with devices that were on the line")
+    command.add_argument("--json", action="store_true", help="print one JSON object")
     command.add_argument("--page", metavar="FILE", help="an HTML file for a picture, which is replaced")
 
 

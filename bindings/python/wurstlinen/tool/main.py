@@ -11,6 +11,7 @@ from typing import TYPE_CHECKING, Iterator, List, Optional, Sequence, Tuple, Uni
 from .. import commands
 from .._endings import end_by
 from .._standard_streams import finish, mend
+from .._times import has_times
 from ..front import main as front
 from ..front.main import AS_BYTES, AS_TEXT, PROGRAM
 from ..front.main import run as run_chosen
@@ -120,8 +121,6 @@ def run_proved(words: List[str]) -> int:
     # A command that does without it doesn't load it.
     from . import serving
     if words[0] == "explain":
-        note_other_log(words)
-    if words[0] == "explain" and place_of(words, PAGE) is not None:
         return run_explain(program, words)
     is_json = words[0] in ("discover", "run") and place_of(words, JSON) is not None
     words = without(words, JSON) if is_json else words
@@ -191,11 +190,10 @@ def wait_line_of(words: Sequence[str]) -> float:
         raise Failure(BAD_ARGUMENTS, f"argument {WAIT_LINE}: {fault}", reason="arguments") from None
 
 
-def note_other_log(words: Sequence[str]) -> None:
+def note_other_log(name: str) -> None:
     """Says which of the two logs of the library for OLA is to be explained, if it is given the other one."""
-    names = [words[at] for at, name in parts(words) if not name]
-    if names and is_other_log(names[0]):
-        Output(False).note(f"{names[0]} is the log of WURSTLINEN_LOG, which '{PROGRAM} trace' reads; explain reads the "
+    if is_other_log(name):
+        Output(False).note(f"{name} is the log of WURSTLINEN_LOG, which '{PROGRAM} trace' reads; explain reads the "
                            "file of WURSTLINEN_RUNS")
 
 
@@ -212,16 +210,21 @@ def is_other_log(name: str) -> bool:
 
 
 def run_explain(program: str, words: List[str]) -> int:
-    """Explains a log, and writes a page about it. Raises Failure."""
-    page = option(words, PAGE)
-    if not page:
+    """Explains a log, and writes a page about it if one is wanted. Raises Failure."""
+    page, has_page = option(words, PAGE), place_of(words, PAGE) is not None
+    if has_page and not page:
         print(WRONG_WORDS, flush=True)
         raise Failure(BAD_ARGUMENTS, f"argument {PAGE}: expected one argument; try 'wurstlinen explain --help'",
                       reason="arguments")
     words = without(words, PAGE)
-    from . import explaining
     files = [words[at] for at, name in parts(words) if not name]
-    return explaining.explain(program, words, page, [*files, *filter(None, [option(words, "--rig")])])
+    for name in files[:1]:
+        note_other_log(name)
+    is_timed = any(map(has_times, files[:1]))
+    if not has_page and not is_timed:
+        return run_alone(program, words, False)
+    from . import explaining
+    return explaining.explain(program, words, page, [*files, *filter(None, [option(words, "--rig")])], is_timed)
 
 
 def line_of_discovery() -> str:
