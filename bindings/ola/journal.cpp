@@ -53,8 +53,10 @@ static std::uint64_t microseconds(clockid_t clock) {
     return std::uint64_t(now.tv_sec) * 1000000 + std::uint64_t(now.tv_nsec) / 1000;
 }
 
+std::uint64_t clock_time() { return microseconds(CLOCK_REALTIME); }
+
 std::string stamp() {
-    return "{\"microseconds\":" + json(microseconds(CLOCK_REALTIME)) + ",\"monotonic\":"
+    return "{\"microseconds\":" + json(clock_time()) + ",\"monotonic\":"
         + json(microseconds(CLOCK_MONOTONIC));
 }
 

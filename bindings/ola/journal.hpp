@@ -40,8 +40,11 @@ void write_record(unsigned int controller, std::initializer_list<std::string> fi
 void lose_record() noexcept;
 void lose_run() noexcept;
 
-// What each line of the log begins with: the time of the clock, which may be set, and the time since the system's
-// start, which only goes forward.
+// The microseconds since 1970, by the clock, which may be set.
+std::uint64_t clock_time();
+
+// What each line of the log begins with: the time of the clock, and the time since the system's start, which only goes
+// forward.
 std::string stamp();
 
 // Adds a line to the log, if there is one: a JSON object with these keys and values, one after the other. It doesn't

@@ -71,7 +71,7 @@ void RunLog::add(const std::string &event) {
     if (frame_.empty()) {
         return;
     }
-    const std::string line = std::exchange(frame_, "") + ',' + event + "}\n";
+    const std::string line = std::exchange(frame_, "") + ',' + event + ",\"microseconds\":" + json(now_()) + "}\n";
     if (text_.size() + line.size() > MOST_BYTES) {
         write_(std::exchange(text_, opening_));
     }

@@ -1,4 +1,4 @@
-// The log of a controller's runs, with the lines that the program writes by `discover --log`.
+// The log of a controller's runs, with the lines that the program writes by `discover --log`, and with times.
 #pragma once
 #include "journal.hpp"
 #include <functional>
@@ -19,8 +19,9 @@ struct RunOpening {
 class RunLog {
 public:
     // `write` gets the lines of each run or part. `lose` is called at the end of one that there is no memory for.
-    explicit RunLog(std::function<void(const std::string &)> write = write_run, void (*lose)() = lose_run)
-        : write_(std::move(write)), lose_(lose) {}
+    explicit RunLog(std::function<void(const std::string &)> write = write_run, void (*lose)() = lose_run,
+                    std::uint64_t (*now)() = clock_time)
+        : write_(std::move(write)), lose_(lose), now_(now) {}
 
     void begin(const RunOpening &opening) noexcept;
     // A frame of the run, and then either what came after it or that the exchange failed. Without a frame before, these
@@ -39,6 +40,7 @@ private:
 
     const std::function<void(const std::string &)> write_;
     void (*const lose_)();
+    std::uint64_t (*const now_)();
     std::string opening_;
     std::string text_;
     // The frame that awaits its answer, without the line's end; empty if there is none.

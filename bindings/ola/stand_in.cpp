@@ -391,7 +391,7 @@ bool StandIn::ask_again(const wurst::CompletionView &done) {
     Request &oldest = requests_.front();
     if (oldest.repeats == MOST_REPEATS) {
         tell(name(), Level::Warn, oldest.request->DestinationUID(),
-             " gave no whole answer to a GET, since others of the same break off again and again");
+             " gave no whole answer to a GET, as others of the same, or over 1,024 others, break off again and again");
         return false;
     }
     Requests again;

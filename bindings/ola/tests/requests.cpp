@@ -194,6 +194,31 @@ void test_endless_rests() {
     CHECK(second.got.size() == 2 && second.last() == RDM_COMPLETED_OK);
 }
 
+// Each of 100 fixtures times out once. Then a GET of each waits, and is asked again once.
+void test_many_rests() {
+    constexpr unsigned int fixtures = 100;
+    Lower lower;
+    lower.when = When::Later;
+    lower.answers = [&](const RDMRequest &request) {
+        return lower.sent.size() <= fixtures ? std::make_unique<RDMReply>(RDM_TIMEOUT)
+                                             : part(request, {7}, true, request.DestinationUID());
+    };
+    Client client;
+    Queue queue(&lower, fixtures);
+    for (const RDMStatusCode expected : {RDM_TIMEOUT, RDM_COMPLETED_OK}) {
+        client.got.clear();
+        for (unsigned int i = 0; i < fixtures; i++) {
+            queue.SendRDMRequest(get(PID_DEVICE_LABEL, UID(0x1234, i)), client.callback());
+        }
+        lower.answer_all();
+        CHECK(client.got.size() == fixtures);
+        for (const Got &got : client.got) {
+            CHECK(got.status == expected);
+        }
+    }
+    CHECK(lower.sent.size() == 3 * fixtures);
+}
+
 // A message that broke off is asked for once more, and not the one after it.
 void test_rest_of_message() {
     Lower lower;
@@ -347,6 +372,7 @@ void test_requests() {
         test_rest(lost);
     }
     test_endless_rests();
+    test_many_rests();
     test_rest_of_message();
     test_pauses();
     test_limits();

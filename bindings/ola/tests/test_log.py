@@ -25,6 +25,7 @@ from typing import Any, Dict, List, NamedTuple, NoReturn, Optional, Sequence, Tu
 
 from checks import Checks, random_scene, uids_of
 from daemon import ROOT, Adapter, Daemon, becomes, other_user
+from wurstlinen._times import timeless
 from wurstlinen.lines.emulator import Widget
 from wurstlinen.lines.scene import Scene
 
@@ -41,12 +42,14 @@ SOON_SECONDS = 60.0
 MEGABYTE = 1000000
 TERMINATED = 143
 SERIALS = (0x01020304, 0x05060708)
-# The lines that the program writes (docs/FORMATS.md, the log as text), from the controller that the library is.
+# The lines that the program writes (docs/FORMATS.md, the log as text), with times, from the controller that the library
+# is.
 UID = "[0-9a-f]{4}:[0-9a-f]{8}"
 OPENING = re.compile(r'\{"entry":"opening","source":"7ff0:00000001","budget":384008,"search":"quick",'
                      rf'"discover":"(full|incremental)","known":\[((?:"{UID}"(?:,(?="))?)*)\]\}}')
 EXCHANGE = re.compile(r'\{"number":(0|[1-9][0-9]*),"operation":"(branch|mute|unmute)",'
-                      r'"frame":"((?:[0-9a-f]{2}){26,257})",(?:"reply":"((?:[0-9a-f]{2}){0,257})"|"failed":true)\}')
+                      r'"frame":"((?:[0-9a-f]{2}){26,257})",(?:"reply":"((?:[0-9a-f]{2}){0,257})"|"failed":true)'
+                      r',"microseconds":[0-9]{16}\}')
 # The PIDs of a discovery's commands (E1.20, packet format).
 PIDS = {"branch": 1, "mute": 2, "unmute": 3}
 UNMUTES = 3
@@ -251,7 +254,7 @@ def check_runs(checks: Checks, files: Files) -> None:
 def check_explained(checks: Checks, program: Path, text: str, runs: Sequence[Run]) -> None:
     """The program reads the log of runs to its end: no rule was broken, and each run without a failure is whole."""
     with tempfile.TemporaryDirectory() as folder:
-        (Path(folder) / "runs").write_text(text)
+        (Path(folder) / "runs").write_text("".join(map(timeless, text.splitlines(keepends=True))))
         done = subprocess.run([str(program), "explain", f"{folder}/runs"], stdout=subprocess.PIPE,
                               stderr=subprocess.STDOUT, check=False)
     lines = done.stdout.decode().splitlines()

@@ -1,5 +1,5 @@
 // The log of runs: the lines of `discover --log`, whose texts are those of the program (docs/FORMATS.md, the log as
-// text; cases/logs.txt), and whole runs in the file.
+// text; cases/logs.txt), with times, and whole runs in the file.
 #include "../../log_writer.hpp"
 #include "../../run_log.hpp"
 #include "support.hpp"
@@ -18,16 +18,19 @@ constexpr std::chrono::milliseconds SECONDS_10{10000};
 constexpr std::size_t QUEUE_BYTES = 4096;
 const wurst::Uid SOURCE{0x7a70, 0x00000100};
 
-// What the program writes.
+constexpr std::uint64_t NOW = 1796014800123456;
+const std::string TIME = ",\"microseconds\":1796014800123456}\n";
+
+// What the program writes, with times.
 const std::string FULL = "{\"entry\":\"opening\",\"source\":\"7a70:00000100\",\"budget\":384008,"
                          "\"search\":\"steady\",\"discover\":\"full\",\"known\":[]}\n";
 const std::string INCREMENTAL = "{\"entry\":\"opening\",\"source\":\"7a70:00000100\",\"budget\":1,"
                                 "\"search\":\"quick\",\"discover\":\"incremental\","
                                 "\"known\":[\"1234:00000001\",\"9abc:00000002\"]}\n";
 const std::string UNMUTED = "{\"number\":0,\"operation\":\"unmute\","
-                            "\"frame\":\"cc0118ffffffffffff7a700000010000010000001000030007de\",\"reply\":\"\"}\n";
+                            "\"frame\":\"cc0118ffffffffffff7a700000010000010000001000030007de\",\"reply\":\"\"" + TIME;
 const std::string FAILED = "{\"number\":1,\"operation\":\"unmute\","
-                           "\"frame\":\"cc0118ffffffffffff7a700000010001010000001000030007df\",\"failed\":true}\n";
+                           "\"frame\":\"cc0118ffffffffffff7a700000010001010000001000030007df\",\"failed\":true" + TIME;
 
 // The bytes of the frame in such a line.
 Bytes frame_in(const std::string &line) {
@@ -46,6 +49,11 @@ std::string numbered(const std::string &line, unsigned int number) {
     return start + std::to_string(number) + line.substr(line.find(','));
 }
 
+// A log that gives its lines to `take`.
+template <typename Take> RunLog log_of(Take take) {
+    return RunLog(take, stand_in::lose_run, [] { return NOW; });
+}
+
 RunOpening full() { return {SOURCE, 384008, WURST_STEADY, WURST_FULL_DISCOVERY, {}}; }
 
 void exchange(RunLog &log, const Bytes &frame, const Bytes &reply) {
@@ -55,7 +63,7 @@ void exchange(RunLog &log, const Bytes &frame, const Bytes &reply) {
 
 void test_texts() {
     std::string text;
-    RunLog log([&](const std::string &lines) { text += lines; });
+    RunLog log = log_of([&](const std::string &lines) { text += lines; });
     log.begin(full());
     exchange(log, frame_in(UNMUTED), {});
     log.sent(frame_in(FAILED));
@@ -75,7 +83,7 @@ void test_texts() {
 void test_operations() {
     Bytes frame(38);
     std::string text;
-    RunLog log([&](const std::string &lines) { text += lines; });
+    RunLog log = log_of([&](const std::string &lines) { text += lines; });
     log.begin(full());
     frame[22] = 1;
     exchange(log, frame, {0xfe, 0xaa, 0x0b});
@@ -87,7 +95,7 @@ void test_operations() {
     const auto line = [](unsigned int number, const std::string &operation, const std::string &pid,
                          const std::string &reply) {
         return "{\"number\":" + std::to_string(number) + ",\"operation\":\"" + operation + "\",\"frame\":\""
-            + std::string(44, '0') + pid + std::string(30, '0') + "\",\"reply\":\"" + reply + "\"}\n";
+            + std::string(44, '0') + pid + std::string(30, '0') + "\",\"reply\":\"" + reply + '"' + TIME;
     };
     CHECK(text == FULL + line(0, "branch", "01", "feaa0b") + line(1, "mute", "02", std::string(514, 'f'))
                       + line(2, "unmute", "03", ""));
@@ -96,7 +104,7 @@ void test_operations() {
 // Answers of requests' frames, and frames outside of a run, aren't part of it.
 void test_other_answers() {
     std::string text;
-    RunLog log([&](const std::string &lines) { text += lines; });
+    RunLog log = log_of([&](const std::string &lines) { text += lines; });
     exchange(log, frame_in(UNMUTED), {});
     log.end();
     log.begin(full());
@@ -115,7 +123,7 @@ void test_other_answers() {
 // A frame without an answer isn't part of a run, and not of the next one either.
 void test_unanswered() {
     std::string text;
-    RunLog log([&](const std::string &lines) { text += lines; });
+    RunLog log = log_of([&](const std::string &lines) { text += lines; });
     log.begin(full());
     log.sent(frame_in(UNMUTED));
     log.end();
@@ -129,7 +137,7 @@ void test_unanswered() {
 // A long run is written in parts. Each begins with the opening, and the numbers go on.
 void test_parts() {
     std::vector<std::string> parts;
-    RunLog log([&](const std::string &lines) { parts.push_back(lines); });
+    RunLog log = log_of([&](const std::string &lines) { parts.push_back(lines); });
     log.begin(full());
     for (unsigned int i = 0; i < 60000; i++) {
         exchange(log, frame_in(UNMUTED), {});
