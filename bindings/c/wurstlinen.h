@@ -177,7 +177,7 @@ struct wurst_completion {
     uint16_t sub_device;
     uint16_t pid;
     bool has_head;           /* there is a last reply: only with WURST_COMPLETED */
-    bool may_be_incomplete;  /* its first parts may be missing, since the last GET of it broke off: GET again */
+    bool may_be_incomplete;  /* may lack its first parts: a GET of it, or over 1,024 others, broke off. GET again */
 };
 
 struct wurst_end {

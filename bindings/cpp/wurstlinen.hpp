@@ -137,7 +137,7 @@ struct Completion {
 
     std::uint64_t number() const { return head.number; }
     wurst_request_status status() const { return static_cast<wurst_request_status>(head.status); }
-    // Whether its first parts may be missing, since the last GET of it broke off. Then GET it again.
+    // Whether its first parts may be missing, since a GET of it, or over 1,024 others, broke off. Then GET it again.
     bool may_be_incomplete() const { return head.may_be_incomplete; }
 };
 

@@ -62,11 +62,12 @@ public:
                      std::move(earlier_outcomes)) {}
 };
 
-// A GET was made six times, and each answer may lack its first parts: before each, another GET of the same broke off.
+// A GET was made six times, and each answer may lack its first parts: before each, another GET of the same broke off,
+// or more than 1,024 others had.
 class Incomplete : public Unanswered {
 public:
     Incomplete(std::vector<Completion> queued_so_far, std::vector<std::variant<Completion, Discovery>> earlier_outcomes)
-        : Unanswered("no whole answer came: other GETs of the same break off again and again",
+        : Unanswered("no whole answer came: other GETs of the same, or over 1,024 others, break off again and again",
                      std::move(queued_so_far), std::move(earlier_outcomes)) {}
 };
 

@@ -30,6 +30,10 @@ pub mod explain;
 pub mod join;
 #[cfg(feature = "threads")]
 pub mod lanes;
+#[cfg(feature = "threads")]
+#[doc(hidden)]
+#[allow(unsafe_code, unused_variables)]
+pub mod ledger;
 #[cfg(feature = "std")]
 pub mod line;
 #[cfg(feature = "threads")]

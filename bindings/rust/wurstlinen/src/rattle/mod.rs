@@ -61,6 +61,21 @@ pub mod default {
     }
 }
 
+pub mod snapshot {
+    //! Values that only proofs read.
+    use super::marker::PhantomData;
+
+    /// What a value was, which takes no memory.
+    pub struct Snapshot<T>(PhantomData<T>);
+
+    impl<T> Snapshot<T> {
+        /// What this value is now.
+        pub fn of(_: &T) -> Snapshot<T> {
+            Snapshot(PhantomData)
+        }
+    }
+}
+
 #[cfg(feature = "std")]
 pub mod test {
     //! What a test returns.

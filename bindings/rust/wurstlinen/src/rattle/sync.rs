@@ -2,10 +2,16 @@
 pub use std::sync::atomic;
 use super::alloc::{AllocError, AllocFailed, Global};
 use core::ops::Deref;
-use std::sync;
+use std::sync::atomic::{AtomicUsize, Ordering};
+use std::sync::{self, MutexGuard};
 
 /// May wait for other threads.
-pub trait Wait {}
+pub trait Wait {
+    /// The rounds of a loop that only a `return` ends.
+    fn forever(&self) -> core::iter::Repeat<()> {
+        core::iter::repeat(())
+    }
+}
 
 impl<T> Wait for T {}
 
@@ -43,12 +49,44 @@ impl<T> Mutex<T> {
         Mutex(sync::Mutex::new(value))
     }
 
-    pub fn lock<R>(&self, _: &R) -> sync::MutexGuard<'_, T> {
+    pub fn lock<R>(&self, _: &R) -> MutexGuard<'_, T> {
         self.0.lock().unwrap_or_else(|poisoned| poisoned.into_inner())
     }
 
     pub fn into_inner(self) -> T {
         self.0.into_inner().unwrap_or_else(|poisoned| poisoned.into_inner())
+    }
+}
+
+/// What threads sleep on. To notify it costs no call of the system while nobody sleeps.
+#[derive(Debug)]
+pub struct Condvar {
+    condition: sync::Condvar,
+    sleepers: AtomicUsize,
+}
+
+impl Condvar {
+    pub fn new() -> Condvar {
+        Condvar { condition: sync::Condvar::new(), sleepers: AtomicUsize::new(0) }
+    }
+
+    pub fn wait_while<'b, R, T, F: FnMut(&mut T) -> bool>(
+        &self,
+        _: &R,
+        guard: MutexGuard<'b, T>,
+        is_waiting: F,
+    ) -> MutexGuard<'b, T> {
+        self.sleepers.fetch_add(1, Ordering::SeqCst);
+        let guard = self.condition.wait_while(guard, is_waiting).unwrap_or_else(|poisoned| poisoned.into_inner());
+        self.sleepers.fetch_sub(1, Ordering::SeqCst);
+        guard
+    }
+
+    // Whoever changes what a sleeper waits for has taken the mutex before, and a sleeper is counted while it has that.
+    pub fn notify_all(&self) {
+        if self.sleepers.load(Ordering::SeqCst) > 0 {
+            self.condition.notify_all();
+        }
     }
 }
 
