@@ -2,6 +2,25 @@
 # script wurstlinen, which has the functions and names used here.
 # shellcheck shell=bash disable=SC2034,SC2154
 
+# Says every ten seconds that something goes on, until `end_saying`, or the script's end. A `sleep` would outlive both.
+begin_saying() {
+    (
+        exec {quiet}<> <(:)
+        for ((seconds = 1; ; seconds++)); do
+            read -rt 1 -u "$quiet"
+            # A script that has ended is a process until somebody has waited for it, but nobody's parent.
+            read -r _ _ _ parent _ < "/proc/$BASHPID/stat" && [ "$parent" = "$$" ] || exit
+            [ $((seconds % 10)) -ne 0 ] || say "$1, for $seconds seconds so far"
+        done
+    ) < /dev/null > /dev/null &
+    saying="$!"
+    disown
+}
+
+end_saying() {
+    kill "${saying-}" 2> /dev/null
+}
+
 # What --with says, if it was given.
 wanted=""
 compiler=kit
@@ -28,7 +47,7 @@ use_rustc() {
 }
 
 need_compiler() {
-    local lack
+    local lack other
     if [ "$compiler" = rustc ]; then
         ! lack="$(lacks_cargo)" || fail "$no_cargo" "$lack"
         return
@@ -37,14 +56,7 @@ need_compiler() {
         lack="$(lacks_cargo)" || lack="with '--with rustc' cargo does it"
         fail "$no_rt" "the program has to be built, and there is no command rt: add the kit's folder bin to PATH; $lack"
     fi
-    lack="$(pinned_kit)"
-    [ -z "$lack" ] || [ "$lack" = "$(kit)" ] \
-        || say "the kit is '$(kit)', and this text was proved with '$lack': all of it is proved anew"
-}
-
-# The kit that this text was proved with.
-pinned_kit() {
-    cat "$root/KIT" 2> /dev/null
+    ! other="$(other_kit)" || say "the kit is $other"
 }
 
 # What built something, or would.
@@ -121,12 +133,14 @@ make_archive() {
 
 # Writes the crates as a workspace of plain Rust into a folder.
 write_rust() {
+    local crates
     if [ $# -ne 1 ] || [ -z "$1" ]; then
         fail "$bad_arguments" "--rust takes one folder"
     fi
     "$root/tools/plain_rust" "$1" || fail "$not_run" "the workspace wasn't written"
     say "written into $1: the crate wurstlinen, the program, the C library and the tests. To build them there:"
     say "  cargo build --release"
-    say "  from Debian's crates: cargo build --release --offline --config 'source.crates-io.replace-with=\"debian\"'" \
-        "--config 'source.debian.directory=\"$debian_registry\"'"
+    printf -v crates " --config '%s=\"%s\"'" source.crates-io.replace-with debian \
+        source.debian.directory "$debian_registry"
+    say "  from Debian's crates: cargo build --release --offline$crates"
 }

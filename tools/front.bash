@@ -39,7 +39,7 @@ sys.exit(run())' "$@"
 # Sets `costs` to what the doctor also says: what the next steps in the repository cost.
 find_costs() {
     local kit_found lack
-    kit_found="$(kit)"
+    kit_found="$(other_kit)" || kit_found="$(kit)"
     costs=(--also kit "${kit_found:-not there: add its folder bin to PATH}")
     lack="$(lacks_cargo)" || lack="$(rustc_version)"
     costs+=(--also rustc "$lack")

@@ -2,13 +2,6 @@
 # and reads tools/library.bash too.
 # shellcheck shell=bash disable=SC2154
 
-# The kit that is there. Its file says so at once.
-kit() {
-    local found
-    found="$(readlink -f "$(command -v rt)" 2> /dev/null)"
-    cat "${found%/bin/*}/KIT-ID" 2> /dev/null || rt --version 2> /dev/null | head -n 1
-}
-
 # The kit that proved the text: rustc proves nothing, and compiles what the kit of this commit has proved.
 proved_with() {
     if [ "$compiler" = rustc ]; then pinned_kit || echo unknown; else kit_of_program; fi

@@ -54,13 +54,17 @@ call_cargo() (
 # Writes the workspace into the folder $1, and builds $2 there as the other words say. What cargo prints goes to
 # standard error if that is wanted; else only its faults do. If it isn't built, the script ends, and says why.
 build_rust() {
-    local folder="$1" what="$2" printed lack=""
+    local folder="$1" what="$2" printed status lack=""
     "$root/tools/plain_rust" "$folder" || fail "$not_run" "$what isn't built"
     if [ -n "${verbose-}" ]; then
         call_cargo "$folder" build "${@:3}" >&2 || fail "$not_run" "$what isn't built"
         return
     fi
-    printed="$(call_cargo "$folder" build --quiet "${@:3}" 2>&1)" && return
+    begin_saying "compiling $what"
+    printed="$(call_cargo "$folder" build --quiet "${@:3}" 2>&1)"
+    status=$?
+    end_saying
+    [ "$status" -ne 0 ] || return 0
     if grep -qE "can't find crate for .(std|core)" <<< "$printed"; then
         lack=": rustc has no std for its target: install that, or another rustc"
     elif grep -qE "$no_crates" <<< "$printed"; then

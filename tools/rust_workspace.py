@@ -31,8 +31,8 @@ class Place(NamedTuple):
 # The packages: the folder, the name of the crate in Rust, the crates in Rattle that become modules with the same name
 # without its beginning, and those that get another one.
 PACKAGES = (
-    ("wurstlinen", "wurstlinen", "rdm_", "agent client explain join lanes line locked log past queue scenes wire",
-     {"rdm": "facade"}),
+    ("wurstlinen", "wurstlinen", "rdm_",
+     "agent client explain join lanes ledger line locked log past queue scenes wire", {"rdm": "facade"}),
     ("program", "wurstlinen_program", "rdm_", "arguments files findings port reports serving", {}),
     ("c", "wurstlinen_c", "rdm_", "handles", {"rdm_c": "calls"}),
     ("tests", "wurstlinen_tests", "test_", "memory port rig stage threads trials", {"test_core": "core_tests"}),

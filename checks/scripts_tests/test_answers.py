@@ -213,6 +213,26 @@ class Table(unittest.TestCase):
 
 
 class Unproved(unittest.TestCase):
+    def test_what_only_the_command_in_python_has(self) -> None:
+        with new_clone() as clone:
+            clone.put_rt(BUILDING)
+            for words, said in ((["fixtures"], "fixtures isn't the program's: leave out --unproved"),
+                                (["explain", "log", "--page=x"], "an unproved run has no --page; the proved one has: "
+                                                                 "./wurstlinen explain log --page=x"),
+                                (["discover", "file", "--json"], "an unproved run has no --json; the proved one has: "
+                                                                 "./wurstlinen discover file --json")):
+                done = clone.run("./wurstlinen", "--unproved", *words)
+                self.assertEqual((done.returncode, done.stdout, done.stderr), (2, "", f"wurstlinen: {said}\n"))
+            self.assertEqual(clone.rt_calls(), [])
+
+    def test_it_says_how_long_it_has_compiled(self) -> None:
+        with new_clone() as clone:
+            clone.put_rt("sleep 11; echo 'run=ended status=0 ' >&2")
+            done = clone.run("./wurstlinen", "--unproved", "decode", "00")
+            self.assertEqual((done.returncode, done.stdout), (0, ""))
+            self.assertEqual(done.stderr.splitlines()[-1],
+                             "wurstlinen: compiling and running it, for 10 seconds so far")
+
     def test_an_interrupt_ends_it_with_130(self) -> None:
         for number, status in ((signal.SIGINT, 130), (signal.SIGTERM, 143)):
             for to_all in (True, False):

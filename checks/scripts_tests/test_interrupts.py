@@ -9,6 +9,7 @@ from pathlib import Path
 from typing import Dict, List, Optional, Tuple
 
 from clone import Clone, new_clone
+from test_packages import build, has_tools, put_libraries
 
 # The commands by which the scripts change files: each call is a step. Before it, the step sends a signal to all that
 # runs, as a terminal does.
@@ -43,8 +44,8 @@ class Interrupts(unittest.TestCase):
         self.temporary.mkdir()
         self.steps = self.clone.folder / "steps"
 
-    def put_steps(self) -> None:
-        for name in COMMANDS:
+    def put_steps(self, *names: str) -> None:
+        for name in names:
             real = shutil.which(name, path="/usr/bin:/bin")
             if real and not (self.clone.bin / name).exists():
                 self.clone.put(name, STEP.format(name=name, real=real))
@@ -64,18 +65,19 @@ class Interrupts(unittest.TestCase):
         """Each file is the old or the new one. Only what is killed may leave others, whose names are hidden."""
         found = files_in(self.target) if self.target.exists() else {}
         for name, data in found.items():
-            if number != signal.SIGKILL or not Path(name).name.startswith("."):
+            if number != signal.SIGKILL or not any(part.startswith(".") for part in Path(name).parts):
                 self.assertIn(data, (old.get(name), new.get(name)), name)
         if number != signal.SIGKILL:
             self.assertEqual(list(self.temporary.iterdir()), [])
 
-    def each(self, option: str, old: Tree) -> None:
-        """Tries the first and the last step of each kind, with one signal after the other."""
+    def each(self, option: str, old: Tree, least: int) -> None:
+        """Tries the first and the last step of each kind, at least so many, with one signal after the other."""
+        self.begin(old)
         status, names = self.call(option)
         self.assertEqual(status, 0)
         new = files_in(self.target)
         steps = {names.index(name) + 1 for name in names} | {len(names) - names[::-1].index(name) for name in names}
-        self.assertGreater(len(steps), 5)
+        self.assertGreaterEqual(len(steps), least)
         for at, step in enumerate(sorted(steps)):
             number = SIGNALS[at % len(SIGNALS)]
             with self.subTest(step=f"{names[step - 1]}, step {step}", number=number):
@@ -98,9 +100,22 @@ class Interrupts(unittest.TestCase):
 
     def test_install(self) -> None:
         self.assertEqual(self.clone.run("./wurstlinen", "decode", "00").returncode, 0)
-        self.put_steps()
+        self.put_steps(*COMMANDS)
         old = {"wurstlinen": b"the old command", "libexec/wurstlinen/wurstlinen": b"the old program"}
-        self.each("--install", old)
+        self.each("--install", old, 6)
+
+    def test_install_libraries(self) -> None:
+        put_libraries(self.clone)
+        self.assertEqual(self.clone.run("./wurstlinen", "--install-ola", str(self.target)).returncode, 0)
+        self.put_steps(*COMMANDS)
+        self.each("--install-ola", {"libwurstlinen-ola.so": b"the old library"}, 6)
+        self.each("--install-library", {"lib/libwurstlinen.so.0": b"the old library"}, 6)
+
+    @unittest.skipUnless(has_tools(), "commands that make packages are missing")
+    def test_package(self) -> None:
+        self.assertEqual(build(self.clone, "packages").returncode, 0)
+        self.put_steps("dpkg-deb")
+        self.each("--package", {}, 2)
 
 
 if __name__ == "__main__":

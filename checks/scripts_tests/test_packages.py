@@ -35,14 +35,18 @@ def has_tools() -> bool:
                 and Path(command[0]).exists() and not subprocess.run(command, check=False, stderr=-3).returncode)
 
 
-def build(clone: Clone, name: str) -> "subprocess.CompletedProcess[str]":
-    """Makes the packages of a clone that has a commit of its own, in its folder of this name."""
+def put_libraries(clone: Clone) -> None:
+    """The C library's archive, as if it had been proved, and a compiler that gives a library in place of OLA's."""
     part, library = clone.folder / "part.o", clone.folder / "libwurstlinen-ola.so"
     compile_c(LIBRARY, part, ["-c", "-fPIC"])
     compile_c(LIBRARY, library, ["-shared", "-fPIC"])
     subprocess.run(["ar", "rcsD", str(clone.archive), str(part)], check=True)
-    (clone.bin / "c++").write_text(COMPILER.format(library=library))
-    (clone.bin / "c++").chmod(0o755)
+    clone.put("c++", COMPILER.format(library=library))
+
+
+def build(clone: Clone, name: str) -> "subprocess.CompletedProcess[str]":
+    """Makes the packages of a clone that has a commit of its own, in its folder of this name."""
+    put_libraries(clone)
     environment = {**clone.environment, "GIT_AUTHOR_DATE": DATE, "GIT_COMMITTER_DATE": DATE}
     (clone.root / ".gitignore").write_text("out/\n__pycache__/\n")
     user = ["-c", "user.name=a", "-c", "user.email=a@b"]

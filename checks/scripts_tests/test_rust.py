@@ -27,6 +27,13 @@ class WithCargo(unittest.TestCase):
         done = self.clone.run("./wurstlinen", *words.split())
         self.assertEqual((done.returncode, done.stdout, done.stderr), (status, out, err))
 
+    def expect_nothing_installed(self, status: int) -> None:
+        """Whatever is to be installed leaves nothing behind."""
+        for option in ("--install", "--install-library", "--package"):
+            self.assertEqual(self.clone.run("./wurstlinen", option, "new/folder").returncode, status, option)
+            self.assertFalse((self.clone.root / "new").exists(), option)
+        self.assertEqual(list(self.clone.root.glob("out/rust/wurstlinen.b*")), [])
+
     def without_kit(self) -> None:
         (self.clone.bin / "rt").unlink()
 
@@ -70,6 +77,7 @@ class WithCargo(unittest.TestCase):
         (self.clone.bin / "cargo").write_text("#!/bin/sh\nexit 1\n")
         self.expect("decode 00", 127, "",
                     f"{kit}there is no cargo 1.85 or later: on Debian 12, apt install cargo-web rustc-web\n")
+        self.expect_nothing_installed(127)
         self.assertEqual(list(self.clone.root.glob("out/rust/*")), [])
 
     def test_without_python_only_help_is_given(self) -> None:
@@ -89,10 +97,7 @@ class WithCargo(unittest.TestCase):
                     f"{COMPILING}wurstlinen: the program isn't built: cargo has no network and no crates: on Debian, "
                     "apt install librust-arrayvec-dev librust-clap-dev librust-hex-dev librust-itoa-dev "
                     "librust-serde-json-dev librust-thiserror-dev\n")
-        self.assertEqual(list(self.clone.root.glob("out/rust/wurstlinen.b*")), [])
-        for option in ("--install", "--install-library", "--package"):
-            self.assertEqual(self.clone.run("./wurstlinen", option, "new/folder").returncode, 125)
-            self.assertFalse((self.clone.root / "new").exists(), option)
+        self.expect_nothing_installed(125)
         self.clone.put_cargo()
         self.expect("decode 00", 0, ANSWER, COMPILING)
 
@@ -101,7 +106,7 @@ class WithCargo(unittest.TestCase):
         self.clone.put_cargo(NO_STD)
         self.expect("decode 00", 125, "", f"{COMPILING}wurstlinen: the program isn't built: rustc has no std for its "
                                           "target: install that, or another rustc\n")
-        self.assertEqual(list(self.clone.root.glob("out/rust/wurstlinen.b*")), [])
+        self.expect_nothing_installed(125)
 
     def test_another_kit_is_named_and_proves_anew(self) -> None:
         (self.clone.root / "KIT").write_text("kit-of-tests logic 1\n")
@@ -109,7 +114,9 @@ class WithCargo(unittest.TestCase):
         self.expect("decode 00", 0, ANSWER, "")
         (self.clone.root / "KIT").write_text("a later kit\n")
         done = self.clone.run("./wurstlinen", "decode", "00")
-        self.assertIn("the kit is 'kit-of-tests logic 1', and this text was proved with 'a later kit'", done.stderr)
+        both = "'kit-of-tests logic 1', and this text was proved with 'a later kit'"
+        self.assertIn(f"the kit is {both}", done.stderr)
+        self.assertIn(f"kit        {both}", self.clone.run("./wurstlinen", "doctor").stdout)
         self.expect("decode 00", 0, ANSWER, "")
 
 
@@ -152,7 +159,12 @@ class Workspaces(unittest.TestCase):
         self.folder = self.clone.folder / "workspace"
 
     def write(self) -> int:
-        return self.clone.run("./wurstlinen", "--rust", str(self.folder)).returncode
+        done = self.clone.run("./wurstlinen", "--rust", str(self.folder))
+        if done.returncode == 0:
+            self.assertIn("""  from Debian's crates: cargo build --release --offline"""
+                          """ --config 'source.crates-io.replace-with="debian"'"""
+                          """ --config 'source.debian.directory="/usr/share/cargo/registry"'\n""", done.stderr)
+        return done.returncode
 
     def test_is_written_and_written_again(self) -> None:
         self.assertEqual(self.write(), 0)
