@@ -142,15 +142,11 @@ def check_fault(checks: Checks, files: Tuple[Path, Path]) -> None:
 
 
 def check_own_discovery(checks: Checks, files: Tuple[Path, Path]) -> None:
-    """The adapter's own discovery, behind the queue.
-
-    OLA's discovery finds nothing if a busy machine answers late, so it may try again.
-    """
+    """The adapter's own discovery, behind the queue."""
     scene = random_scene(5, seed=11)
     with Daemon(scene, files[1], files[0], settings={"WURSTLINEN_DISCOVERY": "adapter"}) as daemon:
         for is_full in (True, False):
-            tries = (daemon.discover(is_full) for _ in range(3))
-            is_found = any(found == uids_of(scene) for found in tries)
+            is_found = daemon.finds(uids_of(scene), is_full)
             checks.check(is_found, "the adapter's own discovery doesn't find its fixtures")
         checks.check(": the adapter's own discovery" in daemon.messages, "the bridge isn't told")
 

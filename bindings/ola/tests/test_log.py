@@ -31,7 +31,6 @@ from wurstlinen.lines.scene import Scene
 
 GETS = 100
 # Discoveries by OLA's own controller until one is right.
-OWN_TRIES = 5
 STUCK_MS = 10000
 # How much longer the GETs may take: what a busy machine adds to their median, and to all of them.
 MOST_FACTOR = 1.3
@@ -286,9 +285,7 @@ def check_version(checks: Checks, files: Files) -> None:
     with start(files, scene, TEST_REVISION="99", WURSTLINEN_LOG="FOLDER/log") as daemon:
         told = "but this is OLA 0.10.99: OLA's own controllers are used"
         checks.check(daemon.messages.count(told) == 1, "another version isn't told")
-        # On a busy machine, OLA's own controller takes an answer that comes late for silence.
-        found = any(daemon.discover(True) == uids_of(scene) for _ in range(OWN_TRIES))
-        checks.check(found, "a discovery with another version")
+        checks.check(daemon.finds(uids_of(scene)), "a discovery with another version")
         checks.check(not (daemon.folder / "log").exists(), "OLA's own controllers aren't used")
         status, text = script(str(daemon.pid))
         checks.check(status == HAS_NONE and told in text, f"--check-ola, another version: {status} {text}")
