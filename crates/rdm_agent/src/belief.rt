@@ -407,8 +407,8 @@ impl Belief {
         }
     }
 
-    // All of the rest was silent: something was lost. From the second time on, and on a noisy line, it asks first whether
-    // anything answers.
+    // All of the rest was silent: something was lost. From the second time on, and on a noisy line, it asks first
+    // whether anything answers.
     fn rest_silent(self) -> Belief
         requires small { IsSmall self }
         ensures value { result ≡ rest_silent self }
