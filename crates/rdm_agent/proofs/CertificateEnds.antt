@@ -8,8 +8,8 @@ use Rattle.rdm_agent.proofs.Common.{Acked, Failed, Silent, One, Noise, acked_uid
 use Rattle.rdm_agent.proofs.Common.{InSuccession, IsSilentBranch, SearchShows, Phase, AgentState, Runs, start_by}
 use Rattle.rdm_agent.proofs.Common.{wanted, fed, fault_of, heard_by_phase, search_below, found_uids, is_whole, choose}
 use Rattle.rdm_agent.proofs.Common.{sweep_on_after, sweep_silent, believed_silent, Belief, Sweep, Unmuting}
-use Rattle.rdm_agent.proofs.Common.{counted_silent, hushing, check_silent, is_checked_again, is_last, believed_apart}
-use Rattle.rdm_agent.proofs.Common.{unassigned, Checking, MutingStray, ◌&&◌}
+use Rattle.rdm_agent.proofs.Common.{counted_silent, hushing, check_silent, is_checked_again, is_last}
+use Rattle.rdm_agent.proofs.Common.{unassigned, Checking, MutingStray, ◌&&◌, believed_apart, is_in_vain}
 use Rattle.rdm_agent.proofs.Common.{MutingKnown, Searching, MutingRead, Sweeping, MutingSwept, Ended, IsStack, Kind}
 use Rattle.rdm_agent.proofs.Common.{Search, Steady, TRIES, search_silent, search_whole, spent_more}
 use Rattle.std.proofs.lemmas.List.{length-append}
@@ -332,12 +332,12 @@ checked_silent u silences sweep n x few k =
           absurd (five_before phase unassigned silences x fewer goes k k.few not_five lo hi far five);
       few = more phase unassigned silences x fewer goes k k.few;
     })
-    (λ split. cond_both (is_last sweep.question.part && sweep.belief.found_nothing) _ _
+    (λ split. cond_both (is_last sweep.question.part && is_in_vain sweep.belief) _ _
     (λ p. IsUncleared p (x ++ e ∷ []))
     (λ found_nothing. begins_again phase unassigned silences x fewer goes k k.few not_five 0
     (λ is. absurd (not_whole (ap (λ (r : Span). r.lo) is))))
     (λ other. goes_to phase unassigned silences x fewer goes k k.few not_five (counted_silent sweep) n
-    (believed_apart sweep.question.part sweep.question.range (hushing sweep.belief))))
+    (believed_apart sweep.question.part sweep.question.range sweep.silences (hushing sweep.belief))))
   where
     e : Seen
     e = record { asked = Branch unassigned.lo unassigned.hi; heard = Silent }

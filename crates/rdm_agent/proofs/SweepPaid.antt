@@ -8,7 +8,7 @@ use Rattle.rdm_agent.proofs.Common.{choose, to_phase, sweep_on, sweep_silent, sw
 use Rattle.rdm_agent.proofs.Common.{believed_silent, believed_found, believed_apart, Sweeping, MutingSwept, Search}
 use Rattle.rdm_agent.proofs.Common.{TRIES, Belief, Sweep, sweep_on_after, sweep_split, sweep_spelt, counted_spelt}
 use Rattle.rdm_agent.proofs.Common.{counted_silent, hearing, is_stray, Checking, search_whole, bads_aside, give_up}
-use Rattle.rdm_agent.proofs.Common.{garbled_mutes, swept_lost}
+use Rattle.rdm_agent.proofs.Common.{garbled_mutes, swept_lost, is_in_vain}
 use Rattle.rdm_agent.proofs.SweepRuns.{believing}
 use Rattle.rdm_agent.proofs.Choices.{IsChosen, chosen}
 use Rattle.rdm_agent.proofs.CorruptLemmas.{is_new-device}
@@ -83,11 +83,11 @@ module _ (search : Search) (present : List ℕ) (line : Watched) (found : List �
       → Pays present found sweep.made cost
       → Cheaper search present line found cost (sweep_split sweep last silences n)
   split-costs sweep last silences n few many pays =
-      cond_both (is_last sweep.question.part && sweep.belief.found_nothing) _ _
+      cond_both (is_last sweep.question.part && is_in_vain sweep.belief) _ _
       (Cheaper search present line found cost)
       (λ found_nothing. begins-costs sweep.made 0 (omega arith) pays)
-      (λ goes. on-costs sweep last silences 0 n (believed_apart sweep.question.part sweep.question.range sweep.belief)
-      few many pays)
+      (λ goes. on-costs sweep last silences 0 n
+      (believed_apart sweep.question.part sweep.question.range sweep.silences sweep.belief) few many pays)
 
   silent-costs : (sweep : Sweep) (n : ℕ) → sweep.silences ≤ 4 → n ≡ length found → Pays present found sweep.made cost
       → Cheaper search present line found cost (sweep_silent sweep n)

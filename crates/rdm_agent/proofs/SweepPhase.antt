@@ -5,7 +5,7 @@ use Rattle.rdm_agent.proofs.Common.{whole}
 use Rattle.rdm_agent.proofs.Common.{Seen, Branch, Silent, known_of, IsSilentBranch, TRIES, Belief, Sweep, Phase, is_one}
 use Rattle.rdm_agent.proofs.Common.{is_whole, is_last, choose, sweep_on_after, sweep_split, sweep_silent, sweep_apart}
 use Rattle.rdm_agent.proofs.Common.{believed_silent, believed_apart, Sweeping, Kind, Search, Quick, BAD_ANSWERS}
-use Rattle.rdm_agent.proofs.Common.{search_whole, answers_in_a_row, give_up, bads_aside}
+use Rattle.rdm_agent.proofs.Common.{search_whole, answers_in_a_row, give_up, bads_aside, is_in_vain}
 use Rattle.rdm_agent.proofs.Choices.{Asks, IsRange, IsChosen, chosen, same_range, gave_up-elsewhere}
 use Rattle.rdm_agent.proofs.Rows.{AnswersOf, Row, NotCorrupt, same-row, other-row, few-answers, none-answers}
 use Rattle.rdm_agent.proofs.Rows.{several-none, silent-none}
@@ -88,12 +88,12 @@ module _ (search : Search) (kind : Kind) (known : List ℕ) (budget : ℕ) where
         → EndsSilent silences last x → ((u : ℕ) → answers_in_a_row u x ≡ 0)
         → InPhase search kind known budget (sweep_split sweep last silences found_now) x found
     split-phase sweep last silences found_now few silent none =
-        cond_both (is_last sweep.question.part && sweep.belief.found_nothing) _ _
+        cond_both (is_last sweep.question.part && is_in_vain sweep.belief) _ _
         (λ p. InPhase search kind known budget p x found)
         (λ found_nothing. begins-steady 0 (omega arith) (EndsWith-none _ x)
         (λ u. let zero = none u in omega (arith, zero)))
         (λ goes. on-phase sweep last silences 0 0 found_now
-        (believed_apart sweep.question.part sweep.question.range sweep.belief) few (omega arith) silent
+        (believed_apart sweep.question.part sweep.question.range sweep.silences sweep.belief) few (omega arith) silent
         (none-answers last x none) (omega arith) (inl refl))
 
   -- the range was silent

@@ -53,6 +53,9 @@ first_belief = record {
   back = 1;
   suspect = None;
   found_nothing = false;
+  again = false;
+  level = 0;
+  doubt = 0;
   spelt = None;
   times = 0;
   due = 0;
@@ -130,9 +133,27 @@ past_zero b =
 abbrev pub ready : Belief → Belief
 ready b = past_zero (restarted b)
 
--- the sweep continues above this range
+-- NOISE. Noise may be taken for an answer. A sweep judges by the noise level, from 0 to 31, how likely that is: only
+-- while it isn't 0, a bad answer is asked again. So a line without noise has no such questions
+abbrev pub louder : ℕ → Belief → Belief
+louder n b = record b { level = min (b.level + n) 31 }
+
+-- After a bad answer the range was asked again, and isn't believed to have answered
+abbrev pub settled : Belief → Belief
+settled b = if b.doubt == 0 then b else record (louder 4 b) { doubt = 0 }
+
+-- The sweep continues above this range, which was silent four times in a row after it had answered: that was noise, or
+-- replies were lost. The next range is as wide as what answered
 abbrev pub above : Span → Belief → Belief
-above r b = record b { lo = r.hi + 1; at = r.hi + 1; need = 0; quiet = 0; begun = 0 }
+above r b = record (louder 16 b) {
+  lo = r.hi + 1;
+  at = r.hi + 1;
+  need = 0;
+  width = max (r.hi + 1 - b.lo) 1;
+  growth = 2;
+  quiet = 0;
+  begun = 0;
+}
 
 -- SILENT. A fresh range: the next one begins above it. It is 2, 4, 16, 256, .. times as wide, so that a gap is crossed
 -- in a few frames
@@ -147,22 +168,26 @@ fresh_silent r b = record b {
 abbrev pub lower_silent : Span → Belief → Belief
 lower_silent r b = record b { at = r.hi + 1; quiet = min (b.quiet + 1) 3 }
 
--- all that is left: something was lost. From the second time on, all of the range that answered is asked first, since
--- noise may have been taken for an answer
+-- all that is left: something was lost. From the second time on, and on a noisy line, all of the range that answered is
+-- asked first, since noise may have been taken for an answer
 abbrev pub rest_silent : Belief → Belief
-rest_silent b = record (begin_again b) { need = if b.begun == 0 then b.need else 1 }
+rest_silent b = record (begin_again b) { need = if (b.begun == 0) && (b.level == 0) then b.need else 1 }
 
--- after a silence of this part and range. All of the range that answered is just asked again
+-- this part and range. All of the range that answered is just asked again
+abbrev pub part_silent : Part → Span → Belief → Belief
+part_silent Fresh r b = fresh_silent r b
+part_silent Lower r b = lower_silent r b
+part_silent Rest r b = rest_silent b
+part_silent All r b = b
+part_silent Whole r b = record b { again = false }
+
+-- after a silence of this part and range. If it was asked again after a bad answer, one silence isn't believed
 abbrev pub believed_silent : Part → Span → Belief → Belief
-believed_silent Fresh r b = fresh_silent r b
-believed_silent Lower r b = lower_silent r b
-believed_silent Rest r b = rest_silent b
-believed_silent All r b = b
-believed_silent Whole r b = b
+believed_silent part r b = if b.doubt == 1 then record b { doubt = 2 } else part_silent part r (settled b)
 
 -- ONE. A device was found and muted, and nothing else answered. What was counted since the last find begins at 0 again
 abbrev pub renewed : Belief → Belief
-renewed b = record b { growth = 2; quiet = 0; begun = 0; back = 1; found_nothing = false }
+renewed b = record (settled b) { growth = 2; quiet = 0; begun = 0; back = 1; found_nothing = false; again = false }
 
 -- in a fresh range: the next one begins above it
 abbrev pub fresh_found : Span → Belief → Belief
@@ -222,18 +247,49 @@ lower_apart r b =
 abbrev pub all_apart : Span → Belief → Belief
 all_apart r b = split_at (if nat_lt r.hi b.at then r.lo else b.at) b.begun b.back r b
 
--- the whole range after a pass: something was missed, and another pass begins
-abbrev pub whole_apart : Span → Belief → Belief
-whole_apart r b =
-    record (split_at 0 0 b.back r b) { base = 0; width = all_uids; suspect = None; found_nothing = true }
+-- Whether a bad answer of the whole range, after so many silences in a row, is asked again first: once, if noise is
+-- likely
+abbrev pub asks_whole_again : ℕ → Belief → Bool
+asks_whole_again silences b = not b.again && (nat_lt 0 b.level || (b.found_nothing || nat_lt 1 silences))
 
--- after a collision in this part and range
-abbrev pub believed_apart : Part → Span → Belief → Belief
-believed_apart Fresh r b = split_at b.at 0 b.back r b
-believed_apart Lower r b = lower_apart r b
-believed_apart Rest r b = lower_apart r b
-believed_apart All r b = all_apart r b
-believed_apart Whole r b = whole_apart r b
+-- the whole range after a pass: something was missed, and another pass begins
+abbrev pub next_pass : Span → Belief → Belief
+next_pass r b = record (split_at 0 0 b.back r b) {
+  base = 0;
+  width = all_uids;
+  suspect = None;
+  found_nothing = true;
+  again = false;
+}
+
+abbrev pub whole_apart : Span → ℕ → Belief → Belief
+whole_apart r silences b = if asks_whole_again silences b then record b { again = true } else next_pass r b
+
+-- whether a pass found nothing, and the whole range was asked again, too
+abbrev pub is_in_vain : Belief → Bool
+is_in_vain b = b.found_nothing && b.again
+
+-- whether a bad answer of another range is asked again first
+abbrev pub is_doubted : Belief → Bool
+is_doubted b = nat_lt 0 b.level && (b.doubt == 0)
+
+-- a belief that doubts a bad answer, and one that believes it after it was asked again
+abbrev pub doubting : Belief → Belief
+doubting b = record b { doubt = 1 }
+
+abbrev pub convinced : Belief → Belief
+convinced b = if b.doubt == 0 then b else record b { doubt = 0; level = b.level - 1 }
+
+abbrev pub fresh_apart : Span → Belief → Belief
+fresh_apart r b = split_at b.at 0 b.back r b
+
+-- after a collision in this part and range, which had been silent so often in a row
+abbrev pub believed_apart : Part → Span → ℕ → Belief → Belief
+believed_apart Fresh r silences b = if is_doubted b then doubting b else fresh_apart r (convinced b)
+believed_apart Lower r silences b = if is_doubted b then doubting b else lower_apart r (convinced b)
+believed_apart Rest r silences b = if is_doubted b then doubting b else lower_apart r (convinced b)
+believed_apart All r silences b = all_apart r b
+believed_apart Whole r silences b = whole_apart r silences b
 
 -- a belief that gives up this UID
 abbrev pub suspecting : ℕ → Belief → Belief
@@ -271,4 +327,4 @@ is_checked_again b silences = (silences == 0) && nat_lt 7 b.times
 
 -- a belief after a device was found outside of what was asked
 abbrev pub stray_found : Belief → Belief
-stray_found b = record b { found_nothing = false }
+stray_found b = record (settled b) { found_nothing = false; again = false }

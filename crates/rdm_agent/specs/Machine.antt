@@ -24,7 +24,7 @@ use Rattle.rdm_agent.specs.declared.sweep.Sweep.{Sweep}
 use Rattle.rdm_agent.specs.declared.fault.AgentFault.TheVariants.{Corrupt, TooMany, Exhausted, LineFailed}
 use Rattle.rdm_agent.specs.Beliefs.{is_suspect, is_one, last_uid, first_belief, is_same, is_whole, question, ready}
 use Rattle.rdm_agent.specs.Beliefs.{above, believed_silent, believed_found, believed_apart, suspecting, hushing}
-use Rattle.rdm_agent.specs.Beliefs.{give_up}
+use Rattle.rdm_agent.specs.Beliefs.{give_up, is_in_vain}
 use Rattle.rdm_agent.specs.Beliefs.{hearing, is_due, is_checked_again, stray_found}
 
 -- The phases: the unmutes still to send; the mute of a known UID, with the tries made, and with how many garbled
@@ -226,9 +226,9 @@ is_last _ = false
 -- begins
 abbrev pub sweep_split : Sweep → Span → ℕ → ℕ → Phase
 sweep_split sweep last silences found =
-    if is_last sweep.question.part && sweep.belief.found_nothing then search_whole 0
+    if is_last sweep.question.part && is_in_vain sweep.belief then search_whole 0
     else sweep_on_after sweep last silences 0 found
-    (believed_apart sweep.question.part sweep.question.range sweep.belief)
+    (believed_apart sweep.question.part sweep.question.range sweep.silences sweep.belief)
 
 -- a UID alone that answered badly so often in a row is given up
 abbrev pub bads_aside : ℕ

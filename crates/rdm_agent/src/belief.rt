@@ -4,10 +4,12 @@ ghost use Rattle.rdm_wire.specs.Span.{Span};
 ghost use Rattle.rdm_agent.specs.Beliefs.{first_belief, suspecting, begin_again, give_up, restarted, past_zero, ready};
 ghost use Rattle.rdm_agent.specs.Beliefs.{spanning, fresh_range, question, with_lower, part_of};
 ghost use Rattle.rdm_agent.specs.Beliefs.{fresh_silent, lower_silent, rest_silent, renewed, fresh_found, lower_found};
-ghost use Rattle.rdm_agent.specs.Beliefs.{rest_found, all_found, split_at, lower_apart, all_apart, whole_apart};
-ghost use Rattle.rdm_agent.specs.Beliefs.{believed_silent, believed_found, believed_apart, above};
+ghost use Rattle.rdm_agent.specs.Beliefs.{rest_found, all_found, split_at, lower_apart, all_apart};
+ghost use Rattle.rdm_agent.specs.Beliefs.{believed_silent, believed_found, believed_apart, above, part_silent};
+ghost use Rattle.rdm_agent.specs.Beliefs.{fresh_apart, next_pass};
 ghost use Rattle.rdm_agent.specs.body.Sound.{IsSmall};
 
+mod noise;
 mod strays;
 
 use rdm_wire::{Uid, UidRange};
@@ -26,6 +28,9 @@ const BEGUN: u8 = 4;
 
 /// By how much the width of the next range grows at most.
 const MOST_GROWTH: u64 = 1 << 32;
+
+/// What a range adds to the noise level that was silent four times in a row after it had answered.
+const LEVEL_OF_A_RANGE: u8 = 16;
 
 /// With how many UIDs below it a single UID is asked at most.
 const MOST_BACK: u64 = 1 << 46;
@@ -82,6 +87,12 @@ pub(crate) struct Belief {
     pub(crate) suspect: Option<Uid>,
     /// Whether nothing was found in this pass so far, and it isn't the first.
     pub(crate) found_nothing: bool,
+    /// Whether all UIDs were asked again after a bad answer.
+    pub(crate) again: bool,
+    /// The noise level: 0 to 31. While it isn't 0, bad answers are asked again.
+    pub(crate) level: u8,
+    /// Whether a bad answer is asked again: 0 if not, 1 if it is, and 2 after a silence.
+    pub(crate) doubt: u8,
     /// The UID that a branch spelt last.
     pub(crate) spelt: Option<Uid>,
     /// How often in a row it was read: 2^20 at most.
@@ -111,6 +122,9 @@ impl Belief {
             back: 1,
             suspect: None,
             found_nothing: false,
+            again: false,
+            level: 0,
+            doubt: 0,
             spelt: None,
             times: 0,
             due: 0,
@@ -153,7 +167,8 @@ impl Belief {
         self.restarted().past_zero()
     }
 
-    /// The sweep continues above this range.
+    /// The sweep continues above this range, which was silent four times in a row after it had answered. The next range
+    /// is as wide as what answered.
     pub(crate) fn above(self, range: UidRange) -> Belief
         requires small { IsSmall self }
         ensures value { result ≡ above range self }
@@ -164,24 +179,24 @@ impl Belief {
             lo: next,
             at: next,
             need: 0,
+            width: next.saturating_sub(self.lo).max(1),
+            growth: 2,
             quiet: 0,
             begun: 0,
-            ..self
+            ..self.louder(LEVEL_OF_A_RANGE)
         }
     }
 
-    /// After a silence.
+    /// After a silence. If a bad answer was asked again, one silence isn't believed.
     pub(crate) fn silent(self, asked: Question) -> Belief
         requires small { IsSmall self }
         ensures value { result ≡ believed_silent asked.part asked.range self }
         ensures small { IsSmall result }
     {
-        match asked.part {
-            Part::Fresh => self.fresh_silent(asked.range),
-            Part::Lower => self.lower_silent(asked.range),
-            Part::Rest => self.rest_silent(),
-            Part::All | Part::Whole => self,
+        if self.doubt == 1 {
+            return Belief { doubt: 2, ..self };
         }
+        self.settled().part_silent(asked)
     }
 
     /// After a device was found. Nothing else answered in the range that was asked.
@@ -200,17 +215,40 @@ impl Belief {
         }
     }
 
-    /// After a collision. The range that was asked has two devices.
-    pub(crate) fn apart(self, asked: Question) -> Belief
+    /// After a collision in what was asked, which had been silent this many times in a row. It has two devices.
+    pub(crate) fn apart(self, asked: Question, silences: u8) -> Belief
         requires small { IsSmall self }
-        ensures value { result ≡ believed_apart asked.part asked.range self }
+        ensures value { result ≡ believed_apart asked.part asked.range silences self }
         ensures small { IsSmall result }
     {
         match asked.part {
-            Part::Fresh => self.split_at(self.at, 0, self.back, asked.range),
-            Part::Lower | Part::Rest => self.lower_apart(asked.range),
             Part::All => self.all_apart(asked.range),
-            Part::Whole => self.whole_apart(asked.range),
+            Part::Whole if self.asks_whole_again(silences) => Belief {
+                again: true,
+                ..self
+            },
+            Part::Whole => self.next_pass(asked.range),
+            _ if self.is_doubted() => Belief { doubt: 1, ..self },
+            Part::Fresh => self.convinced().fresh_apart(asked.range),
+            Part::Lower | Part::Rest => self.convinced().lower_apart(asked.range),
+        }
+    }
+
+    // After a silence that is believed.
+    fn part_silent(self, asked: Question) -> Belief
+        requires small { IsSmall self }
+        ensures value { result ≡ part_silent asked.part asked.range self }
+        ensures small { IsSmall result }
+    {
+        match asked.part {
+            Part::Fresh => self.fresh_silent(asked.range),
+            Part::Lower => self.lower_silent(asked.range),
+            Part::Rest => self.rest_silent(),
+            Part::All => self,
+            Part::Whole => Belief {
+                again: false,
+                ..self
+            },
         }
     }
 
@@ -369,14 +407,19 @@ impl Belief {
         }
     }
 
-    // All of the rest was silent: something was lost. From the second time on it asks first whether anything answers.
+    // All of the rest was silent: something was lost. From the second time on, and on a noisy line, it asks first
+    // whether anything answers.
     fn rest_silent(self) -> Belief
         requires small { IsSmall self }
         ensures value { result ≡ rest_silent self }
         ensures small { IsSmall result }
     {
         Belief {
-            need: if self.begun == 0 { self.need } else { 1 },
+            need: if self.begun == 0 && self.level == 0 {
+                self.need
+            } else {
+                1
+            },
             ..self.begin_again()
         }
     }
@@ -393,7 +436,8 @@ impl Belief {
             begun: 0,
             back: 1,
             found_nothing: false,
-            ..*self
+            again: false,
+            ..self.settled()
         }
     }
 
@@ -459,6 +503,15 @@ impl Belief {
         }
     }
 
+    // A fresh range collided.
+    fn fresh_apart(&self, range: UidRange) -> Belief
+        requires small { IsSmall self.now }
+        ensures value { result ≡ fresh_apart range self.now }
+        ensures small { IsSmall result }
+    {
+        self.split_at(self.at, 0, self.back, range)
+    }
+
     // A lower half or all the rest collided. If UIDs below it were asked too, some were missed there: the next single
     // UID is asked with four times as many.
     fn lower_apart(&self, range: UidRange) -> Belief
@@ -490,9 +543,9 @@ impl Belief {
     }
 
     // After a pass all UIDs collided: something was missed, and another pass begins.
-    fn whole_apart(&self, range: UidRange) -> Belief
+    fn next_pass(&self, range: UidRange) -> Belief
         requires small { IsSmall self.now }
-        ensures value { result ≡ whole_apart range self.now }
+        ensures value { result ≡ next_pass range self.now }
         ensures small { IsSmall result }
     {
         Belief {
@@ -500,6 +553,7 @@ impl Belief {
             width: ALL_UIDS,
             suspect: None,
             found_nothing: true,
+            again: false,
             ..self.split_at(0, 0, self.back, range)
         }
     }

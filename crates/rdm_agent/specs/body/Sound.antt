@@ -34,6 +34,7 @@ pub record IsSmall (b : Belief) : Type 0 where
   pub quiet : b.quiet ≤ 3
   pub begun : b.begun ≤ 4
   pub back : b.back ≤ 2 ^ 46
+  pub level : b.level ≤ 31
   pub times : b.times ≤ 2 ^ 20
   pub due : b.due ≤ 2 ^ 21
 

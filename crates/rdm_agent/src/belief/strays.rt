@@ -65,7 +65,8 @@ impl Belief {
     {
         Belief {
             found_nothing: false,
-            ..self
+            again: false,
+            ..self.settled()
         }
     }
 

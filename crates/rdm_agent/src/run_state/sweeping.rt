@@ -188,10 +188,11 @@ pub(super) fn sweep_split(sweep: Sweep, last: UidRange, silences: u8, found: usi
     ensures { Follows (sweep_split sweep last silences found) result }
 {
     let asked = sweep.question;
-    if asked.part == Part::Whole && sweep.belief.found_nothing {
+    if asked.part == Part::Whole && sweep.belief.is_in_vain() {
         return searching_all(0);
     }
-    sweep_on_after(sweep, last, silences, 0, found, sweep.belief.apart(asked))
+    let belief = sweep.belief.apart(asked, sweep.silences);
+    sweep_on_after(sweep, last, silences, 0, found, belief)
 }
 
 // What a sweep asked was answered badly. A range of several UIDs collided.
