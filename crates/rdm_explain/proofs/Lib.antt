@@ -21,3 +21,4 @@ pub mod NamedLemmas
 pub mod OrderLemmas
 pub mod PartLemmas
 pub mod HonestLemmas
+pub mod HonestOverLemmas
