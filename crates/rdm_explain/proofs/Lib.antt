@@ -7,7 +7,6 @@ pub mod StandingLemmas
 pub mod EndLemmas
 pub mod RuleLemmas
 pub mod WatchLemmas
-pub mod MovedLemmas
 pub mod MutedLemmas
 pub mod SightingLemmas
 pub mod StrayLemmas

@@ -20,7 +20,7 @@ pub(crate) struct Watch {
 
 impl Watch {
     ghost use Rattle.std.specs.Prelude.{◌==◌};
-    ghost use Rattle.rdm_explain.specs.body.Watching.{is_quiet_one, is_moved_watch};
+    ghost use Rattle.rdm_explain.specs.body.Watching.{is_quiet_one};
 
     // Before the first exchange.
     fn of(uid: Uid) -> Watch
@@ -33,35 +33,21 @@ impl Watch {
         }
     }
 
-    // Whether an exchange changes what is known. Most change nothing for most devices.
-    fn is_moved_by(&self, exchange: &Exchange) -> bool
-        ensures { result ≡ is_moved_watch (seen_of exchange.now) self.now }
-    {
-        self.breach.is_none() && self.standing.is_moved_by(self.uid, exchange)
-    }
-
-    // After an exchange.
-    fn after(self, at: usize, exchange: &Exchange) -> Watch
-        requires counted { IsCounted at self }
+    // Hears an exchange.
+    fn hear(&mut self, at: usize, exchange: &Exchange)
+        requires counted { IsCounted at self.old }
         requires few { at < 2 ^ 63 }
-        ensures { result ≡ heard_by at (seen_of exchange.now) self }
+        ensures { self.new ≡ heard_by at (seen_of exchange.now) self.old }
     {
         if self.breach.is_some() {
-            return self;
+            return;
         }
-        let standing = self.standing.after(self.uid, exchange);
-        let breach = Breach {
-            at,
-            rule: rule_by(exchange),
-        };
-        Watch {
-            standing,
-            breach: if standing.is_alive() {
-                None
-            } else {
-                Some(breach)
-            },
-            ..self
+        self.standing.hear(self.uid, exchange);
+        if !self.standing.is_alive() {
+            self.breach = Some(Breach {
+                at,
+                rule: rule_by(exchange),
+            });
         }
     }
 
@@ -110,9 +96,7 @@ pub(crate) fn hear_all(watches: &mut Vec<Watch>, at: usize, exchange: &Exchange)
     ensures { watches.new.items ≡ map (heard_by at (seen_of exchange.now)) watches.old.items }
 {
     'watches: for index in 0..watches.len() {
-        if watches[index].is_moved_by(exchange) {
-            watches[index] = watches[index].after(at, exchange);
-        }
+        watches[index].hear(at, exchange);
     }
 }
 
