@@ -1,5 +1,5 @@
 -- The same on a line whose devices come and leave.
-use Rattle.std.proofs.Common.{◌≡◌, ℕ, Bool, true, List, [], ◌∷◌, ◌++◌, refl, sym, ap, ◌∙◌, subst, inl, inr, arith}
+use Rattle.std.proofs.Common.{◌≡◌, ℕ, true, List, [], ◌∷◌, ◌++◌, refl, sym, ap, ◌∙◌, subst, inl, inr, arith}
 use Rattle.std.specs.Prelude.{◌⊎◌, ◌≢◌}
 use Rattle.std.proofs.lemmas.List.{map-append}
 use Rattle.rdm_wire.specs.Uid.{has}
@@ -11,7 +11,6 @@ use Rattle.rdm_agent.specs.Statements.{IsInEach, IsInOne}
 use Rattle.rdm_explain.specs.declared.exchange.Exchange.{Exchange}
 use Rattle.rdm_explain.specs.Exchanges.{seen_of, seen_all}
 use Rattle.rdm_explain.specs.Certificates.{NoFailure}
-use Rattle.rdm_explain.specs.Garbled.{StaysMuted}
 use Rattle.rdm_explain.specs.Strays.{Leads, MayBeUnmuted, IsStray}
 use Rattle.rdm_explain.proofs.GarbledLemmas.{at_end}
 use Rattle.rdm_explain.proofs.GarbledOverLemmas.{WillBeMutedOver, still_there, step_waits}

@@ -8,7 +8,6 @@ use Rattle.rdm_explain.specs.body.Watching.{finding_of, is_stray}
 use Rattle.rdm_explain.specs.Exchanges.{seen_of}
 use Rattle.rdm_explain.specs.Rules.{AreFirstBreaches, uids_of_findings}
 use Rattle.rdm_explain.specs.Strays.{IsStray}
-use Rattle.rdm_explain.proofs.CommonLemmas.{if_ok}
 use Rattle.rdm_explain.proofs.MutedLemmas.{muted_more}
 use Rattle.rdm_explain.proofs.SightingLemmas.{are_few, noted_more, sighted}
 use Rattle.rdm_explain.proofs.StrayLemmas.{none_failed, fails_here, fails_more, test_stray, stray_test, stray_within}

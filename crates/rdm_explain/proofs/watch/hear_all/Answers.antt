@@ -1,4 +1,4 @@
-use Rattle.std.proofs.Common.{◌≡◌, ℕ, ◌+◌, ◌<◌, ◌∙◌, ◌++◌, List, arith, ap, length, get_or, take, drop, map, slice_set}
+use Rattle.std.proofs.Common.{◌≡◌, ℕ, ◌<◌, ◌∙◌, ◌++◌, List, arith, ap, length, get_or, take, drop, map, slice_set}
 use Rattle.rdm_explain.specs.Exchanges.{seen_of}
 use Rattle.rdm_explain.specs.declared.watch.Watch.{Watch}
 use Rattle.rdm_explain.specs.body.Watching.{heard_by}
