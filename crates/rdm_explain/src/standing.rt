@@ -55,6 +55,7 @@ impl Standing {
     }
 
     /// The device with this UID hears an exchange.
+    #[inline(always)]
     pub(crate) fn hear(&mut self, uid: Uid, exchange: &Exchange)
         requires branches { self.old.lost_branches < 2 ^ 63 }
         requires mutes { self.old.lost_mutes < 2 ^ 63 }

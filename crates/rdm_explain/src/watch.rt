@@ -4,7 +4,7 @@ ghost use Rattle.std.specs.List.{AllByRecursion, list_any, list_all};
 ghost use Rattle.rdm_explain.specs.Exchanges.{seen_of};
 ghost use Rattle.rdm_explain.specs.body.Watching.{watch_of, heard_by, finding_of, IsCounted, are_quiet, is_listed};
 
-use crate::exchange::Exchange;
+use crate::exchange::{Asked, Exchange, Heard};
 use crate::rule::{Breach, DeviceFinding, rule_by};
 use crate::standing::Standing;
 use rdm_wire::{NoMemory, Uid};
@@ -34,6 +34,7 @@ impl Watch {
     }
 
     // Hears an exchange.
+    #[inline(always)]
     fn hear(&mut self, at: usize, exchange: &Exchange)
         requires counted { IsCounted at self.old }
         requires few { at < 2 ^ 63 }
@@ -89,8 +90,47 @@ pub(crate) fn watch_all(alloc: Global, uids: &[Uid]) -> Result<Vec<Watch>, NoMem
     Ok(watches)
 }
 
-/// All of them hear an exchange.
+/// All of them hear an exchange. Each arm has a loop of its own, since its exchange has a kind that the compiler knows.
 pub(crate) fn hear_all(watches: &mut Vec<Watch>, at: usize, exchange: &Exchange)
+    requires counted { AllByRecursion (IsCounted at) watches.old.items }
+    requires few { at < 2 ^ 63 }
+    ensures { watches.new.items ≡ map (heard_by at (seen_of exchange.now)) watches.old.items }
+{
+    match exchange.asked {
+        Asked::Unmute => hear_each(watches, at, &unmute(&exchange.heard)),
+        Asked::Branch { .. } if exchange.heard.is_silent() => {
+            hear_each(watches, at, &silence(&exchange.asked));
+        }
+        _ => hear_each(watches, at, exchange),
+    }
+}
+
+// An unmute that was answered like this.
+#[inline(always)]
+fn unmute(heard: &Heard) -> Exchange
+    ensures asked { result.asked ≡ Asked.Unmute }
+    ensures heard { result.heard ≡ heard.now }
+{
+    Exchange {
+        asked: Asked::Unmute,
+        heard: *heard,
+    }
+}
+
+// A silent exchange.
+#[inline(always)]
+fn silence(asked: &Asked) -> Exchange
+    ensures asked { result.asked ≡ asked.now }
+    ensures heard { result.heard ≡ Heard.Silent }
+{
+    Exchange {
+        asked: *asked,
+        heard: Heard::Silent,
+    }
+}
+
+#[inline(always)]
+fn hear_each(watches: &mut Vec<Watch>, at: usize, exchange: &Exchange)
     requires counted { AllByRecursion (IsCounted at) watches.old.items }
     requires few { at < 2 ^ 63 }
     ensures { watches.new.items ≡ map (heard_by at (seen_of exchange.now)) watches.old.items }

@@ -3,7 +3,7 @@ use Rattle.rdm_explain.specs.Exchanges.{seen_of}
 use Rattle.rdm_explain.specs.declared.watch.Watch.{Watch}
 use Rattle.rdm_explain.specs.body.Watching.{heard_by}
 use Rattle.rdm_explain.proofs.WatchLemmas.{next_unheard, one_more_heard}
-use Rattle.rdm_explain.proofs.watch.hear_all.Goals as goal
+use Rattle.rdm_explain.proofs.watch.hear_each.Goals as goal
 
 pub watches-preserved : goal.watches-preserved
 watches-preserved c =
