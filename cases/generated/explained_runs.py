@@ -41,6 +41,35 @@ exchange 3: bytes came from 1234:00000008 alone that aren't its text; \
 a rule was broken, by it, another device or noise: try each device alone on the line
 status 3
 
+the same after a complete certificate, with which a run has ended without a fault
+3 unmute; 5 all; alone spare > noise
+9 exchanges, 0 devices; its certificate is complete but for what depends on its kind, which the log doesn't have
+1234:00000009 was never heard: exchange 7 is the fifth silence in a row in a range that holds it; \
+check its power and its cable
+exchange 8: bytes came from 1234:00000008 alone that aren't its text; \
+a rule was broken, by it, another device or noise: try each device alone on the line
+status 3
+
+five mutes without an acknowledgement after a complete certificate
+3 unmute; 5 all; alone spare > spare; 5 mute spare
+14 exchanges, 0 devices; its certificate is complete but for what depends on its kind, which the log doesn't have
+1234:00000009 was never heard: exchange 7 is the fifth silence in a row in a range that holds it; \
+check its power and its cable
+1234:00000008 answered alone and then acknowledged no mute: it left, or broke a rule; try it alone on the line
+status 3
+
+other bytes after a mute of all devices, and after one of a device
+3 unmute; mute nobody > noise; mute liar > noise
+5 exchanges, 0 devices; its certificate is incomplete, or the log ends within the run
+exchange 3 mutes a UID that neither acknowledged nor was muted five times in a row: perhaps no device has it
+0000:00000000 is the first UID that wasn't ruled out: it needs five silences in a row of a range that holds it
+1234:00000009 was to mute, and other bytes came: exchange 4 has no acknowledgement; \
+a rule was broken, by it, another device or noise: try it alone, then the others
+exchange 3 (and 1 more): bytes came after a mute of ffff:ffffffff that don't acknowledge it: \
+no device may answer a broadcast; \
+a rule was broken, by it, another device or noise: try each device alone on the line
+status 3
+
 another UID's text from it alone, after which a run goes on
 3 unmute; alone spare > spare
 4 exchanges, 0 devices; its certificate is incomplete, or the log ends within the run

@@ -318,7 +318,7 @@ step_waits present old new u e x step (inr later) = by_front later.front later.w
       no_unmute = later.no_unmute;
     })
 
-at_end : (present : List ℕ) (muted : ℕ → Bool) (u : ℕ) → WillBeMuted present muted u []
+pub at_end : (present : List ℕ) (muted : ℕ → Bool) (u : ℕ) → WillBeMuted present muted u []
     → has present u ≡ true → muted u ≡ true
 at_end present muted u (inl is) = is.now
 at_end present muted u (inr later) = absurd (no_middle later.front later.mute later.back later.whole)

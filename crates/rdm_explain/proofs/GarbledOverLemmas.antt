@@ -16,13 +16,13 @@ use Rattle.rdm_explain.proofs.GarbledLemmas.{Waits, step_keeps, step_mutes, not_
 use Rattle.rdm_explain.proofs.GarbledLemmas.{cons_tail}
 
 -- a device that was there and is muted, unless it has left, and stays so to the end of these exchanges
-record IsMutedOver (earlier last : List ℕ) (muted : ℕ → Bool) (u : ℕ) (x : List Seen) : Type 0 where
-  now : has last u ≡ true → muted u ≡ true
-  was : has earlier u ≡ true
-  no_unmute : AllByRecursion (λ (e : Seen). e.asked ≢ Unmute) x
+pub record IsMutedOver (earlier last : List ℕ) (muted : ℕ → Bool) (u : ℕ) (x : List Seen) : Type 0 where
+  pub now : has last u ≡ true → muted u ≡ true
+  pub was : has earlier u ≡ true
+  pub no_unmute : AllByRecursion (λ (e : Seen). e.asked ≢ Unmute) x
 
 -- it is, or it will acknowledge its mute in these exchanges
-abbrev WillBeMutedOver : List ℕ → List ℕ → (ℕ → Bool) → ℕ → List Seen → Type 0
+abbrev pub WillBeMutedOver : List ℕ → List ℕ → (ℕ → Bool) → ℕ → List Seen → Type 0
 WillBeMutedOver earlier last muted u x = IsMutedOver earlier last muted u x ⊎ StaysMuted u x
 
 -- what must hold before the last exchange, for it not to be an answer
@@ -43,7 +43,7 @@ first_waits earlier last muted x (Branch lo hi) h (same, inr (inl later)) = (sam
 first_waits earlier last muted x (Branch lo hi) h (same, inr (inr broadcast)) = (same, inr (inr broadcast))
 
 -- a device that has left doesn't come back, so those that are there stay muted
-still_there : (earlier last present : List ℕ) (old moved : LineState) (u : ℕ)
+pub still_there : (earlier last present : List ℕ) (old moved : LineState) (u : ℕ)
     → ComeAndLeave earlier last present old moved → (has last u ≡ true → old.muted u ≡ true)
     → has earlier u ≡ true → has present u ≡ true → moved.muted u ≡ true
 still_there earlier last present old moved u changes now was there = by_last (has last u) refl
@@ -69,7 +69,7 @@ in_first (v ∷ us) vs u is = by_test (u == v) is (λ h. in_first us vs u h)
     by_test true h rest = refl
     by_test false h rest = rest h
 
-step_waits : (earlier last present : List ℕ) (old moved new : LineState) (u : ℕ) (e : Seen) (x : List Seen)
+pub step_waits : (earlier last present : List ℕ) (old moved new : LineState) (u : ℕ) (e : Seen) (x : List Seen)
     → ComeAndLeave earlier last present old moved → HonestStep present moved e.asked e.heard new
     → WillBeMutedOver earlier last old.muted u (e ∷ x)
     → WillBeMutedOver (present ++ earlier) present new.muted u x

@@ -1,6 +1,6 @@
 -- On a line that is honest to devices, one of them is due if an exchange is answered.
 use Rattle.std.proofs.Common.{◌≡◌, ℕ, Bool, true, false, ◌&&◌, not, List, [], ◌∷◌, ◌++◌, refl, sym, ap, ◌∙◌, subst, inl}
-use Rattle.std.proofs.Common.{inr, true≢false, arith, rules}
+use Rattle.std.proofs.Common.{inr, true≢false, rules}
 use Rattle.std.specs.Prelude.{◌⊎◌, ◌≢◌, ◌==◌, MatchBool, filter}
 use Rattle.std.specs.List.{AllByRecursion}
 use Rattle.std.proofs.lemmas.List.{map-append}
@@ -10,7 +10,7 @@ use Rattle.rdm_wire.specs.Honest.{Asked, Heard, Seen, LineState, HonestStep, Hon
 use Rattle.rdm_wire.specs.Honest.{HonestToStep, MuteMoves, KeepsMuted, due_in, before_run, is_acked}
 use Rattle.rdm_wire.specs.Honest.Asked.{Unmute, Branch, Mute, Other}
 use Rattle.rdm_wire.specs.Honest.Heard.{Silent}
-use Rattle.rdm_wire.proofs.EachDevice.{IsBelow, below_step}
+use Rattle.rdm_wire.proofs.EachDevice.{IsBelow, below_step, same_below}
 use Rattle.rdm_agent.proofs.Members.{member}
 use Rattle.rdm_agent.proofs.Sets.{has-head, has-rest}
 use Rattle.rdm_explain.specs.declared.exchange.Exchange.{Exchange}
@@ -114,65 +114,79 @@ stays_muted u x is may =
     true≢false (sym (muted_at u (before_run may.muted) is.front is.mute is.back may.end is.asked is.acked is.no_unmute
     (subst (λ l. Leads u (before_run may.muted) l may.end) is.whole may.leads)) ∙ may.unmuted)
 
--- nobody of these devices is due, and yet the exchange is answered
-no_step : (us ps present : List ℕ) (x rest : List Seen) (muted : ℕ → Bool)
-    (l : Led present (before_run muted) x rest) (new : LineState) (a : Asked) (h : Heard)
-    → ((u : ℕ) → has present u ≡ true → (has us u ≡ true) ⊎ (has ps u ≡ true)) → h ≢ Silent → NobodyIsDue us ps x a
-    → HonestStep present l.state a h new → ⊥
-no_step us ps present x rest muted l new Unmute h listed loud nobody step = nobody
-no_step us ps present x rest muted l new Other h listed loud nobody step = nobody
-no_step us ps present x rest muted l new (Mute u) h listed loud nobody step = by_present (has present u) refl step.1
+-- Nobody of these devices is due, and yet the exchange is answered. In this state each device of the lists that must be
+-- muted is
+pub no_step : (us ps present : List ℕ) (x : List Seen) (s new : LineState) (a : Asked) (h : Heard)
+    → ((u : ℕ) → has present u ≡ true → (has us u ≡ true) ⊎ (has ps u ≡ true))
+    → ((u : ℕ) → has present u ≡ true → has us u ≡ true → (MayBeUnmuted u x → ⊥) → s.muted u ≡ true)
+    → ((u : ℕ) → has present u ≡ true → StaysMuted u x → s.muted u ≡ true)
+    → h ≢ Silent → NobodyIsDue us ps x a → HonestStep present s a h new → ⊥
+no_step us ps present x s new Unmute h listed known stay loud nobody step = nobody
+no_step us ps present x s new Other h listed known stay loud nobody step = nobody
+no_step us ps present x s new (Mute u) h listed known stay loud nobody step = by_present (has present u) refl step.1
   where
     by_present : (b : Bool) → has present u ≡ b
-        → MatchBool b (MuteMoves u l.state h new) ((h ≡ Silent) × KeepsMuted u l.state new × Counts new 0 0 0) → ⊥
+        → MatchBool b (MuteMoves u s h new) ((h ≡ Silent) × KeepsMuted u s new × Counts new 0 0 0) → ⊥
     by_present true here moves = elim (listed u here) [
       | inl stays ↦ true≢false (sym stays ∙ nobody.0)
       | inr passes ↦ true≢false (sym passes ∙ nobody.1)
     ]
     by_present false here silent = loud silent.0
-no_step us ps present x rest muted l new (Branch lo hi) h listed loud nobody step = by_due due
+no_step us ps present x s new (Branch lo hi) h listed known stay loud nobody step = by_due due
   where
     test : ℕ → Bool
-    test v = is_within lo hi v && not (l.state.muted v)
+    test v = is_within lo hi v && not (s.muted v)
 
     due : Passing test present
-    due = some_pass test present (λ empty. loud (silent_of (due_in present l.state.muted lo hi) h empty step.0))
+    due = some_pass test present (λ empty. loud (silent_of (due_in present s.muted lo hi) h empty step.0))
 
-    is_muted : (u : ℕ) → is_within lo hi u ≡ true → (has us u ≡ true) ⊎ (has ps u ≡ true) → MayBeUnmuted u x → ⊥
-    is_muted u within (inl stays) =
-        (member (λ v. is_within lo hi v ≡ true → IsMuted v x) us u nobody.0 stays within).muted
-    is_muted u within (inr passes) =
-        stays_muted u x (member (λ v. is_within lo hi v ≡ true → StaysMuted v x) ps u nobody.1 passes within)
+    is_muted : (u : ℕ) → has present u ≡ true → is_within lo hi u ≡ true → (has us u ≡ true) ⊎ (has ps u ≡ true)
+        → s.muted u ≡ true
+    is_muted u there within (inl stays) =
+        known u there stays (member (λ v. is_within lo hi v ≡ true → IsMuted v x) us u nobody.0 stays within).muted
+    is_muted u there within (inr passes) =
+        stay u there (member (λ v. is_within lo hi v ≡ true → StaysMuted v x) ps u nobody.1 passes within)
 
     by_due : Passing test present → ⊥
     by_due p =
-        let both = and_parts (is_within lo hi p.uid) (not (l.state.muted p.uid)) p.passes in
-        let w = l.way p.uid (before_run muted) p.there (record {
-          muted = refl;
-          branches = omega arith;
-          lost = omega arith;
-          unmutes = refl;
-        }) in
-        is_muted p.uid both.0 (listed p.uid p.there) (record {
-          muted = muted;
-          end = w.0;
-          leads = w.2;
-          unmuted = w.1.muted ∙ not_false (l.state.muted p.uid) both.1;
-        })
+        let both = and_parts (is_within lo hi p.uid) (not (s.muted p.uid)) p.passes in
+        true≢false (sym (is_muted p.uid p.there both.0 (listed p.uid p.there)) ∙ not_false (s.muted p.uid) both.1)
+
+-- a device is muted, if it can't be unmuted in a state that is reached
+pub muted_if : (u : ℕ) (x : List Seen) (muted : ℕ → Bool) (s end : LineState) → IsBelow u end s
+    → Leads u (before_run muted) x end → (MayBeUnmuted u x → ⊥) → s.muted u ≡ true
+muted_if u x muted s end below leads never = by_state (cases_Bool (s.muted u))
+  where
+    by_state : (s.muted u ≡ true) ⊎ (s.muted u ≡ false) → s.muted u ≡ true
+    by_state (inl is) = is
+    by_state (inr isnt) =
+        absurd (never (record { muted = muted; end = end; leads = leads; unmuted = below.muted ∙ isnt }))
 
 pub stray_dishonest : (us ps present : List ℕ) (xs : List Exchange) (at : ℕ) → IsStray us ps xs at
     → ((u : ℕ) → has present u ≡ true → (has us u ≡ true) ⊎ (has ps u ≡ true)) → HonestTrace present (seen_all xs) → ⊥
 stray_dishonest us ps present xs at s listed honest = by_chain l.chain
   where
-    whole : seen_all xs ≡ seen_all s.front ++ seen_of s.exchange ∷ seen_all s.back
+    x : List Seen
+    x = seen_all s.front
+
+    rest : List Seen
+    rest = seen_of s.exchange ∷ seen_all s.back
+
+    first : LineState
+    first = before_run honest.1
+
+    whole : seen_all xs ≡ x ++ rest
     whole = ap seen_all s.whole ∙ map-append seen_of s.front (s.exchange ∷ s.back)
 
-    l : Led present (before_run honest.1) (seen_all s.front) (seen_of s.exchange ∷ seen_all s.back)
-    l = led present (before_run honest.1) (seen_all s.front) (seen_of s.exchange ∷ seen_all s.back) s.no_failure
-        (subst (λ k. Chain (HonestStep present) (before_run honest.1) k) whole honest.2)
+    l : Led present first x rest
+    l = led present first x rest s.no_failure (subst (λ k. Chain (HonestStep present) first k) whole honest.2)
 
-    by_chain : Chain (HonestStep present) l.state (seen_of s.exchange ∷ seen_all s.back) → ⊥
+    known : (u : ℕ) → has present u ≡ true → (MayBeUnmuted u x → ⊥) → l.state.muted u ≡ true
+    known u there never =
+        let w = l.way u first there (same_below u first) in muted_if u x honest.1 l.state w.0 w.1 w.2 never
+
+    by_chain : Chain (HonestStep present) l.state rest → ⊥
     by_chain (inl failed) = s.not_failed failed
     by_chain (inr step) =
-        no_step us ps present (seen_all s.front) (seen_of s.exchange ∷ seen_all s.back) honest.1 l step.0
-        (seen_of s.exchange).asked (seen_of s.exchange).heard listed s.not_silent s.nobody step.1
+        no_step us ps present x l.state step.0 (seen_of s.exchange).asked (seen_of s.exchange).heard listed
+        (λ u there is. known u there) (λ u there is. known u there (stays_muted u x is)) s.not_silent s.nobody step.1

@@ -7,7 +7,6 @@ pub mod StandingLemmas
 pub mod EndLemmas
 pub mod RuleLemmas
 pub mod WatchLemmas
-pub mod MovedLemmas
 pub mod MutedLemmas
 pub mod SightingLemmas
 pub mod StrayLemmas
@@ -21,3 +20,4 @@ pub mod NamedLemmas
 pub mod OrderLemmas
 pub mod PartLemmas
 pub mod HonestLemmas
+pub mod HonestOverLemmas

@@ -6,7 +6,7 @@ use Rattle.std.specs.Prelude.{◌⊎◌, ◌≢◌, ◌==◌, ◌||◌, ◌&&◌
 use Rattle.std.specs.List.{AllByRecursion}
 use Rattle.std.proofs.lemmas.List.{map-append, take_more, take_at, get_or_at, drop_more, take-append-drop}
 use Rattle.std.proofs.lemmas.List.{length-take-le}
-use Rattle.std.proofs.lemmas.Bool.{cases_Bool, or_cases, and_parts, and_from, cases_lt}
+use Rattle.std.proofs.lemmas.Bool.{cases_Bool, or_cases, or_parts, and_parts, and_from, cases_lt}
 use Rattle.rdm_wire.specs.Uid.{has, is_within}
 use Rattle.rdm_wire.specs.Honest.{Asked, Heard, Seen, LineState, before_run, is_silent}
 use Rattle.rdm_wire.specs.Honest.Asked.{Unmute, Branch, Mute, Other}
@@ -18,7 +18,7 @@ use Rattle.rdm_explain.specs.Garbled.{StaysMuted}
 use Rattle.rdm_explain.specs.Strays.{Leads, MayBeUnmuted, IsMuted, NobodyIsDue, IsStray}
 use Rattle.rdm_explain.specs.declared.standing.Standing.{Standing}
 use Rattle.rdm_explain.specs.declared.watch.Watch.{Watch}
-use Rattle.rdm_explain.specs.body.Standings.{is_alive, after, after_asked, at_start, standing}
+use Rattle.rdm_explain.specs.body.Standings.{is_alive, after, after_asked, at_start, standing, is_failing}
 use Rattle.rdm_explain.specs.body.Watching.{uids_watched, Watches, is_muted, is_quiet_one, is_listed, are_quiet}
 use Rattle.rdm_explain.specs.body.Watching.{are_muted, is_stray_by, is_stray}
 use Rattle.rdm_explain.specs.body.Garbling.{stays_muted}
@@ -300,3 +300,70 @@ no_failure_more xs at e within read fine ok =
     subst (λ l. NoFailure (seen_all l)) (sym (take_more xs at e within ∙ ap (λ x. take at xs ++ x ∷ []) (sym read)))
     (subst NoFailure (sym (map-append seen_of (take at xs) (e ∷ [])))
     (all_append (λ (s : Seen). s.heard ≢ Failed) (seen_all (take at xs)) (seen_of e ∷ []) ok (fine, tt)))
+
+-- what is known of failures by this index: no exchange before it has failed, or none from it on is stray
+pub record Fails (us ps : List ℕ) (xs : List Exchange) (at : ℕ) (failed : Bool) : Type 0 where
+  pub ok : failed ≡ false → NoFailure (seen_all (take at xs))
+  pub never : failed ≡ true → (j : ℕ) → at ≤ j → IsStray us ps xs j → ⊥
+
+-- the same, with the exchange at this index
+pub record FailsHere (us ps : List ℕ) (xs : List Exchange) (at : ℕ) (e : Exchange) (failed : Bool) : Type 0 where
+  pub ok : failed ≡ false → NoFailure (seen_all (take at xs)) × ((seen_of e).heard ≢ Failed)
+  pub never : failed ≡ true → (j : ℕ) → at ≤ j → IsStray us ps xs j → ⊥
+
+pub none_failed : (us ps : List ℕ) (xs : List Exchange) → Fails us ps xs 0 false
+none_failed us ps xs = record { ok = λ fine. tt; never = λ failed. absurd (true≢false (sym failed)) }
+
+is_failed : (h : Heard) → is_failing h ≡ true → h ≡ Failed
+is_failed Failed is = refl
+is_failed Silent is = absurd (true≢false (sym is))
+is_failed (One u) is = absurd (true≢false (sym is))
+is_failed (Acked ack) is = absurd (true≢false (sym is))
+is_failed Noise is = absurd (true≢false (sym is))
+
+not_failed : (h : Heard) → is_failing h ≡ false → h ≢ Failed
+not_failed h isnt failed = true≢false (sym (ap is_failing failed) ∙ isnt)
+
+pub fails_here : (us ps : List ℕ) (xs : List Exchange) (at : ℕ) (e : Exchange) (old new : Bool) → at < length xs
+    → e ≡ get_or xs at e → new ≡ (old || is_failing (seen_of e).heard) → Fails us ps xs at old
+    → FailsHere us ps xs at e new
+fails_here us ps xs at e old new within read is was = record {
+  ok = λ fine.
+      let both = or_parts old (is_failing (seen_of e).heard) (sym is ∙ fine) in
+      (was.ok both.0, not_failed (seen_of e).heard both.1);
+  never = λ failed. by_cause (or_cases old (is_failing (seen_of e).heard) (sym is ∙ failed));
+}
+  where
+    by_cause : (old ≡ true) ⊎ (is_failing (seen_of e).heard ≡ true) → (j : ℕ) → at ≤ j → IsStray us ps xs j → ⊥
+    by_cause (inl before) = was.never before
+    by_cause (inr now) = none_after us ps xs at e within read (is_failed (seen_of e).heard now)
+
+pub fails_more : (us ps : List ℕ) (xs : List Exchange) (at : ℕ) (e : Exchange) (failed : Bool) → at < length xs
+    → e ≡ get_or xs at e → FailsHere us ps xs at e failed → Fails us ps xs (at + 1) failed
+fails_more us ps xs at e failed within read here = record {
+  ok = λ fine. no_failure_more xs at e within read (here.ok fine).1 (here.ok fine).0;
+  never = λ over j more. here.never over j (omega (arith, more));
+}
+
+-- the test of an exchange is right
+pub test_stray : (us ps : List ℕ) (xs : List Exchange) (at : ℕ) (e : Exchange) (ws : List Watch) (muted : ℕ → Bool)
+    (failed b : Bool) → at < length xs → e ≡ get_or xs at e → FailsHere us ps xs at e failed
+    → WatchesAll (take at xs) us ws → Knows muted (seen_all (take at xs))
+    → b ≡ (not failed && is_stray ws ps muted (seen_of e)) → b ≡ true → IsStray us ps xs at
+test_stray us ps xs at e ws muted failed b within read here all known is holds =
+    let both = and_parts (not failed) (is_stray ws ps muted (seen_of e)) (sym is ∙ holds) in
+    let ok = here.ok (not_is failed both.0) in
+    stray_at us ps xs at e ws muted within read ok.0 all known ok.1 both.1
+
+pub stray_test : (us ps : List ℕ) (xs : List Exchange) (at : ℕ) (e : Exchange) (ws : List Watch) (muted : ℕ → Bool)
+    (failed b : Bool) → e ≡ get_or xs at e → FailsHere us ps xs at e failed → WatchesAll (take at xs) us ws
+    → Knows muted (seen_all (take at xs)) → b ≡ (not failed && is_stray ws ps muted (seen_of e))
+    → IsStray us ps xs at → b ≡ true
+stray_test us ps xs at e ws muted failed b read here all known is s = by_failed (cases_Bool failed)
+  where
+    by_failed : (failed ≡ true) ⊎ (failed ≡ false) → b ≡ true
+    by_failed (inl over) = absurd (here.never over at (omega arith) s)
+    by_failed (inr fine) =
+        is
+        ∙ and_from (not failed) (is_stray ws ps muted (seen_of e)) (not_of failed fine)
+        (at_stray us ps xs at e ws muted read (here.ok fine).0 all known s)

@@ -278,23 +278,6 @@ one_more_heard f ws i w within =
     next : suc i ≡ i + 1
     next = omega arith
 
--- a device that it changes nothing for
-one_still : (f : Watch → Watch) (ws : List Watch) (i : ℕ) (w : Watch) → i < length ws
-    → f (get_or ws i w) ≡ get_or ws i w
-    → map f (take i ws) ++ drop i ws ≡ map f (take (suc i) ws) ++ drop (suc i) ws
-one_still f [] i w within same = absurd (omega arith)
-one_still f (x ∷ ws) zero w within same = ap (λ y. y ∷ ws) (sym same)
-one_still f (x ∷ ws) (suc i) w within same = ap (λ l. f x ∷ l) (one_still f ws i w (omega arith) same)
-
-pub one_still_heard : (f : Watch → Watch) (ws : List Watch) (i : ℕ) (w : Watch) → i < length ws
-    → f (get_or ws i w) ≡ get_or ws i w
-    → map f (take i ws) ++ drop i ws ≡ map f (take (i + 1) ws) ++ drop (i + 1) ws
-one_still_heard f ws i w within same =
-    subst (λ n. map f (take i ws) ++ drop i ws ≡ map f (take n ws) ++ drop n ws) next (one_still f ws i w within same)
-  where
-    next : suc i ≡ i + 1
-    next = omega arith
-
 -- what is known of the devices of a list is right
 pub record WatchesAll (xs : List Exchange) (us : List ℕ) (ws : List Watch) : Type 0 where
   pub watches : AllByRecursion (Watches xs) ws
@@ -336,3 +319,15 @@ all_found xs (w ∷ ws) all = (found xs w w.breach all.0, all_found xs ws all.1)
 pub found_uids : (ws : List Watch) → uids_of_findings (map finding_of ws) ≡ uids_watched ws
 found_uids [] = refl
 found_uids (w ∷ ws) = ap (λ l. w.uid ∷ l) (found_uids ws)
+
+-- the same of the first n devices
+pub first_found : (xs : List Exchange) (n : ℕ) (ws : List Watch) → AllByRecursion (Watches xs) ws
+    → AreFirstBreaches xs (map finding_of (take n ws))
+first_found xs zero ws all = tt
+first_found xs (suc n) [] all = tt
+first_found xs (suc n) (w ∷ ws) all = (found xs w w.breach all.0, first_found xs n ws all.1)
+
+pub first_uids : (n : ℕ) (ws : List Watch) → uids_of_findings (map finding_of (take n ws)) ≡ take n (uids_watched ws)
+first_uids zero ws = refl
+first_uids (suc n) [] = refl
+first_uids (suc n) (w ∷ ws) = ap (λ l. w.uid ∷ l) (first_uids n ws)

@@ -7,6 +7,7 @@ ghost use Rattle.rdm_wire.specs.declared.device.Device.{Device};
 ghost use Rattle.rdm_wire.specs.Honest.{HonestTrace};
 ghost use Rattle.rdm_wire.specs.HonestOver.{HonestOver};
 ghost use Rattle.rdm_agent.specs.Run.{acked_in};
+ghost use Rattle.rdm_agent.specs.Statements.{IsInEach, IsInOne};
 ghost use Rattle.rdm_agent.specs.Certificate.{Certificate, IsCleared, known_of};
 ghost use Rattle.rdm_agent.specs.declared.kind.Kind.{Kind};
 ghost use Rattle.rdm_explain.specs.declared.exchange.Exchange.{Exchange};
@@ -54,9 +55,14 @@ pub fn breach_is_not_honest()
 
 /// If an exchange is stray for two lists, the line wasn't honest for these devices, nor for any part of them.
 pub fn stray_is_not_honest()
-    ensures { (us ps present : List ℕ) (xs : List Exchange) (at : ℕ) → IsStray us ps xs at
+    ensures fixed { (us ps present : List ℕ) (xs : List Exchange) (at : ℕ) → IsStray us ps xs at
         → ((u : ℕ) → has present u ≡ true → (has us u ≡ true) ⊎ (has ps u ≡ true))
         → HonestTrace present (seen_all xs) → ⊥ }
+    // The same of devices that come and leave, if those of the first list that are ever there stay.
+    ensures changing { (us ps : List ℕ) (sets : List (List ℕ)) (xs : List Exchange) (at : ℕ) → IsStray us ps xs at
+        → ((u : ℕ) → IsInOne u sets → (has us u ≡ true) ⊎ (has ps u ≡ true))
+        → ((u : ℕ) → IsInOne u sets → has us u ≡ true → IsInEach u sets)
+        → HonestOver sets (seen_all xs) → ⊥ }
 {}
 
 /// If an exchange is garbled, the line wasn't honest for any devices. They needn't be known, and may come and leave.

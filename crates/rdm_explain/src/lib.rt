@@ -29,5 +29,5 @@ pub use order::{first_failure, first_missing_unmute};
 pub use reported::{acknowledged_devices, first_misreported, first_other_data};
 pub use rule::{Breach, DeviceFinding, Rule, first_breaches};
 pub use sighting::Sighting;
-pub use stray::first_stray;
+pub use stray::{Judged, judge};
 pub use tried::first_untried;

@@ -1,7 +1,6 @@
 //! What is known of one device's state after some exchanges.
 ghost use Rattle.std.specs.Prelude.{◌≡◌, ◌<◌, ◌^◌, ℕ};
 ghost use Rattle.rdm_explain.specs.Exchanges.{asked_of, heard_of};
-ghost use Rattle.rdm_explain.specs.body.Standings.{concerns, is_failing};
 
 use crate::exchange::{Asked, Exchange, Heard};
 use rdm_wire::Uid;
@@ -32,7 +31,7 @@ pub(crate) struct Standing {
 impl Standing {
     ghost use Rattle.rdm_explain.specs.Exchanges.{seen_of};
     ghost use Rattle.rdm_explain.specs.body.Standings.{is_alive, with_counts, after_branch, after_mute, after_unmute};
-    ghost use Rattle.rdm_explain.specs.body.Standings.{after, at_start, is_moved, has_counts};
+    ghost use Rattle.rdm_explain.specs.body.Standings.{after, at_start};
 
     /// Before a run.
     pub(crate) fn start() -> Standing
@@ -55,127 +54,76 @@ impl Standing {
         self.muted || self.unmuted
     }
 
-    /// Whether an exchange changes what is known of the device with this UID.
-    pub(crate) fn is_moved_by(&self, uid: Uid, exchange: &Exchange) -> bool
-        ensures { result ≡ is_moved uid self.now (seen_of exchange.now) }
-    {
-        self.has_counts()
-            || !self.is_alive()
-            || is_failing(&exchange.heard)
-            || concerns(uid, exchange)
-    }
-
-    // Whether it counts anything.
-    fn has_counts(&self) -> bool
-        ensures { result ≡ has_counts self.now }
-    {
-        self.lost_branches != 0 || self.lost_mutes != 0 || self.unmutes != 0
-    }
-
-    /// After an exchange, for the device with this UID.
-    pub(crate) fn after(self, uid: Uid, exchange: &Exchange) -> Standing
-        requires branches { self.lost_branches < 2 ^ 63 }
-        requires mutes { self.lost_mutes < 2 ^ 63 }
-        requires unmutes { self.unmutes < 2 ^ 63 }
-        ensures { result ≡ after uid self (seen_of exchange.now) }
+    /// The device with this UID hears an exchange.
+    #[inline(always)]
+    pub(crate) fn hear(&mut self, uid: Uid, exchange: &Exchange)
+        requires branches { self.old.lost_branches < 2 ^ 63 }
+        requires mutes { self.old.lost_mutes < 2 ^ 63 }
+        requires unmutes { self.old.unmutes < 2 ^ 63 }
+        ensures { self.new ≡ after uid self.old (seen_of exchange.now) }
     {
         if self.stopped {
-            return self;
+            return;
         }
         if exchange.heard.is_failed() {
-            return Standing {
-                stopped: true,
-                ..self
-            };
+            self.stopped = true;
+            return;
         }
         match exchange.asked {
-            Asked::Unmute => self.after_unmute(),
+            Asked::Unmute => self.hear_unmute(),
             Asked::Branch { lo, hi } => {
                 let is_lost = lo <= uid && uid <= hi && exchange.heard.is_silent();
-                self.after_branch(if is_lost { self.lost_branches + 1 } else { 0 })
+                self.hear_branch(if is_lost { self.lost_branches + 1 } else { 0 });
             }
-            Asked::Mute(muted) if uid == muted => self.after_mute(&exchange.heard),
-            _ => self.with_counts(0, 0, 0),
+            Asked::Mute(muted) if uid == muted => self.hear_mute(&exchange.heard),
+            _ => self.count(0, 0, 0),
         }
     }
 
-    fn with_counts(self, branches: u64, mutes: u64, unmutes: u64) -> Standing
-        ensures { result ≡ with_counts self branches mutes unmutes }
+    fn count(&mut self, branches: u64, mutes: u64, unmutes: u64)
+        ensures { self.new ≡ with_counts self.old branches mutes unmutes }
     {
-        Standing {
-            lost_branches: branches,
-            lost_mutes: mutes,
-            unmutes,
-            ..self
-        }
+        self.lost_branches = branches;
+        self.lost_mutes = mutes;
+        self.unmutes = unmutes;
     }
 
-    // After a branch by which so many of its replies would be lost in a row.
-    fn after_branch(self, lost: u64) -> Standing
-        ensures { result ≡ after_branch self lost }
+    // A branch by which so many of its replies would be lost in a row.
+    fn hear_branch(&mut self, lost: u64)
+        ensures { self.new ≡ after_branch self.old lost }
     {
-        Standing {
-            unmuted: self.unmuted && lost <= MOST_LOST,
-            ..self.with_counts(lost, 0, 0)
-        }
+        self.unmuted = self.unmuted && lost <= MOST_LOST;
+        self.count(lost, 0, 0);
     }
 
-    // After a mute of the device.
-    fn after_mute(self, heard: &Heard) -> Standing
-        requires { self.lost_mutes < 2 ^ 63 }
-        ensures { result ≡ after_mute self (heard_of heard.now) }
+    // A mute of the device.
+    fn hear_mute(&mut self, heard: &Heard)
+        requires { self.old.lost_mutes < 2 ^ 63 }
+        ensures { self.new ≡ after_mute self.old (heard_of heard.now) }
     {
+        let is_alive = self.is_alive();
         if heard.is_acked() {
-            Standing {
-                muted: self.is_alive(),
-                unmuted: false,
-                ..self.with_counts(0, 0, 0)
-            }
+            self.muted = is_alive;
+            self.unmuted = false;
+            self.count(0, 0, 0);
         } else if heard.is_silent() && self.lost_mutes < MOST_LOST {
-            Standing {
-                muted: self.is_alive(),
-                ..self.with_counts(0, self.lost_mutes + 1, 0)
-            }
+            self.muted = is_alive;
+            self.count(0, self.lost_mutes + 1, 0);
         } else {
-            Standing {
-                muted: false,
-                unmuted: false,
-                ..self.with_counts(0, 0, 0)
-            }
+            self.muted = false;
+            self.unmuted = false;
+            self.count(0, 0, 0);
         }
     }
 
-    // After an unmute.
-    fn after_unmute(self) -> Standing
-        requires { self.unmutes < 2 ^ 63 }
-        ensures { result ≡ after_unmute self }
+    // An unmute.
+    fn hear_unmute(&mut self)
+        requires { self.old.unmutes < 2 ^ 63 }
+        ensures { self.new ≡ after_unmute self.old }
     {
         let unmutes = self.unmutes + 1;
-        Standing {
-            muted: self.muted && unmutes < UNMUTES,
-            unmuted: self.is_alive(),
-            ..self.with_counts(0, 0, unmutes)
-        }
-    }
-}
-
-fn is_failing(heard: &Heard) -> bool
-    ensures { result ≡ is_failing (heard_of heard.now) }
-{
-    match heard {
-        Heard::Failed => true,
-        _ => false,
-    }
-}
-
-// Whether an exchange asks the device with this UID, maybe among others. A branch that was answered changes nothing.
-fn concerns(uid: Uid, exchange: &Exchange) -> bool
-    ensures { result ≡ concerns uid (asked_of exchange.now.asked) (heard_of exchange.now.heard) }
-{
-    match exchange.asked {
-        Asked::Unmute => true,
-        Asked::Branch { lo, hi } => lo <= uid && uid <= hi && exchange.heard.is_silent(),
-        Asked::Mute(muted) => uid == muted,
-        Asked::Other => false,
+        self.unmuted = self.is_alive();
+        self.muted = self.muted && unmutes < UNMUTES;
+        self.count(0, 0, unmutes);
     }
 }

@@ -4,7 +4,7 @@ ghost use Rattle.std.specs.List.{AllByRecursion, list_any, list_all};
 ghost use Rattle.rdm_explain.specs.Exchanges.{seen_of};
 ghost use Rattle.rdm_explain.specs.body.Watching.{watch_of, heard_by, finding_of, IsCounted, are_quiet, is_listed};
 
-use crate::exchange::Exchange;
+use crate::exchange::{Asked, Exchange, Heard};
 use crate::rule::{Breach, DeviceFinding, rule_by};
 use crate::standing::Standing;
 use rdm_wire::{NoMemory, Uid};
@@ -20,7 +20,7 @@ pub(crate) struct Watch {
 
 impl Watch {
     ghost use Rattle.std.specs.Prelude.{◌==◌};
-    ghost use Rattle.rdm_explain.specs.body.Watching.{is_quiet_one, is_moved_watch};
+    ghost use Rattle.rdm_explain.specs.body.Watching.{is_quiet_one};
 
     // Before the first exchange.
     fn of(uid: Uid) -> Watch
@@ -33,35 +33,22 @@ impl Watch {
         }
     }
 
-    // Whether an exchange changes what is known. Most change nothing for most devices.
-    fn is_moved_by(&self, exchange: &Exchange) -> bool
-        ensures { result ≡ is_moved_watch (seen_of exchange.now) self.now }
-    {
-        self.breach.is_none() && self.standing.is_moved_by(self.uid, exchange)
-    }
-
-    // After an exchange.
-    fn after(self, at: usize, exchange: &Exchange) -> Watch
-        requires counted { IsCounted at self }
+    // Hears an exchange.
+    #[inline(always)]
+    fn hear(&mut self, at: usize, exchange: &Exchange)
+        requires counted { IsCounted at self.old }
         requires few { at < 2 ^ 63 }
-        ensures { result ≡ heard_by at (seen_of exchange.now) self }
+        ensures { self.new ≡ heard_by at (seen_of exchange.now) self.old }
     {
         if self.breach.is_some() {
-            return self;
+            return;
         }
-        let standing = self.standing.after(self.uid, exchange);
-        let breach = Breach {
-            at,
-            rule: rule_by(exchange),
-        };
-        Watch {
-            standing,
-            breach: if standing.is_alive() {
-                None
-            } else {
-                Some(breach)
-            },
-            ..self
+        self.standing.hear(self.uid, exchange);
+        if !self.standing.is_alive() {
+            self.breach = Some(Breach {
+                at,
+                rule: rule_by(exchange),
+            });
         }
     }
 
@@ -103,16 +90,53 @@ pub(crate) fn watch_all(alloc: Global, uids: &[Uid]) -> Result<Vec<Watch>, NoMem
     Ok(watches)
 }
 
-/// All of them hear an exchange.
+/// All of them hear an exchange. Each arm has a loop of its own, since its exchange has a kind that the compiler knows.
 pub(crate) fn hear_all(watches: &mut Vec<Watch>, at: usize, exchange: &Exchange)
     requires counted { AllByRecursion (IsCounted at) watches.old.items }
     requires few { at < 2 ^ 63 }
     ensures { watches.new.items ≡ map (heard_by at (seen_of exchange.now)) watches.old.items }
 {
-    'watches: for index in 0..watches.len() {
-        if watches[index].is_moved_by(exchange) {
-            watches[index] = watches[index].after(at, exchange);
+    match exchange.asked {
+        Asked::Unmute => hear_each(watches, at, &unmute(&exchange.heard)),
+        Asked::Branch { .. } if exchange.heard.is_silent() => {
+            hear_each(watches, at, &silence(&exchange.asked));
         }
+        _ => hear_each(watches, at, exchange),
+    }
+}
+
+// An unmute that was answered like this.
+#[inline(always)]
+fn unmute(heard: &Heard) -> Exchange
+    ensures asked { result.asked ≡ Asked.Unmute }
+    ensures heard { result.heard ≡ heard.now }
+{
+    Exchange {
+        asked: Asked::Unmute,
+        heard: *heard,
+    }
+}
+
+// A silent exchange.
+#[inline(always)]
+fn silence(asked: &Asked) -> Exchange
+    ensures asked { result.asked ≡ asked.now }
+    ensures heard { result.heard ≡ Heard.Silent }
+{
+    Exchange {
+        asked: *asked,
+        heard: Heard::Silent,
+    }
+}
+
+#[inline(always)]
+fn hear_each(watches: &mut Vec<Watch>, at: usize, exchange: &Exchange)
+    requires counted { AllByRecursion (IsCounted at) watches.old.items }
+    requires few { at < 2 ^ 63 }
+    ensures { watches.new.items ≡ map (heard_by at (seen_of exchange.now)) watches.old.items }
+{
+    'watches: for index in 0..watches.len() {
+        watches[index].hear(at, exchange);
     }
 }
 

@@ -103,10 +103,10 @@ verdict_text r heard acked see (Some b) =
 abbrev pub unbroken_judgement : RunFacts → Bool → Judgement
 unbroken_judgement r acked = if acked then judged.Found else (if r.whole then judged.Missed else judged.Pending)
 
--- whether a device broke a rule, or else was found
+-- whether a device broke a rule, and whether it was found
 abbrev pub device_judgement : RunFacts → Bool → Option Breach → Judgement
 device_judgement r acked None = unbroken_judgement r acked
-device_judgement r acked (Some b) = judged.Broke
+device_judgement r acked (Some b) = judged.Broke acked
 
 -- the exchange that its sentence names
 abbrev pub device_exchange : RunFacts → Option ℕ → Option Breach → Option ℕ

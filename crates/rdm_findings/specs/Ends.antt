@@ -120,10 +120,11 @@ abbrev pub if_enough : Option Search → List Exchange → Option ℕ → Option
 if_enough search xs None = None
 if_enough search xs (Some u) = if are_enough search u xs then Some u else None
 
--- the UID with which such a run ended as Corrupt, if it begins by its three unmutes, and no exchange failed
+-- The UID with which such a run ended as Corrupt, if it begins by its three unmutes, and no exchange failed. With a
+-- complete certificate a run ends without a fault
 abbrev pub corrupt_end : Option Search → List Device → List Exchange → RunFinding → Option ℕ
 corrupt_end search reported xs f =
-    if is_some f.missing_unmute || is_some f.failure then None
+    if is_some f.missing_unmute || is_some f.failure || is_complete f then None
     else if_enough search xs (corrupt_uid (uids_of reported) xs)
 
 -- the end as Corrupt with this UID

@@ -3,6 +3,9 @@ use Rattle.std.specs.Prelude.{ℕ, Bool, true, false, ◌||◌, not, List, lengt
 use Rattle.std.specs.Prelude.{Ok, Err, codes, ◌==◌, if◌then◌else◌}
 use Rattle.arrayvec.specs.ArrayVec.{ArrayVec}
 use Rattle.rdm_wire.specs.Commands.{command_read}
+use Rattle.rdm_wire.specs.Honest.{Asked, Heard, Seen}
+use Rattle.rdm_wire.specs.Honest.Asked.{Mute}
+use Rattle.rdm_wire.specs.Honest.Heard.{Noise}
 use Rattle.rdm_wire.specs.Responses.{decoded}
 use Rattle.rdm_wire.specs.declared.command.Command.{Command}
 use Rattle.rdm_wire.specs.declared.command.Command.TheVariants as asks
@@ -13,6 +16,7 @@ use Rattle.rdm_wire.specs.declared.response.AckType.{AckType}
 use Rattle.rdm_wire.specs.declared.response.AckType.TheVariants as types
 use Rattle.rdm_wire.specs.declared.response.PacketFault.{PacketFault}
 use Rattle.rdm_wire.specs.declared.response.PacketFault.TheVariants as packets
+use Rattle.rdm_join.specs.Exchange.{seen_event}
 use Rattle.rdm_join.specs.declared.event.LineEvent.{LineEvent}
 use Rattle.rdm_join.specs.declared.event.LineEvent.TheVariants as events
 use Rattle.rdm_findings.specs.declared.flaw.Flaw.{Flaw}
@@ -47,15 +51,21 @@ abbrev pub flaw_after : Command → (s tn : ℕ) → List ℕ → Option Flaw
 flaw_after (asks.Mute u) s tn bytes = if length bytes == 0 then None else flaw_of_decoded u s tn (decoded bytes)
 flaw_after _ s tn bytes = None
 
--- the same of the command that was read
-abbrev pub flaw_read : Option (Command × ℕ × ℕ) → List ℕ → Option Flaw
-flaw_read None bytes = None
-flaw_read (Some (command, s, tn)) bytes = flaw_after command s tn bytes
+-- why bytes don't acknowledge a mute of a broadcast UID, which is no command that is read: no device may answer it
+abbrev pub flaw_of_broadcast : Asked → Heard → Option Flaw
+flaw_of_broadcast (Mute u) Noise = Some flaws.Broadcast
+flaw_of_broadcast _ _ = None
+
+-- the same of the command that was read, or else of the exchange
+abbrev pub flaw_read : Option (Command × ℕ × ℕ) → Seen → List ℕ → Option Flaw
+flaw_read None e bytes = flaw_of_broadcast e.asked e.heard
+flaw_read (Some (command, s, tn)) e bytes = flaw_after command s tn bytes
 
 -- why the line's answer to a frame doesn't acknowledge it, if the frame is a mute, and bytes came
 abbrev pub flaw_of : ArrayVec ℕ → LineEvent → Option Flaw
 flaw_of frame events.Failed = None
-flaw_of frame (events.Reply bytes) = flaw_read (command_read frame.items) bytes.items
+flaw_of frame (events.Reply bytes) =
+    flaw_read (command_read frame.items) (seen_event (frame, events.Reply bytes)) bytes.items
 
 -- the first flaw, with one more exchange
 abbrev pub first_flaw : Option Flaw → ArrayVec ℕ → LineEvent → Option Flaw
@@ -76,6 +86,7 @@ packet_text packets.InvalidResponseType = codes "their response type is unknown"
 -- a flaw
 abbrev pub flaw_text : Flaw → List ℕ
 flaw_text (flaws.Packet fault) = packet_text fault
+flaw_text flaws.Broadcast = codes "no device may answer a broadcast"
 flaw_text flaws.Command = codes "they answer another command"
 flaw_text flaws.Source = codes "they are from another UID"
 flaw_text flaws.Controller = codes "they are for another controller"

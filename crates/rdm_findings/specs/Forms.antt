@@ -1,6 +1,6 @@
 -- How a finding is printed: its sentence alone on a line, or in an object of JSON with what it is about. No sentence
 -- has a character that JSON escapes.
-use Rattle.std.specs.Prelude.{ℕ, List, [], ◌++◌, Option, Some, None, codes, decimal}
+use Rattle.std.specs.Prelude.{ℕ, true, false, List, [], ◌++◌, Option, Some, None, codes, decimal}
 use Rattle.rdm_wire.specs.UidText.{uid_text}
 use Rattle.rdm_findings.specs.declared.form.About.{About}
 use Rattle.rdm_findings.specs.declared.form.Form.{Form}
@@ -20,7 +20,7 @@ judgement_name judged.Quiet = codes "quiet"
 judgement_name judged.Found = codes "found"
 judgement_name judged.Missed = codes "missed"
 judgement_name judged.Pending = codes "pending"
-judgement_name judged.Broke = codes "broke"
+judgement_name (judged.Broke found) = codes "broke"
 judgement_name judged.Unmuted = codes "unmuted"
 judgement_name judged.Gone = codes "gone"
 judgement_name judged.Stray = codes "stray"
@@ -52,11 +52,18 @@ abbrev pub exchange_member : Option ℕ → List ℕ
 exchange_member None = []
 exchange_member (Some number) = codes ",\"exchange\":" ++ decimal number
 
+-- whether a device that broke a rule was found, that is, acknowledged a mute
+abbrev pub found_member : Judgement → List ℕ
+found_member (judged.Broke true) = codes ",\"found\":true"
+found_member (judged.Broke false) = codes ",\"found\":false"
+found_member _ = []
+
 -- an object up to its sentence
 abbrev pub object_start : About → List ℕ
 object_start about =
     codes "{\"judgement\":\"" ++ judgement_name about.judgement ++ codes "\""
-    ++ (uid_member about.uid ++ exchange_member about.exchange) ++ codes ",\"sentence\":\""
+    ++ (uid_member about.uid ++ exchange_member about.exchange ++ found_member about.judgement)
+    ++ codes ",\"sentence\":\""
 
 -- what precedes the sentence of a finding after the first one
 abbrev pub before_sentence : Form → About → List ℕ

@@ -91,13 +91,13 @@ fn about(facts: &RunFacts, uid: Uid, acked: bool, see: Option<u64>, breach: Opti
     }
 }
 
-// Whether it broke a rule, or else was found.
+// Whether it broke a rule, and whether it was found.
 fn device_judgement(facts: &RunFacts, acked: bool, breach: Option<Breach>) -> Judgement
     ensures { result ≡ device_judgement facts.now acked breach }
 {
     match breach {
         None => unbroken_judgement(facts, acked),
-        Some(_) => Judgement::Broke,
+        Some(_) => Judgement::Broke(acked),
     }
 }
 

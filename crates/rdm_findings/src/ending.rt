@@ -226,7 +226,7 @@ fn corrupt_end(
 ) -> Option<Uid>
     ensures { result ≡ corrupt_end search reported.now exchanges.now found.now }
 {
-    if found.missing_unmute.is_some() || found.failure.is_some() {
+    if found.missing_unmute.is_some() || found.failure.is_some() || is_complete(found) {
         None
     } else {
         if_enough(search, exchanges, corrupt_uid(reported, exchanges))

@@ -1,9 +1,10 @@
 //! The findings about a run, and their text.
 ghost use Rattle.std.specs.Prelude.{◌≡◌, ◌++◌, IfOk, OnOk, option_copied};
 ghost use Rattle.rdm_explain.specs.Rules.{AreFirstBreaches, uids_of_findings};
+ghost use Rattle.rdm_explain.specs.Strays.{FirstStray};
 ghost use Rattle.rdm_findings.specs.FindingText.{any_broke, stray_finding, unless_garbled};
 ghost use Rattle.rdm_findings.specs.Ends.{decides_stray};
-ghost use Rattle.rdm_findings.specs.Explained.{first_of, ExplainsNames, Finds, gone_of};
+ghost use Rattle.rdm_findings.specs.Explained.{first_of, ExplainsNames, Finds, gone_of, with_one};
 ghost use Rattle.rdm_findings.specs.Explained.{findings_text, IsExplained, shows_all, is_broken, stray_of, facts_of};
 ghost use Rattle.rdm_findings.specs.Explained.{devices_text, bytes_text, run_text};
 ghost use Rattle.rdm_findings.specs.RunJson.{before_run, run_end};
@@ -24,8 +25,8 @@ use crate::stray_text::write_stray;
 use crate::unmute_text::write_answered;
 use rdm_agent::Kind;
 use rdm_explain::{
-    DeviceFinding, Exchange, KnownFinding, RunFinding, Sighting, acknowledged_devices,
-    explain_known, explain_run, first_breaches, first_garbled, first_stray,
+    DeviceFinding, Exchange, Judged, KnownFinding, RunFinding, Sighting, acknowledged_devices,
+    explain_known, explain_run, first_breaches, first_garbled, judge,
 };
 use rdm_wire::{DeviceSet, NoMemory, Uid};
 use std::alloc::{AllocError, Global};
@@ -106,7 +107,7 @@ fn find(
 {
     let reported = acknowledged_devices(exchanges);
     let acked = acknowledged_uids(alloc, exchanges)?;
-    let Ok(mut uids) = listed(alloc, &reported, present, passing) else {
+    let Ok(uids) = listed(alloc, &reported, present, passing) else {
         return Err(NoMemory);
     };
     let Ok(mut due) = with_passing(alloc, &uids, passing) else {
@@ -114,23 +115,44 @@ fn find(
     };
     let certificate = explain_run(alloc, &reported, exchanges)?;
     let culprit = culprit_of(certificate.failure, &due, &reported, exchanges);
-    let devices = first_breaches(alloc, &uids, exchanges)?;
-    if add_one(&mut uids, culprit).is_err() || add_one(&mut due, culprit).is_err() {
+    let judged = judge_listed(alloc, uids, culprit, passing, exchanges)?;
+    if add_one(&mut due, culprit).is_err() {
         return Err(NoMemory);
     }
     Ok(Findings {
         certificate,
         names: names(alloc, kind, known, exchanges)?,
-        devices,
+        devices: judged.devices,
         culprit,
         gone: gone(alloc, &acked, &due, known, exchanges)?,
-        stray: first_stray(alloc, &uids, passing, exchanges)?,
+        stray: judged.stray,
         garbled: first_garbled(alloc, exchanges)?,
         heard: heard_uids(alloc, exchanges)?,
         due,
         reported,
         acked,
     })
+}
+
+// What is found of the listed devices, and of bytes that neither these nor the one without an acknowledgement were due
+// to send.
+fn judge_listed(
+    alloc: Global,
+    mut uids: Vec<Uid>,
+    culprit: Option<Uid>,
+    passing: &[Uid],
+    exchanges: &[Exchange],
+) -> Result<Judged, NoMemory>
+    ensures all { IfOk result (λ judged. uids_of_findings judged.devices.items ≡ uids.items) }
+    ensures first { IfOk result (λ judged. AreFirstBreaches exchanges.now judged.devices.items) }
+    ensures stray { IfOk result (λ judged. FirstStray (with_one uids.items culprit) passing.now exchanges.now
+        judged.stray) }
+{
+    let many = uids.len();
+    if add_one(&mut uids, culprit).is_err() {
+        return Err(NoMemory);
+    }
+    judge(alloc, &uids, many, passing, exchanges)
 }
 
 // The known UIDs that acknowledged no mute, and what they lack.

@@ -2,9 +2,12 @@
 ghost use Rattle.std.specs.Prelude.{◌≡◌, length};
 ghost use Rattle.rdm_wire.specs.Commands.{command_read};
 ghost use Rattle.rdm_wire.specs.Responses.{decoded};
+ghost use Rattle.rdm_join.specs.Exchange.{seen_event};
+ghost use Rattle.rdm_explain.specs.Exchanges.{seen_of};
 ghost use Rattle.rdm_findings.specs.Flaws.{is_discovery, flaw_of_type, flaw_of_response, flaw_of_decoded, flaw_after};
-ghost use Rattle.rdm_findings.specs.Flaws.{flaw_read, flaw_of, first_flaw, packet_text, flaw_text};
+ghost use Rattle.rdm_findings.specs.Flaws.{flaw_of_broadcast, flaw_read, flaw_of, first_flaw, packet_text, flaw_text};
 
+use rdm_explain::{Asked, Exchange, Heard, read_exchange};
 use rdm_join::LineEvent;
 use rdm_wire::{
     AckType, Command, Frame, PacketFault, RespClass, Response, Uid, decode_response, read_command,
@@ -18,6 +21,8 @@ const DISC_MUTE: u16 = 2;
 pub enum Flaw {
     /// They are no response.
     Packet(PacketFault),
+    /// They came after a mute of a broadcast UID, which no device may answer.
+    Broadcast,
     /// They answer another command.
     Command,
     /// They are from another UID than that of the mute.
@@ -50,16 +55,26 @@ fn flaw_of(frame: &Frame, event: &LineEvent) -> Option<Flaw>
 {
     match event {
         LineEvent::Failed => None,
-        LineEvent::Reply(bytes) => flaw_of_bytes(frame.as_slice(), bytes.as_slice()),
+        LineEvent::Reply(bytes) => flaw_of_bytes(frame, event, bytes.as_slice()),
     }
 }
 
-fn flaw_of_bytes(frame: &[u8], bytes: &[u8]) -> Option<Flaw>
-    ensures { result ≡ flaw_read (command_read frame.now) bytes.now }
+fn flaw_of_bytes(frame: &Frame, event: &LineEvent, bytes: &[u8]) -> Option<Flaw>
+    ensures { result ≡ flaw_read (command_read frame.now.items) (seen_event (frame.now, event.now)) bytes.now }
 {
-    match read_command(frame) {
+    match read_command(frame.as_slice()) {
         Some((command, source, tn)) => flaw_after(&command, source, tn, bytes),
-        None => None,
+        None => flaw_of_broadcast(&read_exchange(frame, event)),
+    }
+}
+
+// Why bytes don't acknowledge a mute of a broadcast UID, which is no command that is read.
+fn flaw_of_broadcast(exchange: &Exchange) -> Option<Flaw>
+    ensures { result ≡ flaw_of_broadcast (seen_of exchange.now).asked (seen_of exchange.now).heard }
+{
+    match (exchange.asked, exchange.heard) {
+        (Asked::Mute(_), Heard::Noise) => Some(Flaw::Broadcast),
+        _ => None,
     }
 }
 
@@ -134,6 +149,7 @@ pub(crate) fn flaw_text(flaw: Flaw) -> &'static str
 {
     match flaw {
         Flaw::Packet(fault) => packet_text(fault),
+        Flaw::Broadcast => "no device may answer a broadcast",
         Flaw::Command => "they answer another command",
         Flaw::Source => "they are from another UID",
         Flaw::Controller => "they are for another controller",

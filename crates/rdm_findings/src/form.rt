@@ -1,8 +1,8 @@
 //! How a finding is printed: as a line, or as an object of JSON.
 ghost use Rattle.std.specs.Prelude.{◌≡◌, ◌++◌, OnOk, Some, codes, decimal};
 ghost use Rattle.rdm_wire.specs.UidText.{uid_text};
-ghost use Rattle.rdm_findings.specs.Forms.{judgement_name, uid_member, exchange_member, object_start, before_sentence};
-ghost use Rattle.rdm_findings.specs.Forms.{after_sentence};
+ghost use Rattle.rdm_findings.specs.Forms.{judgement_name, uid_member, exchange_member, found_member, object_start};
+ghost use Rattle.rdm_findings.specs.Forms.{before_sentence, after_sentence};
 
 use crate::writing::{write, write_number, write_uid};
 use rdm_wire::Uid;
@@ -40,8 +40,8 @@ pub(crate) enum Judgement {
     Missed,
     /// A device acknowledged no mute, and broke no rule in the exchanges that the log has.
     Pending,
-    /// A device broke a rule.
-    Broke,
+    /// A device broke a rule. The flag says that it acknowledged a mute.
+    Broke(bool),
     /// A UID answered alone, and then acknowledged no mute.
     Unmuted,
     /// A known device acknowledged no mute.
@@ -158,10 +158,11 @@ fn write_name(text: &mut Vec<u8>, judgement: Judgement) -> Result<(), AllocError
 
 fn write_places(text: &mut Vec<u8>, about: &About) -> Result<(), AllocError>
     ensures { OnOk result (text.new.items ≡ text.old.items
-        ++ (uid_member about.now.uid ++ exchange_member about.now.exchange)) }
+        ++ (uid_member about.now.uid ++ exchange_member about.now.exchange ++ found_member about.now.judgement)) }
 {
     write_uid_member(text, about.uid)?;
-    write_exchange_member(text, about.exchange)
+    write_exchange_member(text, about.exchange)?;
+    write(text, found_member(about.judgement))
 }
 
 /// Writes a member with a UID, if there is one.
@@ -194,6 +195,17 @@ fn write_exchange_member(text: &mut Vec<u8>, exchange: Option<u64>) -> Result<()
     }
 }
 
+// Whether a device that broke a rule was found.
+fn found_member(judgement: Judgement) -> &'static str
+    ensures { result.now ≡ found_member judgement }
+{
+    match judgement {
+        Judgement::Broke(true) => ",\"found\":true",
+        Judgement::Broke(false) => ",\"found\":false",
+        _ => "",
+    }
+}
+
 fn judgement_name(judgement: Judgement) -> &'static str
     ensures { result.now ≡ judgement_name judgement }
 {
@@ -208,7 +220,7 @@ fn judgement_name(judgement: Judgement) -> &'static str
         Judgement::Found => "found",
         Judgement::Missed => "missed",
         Judgement::Pending => "pending",
-        Judgement::Broke => "broke",
+        Judgement::Broke(_) => "broke",
         Judgement::Unmuted => "unmuted",
         Judgement::Gone => "gone",
         Judgement::Stray => "stray",

@@ -1,5 +1,5 @@
 -- What is known of one device's state after some exchanges.
-use Rattle.std.specs.Prelude.{ℕ, ◌+◌, Bool, true, false, ◌&&◌, ◌||◌, not, List, fold, ◌==◌, nat_le, if◌then◌else◌}
+use Rattle.std.specs.Prelude.{ℕ, ◌+◌, Bool, true, false, ◌&&◌, ◌||◌, List, fold, ◌==◌, nat_le, if◌then◌else◌}
 use Rattle.rdm_wire.specs.Uid.{is_within}
 use Rattle.rdm_wire.specs.Honest.{Asked, Heard, Seen, is_silent, is_acked}
 use Rattle.rdm_wire.specs.Honest.Asked.{Unmute, Branch, Mute, Other}
@@ -66,17 +66,6 @@ after_either u false p asked heard = after_heard u p asked heard
 abbrev pub after : ℕ → Standing → Seen → Standing
 after u p e = after_either u p.stopped p e.asked e.heard
 
--- whether it counts anything
-abbrev pub has_counts : Standing → Bool
-has_counts p = (not (p.lost_branches == 0) || not (p.lost_mutes == 0)) || not (p.unmutes == 0)
-
--- whether an exchange asks u, maybe among others. A branch that was answered changes nothing
-abbrev pub concerns : ℕ → Asked → Heard → Bool
-concerns u Unmute h = true
-concerns u (Branch lo hi) h = is_within lo hi u && is_silent h
-concerns u (Mute v) h = u == v
-concerns u Other h = false
-
 -- whether the line failed
 abbrev pub is_failing : Heard → Bool
 is_failing Failed = true
@@ -84,10 +73,6 @@ is_failing Silent = false
 is_failing (One v) = false
 is_failing (Acked ack) = false
 is_failing Noise = false
-
--- whether an exchange may change what is known of u
-abbrev pub is_moved : ℕ → Standing → Seen → Bool
-is_moved u p e = ((has_counts p || not (is_alive p)) || is_failing e.heard) || concerns u e.asked e.heard
 
 -- before a run
 abbrev pub at_start : Standing

@@ -1,6 +1,6 @@
 -- What is known of the devices of a list, exchange by exchange, and whether it shows that an exchange is stray.
 use Rattle.std.specs.Prelude.{◌≡◌, ℕ, ◌≤◌, Bool, true, false, ◌&&◌, not, ◌==◌, List, map, Option, Some, None}
-use Rattle.std.specs.Prelude.{MatchOption, is_some, if◌then◌else◌}
+use Rattle.std.specs.Prelude.{MatchOption, if◌then◌else◌}
 use Rattle.std.specs.List.{list_any, list_all}
 use Rattle.rdm_wire.specs.Uid.{has, is_within}
 use Rattle.rdm_wire.specs.Honest.{Asked, Heard, Seen, is_silent}
@@ -15,7 +15,7 @@ use Rattle.rdm_explain.specs.declared.standing.Standing.{Standing}
 use Rattle.rdm_explain.specs.declared.watch.Watch.{Watch}
 use Rattle.rdm_explain.specs.Exchanges.{seen_all}
 use Rattle.rdm_explain.specs.Rules.{IsFirstBreach}
-use Rattle.rdm_explain.specs.body.Standings.{is_alive, after, at_start, standing, is_moved}
+use Rattle.rdm_explain.specs.body.Standings.{is_alive, after, at_start, standing}
 
 abbrev pub rule_heard : Asked → Heard → Rule
 rule_heard (Branch lo hi) heard = SilentBranches
@@ -43,10 +43,6 @@ heard_with at e w None = with_standing (record { at = at; rule = rule_by e }) w 
 -- a device after an exchange, the one at this index
 abbrev pub heard_by : ℕ → Seen → Watch → Watch
 heard_by at e w = heard_with at e w w.breach
-
--- whether an exchange may change what is known of a device
-abbrev pub is_moved_watch : Seen → Watch → Bool
-is_moved_watch e w = not (is_some w.breach) && is_moved w.uid w.standing e
 
 -- what it counts is at most this
 pub record IsCounted (n : ℕ) (w : Watch) : Type 0 where
