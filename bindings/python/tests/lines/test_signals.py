@@ -9,6 +9,7 @@ import sys
 import termios
 import unittest
 import weakref
+from pathlib import Path
 from typing import Any, Callable, List, Optional, Tuple
 from unittest import mock
 
@@ -21,6 +22,7 @@ from wurstlinen.lines import EnttecPro, Rig
 from wurstlinen.lines.emulator import Emulator, Widget
 from wurstlinen.lines.packets import decode_packet
 
+PROGRAM = Path(__file__).with_name("stand_in.py")
 UID = "1234:00000001"
 OLD = f"uid,label\n{UID},Old\n"
 NEW = "uid,label,address,personality,model,slots\n1234:00000001,Lamp,1,1,Simulated fixture,1\n"
@@ -172,7 +174,7 @@ class Signals(LongTestCase):
         self.each(["save", str(self.file), "--line", f"enttec:{self.emulator.path}"], begin, check)
 
     @needs_library
-    def test_apply(self) -> None:
+    def test_apply_and_set(self) -> None:
         def begin() -> None:
             self.file.write_text(WANTED)
             self.emulator.line = Rig(one(label="Lamp"))
@@ -183,7 +185,27 @@ class Signals(LongTestCase):
             self.assertIn(reply.data, (b"Front",) if status == 0 else (b"Lamp", b"Front"))
             self.assertEqual(self.file.read_text(), WANTED)
 
-        self.each(["apply", str(self.file), "--line", f"enttec:{self.emulator.path}"], begin, check)
+        for words in (["apply", str(self.file)], ["set", UID, "device_label", "Front"]):
+            self.each([*words, "--line", f"enttec:{self.emulator.path}"], begin, check)
+
+    @needs_library
+    def test_logs(self) -> None:
+        program = self.place / "program"
+        program.write_text(f"#!/bin/sh\nexec {sys.executable} {PROGRAM} \"$@\"\n")
+        program.chmod(0o755)
+
+        def begin() -> None:
+            for path in self.file.parent.iterdir():
+                path.unlink()
+
+        def check(status: int) -> None:
+            text = self.file.read_text() if self.file.exists() else ""
+            self.assertTrue(text.endswith("\n") or (status and not text), text[-20:])
+            self.assertTrue(status or UID.replace(":", "") in text)
+
+        with mock.patch.dict(os.environ, WURSTLINEN_PROGRAM=str(program)):
+            for words in (["fixtures"], ["discover"], ["run", "file"]):
+                self.each([*words, "--log", str(self.file), "--line", f"enttec:{self.emulator.path}"], begin, check)
 
     @needs_library
     def test_serve(self) -> None:
