@@ -6,6 +6,7 @@ from __future__ import annotations
 
 import json
 import sys
+from pathlib import Path
 from typing import BinaryIO
 
 import common  # noqa: F401  (it makes the package known)
@@ -29,6 +30,14 @@ class Logged:
         return reply
 
 
+def program_in(folder: Path) -> str:
+    """The stand-in as a program of its own."""
+    path = folder / "program"
+    path.write_text(f"#!/bin/sh\nexec {sys.executable} {Path(__file__).resolve()} \"$@\"\n")
+    path.chmod(0o755)
+    return str(path)
+
+
 def main() -> int:
     """Prints what a search finds on the line."""
     words = sys.argv[1:]
@@ -36,6 +45,7 @@ def main() -> int:
         return 2
     log = words[words.index("--log") + 1] if "--log" in words else "/dev/null"
     with TextLine.open(words[2], words[4]) as line, open(log, "wb", buffering=0) as file:
+        file.write(b'{"entry":"opening"}\n')
         for uid in sorted(discover(Logged(line, file))):
             print(uid_text(uid))
     return 0

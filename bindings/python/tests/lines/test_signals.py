@@ -9,12 +9,12 @@ import sys
 import termios
 import unittest
 import weakref
-from pathlib import Path
 from typing import Any, Callable, List, Optional, Tuple
 from unittest import mock
 
 from common import ENTTEC, LongTestCase, folder, needs_library, one
 from page_logs import found_in
+from stand_in import program_in
 from test_page import STAND_IN
 from test_text import get
 from wurstlinen import tool
@@ -22,7 +22,6 @@ from wurstlinen.lines import EnttecPro, Rig
 from wurstlinen.lines.emulator import Emulator, Widget
 from wurstlinen.lines.packets import decode_packet
 
-PROGRAM = Path(__file__).with_name("stand_in.py")
 UID = "1234:00000001"
 OLD = f"uid,label\n{UID},Old\n"
 NEW = "uid,label,address,personality,model,slots\n1234:00000001,Lamp,1,1,Simulated fixture,1\n"
@@ -190,10 +189,6 @@ class Signals(LongTestCase):
 
     @needs_library
     def test_logs(self) -> None:
-        program = self.place / "program"
-        program.write_text(f"#!/bin/sh\nexec {sys.executable} {PROGRAM} \"$@\"\n")
-        program.chmod(0o755)
-
         def begin() -> None:
             for path in self.file.parent.iterdir():
                 path.unlink()
@@ -203,7 +198,7 @@ class Signals(LongTestCase):
             self.assertTrue(text.endswith("\n") or (status and not text), text[-20:])
             self.assertTrue(status or UID.replace(":", "") in text)
 
-        with mock.patch.dict(os.environ, WURSTLINEN_PROGRAM=str(program)):
+        with mock.patch.dict(os.environ, WURSTLINEN_PROGRAM=program_in(self.place)):
             for words in (["fixtures"], ["discover"], ["run", "file"]):
                 self.each([*words, "--log", str(self.file), "--line", f"enttec:{self.emulator.path}"], begin, check)
 

@@ -13,7 +13,9 @@ from unittest import mock
 
 from common import ROOT, ListLine, TestCase, folder, needs_library
 from fronts import FIVE, LEFT, OneRig, called
+from stand_in import program_in
 from wurstlinen import tool
+from wurstlinen._times import now
 from wurstlinen.front.frames import Parts
 from wurstlinen.front.output import Failure, Output
 from wurstlinen.front.watched import WatchedLine
@@ -151,6 +153,17 @@ class Lines(TestCase):
             with mock.patch.object(importlib.import_module("wurstlinen.tool.main"), "become", return_value=7):
                 self.assertEqual(of_tool("discover", "--line", "foo", "--source", LEFT,
                                          WURSTLINEN_PROGRAM=str(program))[0], 7)
+
+
+    def test_its_log_has_times(self) -> None:
+        with folder() as place:
+            before = now()
+            words = ["discover", f"--line=rig:{FIVE}", "--log", str(place / "log")]
+            self.assertEqual(of_tool(*words, WURSTLINEN_PROGRAM=program_in(place))[0], 0)
+            opening, *lines = map(json.loads, (place / "log").read_text().splitlines())
+            times = [each["microseconds"] for each in lines]
+            self.assertEqual((list(opening), times), (["entry"], sorted(times)))
+            self.assertTrue(before <= times[0] and times[-1] <= now())
 
 
 class Words(TestCase):

@@ -140,7 +140,7 @@ def run_proved(words: List[str]) -> int:
         if client is not None:
             return discover_shared(client, words, frames, is_json)
         words = searched(words)
-    return serving.serve(program, words, line, frames, waits, is_json)
+    return serving.serve(program, words, line, frames, waits, is_json, option(words, "--log"))
 
 
 def run_alone(program: str, words: List[str], is_json: bool) -> int:
