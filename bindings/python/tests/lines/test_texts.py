@@ -13,6 +13,7 @@ from unittest import mock
 
 from common import ROOT, ListLine, TestCase, folder, needs_library
 from fronts import FIVE, LEFT, OneRig, called
+from servers import serve
 from stand_in import program_in
 from wurstlinen import tool
 from wurstlinen._times import now
@@ -164,6 +165,13 @@ class Lines(TestCase):
             times = [each["microseconds"] for each in lines]
             self.assertEqual((list(opening), times), (["entry"], sorted(times)))
             self.assertTrue(before <= times[0] and times[-1] <= now())
+
+
+class Names(TestCase):
+    @needs_library
+    def test_who_has_a_line_is_named(self) -> None:
+        with folder() as made, serve(made, "--line", f"rig:{FIVE}") as server:
+            self.assertEqual(Path(f"/proc/{server.pid}/comm").read_text(), "wurstlinen\n")
 
 
 class Words(TestCase):
