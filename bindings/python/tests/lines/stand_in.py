@@ -1,4 +1,4 @@
-"""A stand-in for the proved program, which only has `discover` and `run --line FRAMES --replies REPLIES [.. --log LOG]`.
+"""A stand-in for the proved program: only `discover` and `run`, with `--line FRAMES --replies REPLIES [.. --log LOG]`.
 
 Both search, and the log has the frames with their replies.
 """
