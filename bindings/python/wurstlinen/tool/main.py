@@ -49,12 +49,12 @@ IGNORED = (signal.SIGPIPE, signal.SIGXFSZ)
 def run() -> int:
     """The command with the arguments of this process."""
     mend()
-    # Who waits for its line says what this process is called, which would be Python.
-    with contextlib.suppress(OSError), open("/proc/self/comm", "w", encoding="ascii") as name:
-        name.write(PROGRAM)
     # A shell makes background jobs ignore SIGINT.
     signal.signal(signal.SIGINT, signal.default_int_handler)
     end_by(end, signal.SIGTERM, signal.SIGHUP)
+    # Who waits for its line says what this process is called, which would be Python.
+    with contextlib.suppress(OSError), open("/proc/self/comm", "w", encoding="ascii") as name:
+        name.write(PROGRAM)
     places.name_library()
     try:
         return finish(main(sys.argv[1:]))
