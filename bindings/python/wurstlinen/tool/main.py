@@ -52,11 +52,11 @@ def run() -> int:
     # A shell makes background jobs ignore SIGINT.
     signal.signal(signal.SIGINT, signal.default_int_handler)
     end_by(end, signal.SIGTERM, signal.SIGHUP)
-    # Who waits for its line says what this process is called, which would be Python.
-    with contextlib.suppress(OSError), open("/proc/self/comm", "w", encoding="ascii") as name:
-        name.write(PROGRAM)
-    places.name_library()
     try:
+        # Who waits for its line says what this process is called, which would be Python.
+        with contextlib.suppress(OSError), open("/proc/self/comm", "w", encoding="ascii") as name:
+            name.write(PROGRAM)
+        places.name_library()
         return finish(main(sys.argv[1:]))
     except Failure as failure:
         command = sys.argv[1] if len(sys.argv) > 1 else ""
