@@ -110,10 +110,16 @@ def add_completion(made: Any, name: str) -> None:
     command = add_command(made, name, "print what completes the commands in a shell", "completion bash",
                           "tool.arguments.run_completion", needs_line=False)
     command.add_argument("shell", choices=("bash",), metavar="bash")
+    # What completes asks for them.
+    command.add_argument("--uids", action="store_true", help=argparse.SUPPRESS)
 
 
 def run_completion(chosen: argparse.Namespace, output: Output) -> int:
-    """Prints the completion."""
+    """Prints the completion, or the devices that the line's server has found."""
+    if chosen.uids:
+        from .shared_discovery import known_devices
+        output.result(known_devices())
+        return DONE
     # It is made from these arguments.
     from .manual import completion
     text = completion()

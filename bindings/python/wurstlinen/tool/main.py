@@ -2,6 +2,7 @@
 from __future__ import annotations
 
 import argparse
+import contextlib
 import os
 import signal
 import sys
@@ -51,8 +52,11 @@ def run() -> int:
     # A shell makes background jobs ignore SIGINT.
     signal.signal(signal.SIGINT, signal.default_int_handler)
     end_by(end, signal.SIGTERM, signal.SIGHUP)
-    places.name_library()
     try:
+        # Who waits for its line says what this process is called, which would be Python.
+        with contextlib.suppress(OSError), open("/proc/self/comm", "w", encoding="ascii") as name:
+            name.write(PROGRAM)
+        places.name_library()
         return finish(main(sys.argv[1:]))
     except Failure as failure:
         command = sys.argv[1] if len(sys.argv) > 1 else ""
@@ -140,7 +144,7 @@ def run_proved(words: List[str]) -> int:
         if client is not None:
             return discover_shared(client, words, frames, is_json)
         words = searched(words)
-    return serving.serve(program, words, line, frames, waits, is_json)
+    return serving.serve(program, words, line, frames, waits, is_json, option(words, "--log"))
 
 
 def run_alone(program: str, words: List[str], is_json: bool) -> int:
