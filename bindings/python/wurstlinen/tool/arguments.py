@@ -81,6 +81,7 @@ def add_explain(made: Any, name: str) -> None:
     command.add_argument("--rig", metavar="FILE", help="a scene file with devices that were on the line")
     command.add_argument("--json", action="store_true", help="print one JSON object")
     command.add_argument("--page", metavar="FILE", help="an HTML file for a picture, which is replaced")
+    command.add_argument("--names", metavar="FILE", help="a file of save, whose labels the page has beside UIDs")
 
 
 def add_line(command: Parser) -> None:

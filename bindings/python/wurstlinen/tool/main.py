@@ -33,9 +33,9 @@ HELP_WORDS = ("-h", "--help")
 WAIT_LINE = "--wait-line"
 # The options with a value.
 VALUED = (WAIT_LINE, "--line", "--replies", "--source", "--known", "--budget", "--port", "--log", "--present", "--rig",
-          "--page")
+          "--page", "--names")
 FRAMES = "--frames"
-PAGE = "--page"
+PAGE, NAMES = "--page", "--names"
 JSON = "--json"
 STEADY, QUICK = "--steady", "--quick"
 # The most bytes of the first record of a log that are read.
@@ -220,7 +220,7 @@ def run_explain(program: str, words: List[str]) -> int:
         print(WRONG_WORDS, flush=True)
         raise Failure(BAD_ARGUMENTS, f"argument {PAGE}: expected one argument; try 'wurstlinen explain --help'",
                       reason="arguments")
-    words = without(words, PAGE)
+    names, words = option(words, NAMES), without(without(words, PAGE), NAMES)
     files = [words[at] for at, name in parts(words) if not name]
     for name in files[:1]:
         note_other_log(name)
@@ -228,7 +228,8 @@ def run_explain(program: str, words: List[str]) -> int:
     if not has_page and not is_timed:
         return run_alone(program, words, False)
     from . import explaining
-    return explaining.explain(program, words, page, [*files, *filter(None, [option(words, "--rig")])], is_timed)
+    return explaining.explain(program, words, page, [*files, *filter(None, [option(words, "--rig"), names])], is_timed,
+                              names)
 
 
 def line_of_discovery() -> str:
