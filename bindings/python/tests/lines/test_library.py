@@ -5,6 +5,7 @@ import contextlib
 import io
 import json
 import os
+import signal
 import subprocess
 import sys
 import unittest
@@ -44,6 +45,21 @@ def discover(line: Any, is_quick: bool = False) -> List[int]:
         devices = agent.run(line)
         assert agent.fault() is None
         return [device.uid.number for device in devices]
+
+
+class Limits(unittest.TestCase):
+    """The limit of time of a test, which isn't taken for a fault of what is tested."""
+
+    def test_a_command_that_takes_too_long(self) -> None:
+        class Slow(TestCase):
+            seconds = 1
+
+            def runTest(self) -> None:
+                printed("discover", "--line", "rig:none")
+
+        with mock.patch.object(commands, "run_discover", lambda _: signal.pause()):
+            errors = Slow().run(unittest.TestResult()).errors
+        self.assertEqual([text.splitlines()[-1] for _, text in errors], ["common.TooLong"])
 
 
 @needs_library
