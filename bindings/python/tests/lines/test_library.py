@@ -14,8 +14,8 @@ from typing import Any, Iterator, List, Optional, Tuple
 from unittest import mock
 
 from common import (
-    FIRMWARES, LOSSES, PACKAGE, SEEDS, SEEDS_OF_LARGE_RIGS, TestCase, adapter, discoveries_of_examples,
-    needs_library, one, random_scene, uids_of,
+    FIRMWARES, LOSSES, PACKAGE, SEEDS, SEEDS_OF_LARGE_RIGS, LongTestCase, TestCase, adapter,
+    discoveries_of_examples, needs_library, one, random_scene, uids_of,
 )
 from search import Controller as OwnController
 from test_discovery import GETS, WASH
@@ -63,7 +63,7 @@ class Limits(unittest.TestCase):
 
 
 @needs_library
-class Examples(TestCase):
+class Examples(LongTestCase):
     """A rig finds and prints what the proved program does on its own simulated line, frame by frame."""
 
     def test_each_discovery_of_the_examples(self) -> None:
@@ -84,7 +84,7 @@ class Examples(TestCase):
 
 
 @needs_library
-class Discoveries(TestCase):
+class Discoveries(LongTestCase):
     def check(self, count: int, loss: float, seeds: int) -> None:
         for firmware in FIRMWARES:
             with adapter(Rig(one()), Widget(firmware)) as (driver, emulator):
