@@ -78,7 +78,7 @@ fingerprint_of_build() {
     fingerprint "$@"
     if [ "$compiler" = rustc ]; then
         rustc_version
-        (cd "$root" && find bindings/rust tools/plain_rust tools/rust_text.py -type f -print0 | LC_ALL=C sort -z \
+        (cd "$root" && find bindings/rust tools/plain_rust tools/rust_*.py -type f -print0 | LC_ALL=C sort -z \
             | xargs -0 sha256sum | sha256sum)
     else
         pinned_kit
@@ -137,7 +137,7 @@ write_rust() {
     if [ $# -ne 1 ] || [ -z "$1" ]; then
         fail "$bad_arguments" "--rust takes one folder"
     fi
-    "$root/tools/plain_rust" "$1" || fail "$not_run" "the workspace wasn't written"
+    write_workspace "$1" "the workspace wasn't written"
     say "written into $1: the crate wurstlinen, the program, the C library and the tests. To build them there:"
     say "  cargo build --release"
     printf -v crates " --config '%s=\"%s\"'" source.crates-io.replace-with debian \

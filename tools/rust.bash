@@ -51,11 +51,19 @@ call_cargo() (
     exec cargo "${@:2}" "${crates_from[@]}"
 )
 
+# Writes the workspace into the folder $1, or ends the script: with the status of a signal, or since $2.
+write_workspace() {
+    local status=0
+    "$root/tools/plain_rust" "$1" || status=$?
+    [ "$status" -le 128 ] || exit "$status"
+    [ "$status" -eq 0 ] || fail "$not_run" "$2"
+}
+
 # Writes the workspace into the folder $1, and builds $2 there as the other words say. What cargo prints goes to
 # standard error if that is wanted; else only its faults do. If it isn't built, the script ends, and says why.
 build_rust() {
     local folder="$1" what="$2" printed status lack=""
-    "$root/tools/plain_rust" "$folder" || fail "$not_run" "$what isn't built"
+    write_workspace "$folder" "$what isn't built"
     if [ -n "${verbose-}" ]; then
         call_cargo "$folder" build "${@:3}" >&2 || fail "$not_run" "$what isn't built"
         return

@@ -18,6 +18,8 @@ ROOT = Path(__file__).resolve().parent.parent
 BY_HAND = ROOT / "bindings/rust"
 EDITION = "2024"
 MARK = "# Made by tools/plain_rust"
+# How the folder begins in which a call writes before it replaces anything. What is killed leaves it behind.
+STAGING = ".plain_rust."
 
 
 class Place(NamedTuple):
@@ -113,7 +115,8 @@ def staged(files: Dict[Path, str], folder: Path) -> None:
 def is_ours(folder: Path) -> bool:
     """Whether a folder is empty, or has what an earlier call has written."""
     try:
-        return not any(folder.iterdir()) or (folder / "Cargo.toml").read_text(encoding="utf-8").startswith(MARK)
+        others = [path for path in folder.iterdir() if not path.name.startswith(STAGING)]
+        return not others or (folder / "Cargo.toml").read_text(encoding="utf-8").startswith(MARK)
     except FileNotFoundError:
         return not folder.exists()
 
@@ -139,6 +142,13 @@ def write(folder: Path) -> None:
     files = {to: text_of(crate, path) for crate in PLACES for path, to in files_of(crate)}
     files.update(by_hand())
     folder.mkdir(parents=True, exist_ok=True)
-    with tempfile.TemporaryDirectory(prefix=".plain_rust.", dir=folder) as name:
-        staged(files, Path(name))
-        replace(Path(name), folder)
+    staging = Path(tempfile.mkdtemp(prefix=STAGING, dir=folder))
+    try:
+        try:
+            staged(files, staging)
+            replace(staging, folder)
+        finally:
+            shutil.rmtree(staging, ignore_errors=True)
+    finally:
+        # If a signal came meanwhile.
+        shutil.rmtree(staging, ignore_errors=True)

@@ -9,6 +9,7 @@ from pathlib import Path
 from typing import Dict, List, Optional, Tuple
 
 from clone import Clone, new_clone
+from rust_workspace import MARK
 from test_packages import build, has_tools, put_libraries
 
 # The commands by which the scripts change files: each call is a step. Before it, the step sends a signal to all that
@@ -18,6 +19,19 @@ STEP = """#!/bin/sh
 echo {name} >> "$STEPS"
 [ "$(wc -l < "$STEPS")" != "$AT" ] || kill -s "$NUMBER" 0
 exec {real} "$@"
+"""
+# What does the same before each change of files that a command in Python makes.
+HOOK = """import os, sys
+
+def step(event, arguments):
+    if event in ("os.rename", "os.remove", "os.rmdir"):
+        with open(os.environ["STEPS"], "a+") as steps:
+            print(event, file=steps, flush=True)
+            steps.seek(0)
+            if len(steps.readlines()) == int(os.environ["AT"]):
+                os.kill(0, int(os.environ["NUMBER"]))
+
+sys.addaudithook(step)
 """
 SIGNALS = (signal.SIGKILL, signal.SIGINT, signal.SIGTERM, signal.SIGHUP, signal.SIGPIPE)
 Tree = Dict[str, bytes]
@@ -110,6 +124,12 @@ class Interrupts(unittest.TestCase):
         self.put_steps(*COMMANDS)
         self.each("--install-ola", {"libwurstlinen-ola.so": b"the old library"}, 6)
         self.each("--install-library", {"lib/libwurstlinen.so.0": b"the old library"}, 6)
+
+    def test_rust(self) -> None:
+        (self.clone.folder / "sitecustomize.py").write_text(HOOK)
+        self.clone.environment["PYTHONPATH"] = str(self.clone.folder)
+        self.each("--rust", {}, 4)
+        self.each("--rust", {"Cargo.toml": f"{MARK}, long ago".encode(), "wurstlinen/src/old.rs": b""}, 5)
 
     @unittest.skipUnless(has_tools(), "commands that make packages are missing")
     def test_package(self) -> None:

@@ -48,7 +48,8 @@ class WithCargo(unittest.TestCase):
     def test_a_changed_source_or_tool_is_compiled_again(self) -> None:
         self.without_kit()
         self.expect("decode 00", 0, ANSWER, COMPILING)
-        for changed in ("crates/rdm_wire/src/lib.rt", "tools/rust_text.py", "bindings/rust/Cargo.toml"):
+        for changed in ("crates/rdm_wire/src/lib.rt", "tools/rust_text.py", "tools/rust_workspace.py",
+                        "bindings/rust/Cargo.toml"):
             with (self.clone.root / changed).open("a") as file:
                 file.write("\n")
             self.expect("decode 00", 0, ANSWER, COMPILING)

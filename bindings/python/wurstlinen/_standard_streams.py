@@ -1,6 +1,7 @@
 """The standard streams of a command, whatever the caller has made of them."""
 from __future__ import annotations
 
+import gc
 import io
 import os
 import sys
@@ -31,6 +32,8 @@ def mend() -> None:
 
 def finish(status: int) -> int:
     """A command's status, once its output is written. What can't be is lost, without another word at the end."""
+    # The process ends, which frees all at once.
+    gc.freeze()
     try:
         sys.stdout.flush()
         return status

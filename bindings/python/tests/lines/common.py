@@ -38,6 +38,10 @@ LOSSES = (0.0, 0.1, 0.5)
 FIRMWARES = ((2, 4), (4, 15))
 
 
+class TooLong(BaseException):
+    """A test takes longer than it may. What is tested catches it at most to raise it again."""
+
+
 class TestCase(unittest.TestCase):
     """A test that takes a minute at most, or what its class says."""
 
@@ -60,7 +64,7 @@ class LongTestCase(TestCase):
 
 
 def _too_long(number: int, frame: Optional[FrameType]) -> None:
-    raise TimeoutError("the test takes too long")
+    raise TooLong
 
 
 def discoveries_of_examples() -> Iterator[Tuple[Path, List[str], str]]:

@@ -1,20 +1,52 @@
-"""A stand-in for the proved program, which only has `discover --line FRAMES --replies REPLIES`."""
+"""A stand-in for the proved program: only `discover` and `run`, with `--line FRAMES --replies REPLIES [.. --log LOG]`.
+
+Both search, and the log has the frames with their replies.
+"""
 from __future__ import annotations
 
+import json
 import sys
+from pathlib import Path
+from typing import BinaryIO
 
 import common  # noqa: F401  (it makes the package known)
 from search import discover
+from wurstlinen.line import Line
 from wurstlinen.lines import TextLine
 from wurstlinen.lines.uids import uid_text
 
 
+class Logged:
+    """A line whose exchanges are written to a file, each at once."""
+
+    def __init__(self, line: Line, log: BinaryIO) -> None:
+        self._line = line
+        self._log = log
+
+    def exchange(self, frame: bytes) -> bytes:
+        """The reply to a frame."""
+        reply = self._line.exchange(frame)
+        self._log.write(json.dumps({"frame": frame.hex(), "reply": reply.hex()}).encode() + b"\n")
+        return reply
+
+
+def program_in(folder: Path) -> str:
+    """The stand-in as a program of its own."""
+    path = folder / "program"
+    path.write_text(f"#!/bin/sh\nexec {sys.executable} {Path(__file__).resolve()} \"$@\"\n")
+    path.chmod(0o755)
+    return str(path)
+
+
 def main() -> int:
     """Prints what a search finds on the line."""
-    if sys.argv[1:2] != ["discover"] or sys.argv[2:3] != ["--line"] or sys.argv[4:5] != ["--replies"]:
+    words = sys.argv[1:]
+    if words[:1] not in (["discover"], ["run"]) or words[1:2] != ["--line"] or words[3:4] != ["--replies"]:
         return 2
-    with TextLine.open(sys.argv[3], sys.argv[5]) as line:
-        for uid in sorted(discover(line)):
+    log = words[words.index("--log") + 1] if "--log" in words else "/dev/null"
+    with TextLine.open(words[2], words[4]) as line, open(log, "wb", buffering=0) as file:
+        file.write(b'{"entry":"opening"}\n')
+        for uid in sorted(discover(Logged(line, file))):
             print(uid_text(uid))
     return 0
 

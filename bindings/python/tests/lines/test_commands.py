@@ -18,6 +18,7 @@ from unittest import mock
 
 from common import PACKAGE, ROOT, TestCase, folder, needs_library
 from search import Controller, discover
+from stand_in import program_in
 from wurstlinen import commands
 from wurstlinen.line import LineFailed
 from wurstlinen.lines import EnttecPro, Rig, enttec, open_line
@@ -233,14 +234,14 @@ class Rigs(TestCase):
 class Adapters(TestCase):
     def test_the_program_on_a_rig(self) -> None:
         with folder() as directory:
-            program = self.program(directory)
+            program = program_in(directory)
             result = run_adapter(f"rig:{FIVE}", "discover", program=program)
             self.assertEqual((result.returncode, result.stderr), (0, ""))
             self.assertEqual(result.stdout.splitlines(), UIDS)
 
     def test_wrong_arguments_leave_no_bridge(self) -> None:
         with folder() as directory:
-            self.assertEqual(run_adapter(f"rig:{FIVE}", "nonsense", program=self.program(directory)).returncode, 2)
+            self.assertEqual(run_adapter(f"rig:{FIVE}", "nonsense", program=program_in(directory)).returncode, 2)
         self.assertEqual(run_adapter(f"rig:{FIVE}").returncode, 2)
 
     def test_a_program_that_opens_nothing(self) -> None:
@@ -250,16 +251,9 @@ class Adapters(TestCase):
 
     def test_a_line_that_cannot_be_opened(self) -> None:
         with folder() as directory:
-            result = run_adapter("enttec:/dev/none", "discover", program=self.program(directory))
+            result = run_adapter("enttec:/dev/none", "discover", program=program_in(directory))
             self.assertNotEqual(result.returncode, 0)
             self.assertIn("wurstlinen: /dev/none can't be opened", result.stderr)
-
-    def program(self, directory: Path) -> str:
-        """The stand-in as a program of its own."""
-        path = directory / "program"
-        path.write_text(f"#!/bin/sh\nexec {sys.executable} {STAND_IN} \"$@\"\n")
-        path.chmod(0o755)
-        return str(path)
 
 
 class WithoutProof(TestCase):

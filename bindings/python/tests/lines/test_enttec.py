@@ -18,6 +18,7 @@ from wurstlinen.lines import BranchEnd, EnttecPro, Rig
 from wurstlinen.lines.emulator import Emulator, Widget
 from wurstlinen.lines.messages import Label, Message
 from wurstlinen.lines.packets import Packet
+from wurstlinen.lines.terminal import Terminal
 
 DMXKING = 0x6A6B
 # Two seconds on a busy machine.
@@ -67,6 +68,19 @@ class Meeting(TestCase):
         with folder() as locks, Emulator(Rig(one())) as emulator, EnttecPro(emulator.path, locks) as driver:
             self.assertEqual(driver.source, 0x454E01020304)
             self.assertEqual(discover(driver), {LAMP})
+
+    def test_nothing_is_awaited_that_a_usb_pro_does_not_send(self) -> None:
+        waits, read = [], Terminal.read_until
+
+        def noted(terminal: Terminal, end: float) -> bytes:
+            data = read(terminal, end)
+            waits.extend([end] if end and not data else [])
+            return data
+
+        with folder() as locks, Emulator(Rig(one())) as emulator, mock.patch.object(Terminal, "read_until", noted):
+            with EnttecPro(emulator.path, locks, ANSWER_SECONDS) as driver:
+                self.assertTrue(driver.exchange(GET))
+        self.assertEqual(waits, [])
 
     def test_another_maker_is_asked_for_its_firmware(self) -> None:
         with adapter(Rig(one()), Widget(manufacturer=0x7A70, device=1)) as (driver, _):

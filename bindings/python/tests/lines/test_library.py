@@ -5,6 +5,7 @@ import contextlib
 import io
 import json
 import os
+import signal
 import subprocess
 import sys
 import unittest
@@ -13,8 +14,8 @@ from typing import Any, Iterator, List, Optional, Tuple
 from unittest import mock
 
 from common import (
-    FIRMWARES, LOSSES, PACKAGE, SEEDS, SEEDS_OF_LARGE_RIGS, TestCase, adapter, discoveries_of_examples,
-    needs_library, one, random_scene, uids_of,
+    FIRMWARES, LOSSES, PACKAGE, SEEDS, SEEDS_OF_LARGE_RIGS, LongTestCase, TestCase, adapter,
+    discoveries_of_examples, needs_library, one, random_scene, uids_of,
 )
 from search import Controller as OwnController
 from test_discovery import GETS, WASH
@@ -46,8 +47,23 @@ def discover(line: Any, is_quick: bool = False) -> List[int]:
         return [device.uid.number for device in devices]
 
 
+class Limits(unittest.TestCase):
+    """The limit of time of a test, which isn't taken for a fault of what is tested."""
+
+    def test_a_command_that_takes_too_long(self) -> None:
+        class Slow(TestCase):
+            seconds = 1
+
+            def runTest(self) -> None:
+                printed("discover", "--line", "rig:none")
+
+        with mock.patch.object(commands, "run_discover", lambda _: signal.pause()):
+            errors = Slow().run(unittest.TestResult()).errors
+        self.assertEqual([text.splitlines()[-1] for _, text in errors], ["common.TooLong"])
+
+
 @needs_library
-class Examples(TestCase):
+class Examples(LongTestCase):
     """A rig finds and prints what the proved program does on its own simulated line, frame by frame."""
 
     def test_each_discovery_of_the_examples(self) -> None:
@@ -68,7 +84,7 @@ class Examples(TestCase):
 
 
 @needs_library
-class Discoveries(TestCase):
+class Discoveries(LongTestCase):
     def check(self, count: int, loss: float, seeds: int) -> None:
         for firmware in FIRMWARES:
             with adapter(Rig(one()), Widget(firmware)) as (driver, emulator):

@@ -16,7 +16,7 @@ import unittest
 import zlib
 from dataclasses import replace
 from pathlib import Path
-from typing import Any, Dict, List, Optional, Sequence
+from typing import Any, Dict, List, Mapping, Optional, Sequence
 from unittest import mock
 
 from common import PACKAGE, ROOT, TestCase, folder, scene
@@ -83,11 +83,12 @@ def details_in(text: str) -> List[List[Optional[str]]]:
             for each in json.loads(zlib.decompress(base64.b64decode(element(text, f"piece{number}"))))]
 
 
-def page_text(log: str, *findings: Dict[str, Any], name: str = "log", counts: Sequence[int] = (), **found: Any) -> str:
+def page_text(log: str, *findings: Dict[str, Any], name: str = "log", counts: Sequence[int] = (),
+              labels: Mapping[int, str] = {}, **found: Any) -> str:
     """The page of a log, whose runs have so many exchanges; the last one has these findings."""
     text = json.loads(found_in(log, *counts, findings=findings))
     read = page_findings.findings_in(json.dumps({**text, **found}).encode())
-    return page.page_of(name, io.BytesIO(log.encode()), read)
+    return page.page_of(name, io.BytesIO(log.encode()), read, labels)
 
 
 class Frames(TestCase):
@@ -339,12 +340,12 @@ class Html(TestCase):
         self.assertEqual([each["place"] for each in head["findings"]], [None, None, 0])
         self.assertEqual(head["rows"], [SILENT])
 
-
     def test_texts_are_no_script(self) -> None:
-        text = page_text(exchange_line(0, "unmute", b"\xcc", b""), finding("gap", self.SCRIPT), name=self.SCRIPT)
+        text = page_text(exchange_line(0, "unmute", b"\xcc", b""), finding("gap", self.SCRIPT, uid=LEFT),
+                         name=self.SCRIPT, labels={parse_uid(LEFT): self.SCRIPT, 1: "Other"})
         self.assertNotIn("alert(1)</script>", text)
         self.assertNotIn("<img", text)
-        self.assertEqual(head_in(text)["name"], self.SCRIPT)
+        self.assertEqual((head_in(text)["name"], head_in(text)["labels"]), (self.SCRIPT, [self.SCRIPT]))
         self.assertEqual(head_in(text)["findings"][1]["text"], self.SCRIPT)
         # Texts of a log are packed, so they have no such characters.
         for number in range(2):
@@ -428,6 +429,18 @@ class Command(TestCase):
             self.assertEqual(self.called(*words)[0], 3)
             self.assertEqual((self.place / "called").read_text().split("\n")[2:], wanted)
             self.page.unlink()
+
+    def test_labels_of_a_file(self) -> None:
+        rig = self.place / "rig.csv"
+        rig.write_text(f"uid,label\n{LEFT},Front left\n{SILENT},(empty)\n")
+        self.assertEqual(self.called("log", "--names", "rig.csv", "--page", "page.html"), (3, self.LINES, ""))
+        self.assertEqual((self.place / "called").read_text(), "explain\n--json\nlog")
+        self.assertEqual(head_in(self.page.read_text(encoding="utf-8"))["labels"], ["Front left", ""])
+        self.page.unlink()
+        rig.write_text("label\nx\n")
+        self.assertIn("one of them is uid", self.called("log", "--names", "rig.csv", "--page", "page.html")[2])
+        self.assert_nothing()
+        self.assertEqual(self.called("log", "--page", "rig.csv", "--names", "rig.csv")[0], 2)
 
     def test_a_log_with_times(self) -> None:
         """The program reads a copy without them, and what it says is of the log."""

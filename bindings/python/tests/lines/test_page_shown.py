@@ -5,7 +5,7 @@ import io
 import time
 import unittest
 from pathlib import Path
-from typing import Any, Dict, Sequence
+from typing import Any, Dict, Mapping, Sequence
 
 from browser import Page, browser, needs_chromium
 from common import TestCase, folder, scene
@@ -14,7 +14,7 @@ from page_logs import (
 )
 from wurstlinen.front import page, page_findings
 from wurstlinen.lines.packets import Packet
-from wurstlinen.lines.uids import ALL_DEVICES
+from wurstlinen.lines.uids import ALL_DEVICES, parse_uid
 
 LEFT, SILENT = "1234:00000001", "1234:00000009"
 MANY = 100_000
@@ -57,10 +57,10 @@ def written(place: Path, log: str, *findings: Dict[str, Any], counts: Sequence[i
     return file
 
 
-def drawn(name: str, log: str, found: bytes) -> str:
+def drawn(name: str, log: str, found: bytes, labels: Mapping[int, str] = {}) -> str:
     """The page of a log in which the program has found this, and a broken rule."""
     broken = found.replace(b'"broken": false', b'"broken": true')
-    return page.page_of(name, io.BytesIO(log.encode()), page_findings.findings_in(broken))
+    return page.page_of(name, io.BytesIO(log.encode()), page_findings.findings_in(broken), labels)
 
 
 @needs_chromium
@@ -136,6 +136,30 @@ class Shown(TestCase):
         y = self.page.value("topOfRow(1) + size.row / 2 - view.scrollTop")
         ring = self.colours(self.page.value("xOf(8) + size.width / 2") - 9, y - 9, 18, 18)
         self.assertGreater(ring.get(INK, 0), 40)
+
+    def test_labels_are_beside_uids(self) -> None:
+        log, file = discovered(scene(devices=[{"uid": LEFT}])), self.place / "page.html"
+        file.write_text(drawn("log", log, found_in(log, findings=FINDINGS), {parse_uid(LEFT): "Front left"}),
+                        encoding="utf-8")
+        self.page.open(file)
+        texts = self.page.value("[...document.querySelectorAll('#findings li')].map((each) => each.textContent)")
+        self.assertEqual(texts[1:3], [f"Front left: {SENTENCES[1]}", f"\u25bc{SENTENCES[2]}"])
+        y = self.page.value("topOfRow(0) - view.scrollTop")
+        self.assertGreater(self.colours(112, y, 80, 16).get(INK, 0), 20)
+        y = self.page.value("topOfRow(1) - view.scrollTop")
+        self.assertEqual(self.colours(112, y, 80, 16).get(INK, 0), 0)
+
+    def test_a_dark_scheme(self) -> None:
+        self.page.call("Emulation.setEmulatedMedia", features=[{"name": "prefers-color-scheme", "value": "dark"}])
+        self.page.open(written(self.place, discovered(scene(devices=[{"uid": LEFT}])), *FINDINGS))
+        for text in ("getComputedStyle(document.body).color", "getComputedStyle(document.documentElement).color"):
+            self.assertEqual(self.page.value(text), "rgb(238, 241, 244)")
+        field = self.colours(0, 0, 100, 60)
+        self.assertEqual(max(field, key=lambda each: field[each]), "20,24,29")
+        self.assertGreater(field.get("238,241,244", 0), 20)
+        # What was acknowledged keeps its colour.
+        x = self.page.value("xOf(4)")
+        self.assertGreater(self.colours(x, 60, 20, 200).get("0,158,115", 0), 50)
 
     def test_an_unmute_that_failed(self) -> None:
         frame = Packet(ALL_DEVICES, SOURCE, 0, 1, 0, 0, 0x10, 3).encode()

@@ -14,6 +14,7 @@ from unittest import mock
 
 from common import ENTTEC, LongTestCase, folder, needs_library, one
 from page_logs import found_in
+from stand_in import program_in
 from test_page import STAND_IN
 from test_text import get
 from wurstlinen import tool
@@ -172,7 +173,7 @@ class Signals(LongTestCase):
         self.each(["save", str(self.file), "--line", f"enttec:{self.emulator.path}"], begin, check)
 
     @needs_library
-    def test_apply(self) -> None:
+    def test_apply_and_set(self) -> None:
         def begin() -> None:
             self.file.write_text(WANTED)
             self.emulator.line = Rig(one(label="Lamp"))
@@ -183,7 +184,23 @@ class Signals(LongTestCase):
             self.assertIn(reply.data, (b"Front",) if status == 0 else (b"Lamp", b"Front"))
             self.assertEqual(self.file.read_text(), WANTED)
 
-        self.each(["apply", str(self.file), "--line", f"enttec:{self.emulator.path}"], begin, check)
+        for words in (["apply", str(self.file)], ["set", UID, "device_label", "Front"]):
+            self.each([*words, "--line", f"enttec:{self.emulator.path}"], begin, check)
+
+    @needs_library
+    def test_logs(self) -> None:
+        def begin() -> None:
+            for path in self.file.parent.iterdir():
+                path.unlink()
+
+        def check(status: int) -> None:
+            text = self.file.read_text() if self.file.exists() else ""
+            self.assertTrue(text.endswith("\n") or (status and not text), text[-20:])
+            self.assertTrue(status or UID.replace(":", "") in text)
+
+        with mock.patch.dict(os.environ, WURSTLINEN_PROGRAM=program_in(self.place)):
+            for words in (["fixtures"], ["discover"], ["run", "file"]):
+                self.each([*words, "--log", str(self.file), "--line", f"enttec:{self.emulator.path}"], begin, check)
 
     @needs_library
     def test_serve(self) -> None:

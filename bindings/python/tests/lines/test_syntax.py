@@ -15,7 +15,7 @@ MOST_COLUMNS = 120
 # Python 3.9 has no list of them.
 STANDARD_MODULES = {
     "__future__", "_socket", "abc", "argparse", "array", "base64", "collections", "contextlib", "csv", "dataclasses",
-    "decimal", "difflib", "enum", "errno", "fcntl", "functools", "grp", "hashlib", "html", "importlib", "io",
+    "decimal", "difflib", "enum", "errno", "fcntl", "functools", "gc", "grp", "hashlib", "html", "importlib", "io",
     "ipaddress", "itertools", "json", "os", "pathlib", "pkgutil", "queue", "random", "re", "secrets", "select",
     "selectors", "shlex", "signal", "socket", "stat", "struct", "subprocess", "sys", "tempfile", "termios",
     "threading", "time", "tty", "types", "typing", "weakref", "zlib",

@@ -6,6 +6,8 @@ import importlib
 import io
 import json
 import os
+import subprocess
+import sys
 import unittest
 from pathlib import Path
 from typing import Any, Dict, List, Tuple
@@ -13,7 +15,10 @@ from unittest import mock
 
 from common import ROOT, ListLine, TestCase, folder, needs_library
 from fronts import FIVE, LEFT, OneRig, called
+from servers import Program, environment, serve
+from stand_in import program_in
 from wurstlinen import tool
+from wurstlinen._times import now
 from wurstlinen.front.frames import Parts
 from wurstlinen.front.output import Failure, Output
 from wurstlinen.front.watched import WatchedLine
@@ -23,6 +28,7 @@ from wurstlinen.lines.keys import SceneFault
 from wurstlinen.lines.numbers import CommandClass, Pid, ResponseType
 from wurstlinen.lines.packets import Packet
 from wurstlinen.lines.uids import uid_text
+from wurstlinen.tool import manual
 
 DEVICE, OTHER, SOURCE = 0x123400000001, 0x123400000002, 0x7FF000000001
 GET = Packet(DEVICE, SOURCE, 0, 1, 0, 0, CommandClass.GET, Pid.DEVICE_LABEL)
@@ -151,6 +157,57 @@ class Lines(TestCase):
             with mock.patch.object(importlib.import_module("wurstlinen.tool.main"), "become", return_value=7):
                 self.assertEqual(of_tool("discover", "--line", "foo", "--source", LEFT,
                                          WURSTLINEN_PROGRAM=str(program))[0], 7)
+
+
+    def test_its_log_has_times(self) -> None:
+        with folder() as place:
+            before = now()
+            words = ["discover", f"--line=rig:{FIVE}", "--log", str(place / "log")]
+            self.assertEqual(of_tool(*words, WURSTLINEN_PROGRAM=program_in(place))[0], 0)
+            opening, *lines = map(json.loads, (place / "log").read_text().splitlines())
+            times = [each["microseconds"] for each in lines]
+            self.assertEqual((list(opening), times), (["entry"], sorted(times)))
+            self.assertTrue(before <= times[0] and times[-1] <= now())
+
+
+class Names(TestCase):
+    @needs_library
+    def test_who_has_a_line_is_named(self) -> None:
+        with folder() as made, serve(made, "--line", f"rig:{FIVE}") as server:
+            self.assertEqual(Path(f"/proc/{server.pid}/comm").read_text(), "wurstlinen\n")
+
+
+class Completion(TestCase):
+    SCRIPT = 'COMP_WORDS=("$@"); COMP_CWORD=$(($# - 1)); _wurstlinen; echo "${COMPREPLY[@]}"'
+
+    @needs_library
+    def test_of_uids_that_a_server_has_found(self) -> None:
+        with folder() as made, serve(made, "--line", f"rig:{FIVE}") as server:
+            tool_here = made / "command"
+            tool_here.write_text(f'#!/bin/sh\nexec {sys.executable} -m wurstlinen.tool "$@"\n')
+            tool_here.chmod(0o755)
+            self.assertEqual(self.completed(made, "get", ""), "\n")
+            with Program(server.socket) as program:
+                program.say({"do": "discover"})
+                program.next("devices")
+            for words, wanted in ((["get", "12"], "1234:00000001 1234:00000002"),
+                                  (["show", "1234", ":"], "00000001 00000002"),
+                                  (["set", "9abc", ":", "00000002"], "00000002"), (["pids", "12"], ""),
+                                  (["identify", "9abc", ":", "00000002", "o"], "on off")):
+                self.assertEqual(self.completed(made, *words), f"{wanted}\n", words)
+
+    def completed(self, made: Path, *words: str) -> str:
+        """What completes the last of these words."""
+        done = subprocess.run(["bash", "-c", manual.completion() + self.SCRIPT, "bash", made / "command", *words],
+                              env={**environment(made), "WURSTLINEN_LINE": f"rig:{FIVE}"}, check=True,
+                              capture_output=True, text=True)
+        self.assertEqual(done.stderr, "")
+        return done.stdout
+
+    def test_hidden_arguments_are_in_no_page(self) -> None:
+        for text in (manual.page(), manual.completion()):
+            for hidden in ("SUPPRESS", "--also", "--frames-as-bytes"):
+                self.assertNotIn(hidden, text)
 
 
 class Words(TestCase):

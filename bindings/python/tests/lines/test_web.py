@@ -9,7 +9,8 @@ import servers
 from browser import needs_chromium
 from common import LongTestCase, folder, needs_library
 from web_pages import (
-    BACK, DESK, HOUSE, LEFT, PHONE, RIGHT, SECOND, Window, at_each_size, folder_of_downloads, opened, row,
+    BACK, DESK, HOUSE, LEFT, PHONE, RIGHT, SECOND, Window, at_each_size, folder_of_downloads, many, opened, row, web_on,
+    window,
 )
 from wurstlinen.tool.places import program
 
@@ -58,14 +59,26 @@ class Fixtures(LongTestCase):
             seen.key("Enter")
             seen.until("document.querySelector('.message')")
             self.assertIn("99-105 overlaps 454e:0a000017 Back truss 100", seen.texts(".message p")[0])
-            seen.button("Leave it")
+            # The question is where keys are, and then they are where they were.
+            self.assertEqual(seen.page.value("document.activeElement.textContent"), "Leave it")
+            seen.key("Enter")
             seen.until(f"document.querySelector(\"{row(RIGHT)} .address\").value === '8'")
+            self.assertEqual(seen.page.value("document.activeElement.className"), "address")
+            self.assertEqual(seen.texts(".message"), [])
             seen.click(f"{row(RIGHT)} .address")
             seen.type("99")
             seen.key("Enter")
             seen.button("Do it anyway")
             events.until(lambda parts: parts.get(f"fixture/{RIGHT}", {}).get("address") == 99)
             seen.until(f"document.querySelector(\"{row(RIGHT)} .note\").textContent.includes('overlaps Back truss')")
+            seen.until(f"document.querySelector(\"{row(RIGHT)} .address\").value === '99'")
+            # Who goes elsewhere leaves the question.
+            seen.click(f"{row(RIGHT)} .address")
+            seen.type("100")
+            seen.key("Enter")
+            seen.until("document.querySelector('.message')")
+            seen.button("Slots")
+            seen.until("!document.querySelector('.message') && document.querySelector('.universe')")
 
     def test_wrong_values_come_back(self) -> None:
         with opened(DESK) as (seen, _, _rig):
@@ -86,7 +99,7 @@ class Fixtures(LongTestCase):
             chosen = f"{row(RIGHT)} .personality"
             seen.until(f"document.querySelector(\"{chosen}\")?.options.length === 2")
             texts = seen.page.value(f"[...document.querySelector(\"{chosen}\").options].map((each) => each.text)")
-            self.assertEqual(texts, ["1 Basic (7)", "2 Extended (14)"])
+            self.assertEqual(texts, ["1 Basic (7 slots)", "2 Extended (14 slots)"])
             seen.page.value(f"document.querySelector(\"{chosen}\").focus()")
             seen.key("ArrowDown")
             seen.key("Enter")
@@ -108,6 +121,22 @@ class Fixtures(LongTestCase):
             seen.click(f"{row(BACK)} .identify")
             events.until(lambda parts: parts[f"fixture/{BACK}"]["identifies"])
             seen.until(f"document.querySelector(\"{row(BACK)} .identify\").getAttribute('aria-checked') === 'true'")
+
+    def test_the_walk_of_a_long_truss_with_a_phone(self) -> None:
+        """The button is under the thumb, and the fixture that shows itself is seen."""
+        with web_on(many(40)) as web, window(web.address, PHONE) as seen, web.follow() as events:
+            seen.open()
+            events.until(lambda parts: sum(bool(value and value.get("is_read")) for name, value in parts.items()
+                                           if name.startswith("fixture/")) == 40)
+            seen.until("document.querySelectorAll('.rig .label:enabled').length === 40")
+            for step in range(1, 15):
+                top, bottom = seen.page.value("(({top, bottom}) => [top, bottom])"
+                                              "(document.querySelector('.main').getBoundingClientRect())")
+                self.assertTrue(PHONE[1] - 100 < top < bottom <= PHONE[1])
+                seen.page.click(PHONE[0] / 2, (top + bottom) / 2)
+                seen.until(f"document.querySelector('tbody tr:nth-child({step}) .identify').ariaChecked === 'true'")
+                seen.until(f"""(({{top, bottom}}) => top > 60 && bottom < {PHONE[1]} - 60)
+                    (document.querySelector('tbody tr:nth-child({step})').getBoundingClientRect())""")
 
     @at_each_size
     def test_filter_and_order(self, size: Tuple[int, int]) -> None:
@@ -280,6 +309,21 @@ class OtherViews(LongTestCase):
                        "each.textContent.includes('Back truss (454e:0a000017)'))")
             if program() is not None:
                 seen.until("document.querySelector('iframe')?.src.includes('/picture/')")
+
+    def test_who_broke_the_rules_and_who_is_missing(self) -> None:
+        if program() is None:
+            self.skipTest("needs the proved program")
+        liar = {"uid": "4444:00000001", "rig": {"label": "Liar", "lies": ["wrong sum"]}}
+        with opened(DESK, "discovery", devices=[liar]) as (seen, web, _):
+            web.call("load", name="rig.csv", text="uid,label\n1234:00000099,Lost\n")
+            seen.button("Discover")
+            sections = "Object.fromEntries([...document.querySelectorAll('main section')].map((each) => " \
+                       "[each.firstChild.textContent, each.lastChild.textContent]))"
+            seen.until(f"{sections}['Missing']?.includes('1234:00000099 ')")
+            found = seen.page.value(sections)
+            self.assertIn("4444:00000001 ", found["Fixtures that did something wrong"])
+            self.assertNotIn("4444:00000001", found["Missing"])
+            self.assertNotIn("1234:00000099", found["Fixtures that did something wrong"])
 
     @at_each_size
     def test_the_line(self, size: Tuple[int, int]) -> None:

@@ -76,7 +76,7 @@ class Strangers(TestCase):
                 self.assertEqual(parts["role"], "looks")
             headers = {"Authorization": f"Bearer {web.tokens.looking}"}
             for name in ("change", "undo", "identify", "forget", "show", "set", "discover", "pause", "save", "load",
-                         "apply"):
+                         "unload", "apply"):
                 self.assertEqual(web.ask("POST", f"/api/{name}", b"{}", headers), (
                     403, b"this address is only for looking"), name)
             self.assertEqual(rig.exchanges, before)

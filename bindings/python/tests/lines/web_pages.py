@@ -19,7 +19,6 @@ from wurstlinen.lines.rig import Rig
 from wurstlinen.lines.scene import Scene
 from wurstlinen.web import running, tokens
 from wurstlinen.web.door import Door
-from wurstlinen.web.server_of_line import ServerOfLine
 
 LEFT, RIGHT, BACK, HOUSE, SECOND = ("1234:00000001", "1234:00000002", "454e:0a000017", "9abc:00000002",
                                     "9abc:00000003")
@@ -67,10 +66,10 @@ class Web:
     """The page's program in this process, at a port of its own."""
 
     def __init__(self, line: str, port: int = 0, kept: Optional[tokens.Tokens] = None) -> None:
-        self.tokens = kept or tokens.made()
+        self.tokens = kept or tokens.Tokens()
         self.door = Door((running.LOOPBACK, port))
         self.port = int(self.door.server_address[1])
-        server = ServerOfLine(line)
+        server = running.ServerOfLine(line)
         self._thread = threading.Thread(target=running.serve, daemon=True,
                                         args=(self.door, server, self.tokens, server.connect()))
         self._thread.start()

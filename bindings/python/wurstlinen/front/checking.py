@@ -2,15 +2,14 @@
 from __future__ import annotations
 
 import argparse
-from dataclasses import dataclass, field, replace
+from dataclasses import dataclass, field
 from typing import Any, Callable, Dict, Iterator, List, Mapping, Optional, Sequence
 
 from .. import Uid
-from ..parameters.words import whole
 from .csv_files import LABEL, SLOTS, Row, differs, read, written
 from .discovery_log import Sink, explained, sink_of
-from .fixtures import ADDRESS_FIELD, FOOTPRINT_FIELD, Fixture, look_at_all
-from .guarding import ADDRESS, PERSONALITY, problems_of
+from .fixtures import ADDRESS_FIELD, Fixture, look_at_all
+from .guarding import ADDRESS, PERSONALITY, patched, problems_of
 from .output import DONE, FAILED, REFUSED, Output, aligned
 from .patching import SLOT_COUNT
 from .work import open_work
@@ -140,13 +139,9 @@ def as_planned(rows: Sequence[Row], found: Sequence[Fixture]) -> Iterator[Fixtur
     cells = {row.uid: row for row in rows}
     for fixture in found:
         if fixture.uid in cells and fixture.info is not None:
-            info = dict(fixture.info)
             row = cells[fixture.uid]
-            if ADDRESS in row.values:
-                info[ADDRESS_FIELD] = whole(row.values[ADDRESS])
-            if SLOT_COUNT.fullmatch(row.cells.get(SLOTS, "").strip()):
-                info[FOOTPRINT_FIELD] = int(row.cells[SLOTS])
-            yield replace(fixture, info=info)
+            slots = row.cells.get(SLOTS, "").strip()
+            yield patched(fixture, row.values.get(ADDRESS), int(slots) if SLOT_COUNT.fullmatch(slots) else None)
 
 
 # What a device has in the place of a column's value; None if it isn't known.

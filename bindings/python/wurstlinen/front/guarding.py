@@ -2,9 +2,10 @@
 from __future__ import annotations
 
 from dataclasses import dataclass, replace
-from typing import Any, Dict, Iterable, List, Mapping, Optional, Sequence, Tuple
+from typing import Any, Callable, Dict, Iterable, List, Mapping, Optional, Sequence, Set, Tuple
 
 from .. import Device, Uid
+from ..parameters.decoding import Value
 from ..parameters.words import whole
 from .csv_files import Change, Row
 from .fixtures import ADDRESS_FIELD, FOOTPRINT_FIELD, LAST_SLOT, Fixture, overlap, text_of, values_of
@@ -40,6 +41,11 @@ class Problem:
         return f"{self.fixture.slots_text} overlaps {named(self.other)} {self.other.slots_text}"
 
     @property
+    def text_after(self) -> str:
+        """What would be wrong after changes."""
+        return f"after this, {named(self.fixture)} {self.slots_text}"
+
+    @property
     def keys(self) -> Dict[str, Any]:
         """The slots, for JSON."""
         other = {} if self.other is None else {"other": str(self.other.uid), "other_slots": self.other.slots}
@@ -63,19 +69,38 @@ def problems_of(fixtures: Sequence[Fixture]) -> List[Problem]:
 
 def guard(work: Work, rows: Sequence[Row], changes: Sequence[Change], is_forced: bool) -> None:
     """Shows the problems that changes would make. Raises Failure if there are any, unless they are wanted."""
-    moved = {change.uid for change in changes if change.column in (ADDRESS, PERSONALITY)}
+    moved = moved_by(changes)
     if not moved:
         return
-    after = [moved_fixture(work, fixture, rows, changes) if fixture.uid in moved else fixture
-             for fixture in fixtures_of(work, moved)]
-    found = [each for each in problems_of(after) if moved.intersection(each.devices)]
+    found = problems_after(fixtures_of(work, moved), moved,
+                           lambda fixture: moved_fixture(work, fixture, rows, changes))
     for problem in found:
         label_all(work, rows, (problem.fixture, problem.other))
-        work.output.result([f"after this, {named(problem.fixture)} {problem.slots_text}"], problem=problem.kind,
-                           uid=str(problem.fixture.uid), **problem.keys)
+        work.output.result([problem.text_after], problem=problem.kind, uid=str(problem.fixture.uid), **problem.keys)
     if found and not is_forced:
         raise Failure(BAD_ARGUMENTS, "nothing was changed, because of these slots; --force changes it all the same",
                       reason="patch")
+
+
+def moved_by(changes: Sequence[Change]) -> Set[Uid]:
+    """The devices that changes may give other slots."""
+    return {change.uid for change in changes if change.column in (ADDRESS, PERSONALITY)}
+
+
+def problems_after(fixtures: Sequence[Fixture], moved: Set[Uid], changed: Callable[[Fixture], Fixture]
+                   ) -> List[Problem]:
+    """The problems of devices that are moved, when these are changed."""
+    after = [changed(fixture) if fixture.uid in moved else fixture for fixture in fixtures]
+    return [each for each in problems_of(after) if moved.intersection(each.devices)] if moved else []
+
+
+def patched(fixture: Fixture, address: Optional[str], slots: Optional[Value]) -> Fixture:
+    """A device with another address, or another number of slots."""
+    if fixture.info is None:
+        return fixture
+    others = {ADDRESS_FIELD: None if address is None else whole(address), FOOTPRINT_FIELD: slots}
+    return replace(fixture, info={**fixture.info, **{name: value for name, value in others.items()
+                                                     if value is not None}})
 
 
 def note_problems(work: Work, uid: Uid) -> None:
@@ -108,18 +133,15 @@ def moved_fixture(work: Work, fixture: Fixture, rows: Sequence[Row], changes: Se
     """A device as it will be. Without a number of slots that is known, it has none."""
     if fixture.info is None:
         return fixture
-    values = values_after(fixture.uid, rows, changes)
-    info = dict(fixture.info)
-    if ADDRESS in values:
-        info[ADDRESS_FIELD] = whole(values[ADDRESS])
+    values, slots = values_after(fixture.uid, rows, changes), None
     if PERSONALITY in values:
         number = whole(values[PERSONALITY])
         found = values_of(work, fixture, "dmx_personality_description", bytes([number]))
-        info[FOOTPRINT_FIELD] = 0 if found is None else found["slots_required"]
+        slots = 0 if found is None else found["slots_required"]
         if found is None:
             work.output.note(f"{fixture.uid} doesn't say how many slots its personality {number} has, so these aren't "
                              "compared")
-    return replace(fixture, info=info)
+    return patched(fixture, values.get(ADDRESS), slots)
 
 
 def values_after(uid: Uid, rows: Sequence[Row], changes: Sequence[Change]) -> Mapping[str, str]:

@@ -64,12 +64,13 @@ function fieldLengths(hex) {
 // The list of findings, and the legend.
 
 function lineOf(finding) {
+    const label = labels.get(finding.uid), text = label ? `${label}: ${finding.text}` : finding.text;
     const item = make("li", "", finding.isHead ? "head" : "");
     if (finding.place === null) {
-        item.append(make("span", "", finding.isHead ? "" : "mark"), make("span", finding.text));
+        item.append(make("span", "", finding.isHead ? "" : "mark"), make("span", text));
         return item;
     }
-    const button = make("button", finding.text);
+    const button = make("button", text);
     button.addEventListener("click", () => showPlace(finding));
     item.append(make("span", "\u25bc", "mark"), button);
     return item;
@@ -192,6 +193,7 @@ function listen() {
     view.addEventListener("wheel", zoomed, {passive: false});
     view.addEventListener("scroll", redraw);
     new ResizeObserver(() => setWidth(size.width)).observe(view);
+    SCHEME.addEventListener("change", () => location.reload());
 }
 
 async function open() {

@@ -10,7 +10,7 @@ import html
 import json
 import pkgutil
 from collections import Counter
-from typing import Any, BinaryIO, Dict, List, Optional, Set
+from typing import Any, BinaryIO, Dict, List, Mapping, Optional, Set
 
 from ..lines.uids import uid_text
 from .page_details import PIECE, packed
@@ -44,8 +44,9 @@ PAGE = """\
 """
 
 
-def page_of(name: str, file: BinaryIO, findings: Findings) -> str:
-    """The page of an open log and what the program found in it. Raises NoLog, OtherLog and OSError."""
+def page_of(name: str, file: BinaryIO, findings: Findings, labels: Mapping[int, str] = {}) -> str:
+    """The page of an open log and what the program found in it, with devices' labels. Raises NoLog, OtherLog and
+    OSError."""
     log = read_log(file, findings.runs)
     script, style, body = "".join(map(resource, SCRIPTS)), resource("page.css"), resource("page.html")
     pieces = "\n".join(f'<script type="text/plain" id="piece{number}">{piece}</script>'
@@ -53,11 +54,11 @@ def page_of(name: str, file: BinaryIO, findings: Findings) -> str:
     return PAGE.format(
         policy=html.escape(POLICY.format(script=digest(script), style=digest(style))), style=style, script=script,
         title=html.escape(f"wurstlinen explain {printable(name)}"), body=body,
-        head=in_script(head_of(printable(name), log, findings)), columns=packed(log.columns.data()),
+        head=in_script(head_of(printable(name), log, findings, labels)), columns=packed(log.columns.data()),
         pieces=pieces)
 
 
-def head_of(name: str, log: Log, findings: Findings) -> Dict[str, Any]:
+def head_of(name: str, log: Log, findings: Findings, labels: Mapping[int, str]) -> Dict[str, Any]:
     """What a page knows at once."""
     rows = rows_of(log, findings)
     return {
@@ -65,7 +66,7 @@ def head_of(name: str, log: Log, findings: Findings) -> Dict[str, Any]:
         "came": counts(log.columns.came), "asked": counts(log.columns.asked), "clients": sorted(log.clients),
         "runs": [{"name": run.name, "first": log.places[run.place], "count": len(run.heard)}
                  for run in findings.runs if run.heard],
-        "rows": [uid_text(uid) for uid in rows],
+        "rows": [uid_text(uid) for uid in rows], "labels": [printable(labels.get(uid, "")) for uid in rows],
         "findings": [{"text": printable(finding.text), "isHead": finding.is_head, "place": place_of(finding, log),
                       "uid": None if finding.uid is None else uid_text(finding.uid)} for finding in findings.all]}
 

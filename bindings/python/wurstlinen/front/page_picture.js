@@ -1,8 +1,9 @@
 "use strict";
 // The picture of a log. What is shown of an exchange is unpacked when someone looks. No finding is made here.
+const SCHEME = window.matchMedia("(prefers-color-scheme: dark)");
 const ASKED = ["branch", "mute", "unmute", "GET", "SET", "another frame"];
 const CAME = [
-    {text: "silence", colour: "#b4bec9"},
+    {text: "silence", colour: SCHEME.matches ? "#55606c" : "#b4bec9"},
     {text: "one UID", colour: "#0072b2"},
     {text: "collision", colour: "#e69f00", stripes: [[-1, 9], [9, -1]]},
     {text: "acknowledged", colour: "#009e73"},
@@ -10,14 +11,15 @@ const CAME = [
     {text: "damaged", colour: "#cc79a7", stripes: [[0, 4], [8, 4]]},
     {text: "the line failed", colour: "#d55e00", stripes: [[0, 0], [8, 8], [8, 0], [0, 8]]},
 ];
-const UNMUTE = "#e6eaef";
-const INK = "#1b1f24";
-const OUTLINE = "#6b7682";
+const BLACK = "#1b1f24";
+const [INK, PAPER, STRIPE, UNMUTE, OUTLINE] = SCHEME.matches ? ["#eef1f4", "#14181d", "#1f262d", "#37414b", "#96a2ae"]
+    : [BLACK, "#fff", "#f4f6f9", "#e6eaef", "#6b7682"];
 const LETTERS = ["", "M", "", "G", "S", "?"];
 const [BRANCH, MUTE, UNMUTES] = [0, 1, 2];
 const [SILENCE, ONE, COLLISION, , , DAMAGED] = [0, 1, 2, 3, 4, 5];
 const UIDS = 2 ** 48;
-const GUTTER = 118;
+// What is left of the picture: UIDs, with labels if there is room for them.
+const LABELS = 130;
 const LANE = 12;
 const STRIP = 16;
 const MOST_WIDTH = 24;
@@ -37,6 +39,8 @@ const log = JSON.parse(get("head").textContent);
 const view = get("view");
 const canvas = get("picture");
 const pen = canvas.getContext("2d");
+const labels = new Map(log.rows.map((uid, at) => [uid, log.labels[at]]));
+const GUTTER = 118 + (window.innerWidth > 700 && log.labels.some(Boolean) ? LABELS : 0);
 const rows = log.rows.map((text) => parseInt(text.slice(0, 4), 16) * 2 ** 32 + parseInt(text.slice(5), 16));
 const marks = log.findings.filter((finding) => finding.place !== null).sort((one, other) => one.place - other.place);
 const header = STRIP * 3 + LANE * log.clients.length;
@@ -180,7 +184,7 @@ function drawBlock(ink, asked, came, x, top, width, tall) {
     ink.lineWidth = 1;
     ink.strokeRect(x + 0.5, top + 0.5, width - 1, tall - 1);
     if (width >= 10 && tall >= 10) {
-        ink.fillStyle = came === SILENCE || came > 3 ? INK : "#fff";
+        ink.fillStyle = came === SILENCE ? INK : came > 3 ? BLACK : "#fff";
         ink.font = "bold 10px sans-serif";
         ink.textAlign = "center";
         ink.textBaseline = "middle";
@@ -249,7 +253,7 @@ function draw() {
         canvas.style.height = `${tall}px`;
     }
     pen.setTransform(scale, 0, 0, scale, 0, 0);
-    pen.fillStyle = "#fff";
+    pen.fillStyle = PAPER;
     pen.fillRect(0, 0, wide, tall);
     const step = drawField(wide, tall);
     pen.setTransform(scale, 0, 0, scale, 0, 0);
@@ -279,7 +283,7 @@ function drawField(wide, tall) {
 }
 
 function drawRows(wide) {
-    pen.fillStyle = "#f4f6f9";
+    pen.fillStyle = STRIPE;
     for (let at = 0; at < rows.length; at++) {
         pen.fillRect(GUTTER, topOfRow(at), wide, size.row);
     }
@@ -318,7 +322,7 @@ function line(x, y, otherX, otherY) {
 }
 
 function ring(x, y) {
-    for (const [colour, width] of [["#fff", 5], [INK, 2.2]]) {
+    for (const [colour, width] of [[PAPER, 5], [INK, 2.2]]) {
         pen.strokeStyle = colour;
         pen.lineWidth = width;
         pen.beginPath();
@@ -336,7 +340,7 @@ function write(text, x, y, font = "11px sans-serif") {
 }
 
 function drawHeader(wide) {
-    pen.fillStyle = "#fff";
+    pen.fillStyle = PAPER;
     pen.fillRect(0, 0, wide, header);
     drawRuns();
     drawTicks(wide);
@@ -407,7 +411,7 @@ function drawLanes() {
 }
 
 function drawLabels(wide, tall) {
-    pen.fillStyle = "#fff";
+    pen.fillStyle = PAPER;
     pen.fillRect(0, 0, GUTTER - 4, tall);
     write("exchange", 6, STRIP * 1.5);
     log.clients.forEach((client, lane) => write(`client ${client}`, 6, STRIP * 2 + (lane + 0.5) * LANE));
@@ -416,7 +420,7 @@ function drawLabels(wide, tall) {
     }
     pen.save();
     pen.beginPath();
-    pen.rect(0, header, wide, tall - header);
+    pen.rect(0, header, GUTTER - 6, tall - header);
     pen.clip();
     drawUids(tall);
     pen.restore();
@@ -436,7 +440,9 @@ function drawUids(tall) {
         const y = name[1] - view.scrollTop;
         const slot = Math.round(y / 4);
         if (y > header - 8 && y < tall + 8 && [-2, -1, 0, 1, 2].every((near) => !taken[slot + near])) {
-            write(name[0], 6, y, `${isFound(name) ? "bold " : ""}11.5px monospace`);
+            const font = `${isFound(name) ? "bold " : ""}11.5px`, label = labels.get(name[0]);
+            write(GUTTER > LABELS || !label ? name[0] : label, 6, y, `${font} monospace`);
+            write(GUTTER > LABELS ? label ?? "" : "", 112, y, `${font} sans-serif`);
             taken[slot] = true;
         }
     }

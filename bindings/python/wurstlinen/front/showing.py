@@ -2,7 +2,7 @@
 from __future__ import annotations
 
 import argparse
-from typing import Iterator, List, Mapping, Optional, Sequence, Tuple
+from typing import Dict, Iterator, List, Mapping, Optional, Sequence, Tuple
 
 from .. import Device, Uid
 from ..lines.numbers import Pid
@@ -72,6 +72,9 @@ class Shown:
         self._pids: List[int] = []
         self._info: Values = {}
         self._interfaces: List[int] = []
+        # The parameters that it supports and their last values, by their titles.
+        self.parameters: Dict[str, Parameter] = {}
+        self.values: Dict[str, Values] = {}
         # What it supports and wasn't asked for.
         self._others: List[str] = []
         self._silences = 0
@@ -110,6 +113,7 @@ class Shown:
         except Failure as failure:
             return None, [self._failed(failure)]
         self._silences = 0
+        self.values[title_of(parameter)] = reading.values or {}
         output = self._work.output
         if output.is_json and parameter.number != Pid.SUPPORTED_PARAMETERS:
             output.result([], section=self._section, **reading_keys(str(self._uid), parameter, reading))
@@ -158,10 +162,12 @@ class Shown:
     def _described(self, pid: int) -> Optional[Parameter]:
         """A parameter, for which the device may be asked; None if that failed."""
         try:
-            return self._work.described(self._uid, pid)
+            parameter = self._work.described(self._uid, pid)
         except Failure as failure:
             self._failed(failure)
             return None
+        self.parameters[title_of(parameter)] = parameter
+        return parameter
 
     def _numbers(self, parameter: Parameter) -> Optional[List[Tuple[bytes, str]]]:
         """The data with which a parameter is asked for, and what that adds to its title; None if it isn't known."""

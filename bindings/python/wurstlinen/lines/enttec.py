@@ -5,6 +5,7 @@ which behaviour has which source.
 """
 from __future__ import annotations
 
+import contextlib
 import time
 from collections import deque
 from typing import Deque, Optional, Tuple
@@ -65,6 +66,8 @@ class EnttecPro(OpenLine):
     _is_in_doubt: bool
     # The last exchange was answered, and has had no end so far: what its end would show something about.
     _open_ends: Optional[Ends]
+    # Until when that is awaited before the next exchange; None if it isn't.
+    _awaited_until: Optional[float]
 
     def __init__(self, path: str, lock_folder: Folder = LOCK_FOLDER, answer_seconds: float = ANSWER_SECONDS) -> None:
         self.path = path
@@ -83,12 +86,18 @@ class EnttecPro(OpenLine):
     @property
     def branch_end(self) -> BranchEnd:
         """Whether the adapter sends its end after the reply to a branch."""
-        return self._branch_ends.known
+        return self._known(self._branch_ends)
 
     @property
     def response_end(self) -> BranchEnd:
         """Whether the adapter sends its end after a good response."""
-        return self._response_ends.known
+        return self._known(self._response_ends)
+
+    def _known(self, ends: Ends) -> BranchEnd:
+        """What is known of these ends, after the wait for the last exchange's."""
+        with contextlib.suppress(LineFailed):
+            self._turns.alone(self._await_end)
+        return ends.known
 
     @property
     def is_there(self) -> bool:
@@ -143,6 +152,7 @@ class EnttecPro(OpenLine):
     def _exchange(self, frame: bytes) -> bytes:
         if self._terminal is None or not self._terminal.is_open:
             self._open()
+        self._await_end()
         self._clear()
         if self._is_in_doubt:
             self._settle()
@@ -162,7 +172,7 @@ class EnttecPro(OpenLine):
         self._response_ends = Ends()
         self._early_ends = EarlyEnds()
         self._is_in_doubt = False
-        self._open_ends = None
+        self._open_ends = self._awaited_until = None
         # The last exchange had an end without a reply.
         self._ended_silently = False
         # Whether the frame under way may be answered, and when its end can come without an answer.
@@ -193,7 +203,8 @@ class EnttecPro(OpenLine):
     def _ask_maker_and_firmware(self) -> Tuple[Optional[int], Optional[Tuple[int, int]]]:
         """The maker, which a USB Pro doesn't say, and the firmware.
 
-        An adapter answers one question after the other. So once it has answered the second, none to the first is due.
+        An adapter answers one question after the other. So once it has answered the second, none to the first is due:
+        only if a USB Pro with this firmware has no RDM, that is awaited a little longer.
         """
         self._send(Label.MANUFACTURER, b"")
         self._send(Label.PARAMETERS, ANY_USER_MEMORY)
@@ -207,6 +218,8 @@ class EnttecPro(OpenLine):
                 maker = _id_in(message.data)
             elif message.label == Label.PARAMETERS and len(message.data) >= LEAST_PARAMETERS_BYTES:
                 firmware = (message.data[1], message.data[0])
+                if firmware >= FIRST_FIRMWARE_WITH_RDM:
+                    break
                 end = min(end, time.monotonic() + SOON_SECONDS)
             else:
                 self._note_late_end(message)
@@ -297,21 +310,31 @@ class EnttecPro(OpenLine):
         return is_early or any(_belongs(each, is_branch) for each in self._messages)
 
     def _answered(self, reply: bytes, ends: Ends, end: float, seconds_to_learn: float) -> bytes:
-        """Waits for the end of an answered exchange, unless it is known that none comes.
-
-        If it may still come, the next exchange finds out first whether it is only late.
-        """
+        """The reply to an exchange, whose end is awaited before the next one, unless it is known that none comes."""
         self._open_ends = ends
         if ends.known is BranchEnd.UNKNOWN:
             end = min(end, time.monotonic() + seconds_to_learn)
-        while self._open_ends is not None and ends.known is not BranchEnd.NOT_SENT:
-            message = self._next(end)
+        self._is_in_doubt = ends.known is not BranchEnd.NOT_SENT
+        self._awaited_until = end if self._is_in_doubt else None
+        return reply
+
+    def _await_end(self) -> None:
+        """Waits for the end of the last exchange, if it is still awaited.
+
+        If it may still come, the next exchange finds out first whether it is only late.
+        """
+        until, self._awaited_until = self._awaited_until, None
+        ends = self._open_ends
+        if until is None or ends is None:
+            return
+        self._take_in()
+        while self._open_ends is not None:
+            message = self._next(until)
             if message is None:
                 ends.missed()
-                return reply
+                return
             self._note_late_end(message)
         self._is_in_doubt = False
-        return reply
 
     def _seconds_to_learn(self) -> float:
         """A short time for firmware that sends no end according to OLA, else the longest time of an exchange."""
@@ -348,16 +371,21 @@ class EnttecPro(OpenLine):
 
     def _clear(self) -> None:
         """Drops what has come since the last exchange, and what is left of an incomplete message."""
-        for _ in range(MOST_READS):
-            data = self._device().read_until(0.0)
-            if not data:
-                break
-            self._messages.extend(self._reader.feed(data))
+        self._take_in()
         for message in self._messages:
             self._note_late_end(message)
             self._note_late_reply(message)
         self._messages.clear()
         self._reader.clear()
+
+    def _take_in(self) -> None:
+        """Reads what has come."""
+        for _ in range(MOST_READS):
+            data = self._device().read_until(0.0)
+            if not data:
+                break
+            self._heard_at = time.monotonic()
+            self._messages.extend(self._reader.feed(data))
 
     def _send(self, label: Label, data: bytes) -> None:
         self._device().write(Message(label, data).encode())

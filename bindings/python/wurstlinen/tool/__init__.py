@@ -4,9 +4,15 @@ The proved program's commands get their arguments, streams and status as they ar
 """
 from __future__ import annotations
 
+import gc
 import sys
 
-from .main import main, run, run_program
+# What is loaded here stays, so nobody looks for garbage in it.
+gc.disable()
+from .main import main, run, run_program  # noqa: E402
+
+gc.freeze()
+gc.enable()
 
 
 def call() -> None:

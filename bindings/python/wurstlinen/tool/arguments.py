@@ -81,6 +81,7 @@ def add_explain(made: Any, name: str) -> None:
     command.add_argument("--rig", metavar="FILE", help="a scene file with devices that were on the line")
     command.add_argument("--json", action="store_true", help="print one JSON object")
     command.add_argument("--page", metavar="FILE", help="an HTML file for a picture, which is replaced")
+    command.add_argument("--names", metavar="FILE", help="a file of save, whose labels the page has beside UIDs")
 
 
 def add_line(command: Parser) -> None:
@@ -110,10 +111,16 @@ def add_completion(made: Any, name: str) -> None:
     command = add_command(made, name, "print what completes the commands in a shell", "completion bash",
                           "tool.arguments.run_completion", needs_line=False)
     command.add_argument("shell", choices=("bash",), metavar="bash")
+    # What completes asks for them.
+    command.add_argument("--uids", action="store_true", help=argparse.SUPPRESS)
 
 
 def run_completion(chosen: argparse.Namespace, output: Output) -> int:
-    """Prints the completion."""
+    """Prints the completion, or the devices that the line's server has found."""
+    if chosen.uids:
+        from .shared_discovery import known_devices
+        output.result(known_devices())
+        return DONE
     # It is made from these arguments.
     from .manual import completion
     text = completion()

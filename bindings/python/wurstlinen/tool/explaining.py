@@ -9,9 +9,10 @@ import os
 import subprocess
 import sys
 import tempfile
-from typing import IO, BinaryIO, Optional, Sequence, Tuple
+from typing import IO, BinaryIO, Mapping, Optional, Sequence, Tuple
 
 from .._times import timeless
+from ..front.csv_files import LABEL, read
 from ..front.files import MOST_LINE, file_of
 from ..front.output import BAD_ARGUMENTS, FAILED, Failure, Output
 from ..front.page import page_of
@@ -43,20 +44,23 @@ class NoOutput(Exception):
         self.fault = fault
 
 
-def explain(program: str, words: Sequence[str], page: Optional[str], files: Sequence[str], has_times: bool) -> int:
-    """Runs the program with these words, of which `files` are its files, the log first. Raises Failure and OSError.
+def explain(program: str, words: Sequence[str], page: Optional[str], files: Sequence[str], has_times: bool,
+            names: Optional[str] = None) -> int:
+    """Runs the program with these words; `files` are read, the log first. Raises Failure and OSError.
 
-    It reads a log with times as a copy without them.
+    It reads a log with times as a copy without them. The page has the labels of the file `names`.
     """
     timed = files[0] if has_times else None
     try:
         if page is None:
             return explained(program, words, timed)[0]
         check(page, files)
+        labels = {} if names is None else {row.uid.number: row.values.get(LABEL, "")
+                                           for row in read(names, Output(False)).rows}
         with file_of(page) as made:
             before = state_of(files[0]) if files else None
             status, findings = explained(program, words, timed)
-            made.write(drawn(files[0], before, findings))
+            made.write(drawn(files[0], before, findings, labels))
     except NoPage as end:
         return end.status
     except NoOutput as end:
@@ -140,11 +144,11 @@ def show(text: bytes) -> None:
         raise NoOutput(fault) from None
 
 
-def drawn(name: str, before: Optional[State], findings: Findings) -> str:
+def drawn(name: str, before: Optional[State], findings: Findings, labels: Mapping[int, str]) -> str:
     """The page of a log that is still as it was. Raises Failure."""
     try:
         with open(name, "rb") as file:
-            text = page_of(name, file, findings)
+            text = page_of(name, file, findings, labels)
             is_same = before == state_in(file) == state_of(name)
     except (NoLog, OtherLog) as fault:
         raise Failure(FAILED, f"{name}: {fault}, so no page is written", reason="file") from None

@@ -2,6 +2,7 @@
 from __future__ import annotations
 
 import argparse
+import contextlib
 import os
 import signal
 import sys
@@ -32,9 +33,9 @@ HELP_WORDS = ("-h", "--help")
 WAIT_LINE = "--wait-line"
 # The options with a value.
 VALUED = (WAIT_LINE, "--line", "--replies", "--source", "--known", "--budget", "--port", "--log", "--present", "--rig",
-          "--page")
+          "--page", "--names")
 FRAMES = "--frames"
-PAGE = "--page"
+PAGE, NAMES = "--page", "--names"
 JSON = "--json"
 STEADY, QUICK = "--steady", "--quick"
 # The most bytes of the first record of a log that are read.
@@ -51,8 +52,11 @@ def run() -> int:
     # A shell makes background jobs ignore SIGINT.
     signal.signal(signal.SIGINT, signal.default_int_handler)
     end_by(end, signal.SIGTERM, signal.SIGHUP)
-    places.name_library()
     try:
+        # Who waits for its line says what this process is called, which would be Python.
+        with contextlib.suppress(OSError), open("/proc/self/comm", "w", encoding="ascii") as name:
+            name.write(PROGRAM)
+        places.name_library()
         return finish(main(sys.argv[1:]))
     except Failure as failure:
         command = sys.argv[1] if len(sys.argv) > 1 else ""
@@ -140,7 +144,7 @@ def run_proved(words: List[str]) -> int:
         if client is not None:
             return discover_shared(client, words, frames, is_json)
         words = searched(words)
-    return serving.serve(program, words, line, frames, waits, is_json)
+    return serving.serve(program, words, line, frames, waits, is_json, option(words, "--log"))
 
 
 def run_alone(program: str, words: List[str], is_json: bool) -> int:
@@ -216,7 +220,7 @@ def run_explain(program: str, words: List[str]) -> int:
         print(WRONG_WORDS, flush=True)
         raise Failure(BAD_ARGUMENTS, f"argument {PAGE}: expected one argument; try 'wurstlinen explain --help'",
                       reason="arguments")
-    words = without(words, PAGE)
+    names, words = option(words, NAMES), without(without(words, PAGE), NAMES)
     files = [words[at] for at, name in parts(words) if not name]
     for name in files[:1]:
         note_other_log(name)
@@ -224,7 +228,8 @@ def run_explain(program: str, words: List[str]) -> int:
     if not has_page and not is_timed:
         return run_alone(program, words, False)
     from . import explaining
-    return explaining.explain(program, words, page, [*files, *filter(None, [option(words, "--rig")])], is_timed)
+    return explaining.explain(program, words, page, [*files, *filter(None, [option(words, "--rig"), names])], is_timed,
+                              names)
 
 
 def line_of_discovery() -> str:

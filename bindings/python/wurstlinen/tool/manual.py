@@ -10,7 +10,6 @@ import sys
 from pathlib import Path
 from typing import Dict, List
 
-from ..front.main import HIDDEN_FRAMES
 from ..parameters import STANDARD
 from . import arguments
 
@@ -26,6 +25,11 @@ def subcommands() -> Dict[str, argparse.ArgumentParser]:
     """The parsers of all commands, by their names."""
     found, = (action for action in arguments.parser()._actions if isinstance(action, argparse._SubParsersAction))
     return dict(found.choices)
+
+
+def shown(command: argparse.ArgumentParser) -> List[argparse.Action]:
+    """The arguments of a command that its help has."""
+    return [action for action in command._actions if action.help != argparse.SUPPRESS]
 
 
 def escaped(text: str) -> str:
@@ -52,7 +56,7 @@ def section(name: str, command: argparse.ArgumentParser) -> List[str]:
     """The part of a command."""
     usage = re.sub(r"\s+", " ", command.format_usage()).partition(name)[2]
     lines = [f".SS {name}{escaped(usage).rstrip()}", escaped(command.description or "")]
-    for action in command._actions:
+    for action in shown(command):
         if action.help and not isinstance(action, argparse._HelpAction):
             lines += item(title_of(action), action.help)
     if command.epilog:
@@ -91,24 +95,30 @@ def completion() -> str:
     commands = subcommands()
     parameters = " ".join(each.name for each in STANDARD.parameters)
     cases = [f"        help) words='{' '.join(commands)}' ;;"]
+    of_devices = " ".join(name for name, command in commands.items()
+                          if any(action.dest == "uid" for action in command._actions))
     for name, command in commands.items():
-        options = [option for action in command._actions for option in action.option_strings]
+        options = [option for action in shown(command) for option in action.option_strings]
         named = (action for action in command._actions if not action.option_strings)
         choices = [choice for action in named for choice in action.choices or ()]
-        # Hidden options are spelled in another way.
-        shown = [option for option in options if option != HIDDEN_FRAMES]
         words = f"words='{' '.join(choices)}'"
         if name in NAMING:
             words = f'[ "$COMP_CWORD" {NAMING[name]} ] || words="$parameters"'
-        cases.append(f"        {name}) {words}; options='{' '.join(shown)}' ;;")
+        cases.append(f"        {name}) {words}; options='{' '.join(options)}' ;;")
     return "\n".join([
         "# Completes the arguments of wurstlinen in bash.", "_wurstlinen() {",
         '    local words="" options="" word="${COMP_WORDS[COMP_CWORD]}"', f"    local parameters='{parameters}'",
         "    # Bash divides a UID at its colon.", '    local first=3; [ "${COMP_WORDS[3]}" != : ] || first=5',
         '    case "${COMP_WORDS[1]}" in', *cases, "    esac",
         f"    [ \"$COMP_CWORD\" -gt 1 ] || words='{' '.join(commands)} help version' options='--help --version'",
+        "    # A server knows the UIDs that it has found.",
+        '    if [ "$COMP_CWORD" -eq 2 ] || [[ "${COMP_WORDS[3]}" = : && "$COMP_CWORD" -lt 5 ]]; then',
+        f'        if [[ " {of_devices} " = *" ${{COMP_WORDS[1]}} "* ]]; then',
+        '            printf -v word %s "${COMP_WORDS[@]:2:COMP_CWORD-1}"',
+        '            words="$("${COMP_WORDS[0]}" completion bash --uids 2> /dev/null)"', "        fi", "    fi",
         '    [[ "$word" != -* ]] || words="$options"',
-        '    mapfile -t COMPREPLY < <(compgen -W "$words" -- "$word")', "}",
+        '    mapfile -t COMPREPLY < <(compgen -W "$words" -- "$word")',
+        '    COMPREPLY=("${COMPREPLY[@]#"${word%"${word##*:}"}"}")', "}",
         "complete -o default -F _wurstlinen wurstlinen"]) + "\n"
 
 

@@ -1,11 +1,13 @@
-"""The command discover on a line that a server or olad has."""
+"""The command discover on a line that a server or olad has, and what a server has found."""
 from __future__ import annotations
 
-from typing import TYPE_CHECKING, Optional, Union
+from typing import TYPE_CHECKING, List, Optional, Union
 
 from ..front.discovery_log import sink_of
+from ..front.opening import failures_of_lines
 from ..front.output import DONE, FAILED, Output
 from ..front.work import failures_of_server, shared_work
+from .main import default_line
 from .reporting import Found
 
 if TYPE_CHECKING:
@@ -24,3 +26,14 @@ def discover(client: Union[SharedClient, OlaClient], log: Optional[str], frames:
     # olad doesn't say how many frames there were.
     Found(found.devices, line.frames or None, found.fault).show(output, line.ending, line.failure)
     return DONE if found.fault is None else FAILED
+
+
+def known_devices() -> List[str]:
+    """The UIDs of the devices that the server of the usual line has found; none without a server. Raises Failure."""
+    from ..shared.client import client_of
+    with failures_of_lines():
+        client = client_of(default_line())
+        if client is None:
+            return []
+        with client:
+            return [str(device.uid) for device in client.queue.devices()]

@@ -1,7 +1,7 @@
 // The frame of the page: its views, how things are, and messages.
 
-import { button, make, setText } from "/dom.js";
-import { call, follow, mayUse, parts, state, token } from "/server.js";
+import { button, classes, make, show } from "/dom.js";
+import { call, follow, lost, mayUse, parts, token } from "/server.js";
 import * as discovery from "/discovery.js";
 import * as fixture from "/fixture.js";
 import * as fixtures from "/fixtures.js";
@@ -11,8 +11,9 @@ import * as slots from "/slots.js";
 const views = { fixtures, slots, discovery, line, fixture };
 const TITLES = { fixtures: "Fixtures", slots: "Slots", discovery: "Discovery", line: "Line" };
 const MESSAGE_TIME = 6_000;
-const get = (id) => document.getElementById(id);
-let shown = "";
+// What is under way, by names.
+export const busy = new Set();
+let message = null, place = "";
 
 export function addressOf(view, rest = "") {
     return `#${token}/${view}${rest ? `/${rest}` : ""}`;
@@ -20,13 +21,37 @@ export function addressOf(view, rest = "") {
 
 // Says what happened. What went wrong stays until somebody has read it.
 export function say(text, { isBad = false, action = null } = {}) {
-    const message = make("div", { class: isBad ? "bad message" : "message" }, make("p", {}, text),
-        action && button(action.text, () => (message.remove(), action.act())),
-        button(action ? "Leave it" : "Close", () => message.remove()));
-    get("messages").replaceChildren(message);
-    if (!isBad) {
-        setTimeout(() => message.remove(), MESSAGE_TIME);
+    const said = message = { text, isBad, action, from: document.activeElement };
+    draw();
+    if (action) {
+        // A question is where keys are.
+        document.querySelector("#messages button:last-child").focus();
+    } else if (!isBad) {
+        setTimeout(() => message === said && close(), MESSAGE_TIME);
     }
+}
+
+function close() {
+    const { from } = message;
+    message = null;
+    draw();
+    if (document.activeElement === document.body) {
+        from.focus();
+    }
+}
+
+// Shows that something is under way.
+export async function busily(name, work) {
+    busy.add(name);
+    redraw();
+    await work();
+    busy.delete(name);
+    redraw();
+}
+
+// The attributes of an element for something that may be under way.
+export function busyAs(name, ...names) {
+    return { class: classes(...names, busy.has(name) && "busy"), "aria-busy": busy.has(name) ? "true" : null };
 }
 
 // The answer to a call; null if it is a fault, which is said.
@@ -46,7 +71,7 @@ export async function act(name, keys, done = "") {
         say(failures.join("; "), { isBad: true });
     } else if (problems.length && !made) {
         const again = { text: "Do it anyway", act: () => act(name, { ...keys, force: true }, done) };
-        say(`Not done: ${problems.join("; ")}.`, { isBad: true, action: again });
+        say(`Not done: ${problems.join("; ").replaceAll("; after this,", ";")}.`, { isBad: true, action: again });
     } else if (answer && done) {
         say(done);
     }
@@ -58,8 +83,8 @@ function statusText() {
     if (token === "") {
         return ["This address has no token. Open the one that “wurstlinen web” has printed.", true];
     }
-    if (state.lost || !now) {
-        return [`Not connected: ${state.lost || "no line so far"}. What you see is old.`, true];
+    if (lost || !now) {
+        return [`Not connected: ${lost || "no line so far"}. What you see is old.`, true];
     }
     if (!now.there) {
         return [now.served ? `The adapter isn't there: ${now.reason}` : `No line: ${now.reason}`, true];
@@ -68,55 +93,51 @@ function statusText() {
     return [now.paused ? `${now.name} · paused: nothing is sent` : `${now.name}${mode}`, now.paused];
 }
 
-function drawUndo() {
-    const last = parts.get("undo");
-    get("undo").disabled = !mayUse() || !last;
-    get("undo").title = last ? last.text : "nothing was changed";
-    setText(get("undo"), last ? `Undo (${last.count})` : "Undo");
+function header(name) {
+    const [text, isBad] = statusText(), last = parts.get("undo");
+    return make("header", {}, make("h1", {}, "Wurstlinen"),
+        make("p", { id: "status", role: "status", class: classes(isBad && "bad") }, text),
+        button(last ? `Undo (${last.count})` : "Undo", () => act("undo", {}, "Taken back."),
+            { id: "undo", title: last ? last.text : "nothing was changed", disabled: !mayUse() || !last }),
+        make("nav", { "aria-label": "Views" }, Object.entries(TITLES).map(([each, title]) => make("a",
+            { href: addressOf(each), "aria-current": each === name ? "page" : null }, title))));
 }
 
-function route() {
-    const [, name = "fixtures", uid = ""] = location.hash.slice(1).split("/");
-    return { name: views[name] ? name : "fixtures", uid: decodeURIComponent(uid) };
+function messages() {
+    const { isBad, action, text } = message ?? {};
+    return make("div", { id: "messages", role: "alert" }, message && make("div", { class: classes("message",
+        isBad && "bad") }, make("p", {}, text), action && button(action.text, () => (close(), action.act())),
+    button(action ? "Leave it" : "Close", close)));
 }
 
-function draw() {
-    const { name, uid } = route();
-    const [text, isBad] = statusText();
-    setText(get("status"), text);
-    get("status").className = isBad ? "bad" : "";
-    drawUndo();
-    if (shown !== `${name}/${uid}`) {
-        const isFirst = shown === "";
-        shown = `${name}/${uid}`;
-        get("tabs").replaceChildren(...Object.entries(TITLES).map(([each, title]) => make("a",
-            { href: addressOf(each), "aria-current": each === name ? "page" : null }, title)));
-        get("view").className = name;
-        get("view").replaceChildren(...views[name].open(uid));
+export function draw() {
+    const [, asked = "fixtures", rest = ""] = location.hash.slice(1).split("/"), before = place;
+    const name = views[asked] ? asked : "fixtures", uid = decodeURIComponent(rest);
+    place = `${name}/${uid}`;
+    if (place !== before) {
+        // Who goes elsewhere leaves what was asked.
+        message = message?.action ? null : message;
         document.title = `${TITLES[name] ?? uid} · Wurstlinen`;
-        if (!isFirst) {
-            get("view").focus();
-            scrollTo(0, 0);
-        }
     }
-    views[name].update(uid);
+    show(document.body, [header(name), make("main", { id: "view", key: place, class: name, tabindex: "-1" },
+        views[name].view(uid)), messages()]);
+    if (before && place !== before) {
+        document.getElementById("view").focus();
+        scrollTo(0, 0);
+    }
 }
 
-let isWaiting = false;
+let frame = 0;
 
 // A page in the background draws nothing until it is seen.
 export function redraw() {
-    if (!isWaiting) {
-        isWaiting = true;
-        requestAnimationFrame(() => {
-            isWaiting = false;
-            draw();
-        });
-    }
+    frame ||= requestAnimationFrame(() => {
+        frame = 0;
+        draw();
+    });
 }
 
 addEventListener("hashchange", () => (location.hash.slice(1).split("/")[0] === token ? draw() : location.reload()));
-get("undo").addEventListener("click", () => act("undo", {}, "Taken back."));
 draw();
 if (token) {
     follow(redraw);

@@ -3,7 +3,7 @@ from __future__ import annotations
 
 import threading
 import time
-from typing import Any, Dict, Iterator, List, Mapping, Set
+from typing import Any, Dict, Iterator, List, Set
 
 # How long changes are gathered, and after how long without one a page gets a sign that all is well.
 GATHERING_SECONDS = 0.03
@@ -33,13 +33,6 @@ class Board:
                 changed.add(name)
             self._changed.notify_all()
 
-    def put_all(self, prefix: str, values: Mapping[str, Any]) -> None:
-        """Those parts whose names begin so are these, and no others."""
-        with self._changed:
-            before = [name[len(prefix):] for name in self._parts if name.startswith(prefix)]
-        for key in {*before, *values}:
-            self.put(f"{prefix}{key}", values.get(key))
-
     def end(self) -> None:
         """Nobody follows it any more."""
         with self._changed:
@@ -51,24 +44,20 @@ class Board:
         changed: Set[str] = set()
         with self._changed:
             self._followers.append(changed)
-            everything = dict(self._parts)
+            found = dict(self._parts)
         try:
-            yield everything
             while not self._has_ended:
-                yield self._next(changed)
+                yield found
+                with self._changed:
+                    is_new = self._changed.wait_for(lambda: changed or self._has_ended, BEAT_SECONDS)
+                # What belongs together comes together.
+                time.sleep(GATHERING_SECONDS if is_new else 0)
+                with self._changed:
+                    found = {name: self._parts.get(name) for name in changed}
+                    changed.clear()
         finally:
             with self._changed:
                 self._followers = [each for each in self._followers if each is not changed]
-
-    def _next(self, changed: Set[str]) -> Parts:
-        with self._changed:
-            is_new = self._changed.wait_for(lambda: changed or self._has_ended, BEAT_SECONDS)
-        # What belongs together comes together.
-        time.sleep(GATHERING_SECONDS if is_new else 0)
-        with self._changed:
-            found: Parts = {name: self._parts.get(name) for name in changed}
-            changed.clear()
-            return found
 
 
 def latest(kept: Dict[Any, Any], key: Any, value: Any, most: int) -> List[Any]:

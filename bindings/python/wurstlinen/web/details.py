@@ -2,16 +2,16 @@
 from __future__ import annotations
 
 from functools import partial
-from typing import Any, Dict, List, Optional, Sequence, Tuple
+from typing import Any, Dict, Sequence
 
 from .. import Uid
 from ..front.naming import pid_of, raw_parameter
-from ..front.output import BAD_ARGUMENTS, Failure
 from ..front.pids import field_lines, type_text
 from ..front.requests import data_of
-from ..front.showing import CHOICES, Row, Shown, title_of
+from ..front.showing import CHOICES, Shown
 from ..front.work import Work
-from ..parameters import Parameter, Reading
+from ..parameters import Parameter
+from ..parameters.decoding import Values
 from ..parameters.fields import Field, Flag, Group, Number
 from ..parameters.words import name_of
 from .board import Board, latest
@@ -23,37 +23,13 @@ MOST_SHOWN = 16
 ELSEWHERE = ("device_label", "dmx_start_address", "dmx_personality", "identify_device")
 
 
-class Asked(Shown):
-    """What a device says, with what of it can be set."""
-
-    def __init__(self, work: Work, uid: Uid) -> None:
-        super().__init__(work, uid)
-        # By the titles of their rows.
-        self.forms: Dict[str, Dict[str, Any]] = {}
-        # What the parameters are, and what was read, by their numbers.
-        self._parameters: Dict[int, Optional[Parameter]] = {}
-        self._values: Dict[int, Dict[str, Any]] = {}
-
-    def _described(self, pid: int) -> Optional[Parameter]:
-        parameter = self._parameters[pid] = super()._described(pid)
-        return parameter
-
-    def _ask(self, parameter: Parameter, data: bytes = b"") -> Tuple[Optional[Reading], List[str]]:
-        reading, lines = super()._ask(parameter, data)
-        if reading is not None and reading.values is not None:
-            self._values[parameter.number] = dict(reading.values)
-        return reading, lines
-
-    def _rows(self, pid: int) -> List[Row]:
-        rows = super()._rows(pid)
-        parameter = self._parameters.get(pid)
-        if (parameter is not None and parameter.set is not None and parameter != raw_parameter(pid)
-                and parameter.name not in ELSEWHERE):
-            self.forms[title_of(parameter)] = form_of(parameter, self._values.get(pid, {}))
-        return rows
+def forms_of(shown: Shown) -> Dict[str, Dict[str, Any]]:
+    """How what a device supports is set, by the titles of its rows."""
+    return {title: form_of(each, shown.values.get(title, {})) for title, each in shown.parameters.items()
+            if each.set is not None and each != raw_parameter(each.number) and each.name not in ELSEWHERE}
 
 
-def form_of(parameter: Parameter, values: Dict[str, Any]) -> Dict[str, Any]:
+def form_of(parameter: Parameter, values: Values) -> Dict[str, Any]:
     """How a parameter is set: its fields, with what they have now."""
     fields = parameter.set.request if parameter.set is not None else ()
     # The number of a list's entry that is in use has another name where it is set.
@@ -81,37 +57,39 @@ class Details:
     def __init__(self, board: Board, rig: Rig) -> None:
         self._board = board
         self._rig = rig
-        self._shown: Dict[Uid, None] = {}
+        # What was shown last: sections with their rows, and forms.
+        self._shown: Dict[Uid, Dict[str, Dict[str, Any]]] = {}
 
     def read(self, uid: Uid) -> None:
         """Has a fixture asked for all that it supports. Raises Failure."""
         self._rig.entry(uid)
-        for each in latest(self._shown, uid, None, MOST_SHOWN):
+        before = self._shown.get(uid, {"sections": {}, "forms": {}})
+        for each in latest(self._shown, uid, before, MOST_SHOWN):
             self._board.put(f"details/{each}", None)
-        self._rig.hands.do(str(uid), partial(self._read, uid)).result()
+        self._rig.hands.do(str(uid), partial(self._read, uid, before)).result()
 
-    def _read(self, uid: Uid, work: Work) -> None:
-        """Shows each section as soon as it is there."""
-        asked = Asked(work, uid)
-        sections: List[Dict[str, Any]] = []
-        for name, rows in asked.sections():
-            sections = [*sections, {"name": name, "rows": rows}]
-            self._show(uid, sections, asked, is_over=False)
-        self._show(uid, sections, asked, is_over=True)
+    def _read(self, uid: Uid, before: Dict[str, Dict[str, Any]], work: Work) -> None:
+        """Shows each section as soon as it is there. Those of before stay until then."""
+        shown, keys = Shown(work, uid), before
+        now: Dict[str, Dict[str, Any]] = {"sections": {}, "forms": {}}
+        try:
+            for name, rows in shown.sections():
+                now = {"sections": {**now["sections"], name: rows}, "forms": forms_of(shown)}
+                keys = {key: {**before[key], **now[key]} for key in now}
+                self._board.put(f"details/{uid}", {**keys, "is_over": False})
+            keys = now
+        finally:
+            self._shown[uid] = keys
+            self._board.put(f"details/{uid}", {**keys, "is_over": True})
 
-    def _show(self, uid: Uid, sections: Sequence[Dict[str, Any]], asked: Asked, is_over: bool) -> None:
-        self._board.put(f"details/{uid}", {"sections": sections, "forms": dict(asked.forms), "is_over": is_over})
-
-    def set(self, uid: Uid, name: str, words: Sequence[str]) -> None:
+    def set(self, uid: Uid, parameter: str, words: Sequence[str]) -> None:
         """Sets a parameter, and reads the fixture again. Raises Failure."""
+        def set_it(work: Work) -> None:
+            """Sets it."""
+            found = work.described(uid, pid_of(uid.manufacturer, name_of(parameter)))
+            work.ask(uid, found.number, data_of(found, words, 0, is_set=True), is_set=True)
+
         entry = self._rig.entry(uid)
-        self._rig.hands.do(str(uid), partial(self._set, uid, name, words)).result()
+        self._rig.hands.do(str(uid), set_it).result()
         self._rig.read(entry.device, is_urgent=True)
         self.read(uid)
-
-    @staticmethod
-    def _set(uid: Uid, name: str, words: Sequence[str], work: Work) -> None:
-        parameter = work.described(uid, pid_of(uid.manufacturer, name_of(name)))
-        if parameter.set is None:
-            raise Failure(BAD_ARGUMENTS, f"{parameter.name} can't be set", reason="parameter")
-        work.ask(uid, parameter.number, data_of(parameter, words, 0, is_set=True), is_set=True)

@@ -5,38 +5,26 @@ import contextlib
 import io
 import secrets
 import threading
-from dataclasses import dataclass, field
-from typing import Any, Dict, List, Optional, Sequence, Tuple
+from typing import Any, Dict, List, Optional, Sequence, Set, Tuple
 
 from .. import Device, Uid
 from ..front.discovery_log import explanation
-from ..front.output import BAD_ARGUMENTS, FAILED, LINE_FAILED, Failure
+from ..front.output import BAD_ARGUMENTS, Failure
 from ..front.page import page_of
-from ..front.page_findings import NoFindings, findings_in
-from ..front.page_log import NoLog, OtherLog
+from ..front.page_findings import Findings, NoFindings, findings_in
 from ..front.shared_line import SharedLine
 from ..front.work import Work
-from ..line import LineFailed
 from ..tool.places import program
-from .board import Board, latest
+from .board import Board
+from .door import Refusal
 from .rig import Rig
 
 KEY = "discovery"
-MOST_PICTURES = 3
 # More UIDs can't be named to the proved program.
 MOST_EXPECTED = 1024
-# The judgement on a device that did all as it should.
-GOOD = "found"
-
-
-@dataclass
-class Findings:
-    """What is said of each device, of those that did something wrong, and of others; and the picture, a page."""
-
-    of_devices: Dict[Uid, str] = field(default_factory=dict)
-    bad: List[Uid] = field(default_factory=list)
-    others: List[str] = field(default_factory=list)
-    picture: str = ""
+# The judgements on devices that did all as they should, on those that broke a rule, if only by silence, on those that
+# alone sent something else than their text, and on bytes that read as a device's, which need not have sent them.
+GOOD, BROKE, GARBLED, STRAY = "found", "broke", "garbled", ("stray", "unexplained")
 
 
 class Discoveries:
@@ -47,9 +35,8 @@ class Discoveries:
         self._rig = rig
         # Held while one is under way or waits.
         self._running = threading.Lock()
-        self.findings = Findings()
-        # Pages that explain what was found, by their names, which nobody can guess.
-        self.pictures: Dict[str, str] = {}
+        # The last one's log and findings, by the name of its picture.
+        self._pictures: Dict[str, Tuple[List[str], Findings]] = {}
 
     def begin(self) -> None:
         """Begins one. Raises Failure if one runs."""
@@ -60,9 +47,8 @@ class Discoveries:
 
     def _end(self, future: Any) -> None:
         """If it has failed, that is what is shown."""
-        fault = future.exception()
-        if fault is not None:
-            self._show(str(fault), 0, 0, Findings())
+        if future.exception() is not None:
+            self._show(fault=str(future.exception()))
         self._running.release()
 
     def take(self, devices: Optional[Sequence[Device]]) -> None:
@@ -75,58 +61,53 @@ class Discoveries:
             self._rig.adopt(devices, None, reads_all=False)
 
     def _run(self, work: Work) -> None:
+        assert isinstance(work.line, SharedLine)
         log: List[str] = []
-        devices, fault = searched(work, log)
+        try:
+            devices, fault = work.discover(log.append)
+        finally:
+            work.line.leave()
         # The first line is the log's opening.
-        frames = max(0, len(log) - 1)
-        self._show(fault, len(devices), frames, Findings(others=["looking at what it shows ..."]))
-        expected = {*self._rig.known(), *(device.uid for device in devices)}
+        ended: Dict[str, Any] = {"fault": fault, "found": len(devices), "frames": max(0, len(log) - 1)}
+        self._show(**ended, others=["looking at what it shows ..."])
         self._rig.adopt(devices, fault, reads_all=True)
-        self.findings = findings_of(log, sorted(expected, key=lambda uid: uid.number)[:MOST_EXPECTED])
-        self._show(fault, len(devices), frames, self.findings)
-        self._rig.explain(self.findings.of_devices)
+        found = {device.uid for device in devices}
+        said, reasons, shown = findings_of(log, sorted({*self._rig.labels(), *found})[:MOST_EXPECTED], found)
+        # Nobody can guess its name.
+        self._pictures = {secrets.token_urlsafe(16): (log, said)} if said is not None else {}
+        self._show(**ended, **shown, picture="".join(self._pictures))
+        self._rig.explain(reasons)
 
-    def _show(self, fault: Optional[str], found: int, frames: int, findings: Findings) -> None:
+    def picture(self, name: str) -> str:
+        """The page that explains the last discovery, with the labels that are known by now. Raises Refusal."""
+        if name not in self._pictures:
+            raise Refusal(404, "this picture isn't kept any more; a new discovery makes another")
+        log, said = self._pictures[name]
+        labels = {uid.number: label for uid, label in self._rig.labels().items()}
+        return page_of("the page's last discovery", io.BytesIO("".join(log).encode()), said, labels)
+
+    def _show(self, **keys: Any) -> None:
         """Shows how it ended."""
-        name = secrets.token_urlsafe(16) if findings.picture else None
-        if name is not None:
-            latest(self.pictures, name, findings.picture, MOST_PICTURES)
-        bad = [{"uid": str(uid), "text": findings.of_devices[uid]} for uid in findings.bad]
-        self._board.put(KEY, {"runs": False, "fault": fault, "found": found, "frames": frames, "devices": bad,
-                              "others": findings.others, "picture": name})
+        self._board.put(KEY, {"runs": False, "found": 0, "frames": 0, **keys})
 
 
-def searched(work: Work, log: List[str]) -> Tuple[Sequence[Device], Optional[str]]:
-    """The devices, why the discovery ended early, and its log. Raises Failure."""
-    assert isinstance(work.line, SharedLine)
-    try:
-        return work.discover(log.append)
-    except LineFailed as fault:
-        raise Failure(FAILED, str(fault), reason=LINE_FAILED) from None
-    finally:
-        work.line.leave()
-
-
-def findings_of(log: Sequence[str], expected: Sequence[Uid]) -> Findings:
-    """What is found in a discovery's log about devices that should be on the line."""
+def findings_of(log: Sequence[str], expected: Sequence[Uid], found: Set[Uid]
+                ) -> Tuple[Optional[Findings], Dict[Uid, str], Dict[str, Any]]:
+    """What a discovery's log shows of devices that should be on the line, and what pages show of that."""
     place = program()
-    if place is None:
-        return unsaid("the proved program isn't installed")
     try:
+        if place is None:
+            raise NoFindings("the proved program isn't installed")
         said = findings_in(explanation(place, log, expected, "--json")[1])
         if said.fault is not None:
-            return unsaid(said.fault)
-        found = Findings(picture=page_of("the page's last discovery", io.BytesIO("".join(log).encode()), said))
-    except (OSError, NoFindings, NoLog, OtherLog) as fault:
-        return unsaid(str(fault))
-    about = [(each, None if each.uid is None else Uid.from_number(each.uid)) for each in said.all if not each.is_head]
-    found.others = [each.text for each, uid in about if uid is None]
-    found.of_devices = {uid: each.text.removeprefix(f"{uid} ") for each, uid in about if uid is not None}
-    good = {uid for each, uid in about if each.judgement == GOOD}
-    found.bad = [uid for uid in found.of_devices if uid not in good]
-    return found
-
-
-def unsaid(reason: str) -> Findings:
-    """Nothing is known, for this reason."""
-    return Findings(others=[f"why a fixture is missing can't be said: {reason}"])
+            raise NoFindings(said.fault)
+    except (OSError, NoFindings) as fault:
+        return None, {}, {"others": [f"why a fixture is missing can't be said: {fault}"]}
+    about = [(None if each.uid is None or each.judgement in STRAY else Uid.from_number(each.uid), each)
+             for each in said.all if not each.is_head]
+    reasons = {uid: each.text.removeprefix(f"{uid} ") for uid, each in about if uid is not None}
+    good = {uid for uid, each in about if each.judgement == GOOD}
+    broken = {uid for uid, each in about if each.judgement == GARBLED or (each.judgement == BROKE and uid in found)}
+    bad = [{"uid": str(uid), "text": text, "is_broken": uid in broken} for uid, text in reasons.items()
+           if uid in broken or uid not in good]
+    return said, reasons, {"devices": bad, "others": [each.text for uid, each in about if uid is None]}

@@ -1,11 +1,9 @@
 // Discovery: how far it is, what it found, who broke the rules, what is missing and why, and its picture.
 
 import { act, addressOf } from "/app.js";
-import { button, keepValues, make, plural, setText } from "/dom.js";
+import { button, classes, make, plural } from "/dom.js";
 import { nameOf } from "/fixtures.js";
 import { fixtureOf, mayUse, parts, partsOf } from "/server.js";
-
-let bad, begin, missing, others, picture, progress, result;
 
 function resultText(last) {
     if (!last || last.runs) {
@@ -21,49 +19,33 @@ function progressText(now, last) {
     if (!now || (now.is_over && last?.frames === now.frames)) {
         return now ? "" : "No discovery was seen so far.";
     }
-    const found = `${plural(now.found.length, "fixture")} found`;
-    const names = now.found.map((uid) => nameOf(fixtureOf(uid)) || uid).join(", ");
-    return now.is_over ? `Run ${now.run}: ${plural(now.frames, "frame")}, ${found}`
-        : `Run ${now.run}: ${plural(now.frames, "frame")} so far, ${found}${names && `: ${names}`}`;
+    const names = now.is_over ? "" : now.found.map((uid) => nameOf(fixtureOf(uid)) || uid).join(", ");
+    return `Run ${now.run}: ${plural(now.frames, "frame")}${now.is_over ? "" : " so far"}, `
+        + `${plural(now.found.length, "fixture")} found${names && `: ${names}`}`;
 }
 
-function section(title) {
-    return make("section", {}, make("h3", {}, title), make("ul", {}));
+// What is said of devices, or without a UID of the line.
+function section(title, items) {
+    const named = (uid) => (nameOf(fixtureOf(uid))
+        ? [make("a", { href: addressOf("fixture", uid) }, nameOf(fixtureOf(uid))), ` (${uid})`] : [uid]);
+    return items.length > 0 && make("section", {}, make("h3", {}, title), make("ul", {},
+        items.map(({ uid = "", text }) => make("li", {}, named(uid), ` ${text}`))));
 }
 
-// Lists what is said of devices, or without a UID of the line.
-function show(element, items) {
-    element.hidden = !items.length;
-    keepValues(element.lastChild, items.map(({ uid = "", text }) => [uid, nameOf(fixtureOf(uid)), text]),
-        ([uid, name, text]) => make("li", {}, ...(name ? [make("a", { href: addressOf("fixture", uid) }, name),
-            ` (${uid})`] : [uid]), ` ${text}`));
-}
-
-export function open() {
-    begin = button("Discover", () => act("discover", {}), { class: "main" });
-    progress = make("p", { role: "status" });
-    result = make("p", { class: "result" });
-    [bad, missing, others] = ["Fixtures that did something wrong", "Missing", "Also seen"].map(section);
-    picture = make("div", {});
-    return [make("h2", { class: "hidden" }, "Discovery"), make("div", { class: "tools" }, begin), progress, result,
-        bad, missing, others, picture];
-}
-
-export function update() {
-    const last = parts.get("discovery");
-    begin.disabled = !mayUse() || Boolean(last?.runs);
-    setText(begin, last?.runs ? "Discovering …" : "Discover");
-    setText(progress, progressText(parts.get("progress"), last));
-    setText(result, resultText(last));
-    result.classList.toggle("bad", Boolean(last?.fault));
+export function view() {
+    const last = parts.get("discovery"), said = last?.devices ?? [];
     // The file that is loaded may have others.
-    const said = last?.devices ?? [], gone = partsOf("fixture/").filter((found) => found.missing);
-    show(bad, said.filter(({ uid }) => fixtureOf(uid) && !fixtureOf(uid).missing));
-    show(missing, [...gone.map((found) => ({ uid: found.uid, text: found.missing })),
-        ...said.filter(({ uid }) => !fixtureOf(uid))]);
-    show(others, (last?.others ?? []).map((text) => ({ text })));
-    keepValues(picture, last?.picture ? [`/picture/${last.picture}`] : [], (address) => make("div", {},
-        make("p", {}, make("a", { href: address, target: "_blank", rel: "noopener" },
-            "The picture in a tab of its own")),
-        make("iframe", { title: "The picture of the last discovery", sandbox: "allow-scripts", src: address })));
+    const missing = [...partsOf("fixture/").filter((found) => found.missing).map((found) => ({ uid: found.uid,
+        text: found.missing })), ...said.filter(({ uid, is_broken: isBroken }) => !isBroken && !fixtureOf(uid))];
+    const address = last?.picture && `/picture/${last.picture}`;
+    return [make("h2", { class: "hidden" }, "Discovery"),
+        make("div", { class: "tools" }, button(last?.runs ? "Discovering …" : "Discover", () => act("discover", {}),
+            { class: "main", disabled: !mayUse() || Boolean(last?.runs) })),
+        make("p", { role: "status" }, progressText(parts.get("progress"), last)),
+        make("p", { class: classes("result", last?.fault && "bad") }, resultText(last)),
+        section("Fixtures that did something wrong", said.filter((each) => each.is_broken)),
+        section("Missing", missing), section("Also seen", (last?.others ?? []).map((text) => ({ text }))),
+        address && make("div", { key: address }, make("p", {}, make("a", { href: address, target: "_blank",
+            rel: "noopener" }, "The picture in a tab of its own")), make("iframe", { sandbox: "allow-scripts",
+            title: "The picture of the last discovery", src: address }))];
 }

@@ -1,27 +1,9 @@
-// Makes elements. All that comes from fixtures is text, and never HTML.
+// Describes elements, and has them shown. All that comes from fixtures is text, and never HTML.
 
+// An element that is wanted. With a `key` it is the same one in whichever place; `shown` is what an input shows while
+// nobody types in it. null, false and "" are no children.
 export function make(kind, attributes = {}, ...children) {
-    const made = document.createElement(kind);
-    for (const [name, value] of Object.entries(attributes)) {
-        if (name.startsWith("on")) {
-            made.addEventListener(name.slice(2), value);
-        } else if (name === "style") {
-            made.style.cssText = value;
-        } else if (typeof value === "boolean") {
-            made.toggleAttribute(name, value);
-        } else if (value !== null) {
-            made.setAttribute(name, value);
-        }
-    }
-    made.append(...children.filter((each) => each !== null));
-    return made;
-}
-
-// Changes only what differs, so that whoever reads or types isn't disturbed.
-export function setText(element, text) {
-    if (element.textContent !== text) {
-        element.textContent = text;
-    }
+    return { kind, attributes, children: children.flat() };
 }
 
 export function button(text, onclick, attributes = {}) {
@@ -32,22 +14,56 @@ export function plural(count, what) {
     return count === 1 ? `1 ${what}` : `${count} ${what}s`;
 }
 
-// Has a list show an element for each key, in this order, and returns them by their keys. `makeOne` makes one when its
-// key is first seen. While somebody types in one, the order stays: a browser takes the focus from what is moved.
-export function keep(list, keys, makeOne) {
-    const before = list.kept ?? new Map();
-    const isHeld = list.contains(document.activeElement) && document.activeElement.matches("input, select");
-    list.kept = new Map(keys.map((key) => [key, before.get(key) ?? makeOne(key)]));
-    [...before].filter(([key]) => !list.kept.has(key)).forEach(([, element]) => element.remove());
-    [...list.kept.values()].forEach((element, at) => {
-        if (!element.isConnected || (!isHeld && list.children[at] !== element)) {
-            list.insertBefore(element, list.children[at] ?? null);
-        }
-    });
-    return list.kept;
+// The names of an element's classes, without those that are false or empty.
+export function classes(...names) {
+    return names.filter(Boolean).join(" ");
 }
 
-// The same for texts, or for what else JSON has.
-export function keepValues(list, values, makeOne = (text) => make("li", {}, text)) {
-    keep(list, values.map((each) => JSON.stringify(each)), (key) => makeOne(JSON.parse(key)));
+function set(element, name, value) {
+    if (name.startsWith("on")) {
+        element[name] = value;
+    } else if (name === "style") {
+        element.style.cssText = value;
+    } else if (value === null || value === false) {
+        element.removeAttribute(name);
+    } else {
+        element.setAttribute(name, value === true ? "" : value);
+    }
+}
+
+function update(node, wanted) {
+    if (!wanted.kind) {
+        node.data = node.data === wanted ? node.data : wanted;
+        return;
+    }
+    const { key, shown = null, ...attributes } = wanted.attributes, before = node.attributesShown ?? {};
+    Object.entries(attributes).filter(([name, value]) => before[name] !== value).forEach((each) => set(node, ...each));
+    node.attributesShown = attributes;
+    show(node, wanted.children);
+    if (shown !== null) {
+        const isTyped = node === document.activeElement && node.value !== node.valueShown;
+        node.value = isTyped ? node.value : shown;
+        node.valueShown = shown;
+    }
+}
+
+// Has an element show these children, and changes only what differs, so that whoever reads or types isn't disturbed.
+export function show(parent, children) {
+    const before = parent.childrenShown ?? new Map(), now = parent.childrenShown = new Map();
+    children.forEach((wanted, at) => {
+        if (wanted) {
+            const name = wanted.kind ? `${wanted.kind} ${wanted.attributes.key ?? at}` : `text ${at}`;
+            now.set(name, before.get(name) ?? (wanted.kind ? document.createElement(wanted.kind) : new Text()));
+            update(now.get(name), wanted);
+        }
+    });
+    [...before].filter(([name]) => !now.has(name)).forEach(([, node]) => node.remove());
+    // A browser takes the focus from what is moved, so while somebody uses one of them their order stays.
+    const isHeld = () => parent.contains(document.activeElement)
+        && document.activeElement.matches("input, select, .piece");
+    [...now.values()].forEach((node, at) => {
+        if (parent.childNodes[at] !== node && !(node.isConnected && isHeld())) {
+            parent.insertBefore(node, parent.childNodes[at] ?? null);
+        }
+    });
 }

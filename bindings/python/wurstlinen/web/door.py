@@ -1,12 +1,13 @@
 """An HTTP server of the standard library, with limits on connections, sizes and times, for networks with anybody.
 
-`http.server` limits none of these: here the oldest idle connection makes place for a new one, a request has to come
-within seconds, and nothing larger than the page needs is read.
+`http.server` has none: here the oldest connection without a request makes place for a new one, a request has to come
+within seconds, and nothing larger than the page needs is read. aiohttp limits sizes alone, so it would save little.
 """
 from __future__ import annotations
 
 import contextlib
 import io
+import math
 import socket
 import socketserver
 import threading
@@ -55,9 +56,8 @@ class Stream(io.BufferedReader):
 
 
 class Handler(BaseHTTPRequestHandler):
-    """One connection's requests. `Door.answer` answers them."""
+    """A connection, which has one request. `Door.answer` answers it."""
 
-    protocol_version = "HTTP/1.1"
     timeout = READER_SECONDS
     server: Door
     rfile: Stream
@@ -67,25 +67,18 @@ class Handler(BaseHTTPRequestHandler):
         super().setup()
         self.rfile = Stream(self.rfile.detach())
 
-    def handle_one_request(self) -> None:
-        """Answers a request, or ends the connection."""
-        self.server.note(self.connection, is_idle=True)
-        self.rfile.left = MOST_HEAD_BYTES
+    def handle(self) -> None:
+        """Answers a request, unless the connection ends."""
         with contextlib.suppress(OSError, ValueError):
-            super().handle_one_request()
-            return
-        self.close_connection = True
+            super().handle()
 
     def do_GET(self) -> None:
         """Answers a request, perhaps with a body."""
         try:
             body = self._body()
-            self.server.note(self.connection, is_idle=False)
+            self.server.note_request(self.connection)
             self.server.answer(self, body)
         except Refusal as refusal:
-            if refusal.status in (408, 411, 413):
-                # What is left of the request isn't read.
-                self.close_connection = True
             self.reply(refusal.status, str(refusal).encode(), PLAIN)
 
     do_POST = do_GET
@@ -107,17 +100,13 @@ class Handler(BaseHTTPRequestHandler):
 
     def reply(self, status: int, body: bytes, kind: str, headers: Mapping[str, str] = {}) -> None:
         """Sends an answer."""
-        self._begin(status, {**headers, "Content-Type": kind, "Content-Length": str(len(body))})
+        self.begin(status, {**headers, "Content-Type": kind, "Content-Length": str(len(body))})
         self.wfile.write(body)
 
-    def begin_stream(self, kind: str) -> None:
-        """Begins an answer without an end."""
-        self.close_connection = True
-        self._begin(200, {"Content-Type": kind})
-
-    def _begin(self, status: int, headers: Mapping[str, str]) -> None:
+    def begin(self, status: int, headers: Mapping[str, str]) -> None:
+        """Sends what comes before the body of an answer, which ends with the connection."""
         self.send_response(status)
-        for name, value in {**HEADERS, **headers, **({"Connection": "close"} if self.close_connection else {})}.items():
+        for name, value in {**HEADERS, **headers}.items():
             self.send_header(name, value)
         self.end_headers()
 
@@ -139,31 +128,29 @@ class Door(socketserver.ThreadingTCPServer):
         self.answer: Callable[[Handler, bytes], None]
         self.admits: Callable[[Handler], bool]
         self._changing = threading.Lock()
-        # The connections, and since when those that are idle wait for a request, the oldest first.
-        self._open: Dict[int, socket.socket] = {}
-        self._idle: Dict[int, float] = {}
-        self._streams = threading.BoundedSemaphore(MOST_STREAMS)
+        # The connections, the oldest first, and since when their request is awaited; if it has come, for ever later.
+        self._since: Dict[socket.socket, float] = {}
+        self.streams = threading.BoundedSemaphore(MOST_STREAMS)
         super().__init__(address, Handler)
 
     @property
     def connections(self) -> int:
         """How many there are."""
-        return len(self._open)
+        return len(self._since)
 
-    def note(self, connection: socket.socket, is_idle: bool) -> None:
-        """A connection waits for a request from now on, or doesn't."""
+    def note_request(self, connection: socket.socket) -> None:
+        """The request of a connection has come."""
         with self._changing:
-            self._idle.pop(id(connection), None)
-            if is_idle and id(connection) in self._open:
-                self._idle[id(connection)] = time.monotonic()
+            if connection in self._since:
+                self._since[connection] = math.inf
 
     def _end_idle(self, since: float, most: int) -> None:
-        """Ends idle connections, which ends their threads: the oldest that have waited since then, so many at most."""
+        """Ends connections without a request, which ends their threads: the oldest since then, so many at most."""
         with self._changing:
-            for number in [number for number, began in self._idle.items() if began <= since][:most]:
-                del self._idle[number]
+            for connection in [each for each, began in self._since.items() if began <= since][:most]:
+                del self._since[connection]
                 with contextlib.suppress(OSError):
-                    self._open.pop(number).shutdown(socket.SHUT_RDWR)
+                    connection.shutdown(socket.SHUT_RDWR)
 
     def process_request(self, request: Any, client_address: Any) -> None:
         """Has a connection answered, in place of the oldest idle one if there are too many."""
@@ -173,15 +160,13 @@ class Door(socketserver.ThreadingTCPServer):
             self.shutdown_request(request)
             return
         with self._changing:
-            self._open[id(request)] = request
-        self.note(request, is_idle=True)
+            self._since[request] = time.monotonic()
         super().process_request(request, client_address)
 
     def shutdown_request(self, request: Any) -> None:
         """Ends a connection."""
         with self._changing:
-            self._open.pop(id(request), None)
-            self._idle.pop(id(request), None)
+            self._since.pop(request, None)
         super().shutdown_request(request)
 
     def handle_error(self, request: Any, client_address: Any) -> None:
@@ -190,13 +175,3 @@ class Door(socketserver.ThreadingTCPServer):
     def service_actions(self) -> None:
         """Ends connections whose request is late."""
         self._end_idle(time.monotonic() - REQUEST_SECONDS, MOST_CONNECTIONS)
-
-    @contextlib.contextmanager
-    def stream(self) -> Any:
-        """A place for an answer without an end, for the duration of a `with`. Raises Refusal."""
-        if not self._streams.acquire(blocking=False):
-            raise Refusal(503, f"{MOST_STREAMS} pages are open, and there are no more places")
-        try:
-            yield
-        finally:
-            self._streams.release()

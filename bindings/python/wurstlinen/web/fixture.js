@@ -1,11 +1,12 @@
 // One fixture: on a phone it fills the screen. What `show` shows, and what can be set.
 
-import { act, addressOf, redraw } from "/app.js";
-import { button, keepValues, make, setText } from "/dom.js";
+import { act, addressOf, busily, busy, redraw } from "/app.js";
+import { button, classes, make } from "/dom.js";
 import { editor, identifier, nameOf, notesOf, ordered, remarksOf, slotsOf, walk } from "/fixtures.js";
 import { fixtureOf, mayUse, parts } from "/server.js";
 
-let again, asked, controls, list, name, notes, nudges, sensors, whole;
+// The fixture that was asked for all by this page, and what would be done at once if it is wanted once more.
+let asked = "", sure = "";
 
 // Goes to a fixture beside this one, which shows itself if this one did.
 async function go(uid, by) {
@@ -16,91 +17,75 @@ async function go(uid, by) {
     }
 }
 
+function fieldOf({ name, unit, hint, choices, value }) {
+    return make("label", {}, `${[name, unit].filter(Boolean).join(", ")} `, choices.length
+        ? make("select", {}, choices.map((each) => make("option", { selected: each === value }, each)))
+        : make("input", { value, placeholder: hint, autocomplete: "off", spellcheck: "false" }),
+    make("small", {}, ` ${hint}`));
+}
+
 // A form for a parameter. What it does at once is asked for once more.
 function formOf(uid, { parameter, about, acts, fields }) {
-    const inputs = fields.map(({ choices, hint, value }) => (choices.length
-        ? make("select", {}, ...choices.map((each) => make("option", { selected: each === value }, each)))
-        : make("input", { value, placeholder: hint, autocomplete: "off", spellcheck: "false" })));
-    const labels = fields.map((field, at) => make("label", {}, [field.name, field.unit].filter(Boolean).join(", "), " ",
-        inputs[at], make("small", {}, ` ${field.hint}`)));
-    const words = () => fields.flatMap((field, at) => (field.is_list ? inputs[at].value.split(" ").filter(Boolean)
-        : [inputs[at].value]));
-    const title = parameter.replaceAll("_", " ");
-    const send = button(acts ? `Do it: ${title}` : "Set", () => {
-        if (acts && send.textContent !== "Really?") {
-            setText(send, "Really?");
-        } else {
-            act("set", { uid, parameter, words: words() }, `${title} was set, and the fixture read again.`);
+    const title = parameter.replaceAll("_", " "), name = `${uid}/${parameter}`, isSure = sure === name;
+    const send = ({ target }) => {
+        const values = [...target.parentElement.querySelectorAll("input, select")].map((each) => each.value);
+        const words = fields.flatMap((field, at) => (field.is_list ? values[at].split(" ").filter(Boolean)
+            : [values[at]]));
+        sure = acts && !isSure ? name : "";
+        redraw();
+        if (!sure) {
+            act("set", { uid, parameter, words }, `${title} was set, and the fixture read again.`);
         }
-    });
-    return make("details", { class: "form" }, make("summary", {}, `Change ${title}`), make("p", {}, about), ...labels,
-        send);
+    };
+    return make("details", { class: "form" }, make("summary", {}, `Change ${title}`), make("p", {}, about),
+        fields.map(fieldOf), button(!acts ? "Set" : isSure ? "Really?" : `Do it: ${title}`, send));
 }
 
-function sectionOf(uid, { title, rows, forms }) {
-    return make("section", {}, make("h3", {}, title), make("dl", {}, ...rows.map(([title, text], at) => make("div", {},
-        make("dt", {}, title.replaceAll("_", " ")),
-        make("dd", {}, text || (forms[at] ? "" : "can't be shown here"), forms[at] && formOf(uid, forms[at]))))));
+// A section stays, with what somebody types in its forms, until it has other values.
+function sectionOf(uid, name, rows, forms) {
+    const found = rows.map(([title]) => (mayUse() && forms[title.replaceAll("_", " ")]) || null);
+    return make("section", { key: JSON.stringify([name, rows, found]) }, make("h3", {}, name),
+        make("dl", {}, rows.map(([title, text], at) => make("div", {}, make("dt", {}, title.replaceAll("_", " ")),
+            make("dd", {}, text || (found[at] ? "" : "can't be shown here"), found[at] && formOf(uid, found[at]))))));
 }
 
-async function readAll(uid) {
-    again.disabled = true;
-    await act("show", { uid });
-    again.disabled = false;
-    redraw();
+function readAll(uid) {
+    asked = uid;
+    busily(`${uid}/show`, () => act("show", { uid }));
 }
 
-export function open(uid) {
-    const [label, address, personality] = ["label", "address", "personality"].map((column) => editor(uid, column));
-    const field = (text, input) => make("label", { class: "field" }, make("span", {}, text), input);
-    const identify = identifier(uid);
-    identify.classList.add("big");
-    controls = [label, address, personality, identify];
-    nudges = [["−", -1, "lower"], ["+", 1, "higher"]].map(([text, by, where]) => button(text, () => act("change",
-        { uid, column: "address", value: String(fixtureOf(uid).address + by) }),
-    { class: "nudge", "aria-label": `Address one ${where}` }));
-    const steps = [["‹ Previous", -1], ["Next ›", 1]].map(([text, by]) => button(text, () => go(uid, by),
-        { class: "main" }));
-    [name, notes, whole, sensors] = [["h2", "name"], ["p", "notes"], ["p", "whole"], ["p", "sensors"]]
-        .map(([kind, className]) => make(kind, { class: className }));
-    again = button("Read all again", () => readAll(uid));
-    list = make("div", { class: "sections" });
-    asked = parts.get(`details/${uid}`)?.is_over ? uid : "";
-    return [make("article", {}, make("p", { class: "back" }, make("a", { href: addressOf("fixtures") },
-        "‹ All fixtures")), name, whole, notes, identify, make("div", { class: "steps" }, ...steps),
-    field("Label", label), make("div", { class: "place" }, field("Address", address), ...nudges),
-    field("Personality", personality), sensors, again, list)];
+function nudge(found, text, by, where) {
+    const { uid, address, missing } = found;
+    return button(text, () => act("change", { uid, column: "address", value: String(address + by) }),
+        { class: "nudge", "aria-label": `Address one ${where}`, disabled: !mayUse() || !address || Boolean(missing) });
 }
 
-export function update(uid) {
-    const found = fixtureOf(uid), details = parts.get(`details/${uid}`);
+export function view(uid) {
+    const found = fixtureOf(uid), { sections = {}, forms = {}, is_over: isOver } = parts.get(`details/${uid}`) ?? {};
+    const back = make("a", { class: "back", href: addressOf("fixtures") }, "‹ All fixtures");
     if (!found) {
-        setText(name, uid);
-        setText(notes, "It isn't among the fixtures.");
-        return;
+        return [make("article", {}, back, make("h2", { class: "name" }, uid), make("p", { class: "notes" },
+            "It isn't among the fixtures."))];
     }
-    controls.forEach((each) => each.update(found));
-    nudges.forEach((each) => (each.disabled = !mayUse() || !found.address || Boolean(found.missing)));
-    setText(name, nameOf(found));
-    setText(whole, [found.manufacturer, found.model, uid, found.first && `slots ${slotsOf(found)}`].filter(Boolean)
-        .join(" · "));
-    setText(notes, [...notesOf(found), ...remarksOf(found)].join("; "));
-    notes.classList.toggle("bad", notesOf(found).length > 0);
-    if (mayUse() && asked !== uid) {
-        asked = uid;
+    if (mayUse() && asked !== uid && !isOver) {
         readAll(uid);
     }
-    again.hidden = !mayUse();
-    setText(again, details?.is_over === false ? "Reading …" : "Read all again");
-    showDetails(uid, details?.sections ?? [], details?.forms ?? {});
-    list.setAttribute("aria-busy", String(details?.is_over === false));
-}
-
-function showDetails(uid, sections, forms) {
-    const measured = sections.find((each) => each.name === "sensors")?.rows ?? [];
+    const isReading = busy.has(`${uid}/show`) || isOver === false, notes = notesOf(found);
+    const field = (text, column) => make("label", { class: "field" }, make("span", {}, text), editor(found, column));
+    const about = [found.manufacturer, found.model, uid, found.first && `slots ${slotsOf(found)}`].filter(Boolean);
     const short = ([title, text]) => `${title.replace(/^\d+ /, "")} ${text.split(" (")[0]}`.trim();
-    setText(sensors, measured.map(short).join(" · "));
-    // A form in which somebody types stays until its section has other values.
-    keepValues(list, sections.map((each) => ({ title: each.name, rows: each.rows, forms: each.rows.map(([title]) =>
-        (mayUse() && forms[title.replaceAll("_", " ")]) || null) })), (section) => sectionOf(uid, section));
+    const measured = (sections.sensors ?? []).map(short).join(" · ");
+    return [make("article", {}, back, make("h2", { class: "name" }, nameOf(found)),
+        make("p", { class: "whole" }, about.join(" · ")),
+        make("p", { class: classes("notes", notes.length && "bad") }, [...notes, ...remarksOf(found)].join("; ")),
+        identifier(found, "big"),
+        make("div", { class: "steps" }, [["‹ Previous", -1], ["Next ›", 1]].map(([text, by]) => button(text,
+            () => go(uid, by), { class: "main" }))),
+        field("Label", "label"),
+        make("div", { class: "place" }, field("Address", "address"), nudge(found, "−", -1, "lower"),
+            nudge(found, "+", 1, "higher")),
+        field("Personality", "personality"), make("p", { class: "sensors" }, measured),
+        mayUse() && button(isReading ? "Reading …" : "Read all again", () => readAll(uid), { disabled: isReading }),
+        make("div", { class: "sections", "aria-busy": String(isReading) },
+            Object.entries(sections).map(([title, rows]) => sectionOf(uid, title, rows, forms))))];
 }

@@ -1,15 +1,13 @@
-// The table of fixtures, in which values are edited in place; and the walk along the truss.
+// The table of fixtures, in which values are edited in place; the walk along the truss; and a saved file.
 
-import { act, addressOf, redraw, say } from "/app.js";
-import { button, keep, keepValues, make, plural, setText } from "/dom.js";
-import { filePanel, updateFile } from "/file.js";
+import { act, addressOf, asked, busily, busy, busyAs, redraw, say } from "/app.js";
+import { button, classes, make, plural } from "/dom.js";
 import { fixtureOf, mayUse, parts, partsOf } from "/server.js";
 
 const COLUMNS = { label: "Label", address: "Address", slots: "Slots", personality: "Personality", model: "Model",
     uid: "UID" };
 const MOST_NOTES = 2;
 const chosen = { filter: "", column: "address", isDown: false };
-let body, count, heads, walker;
 // The fixture to which this page's walk has come, which the page's program may not have shown so far.
 let walked = null;
 
@@ -56,66 +54,46 @@ export function ordered() {
         || sign * compare(keyOf(one), keyOf(other)) || (one.uid < other.uid ? -1 : 1));
 }
 
-// Shows that something is under way.
-async function busily(element, work) {
-    element.classList.add("busy");
-    element.setAttribute("aria-busy", "true");
-    await work();
-    element.classList.remove("busy");
-    element.removeAttribute("aria-busy");
+function personalitiesOf({ personality, personality_name: name, personalities, slots }) {
+    const known = personality ? [{ number: personality, name: name ?? "", slots }] : [];
+    return (personalities.length ? personalities : known).map((each) => make("option", { value: each.number },
+        `${each.number} ${each.name} (${plural(each.slots, "slot")})`));
 }
 
 // An input for a value in the table. What is typed is sent, read back, and shown; what was refused comes back.
-export function editor(uid, column) {
+export function editor(found, column) {
+    const { uid } = found, name = `${uid}/${column}`, isChoice = column === "personality", isLabel = column === "label";
     const known = () => String(fixtureOf(uid)?.[column] ?? "");
-    const send = async () => {
-        if (input.value !== known() && !input.classList.contains("busy")) {
-            const value = column === "label" ? input.value : input.value.trim();
-            await busily(input, () => act("change", { uid, column, value }));
-            input.value = known();
+    const send = async ({ target }) => {
+        if (target.value !== known() && !busy.has(name)) {
+            const value = isLabel ? target.value : target.value.trim();
+            await busily(name, () => act("change", { uid, column, value }));
+            target.value = known();
         }
     };
-    const input = make(column === "personality" ? "select" : "input", { class: column, onchange: send,
-        inputmode: column === "address" ? "numeric" : null, maxlength: column === "label" ? 128 : null,
-        autocomplete: "off", spellcheck: "false", onkeydown: ({ key }) => {
-            if (key === "Escape") {
-                input.value = known();
-            } else if (key === "Enter") {
-                send();
-            }
-        } });
-    input.update = (found) => {
-        input.setAttribute("aria-label", `${COLUMNS[column]} of ${nameOf(found)}`);
-        if (column === "personality") {
-            const one = { number: found.personality, name: found.personality_name ?? "", slots: found.slots };
-            const all = found.personalities.length ? found.personalities : found.personality ? [one] : [];
-            keepValues(input, all, ({ number, name, slots }) => make("option", { value: number },
-                `${number} ${name} (${slots})`));
-        }
-        input.disabled = !mayUse() || Boolean(found.missing) || !found.is_read
-            || (column === "personality" && found.personalities.length < 2);
-        input.placeholder = column === "label" && found.is_read ? "no label" : "";
-        if (document.activeElement !== input && !input.classList.contains("busy")) {
-            input.value = known();
+    const onkeydown = (event) => {
+        if (event.key === "Escape") {
+            event.target.value = known();
+        } else if (event.key === "Enter") {
+            send(event);
         }
     };
-    return input;
+    return make(isChoice ? "select" : "input", { ...busyAs(name, column), shown: busy.has(name) ? null : known(),
+        onkeydown, onchange: send, onblur: redraw, autocomplete: "off", spellcheck: "false",
+        "aria-label": `${COLUMNS[column]} of ${nameOf(found)}`, inputmode: column === "address" ? "numeric" : null,
+        maxlength: isLabel ? 128 : null, placeholder: isLabel && found.is_read ? "no label" : null,
+        disabled: !mayUse() || Boolean(found.missing) || !found.is_read
+            || (isChoice && found.personalities.length < 2) }, isChoice ? personalitiesOf(found) : []);
 }
 
 // The switch by which a fixture shows itself.
-export function identifier(uid) {
-    const element = make("button", { type: "button", role: "switch", class: "identify", onclick: () => {
-        const on = element.getAttribute("aria-checked") !== "true";
+export function identifier(found, size = "") {
+    const { uid, identifies, missing } = found, name = `${uid}/identify`, on = !identifies;
+    return button(identifies ? "Identifying" : "Identify", () => {
         walked = on ? uid : null;
-        busily(element, () => act("identify", { uid, on }));
-    } });
-    element.update = (found) => {
-        element.setAttribute("aria-checked", String(Boolean(found.identifies)));
-        element.setAttribute("aria-label", `Identify ${nameOf(found)}`);
-        setText(element, found.identifies ? "Identifying" : "Identify");
-        element.disabled = !mayUse() || Boolean(found.missing);
-    };
-    return element;
+        busily(name, () => act("identify", { uid, on }));
+    }, { ...busyAs(name, "identify", size), role: "switch", "aria-checked": String(Boolean(identifies)),
+        "aria-label": `Identify ${nameOf(found)}`, disabled: !mayUse() || Boolean(missing) });
 }
 
 // The walk: the next fixture shows itself, and the one before stops.
@@ -133,70 +111,103 @@ export async function walk(from, step) {
 
 async function walkInTable() {
     const now = ordered().filter((found) => found.identifies).pop();
-    body.kept.get(await walk(walked ?? now?.uid ?? null, 1))?.scrollIntoView({ block: "center" });
+    document.getElementById(await walk(walked ?? now?.uid ?? null, 1))?.scrollIntoView({ block: "nearest" });
 }
 
-function makeRow(uid) {
-    const editors = ["identify", "label", "address", "personality"].map((name) => [name,
-        name === "identify" ? identifier(uid) : editor(uid, name)]);
-    const [identify, label, address, personality] = editors.map(([name, each]) => make("td", { class: `of-${name}` },
-        each));
-    const [slots, model, number] = ["slots", "model", "uid"].map((name) => make("td", { class: name }));
-    const [note, remark] = [make("span"), make("small")];
-    const forget = button("Forget it", () => act("forget", { uid }), { class: "forget" });
-    const more = make("a", { href: addressOf("fixture", uid), class: "more" }, "›");
-    const row = make("tr", {}, identify, label, address, slots, personality, model, number,
-        make("td", { class: "note" }, note, " ", remark, forget), make("td", { class: "of-more" }, more));
-    row.update = (found) => {
-        editors.forEach(([, each]) => each.update(found));
-        setText(slots, slotsOf(found));
-        setText(model, [found.manufacturer, found.model].filter(Boolean).join(" "));
-        setText(number, found.uid);
-        const notes = notesOf(found), others = notes.splice(MOST_NOTES).length;
-        setText(note, found.is_read || found.missing ? [...notes, ...(others ? [`and ${others} more`] : [])].join("; ")
-            : "is being asked …");
-        setText(remark, remarksOf(found).join("; "));
-        forget.hidden = !found.missing || !mayUse();
-        more.setAttribute("aria-label", `All about ${nameOf(found)}`);
-        row.classList.toggle("missing", Boolean(found.missing));
-        row.classList.toggle("identifies", Boolean(found.identifies));
-    };
-    return row;
+function rowOf(found) {
+    const { uid, missing, identifies } = found, notes = notesOf(found), others = notes.splice(MOST_NOTES).length;
+    const note = found.is_read || missing ? [...notes, ...(others ? [`and ${others} more`] : [])].join("; ")
+        : "is being asked …";
+    const cells = { "of-identify": identifier(found), "of-label": editor(found, "label"),
+        "of-address": editor(found, "address"), slots: slotsOf(found), "of-personality": editor(found, "personality"),
+        model: [found.manufacturer, found.model].filter(Boolean).join(" "), uid,
+        note: [make("span", {}, note), " ", make("small", {}, remarksOf(found).join("; ")),
+            missing && mayUse() && button("Forget it", () => act("forget", { uid }), { class: "forget" })],
+        "of-more": make("a", { href: addressOf("fixture", uid), class: "more",
+            "aria-label": `All about ${nameOf(found)}` }, "›") };
+    return make("tr", { key: uid, id: uid, class: classes(missing && "missing", identifies && "identifies") },
+        Object.entries(cells).map(([name, inside]) => make("td", { class: name }, inside)));
 }
 
-function sortBy(column) {
-    chosen.isDown = chosen.column === column && !chosen.isDown;
-    chosen.column = column;
+function choose(wanted) {
+    Object.assign(chosen, wanted);
     redraw();
 }
 
-export function open() {
-    const filter = make("input", { type: "search", placeholder: "label, UID, model …", "aria-label": "Show only",
-        value: chosen.filter, oninput: () => {
-            chosen.filter = filter.value;
-            redraw();
-        } });
-    walker = button("Identify next", walkInTable, { class: "main" });
-    count = make("p", { class: "count", role: "status" });
-    const sorting = make("select", { class: "narrow", "aria-label": "Sort by", onchange: () => sortBy(sorting.value) },
-        ...Object.entries(COLUMNS).map(([column, title]) => make("option",
-            { value: column, selected: column === chosen.column }, `by ${title}`)));
-    const head = (inside) => make("th", { scope: "col" }, inside);
-    heads = Object.entries(COLUMNS).map(([column, title]) => [column, head(button(title, () => sortBy(column)))]);
-    body = make("tbody", { onfocusout: redraw });
-    return [make("h2", { class: "hidden" }, "Fixtures"),
-        make("div", { class: "tools" }, walker, filter, sorting, count),
-        make("table", { class: "rig" }, make("thead", {}, make("tr", {}, head("Identify"),
-            ...heads.map(([, each]) => each), head("Note"), head("More"))), body), filePanel()];
+function sortBy(column) {
+    choose({ column, isDown: chosen.column === column && !chosen.isDown });
 }
 
-export function update() {
-    const shown = ordered(), all = partsOf("fixture/"), missing = all.filter((found) => found.missing).length;
-    keep(body, shown.map(({ uid }) => uid), makeRow).forEach((row, uid) => row.update(fixtureOf(uid)));
-    setText(count, `${shown.length === all.length ? "" : `${shown.length} of `}${plural(all.length, "fixture")}`
-        + `${missing ? `, ${missing} missing` : ""}`);
-    heads.forEach(([column, head]) => head.setAttribute("aria-sort",
-        chosen.column !== column ? "none" : chosen.isDown ? "descending" : "ascending"));
-    walker.disabled = !mayUse() || !all.length;
-    updateFile();
+function tools(all, shown) {
+    const missing = all.filter((found) => found.missing).length;
+    return make("div", { class: "tools" },
+        button("Identify next", walkInTable, { class: "main", disabled: !mayUse() || !all.length }),
+        make("input", { type: "search", placeholder: "label, UID, model …", "aria-label": "Show only",
+            shown: chosen.filter, oninput: ({ target }) => choose({ filter: target.value }) }),
+        make("select", { class: "narrow", "aria-label": "Sort by", shown: chosen.column,
+            onchange: ({ target }) => sortBy(target.value) },
+        Object.entries(COLUMNS).map(([value, title]) => make("option", { value }, `by ${title}`))),
+        make("p", { class: "count", role: "status" }, `${shown.length === all.length ? "" : `${shown.length} of `}`
+            + `${plural(all.length, "fixture")}${missing ? `, ${missing} missing` : ""}`));
+}
+
+async function save() {
+    const answer = await asked("save");
+    if (answer) {
+        const link = document.createElement("a");
+        link.href = URL.createObjectURL(new Blob([answer.text], { type: "text/csv" }));
+        link.download = parts.get("file")?.name ?? "rig.csv";
+        link.click();
+        URL.revokeObjectURL(link.href);
+    }
+}
+
+async function load({ target }) {
+    const file = target.files[0];
+    if (file) {
+        await act("load", { name: file.name, text: await file.text() });
+        target.value = "";
+    }
+}
+
+async function look() {
+    const plan = await asked("apply", { dry: true });
+    if (plan && !plan.changes.length) {
+        say("The fixtures that are here are as the file says.");
+    } else if (plan) {
+        const isBad = plan.problems.length > 0, count = plural(plan.changes.length, "change");
+        const problems = isBad ? ` But ${plan.problems.join("; ")}.` : "";
+        const action = { text: isBad ? "Make them anyway" : "Make them",
+            act: () => act("apply", { force: isBad }, `${count} made, and read back.`) };
+        say(`${count}: ${plan.changes.join("; ")}.${problems}`, { isBad, action });
+    }
+}
+
+function differences({ name, rows, note, differences: found }) {
+    return [make("p", {}, `${name} has ${plural(rows, "fixture")}${found.length ? ". What differs:"
+        : ", and nothing differs."}`), make("p", {}, note),
+    make("ul", { class: "differences" }, found.map(({ kind, uid, label, text }) =>
+        make("li", {}, `${kind}: ${label ? `${label} (${uid})` : uid}, ${text}`)))];
+}
+
+function filePanel() {
+    const file = parts.get("file"), disabled = !mayUse();
+    return make("section", { class: "file", "aria-labelledby": "file-title" }, make("h2", { id: "file-title" }, "File"),
+        make("div", { class: "tools" }, button("Save as CSV", save, { disabled }),
+            make("label", { for: "chooser" }, "Compare with a saved file: "),
+            make("input", { type: "file", accept: ".csv,.txt,.tsv,text/csv", id: "chooser", onchange: load, disabled }),
+            file && button("Make the fixtures so …", look, { disabled }),
+            file && button("Close the file", () => act("unload", {}), { disabled })),
+        file ? differences(file) : []);
+}
+
+export function view() {
+    const all = partsOf("fixture/"), shown = ordered(), head = (inside, order = null) => make("th",
+        { scope: "col", "aria-sort": order }, inside);
+    const orderOf = (column) => (chosen.column !== column ? "none" : chosen.isDown ? "descending" : "ascending");
+    const heads = Object.entries(COLUMNS).map(([column, title]) => head(button(title, () => sortBy(column)),
+        orderOf(column)));
+    return [make("h2", { class: "hidden" }, "Fixtures"), tools(all, shown),
+        make("table", { class: "rig" }, make("thead", {}, make("tr", {}, head("Identify"), heads, head("Note"),
+            head("More"))), make("tbody", {}, shown.map(rowOf))), filePanel()];
 }

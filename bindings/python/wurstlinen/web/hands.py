@@ -1,11 +1,11 @@
 """Threads that ask fixtures, each by a connection of its own, so that a slow fixture doesn't hold up the others."""
 from __future__ import annotations
 
+import os
 import sys
 import threading
 from concurrent.futures import Future
-from dataclasses import dataclass, field
-from typing import Any, Callable, List, Optional, Set, Tuple, TypeVar
+from typing import Any, Callable, List, NamedTuple, Optional, Set, TypeVar
 
 from .. import Fault
 from ..front.output import FAILED, LINE_FAILED, Failure, Output
@@ -19,32 +19,19 @@ WAIT_SECONDS = 10.0
 # How long the threads have to end.
 END_SECONDS = 2.0
 Made = TypeVar("Made")
+# What commands print for people isn't printed.
+NOWHERE = open(os.devnull, "w", encoding="utf-8")
+SILENT = Output(False, NOWHERE, NOWHERE)
 
 
-class Silent(Output):
-    """What commands print for people isn't printed. `take` gets the remarks."""
-
-    def __init__(self, take: Callable[[str], object] = bool) -> None:
-        super().__init__(False)
-        self._take = take
-
-    def note(self, text: str) -> None:
-        """A remark."""
-        self._take(text)
-
-    def progress(self, text: str) -> None:
-        """The pages show it in another way."""
-
-
-@dataclass
-class Task:
+class Task(NamedTuple):
     """Something to do on the line, for a fixture or for something else of which one is done at a time."""
 
     key: str
+    name: str
     work: Callable[[Work], Any]
     is_urgent: bool
-    name: str
-    end: "Future[Any]" = field(default_factory=Future)
+    end: "Future[Any]"
 
 
 class Hands:
@@ -59,21 +46,17 @@ class Hands:
         self._busy: Set[str] = set()
         self._has_changed = threading.Condition()
         self._has_ended = False
-        self._clients: List[SharedClient] = []
-        self._threads = [threading.Thread(target=self._run, name=f"hand {number}", daemon=True)
-                         for number in range(COUNT)]
-
-    def start(self) -> None:
-        """Begins."""
+        self._clients: List[Optional[SharedClient]] = [None] * COUNT
+        self._threads = [threading.Thread(target=self._run, args=(number,), daemon=True) for number in range(COUNT)]
         for thread in self._threads:
             thread.start()
 
     def end(self) -> None:
-        """Ends the connections. What waits fails."""
+        """Ends the connections. What waits isn't done."""
         with self._has_changed:
             self._has_ended = True
             self._has_changed.notify_all()
-        for client in self._clients:
+        for client in filter(None, self._clients):
             client.close()
         for thread in self._threads:
             thread.join(END_SECONDS)
@@ -81,69 +64,66 @@ class Hands:
     @property
     def numbers(self) -> Set[int]:
         """The numbers of the clients that these are."""
-        return {client.queue.number for client in self._clients}
+        return {client.queue.number for client in self._clients if client is not None}
 
     def do(self, key: str, work: Callable[[Work], Made], is_urgent: bool = True, name: str = "") -> "Future[Made]":
         """Has something done, and returns what will become of it: what it returns, or Failure.
 
         With a name, what waits for the key under that name already isn't done once more.
         """
-        task = Task(key, work, is_urgent, name)
         with self._has_changed:
-            alike = next((each for each in self._waiting if name and (each.key, each.name) == (key, name)), None)
-            if alike is not None:
-                return alike.end
-            self._waiting.append(task)
+            for task in self._waiting:
+                if name and (task.key, task.name) == (key, name):
+                    return task.end
+            end: "Future[Made]" = Future()
+            self._waiting.append(Task(key, name, work, is_urgent, end))
             self._waiting.sort(key=lambda each: not each.is_urgent)
             self._has_changed.notify_all()
-        return task.end
+        return end
 
     def _next(self) -> Optional[Task]:
         """The next task that can be done; None at the end."""
         with self._has_changed:
             while not self._has_ended:
-                task = next((each for each in self._waiting if each.key not in self._busy), None)
-                if task is not None:
-                    self._waiting.remove(task)
-                    self._busy.add(task.key)
-                    return task
+                for task in self._waiting:
+                    if task.key not in self._busy:
+                        self._waiting.remove(task)
+                        self._busy.add(task.key)
+                        return task
                 self._has_changed.wait()
             return None
 
-    def _run(self) -> None:
-        connected: Optional[Tuple[SharedClient, Work]] = None
+    def _run(self, number: int) -> None:
+        work: Optional[Work] = None
         while (task := self._next()) is not None:
             try:
-                connected = self._connected(connected)
-                task.end.set_result(task.work(connected[1]))
+                if work is None or not is_alive(self._clients[number]):
+                    work = self._connected(number)
+                task.end.set_result(task.work(work))
             except Failure as failure:
                 task.end.set_exception(failure)
             except Exception as fault:  # Only this task has a fault, whatever it is. No answer can be trusted any more.
-                if connected is not None:
-                    connected[0].close()
+                work = None
                 task.end.set_exception(failure_of(fault))
             with self._has_changed:
                 self._busy.discard(task.key)
                 self._has_changed.notify_all()
 
-    def _connected(self, before: Optional[Tuple[SharedClient, Work]]) -> Tuple[SharedClient, Work]:
-        """The connection before, or another one if that has ended."""
+    def _connected(self, number: int) -> Work:
+        """Another connection in place of the one before. Raises LineFailed."""
+        before, self._clients[number] = self._clients[number], None
         if before is not None:
-            if is_alive(before[0]):
-                return before
-            before[0].close()
-            self._clients.remove(before[0])
-        client = self._connect()
-        self._clients.append(client)
-        return client, shared_work(client, Silent(), None, None, WAIT_SECONDS)
+            before.close()
+        client = self._clients[number] = self._connect()
+        return shared_work(client, SILENT, None, None, WAIT_SECONDS)
 
 
-def is_alive(client: SharedClient) -> bool:
+def is_alive(client: Optional[SharedClient]) -> bool:
     """Whether the server hasn't ended the connection while it was idle."""
     try:
-        while client.queue.connection.receive(0.0):
+        while client is not None and client.queue.connection.receive(0.0):
             pass
-        return True
+        return client is not None
     except (Fault, LineFailed):
         return False
 

@@ -5,30 +5,31 @@ browsers keep no cookie. It is in the part of the address behind the #, which br
 """
 from __future__ import annotations
 
+import inspect
 import json
 import pkgutil
 import socket
-from typing import Any, Callable, Dict, Mapping, Optional
+from typing import Callable, Mapping, Optional, Tuple
 from urllib.parse import urlsplit
 
 from .. import Fault, Uid
 from ..front.output import Failure
 from ..line import LineFailed
+from ..shared.words import BadRequest, Keys, object_of
 from .board import Board
 from .details import Details
 from .discoveries import Discoveries
-from .door import Door, Handler, Refusal
+from .door import MOST_STREAMS, Door, Handler, Refusal
 from .plans import Plans
 from .rig import Rig
 from .tokens import LOOKS, Tokens
 from .watcher import Watcher
 
-Keys = Dict[str, Any]
 JSON = "application/json"
 SCRIPT, STYLE, PAGE = "text/javascript; charset=utf-8", "text/css; charset=utf-8", "text/html; charset=utf-8"
 FILES = {"/": ("page.html", PAGE), "/page.css": ("page.css", STYLE),
          **{f"/{name}.js": (f"{name}.js", SCRIPT)
-            for name in ("app", "server", "dom", "fixtures", "fixture", "slots", "discovery", "line", "file")}}
+            for name in ("app", "server", "dom", "fixtures", "fixture", "slots", "discovery", "line")}}
 API, PICTURE, EVENTS = "/api/", "/picture/", "/api/events"
 BEARER = "Bearer "
 # The page that explains a discovery runs its own scripts, as if it came from nowhere.
@@ -38,20 +39,18 @@ LOOPBACK = "127.0.0.1"
 
 
 class Pages:
-    """Answers requests. What is asked for under /api/ is done by what has its name in `CALLS`."""
+    """Answers requests. What is asked for under /api/ is done by the call of that name, whose parameters are keys."""
 
-    def __init__(self, board: Board, rig: Rig, tokens: Tokens, discoveries: Discoveries, plans: Plans,
+    def __init__(self, door: Door, board: Board, rig: Rig, tokens: Tokens, discoveries: Discoveries, plans: Plans,
                  watcher: Watcher) -> None:
         self.board = board
-        self.rig = rig
         self.tokens = tokens
         self.discoveries = discoveries
-        self.plans = plans
-        self.watcher = watcher
-        self.details = Details(board, rig)
-
-    def serve_at(self, door: Door) -> None:
-        """Answers what comes through a door."""
+        details = Details(board, rig)
+        self.calls: Mapping[str, Callable[..., object]] = {
+            "change": rig.set, "undo": rig.undo, "identify": rig.identify, "forget": rig.forget,
+            "show": details.read, "set": details.set, "discover": discoveries.begin, "pause": watcher.pause,
+            "save": plans.save, "load": plans.load, "unload": plans.unload, "apply": plans.apply}
         door.answer, door.admits = self.answer, lambda handler: self.role_of(handler) is not None
 
     def role_of(self, handler: Handler) -> Optional[str]:
@@ -67,18 +66,12 @@ class Pages:
             name, kind = FILES[path]
             handler.reply(200, pkgutil.get_data(__package__, name) or b"", kind)
         elif handler.command == "GET" and path.startswith(PICTURE):
-            self._picture(handler, path[len(PICTURE):])
+            picture = self.discoveries.picture(path[len(PICTURE):])
+            handler.reply(200, picture.encode(), PAGE, PICTURE_HEADERS)
         elif path.startswith(API):
             self._api(handler, path, body)
         else:
             raise Refusal(404, "there is nothing here")
-
-    def _picture(self, handler: Handler, name: str) -> None:
-        """The page that explains a discovery, whose name nobody can guess."""
-        picture = self.discoveries.pictures.get(name)
-        if picture is None:
-            raise Refusal(404, "this picture isn't kept any more; a new discovery makes another")
-        handler.reply(200, picture.encode(), PAGE, PICTURE_HEADERS)
 
     def _api(self, handler: Handler, path: str, body: bytes) -> None:
         check_origin(handler)
@@ -88,69 +81,33 @@ class Pages:
         if (handler.command, path) == ("GET", EVENTS):
             self._events(handler, role)
             return
-        call = CALLS.get(path[len(API):])
+        call = self.calls.get(path[len(API):])
         if handler.command != "POST" or call is None:
             raise Refusal(404, "there is nothing here")
         if role == LOOKS:
             raise Refusal(403, "this address is only for looking")
         try:
-            keys = call(self, keys_in(body)) or {}
+            answer = call(**arguments_of(call, object_of(body))) or {}
+        except BadRequest as fault:
+            raise Refusal(400, str(fault)) from None
         except (Failure, Fault, LineFailed) as fault:
-            keys = {"error": str(fault)}
-        handler.reply(200, json.dumps(keys, default=float).encode(), JSON)
+            answer = {"error": str(fault)}
+        handler.reply(200, json.dumps(answer, default=vars).encode(), JSON)
 
     def _events(self, handler: Handler, role: str) -> None:
         """All that the page shows, and each change. A page that doesn't read loses its connection, and nothing else."""
-        with handler.server.stream():
-            handler.begin_stream("text/event-stream")
+        if not handler.server.streams.acquire(blocking=False):
+            raise Refusal(503, f"{MOST_STREAMS} pages are open, and there are no more places")
+        try:
+            handler.begin(200, {"Content-Type": "text/event-stream"})
             first = {"role": role}
             for parts in self.board.follow():
                 # JSON has no newlines.
                 text = json.dumps({**parts, **first}, separators=(",", ":"), default=float)
                 handler.wfile.write(f"data: {text}\n\n".encode())
                 first = {}
-
-    def change(self, keys: Keys) -> Optional[Keys]:
-        """A value in the table."""
-        change = self.rig.planned(uid_in(keys), text_in(keys, "column"), text_in(keys, "value"))
-        return None if change is None else vars(self.rig.change([change], flag_in(keys, "force")))
-
-    def set(self, keys: Keys) -> None:
-        """Sets any parameter."""
-        words = keys.get("words")
-        if not isinstance(words, list) or not all(isinstance(each, str) for each in words):
-            raise Refusal(400, "words isn't a list of texts")
-        self.details.set(uid_in(keys), text_in(keys, "parameter"), words)
-
-    def pause(self, keys: Keys) -> Keys:
-        """Pauses the queue for all programs, or has it go on."""
-        queue = self.watcher.client().queue
-        (queue.pause if flag_in(keys, "on") else queue.resume)()
-        return {"paused": queue.is_paused()}
-
-    def load(self, keys: Keys) -> None:
-        """Takes a file, from which differences are shown; without a text there is none any more."""
-        if keys.get("text") is None:
-            self.plans.unload()
-        else:
-            self.plans.load(text_in(keys, "name"), text_in(keys, "text").encode(errors="surrogatepass"))
-
-
-CALLS: Mapping[str, Callable[[Pages, Keys], Optional[Keys]]] = {
-    "change": Pages.change,
-    "undo": lambda pages, keys: vars(pages.rig.undo()),
-    "identify": lambda pages, keys: pages.rig.identify(uid_in(keys), flag_in(keys, "on"), flag_in(keys, "only")),
-    "forget": lambda pages, keys: pages.rig.forget(uid_in(keys)),
-    # Asks a fixture for all that it supports.
-    "show": lambda pages, keys: pages.details.read(uid_in(keys)),
-    "set": Pages.set,
-    "discover": lambda pages, keys: pages.discoveries.begin(),
-    "pause": Pages.pause,
-    "save": lambda pages, keys: {"text": pages.plans.saved()},
-    "load": Pages.load,
-    # Makes the fixtures as the file says, or shows what that would change.
-    "apply": lambda pages, keys: vars(pages.plans.apply(flag_in(keys, "force"), flag_in(keys, "dry"))),
-}
+        finally:
+            handler.server.streams.release()
 
 
 def check_host(handler: Handler) -> None:
@@ -171,34 +128,22 @@ def check_origin(handler: Handler) -> None:
         raise Refusal(403, "another site's page asks, and isn't answered")
 
 
-def keys_in(body: bytes) -> Keys:
-    """The object of a request. Raises Refusal."""
-    try:
-        found = json.loads(body)
-    except (ValueError, RecursionError):
-        raise Refusal(400, "the request isn't JSON") from None
-    if not isinstance(found, dict):
-        raise Refusal(400, "the request isn't a JSON object")
+def arguments_of(call: Callable[..., object], keys: Keys) -> Keys:
+    """What a request says for the parameters of a call, as they are declared. Raises BadRequest."""
+    found = {}
+    for name, each in inspect.signature(call).parameters.items():
+        value = keys.get(name, each.default)
+        kind, fault = FORMS[each.annotation]
+        if not isinstance(value, kind):
+            raise BadRequest(f"{name} {fault}")
+        try:
+            found[name] = Uid.parse(str(value)) if each.annotation == "Uid" else value
+        except Fault as wrong:
+            raise BadRequest(f"{name}: {wrong}") from None
     return found
 
 
-def text_in(keys: Keys, name: str) -> str:
-    """A text of a request. Raises Refusal."""
-    if not isinstance(keys.get(name), str):
-        raise Refusal(400, f"{name} isn't a text")
-    return str(keys[name])
-
-
-def flag_in(keys: Keys, name: str) -> bool:
-    """Whether something is wanted; not, if the request doesn't say it. Raises Refusal."""
-    if not isinstance(keys.get(name, False), bool):
-        raise Refusal(400, f"{name} is neither true nor false")
-    return bool(keys.get(name, False))
-
-
-def uid_in(keys: Keys) -> Uid:
-    """The device of a request. Raises Refusal."""
-    try:
-        return Uid.parse(text_in(keys, "uid"))
-    except Fault as fault:
-        raise Refusal(400, f"uid: {fault}") from None
+# What JSON has for each type of parameters, and what is said of anything else.
+FORMS: Mapping[str, Tuple[type, str]] = {
+    "bool": (bool, "is neither true nor false"), "str": (str, "isn't a text"), "Uid": (str, "isn't a text"),
+    "Sequence[str]": (list, "isn't a list")}

@@ -2,19 +2,16 @@
 from __future__ import annotations
 
 import threading
-from concurrent.futures import Future
 from dataclasses import dataclass, field, replace
 from functools import partial
-from typing import Any, Callable, Dict, List, Mapping, Optional, Sequence, Set, Tuple
+from typing import Any, Callable, Dict, List, Mapping, Optional, Sequence, Tuple
 
 from .. import Device, Uid
 from ..front.applying import make
 from ..front.checking import VALUES
 from ..front.csv_files import COLUMNS, LABEL, Change, differs
-from ..front.fixtures import (
-    ADDRESS_FIELD, FOOTPRINT_FIELD, SLOW, Fixture, keys_of, look_at, part_of, values_of,
-)
-from ..front.guarding import ADDRESS, PERSONALITY, Problem, named, problems_of
+from ..front.fixtures import SLOW, Fixture, keys_of, look_at, part_of, values_of
+from ..front.guarding import ADDRESS, PERSONALITY, moved_by, patched, problems_after
 from ..front.output import BAD_ARGUMENTS, FAILED, REFUSED, Failure
 from ..front.requests import OFF, ON, identify
 from ..front.work import Work
@@ -24,6 +21,8 @@ from .board import Board
 from .hands import Hands
 
 MOST_UNDOS = 100
+# What the parts begin with that show a device.
+PREFIX = "fixture/"
 # What reading a device is called among tasks.
 READ = "read"
 # The page says this in another place, for all that overlap.
@@ -71,10 +70,10 @@ class Rig:
         self.entries: Dict[Uid, Entry] = {}
         self._personalities: Dict[Model, List[Dict[str, Any]]] = {}
         self._undos: List[Change] = []
+        # What the last discovery shows of devices.
+        self.reasons: Mapping[Uid, str] = {}
         # The devices of the file that is loaded.
-        self.planned_uids: Sequence[Uid] = ()
-        # Set when something about fixtures has changed.
-        self.changed = threading.Event()
+        self.planned_labels: Mapping[Uid, str] = {}
 
     def fixtures(self) -> List[Fixture]:
         """Those that the last discovery found, as far as they were asked."""
@@ -96,27 +95,24 @@ class Rig:
             first, last = fixture.slots or (None, None)
             elsewhere = (SLOW, part_of(fixture))
             keys.update(first=first, last=last, root=str(fixture.root), identifies=entry.identifies,
-                        is_read=entry.is_read, missing=entry.missing, is_slow=SLOW in fixture.notes,
+                        missing=entry.missing and self.reasons.get(fixture.uid, entry.missing),
+                        is_read=entry.is_read, is_slow=SLOW in fixture.notes,
                         personalities=self._personalities.get(entry.model, []), is_gone=fixture.is_gone,
                         notes=[note for note in fixture.notes
                                if note not in elsewhere and not note.startswith(END_NOTE)])
-            if fixture.personality is None:
-                keys["personality_name"] = next((each["name"] for each in keys["personalities"]
-                                                 if each["number"] == keys["personality"]), None)
-        self._board.put(f"fixture/{fixture.uid}", keys)
-        self.changed.set()
+        self._board.put(f"{PREFIX}{fixture.uid}", keys)
 
-    def known(self) -> Set[Uid]:
-        """The devices that are shown, and those of the file that is loaded."""
+    def labels(self) -> Dict[Uid, str]:
+        """The devices that are shown, and those of the file that is loaded, with their labels."""
         with self.lock:
-            return {*self.entries, *self.planned_uids}
+            return {**self.planned_labels, **{uid: each.fixture.label or "" for uid, each in self.entries.items()}}
 
     def explain(self, reasons: Mapping[Uid, str]) -> None:
         """Has pages show why devices are missing."""
         with self.lock:
-            gone = [entry for uid, entry in self.entries.items() if entry.missing and uid in reasons]
+            self.reasons = reasons
+            gone = [entry for entry in self.entries.values() if entry.missing]
         for entry in gone:
-            entry.missing = reasons[entry.device.uid]
             self.show(entry)
 
     def adopt(self, devices: Sequence[Device], fault: Optional[str], reads_all: bool) -> None:
@@ -124,7 +120,8 @@ class Rig:
         found = {device.uid for device in devices}
         why = "the last discovery didn't find it" if fault is None else f"the last discovery ended early: {fault}"
         with self.lock:
-            gone = [entry for uid, entry in self.entries.items() if uid not in found and entry.missing != why]
+            self.reasons = {}
+            gone = [entry for uid, entry in self.entries.items() if uid not in found]
             known = {uid for uid, entry in self.entries.items() if not entry.missing and not entry.fixture.is_gone}
         for entry in gone:
             entry.missing = why
@@ -133,24 +130,17 @@ class Rig:
             if reads_all or device.uid not in known:
                 self.read(device)
 
-    def read(self, device: Device, is_urgent: bool = False) -> "Future[None]":
+    def read(self, device: Device, is_urgent: bool = False) -> None:
         """Has a device asked for all that the table has."""
         with self.lock:
             new = Entry(device, Fixture(device.uid, root=device.binding or device.uid))
             entry = self.entries.setdefault(device.uid, new)
             entry.device, entry.missing = device, ""
         self.show(entry)
-        return self.hands.do(str(device.uid), partial(self._read, entry), is_urgent, READ)
+        self.hands.do(str(device.uid), partial(self._read, entry), is_urgent, READ)
 
-    def read_again(self, uid: Uid) -> None:
-        """Has a device asked again, since another program may have changed it; all devices for a broadcast UID."""
-        self._read_those(lambda entry: uid.is_broadcast or entry.device.uid == uid, not uid.is_broadcast)
-
-    def read_rest(self) -> None:
-        """Has those devices asked that couldn't be asked so far."""
-        self._read_those(lambda entry: not entry.is_read, False)
-
-    def _read_those(self, is_wanted: Callable[[Entry], bool], is_urgent: bool) -> None:
+    def read_those(self, is_wanted: Callable[[Entry], bool], is_urgent: bool = False) -> None:
+        """Has devices asked again."""
         with self.lock:
             wanted = [entry.device for entry in self.entries.values() if not entry.missing and is_wanted(entry)]
         for device in wanted:
@@ -162,8 +152,7 @@ class Rig:
             raise Failure(BAD_ARGUMENTS, f"{uid} is there, and isn't forgotten", reason="uid")
         with self.lock:
             del self.entries[uid]
-        self._board.put(f"fixture/{uid}", None)
-        self.changed.set()
+        self._board.put(f"{PREFIX}{uid}", None)
 
     def _read(self, entry: Entry, work: Work) -> None:
         """Asks a device."""
@@ -199,14 +188,14 @@ class Rig:
         for each in alike:
             self.show(each)
 
-    def identify(self, uid: Uid, is_on: bool, is_only: bool) -> None:
+    def identify(self, uid: Uid, on: bool = False, only: bool = False) -> None:
         """Has a device show itself, or not; if only that one, the others stop. Raises Failure."""
-        entry = self.entry(uid)
+        wanted = self.entry(uid)
         with self.lock:
-            others = [each for each in self.entries.values()
-                      if is_only and each.identifies and not each.missing and each is not entry]
-        ends = [self.hands.do(str(each.device.uid), partial(self._identify, each, False)) for each in others]
-        for end in (self.hands.do(str(uid), partial(self._identify, entry, is_on)), *ends):
+            found = [each for each in self.entries.values()
+                     if each is wanted or (only and each.identifies and not each.missing)]
+        for end in [self.hands.do(str(each.device.uid), partial(self._identify, each, on and each is wanted))
+                    for each in found]:
             end.result()
 
     def _identify(self, entry: Entry, is_on: bool, work: Work) -> None:
@@ -219,8 +208,8 @@ class Rig:
         finally:
             self.show(entry)
 
-    def planned(self, uid: Uid, column: str, value: str) -> Optional[Change]:
-        """A change of a device; None if it has that value. Raises Failure."""
+    def planned(self, uid: Uid, column: str, value: str) -> List[Change]:
+        """The change of a device, unless it has that value. Raises Failure."""
         if column not in COLUMNS:
             raise Failure(BAD_ARGUMENTS, f"there is no column {column}", reason="column")
         entry = self.entry(uid)
@@ -229,15 +218,19 @@ class Rig:
         except WordFault as fault:
             raise Failure(BAD_ARGUMENTS, str(fault), reason="value") from None
         before = value_in(entry.fixture, column)
-        if before is not None and not differs(column, before, value):
-            return None
-        return Change(uid, column, before or "", value)
+        is_new = before is None or differs(column, before, value)
+        return [Change(uid, column, before or "", value)] if is_new else []
+
+    def set(self, uid: Uid, column: str, value: str, force: bool = False) -> Plan:
+        """Changes a value. Raises Failure."""
+        return self.change(self.planned(uid, column, value), force)
 
     def change(self, changes: Sequence[Change], is_forced: bool = False, is_dry: bool = False, is_undo: bool = False
                ) -> Plan:
         """Makes changes, those of a device in their order, unless slots would overlap or end after the last one."""
-        plan = Plan([change.text for change in changes], [f"after this, {named(each.fixture)} {each.slots_text}"
-                                                          for each in self._problems_after(changes)])
+        # As `apply` sees it.
+        problems = problems_after(self.fixtures(), moved_by(changes), partial(self._changed, changes))
+        plan = Plan([change.text for change in changes], [each.text_after for each in problems])
         if is_dry or (plan.problems and not is_forced):
             return plan
         for change, end in [(each, self.hands.do(str(each.uid), partial(self._make, each, is_undo)))
@@ -259,43 +252,26 @@ class Rig:
                 # What it has now isn't known.
                 self._read(entry, work)
             raise
-        self._take(entry, change, found, work)
+        if change.column == LABEL:
+            entry.fixture.label = found
+        elif change.column == ADDRESS:
+            entry.fixture = patched(entry.fixture, found, None)
+        else:
+            # Another personality has other slots, and perhaps another address.
+            self._read(entry, work)
+        self.show(entry)
         # What wasn't known can't be set again.
         if not is_undo and (change.before or change.column == LABEL):
             with self.lock:
                 self._set_undos([*self._undos, change])
 
-    def _take(self, entry: Entry, change: Change, found: str, work: Work) -> None:
-        """Notes what was read back. Another personality has other slots, and perhaps another address."""
-        fixture = entry.fixture
-        if change.column == LABEL:
-            fixture.label = found
-        elif change.column == ADDRESS and fixture.info is not None:
-            fixture.info = {**fixture.info, ADDRESS_FIELD: whole(found)}
-        else:
-            self._read(entry, work)
-            return
-        self.show(entry)
-
-    def _problems_after(self, changes: Sequence[Change]) -> List[Problem]:
-        """What would be wrong with the slots of devices that are moved, as `apply` sees it."""
-        moved = {change.uid for change in changes if change.column in (ADDRESS, PERSONALITY)}
-        after = [self._changed(fixture, changes) if fixture.uid in moved else fixture for fixture in self.fixtures()]
-        return [each for each in problems_of(after) if moved.intersection(each.devices)] if moved else []
-
-    def _changed(self, fixture: Fixture, changes: Sequence[Change]) -> Fixture:
+    def _changed(self, changes: Sequence[Change], fixture: Fixture) -> Fixture:
         """A device as it will be. With a personality that isn't known it has no slots."""
-        if fixture.info is None:
-            return fixture
-        info = dict(fixture.info)
-        for change in (each for each in changes if each.uid == fixture.uid):
-            if change.column == ADDRESS:
-                info[ADDRESS_FIELD] = whole(change.after)
-            elif change.column == PERSONALITY:
-                known = self._personalities.get(self.entry(fixture.uid).model, [])
-                slots = {each["number"]: each["slots"] for each in known}
-                info[FOOTPRINT_FIELD] = slots.get(whole(change.after), 0)
-        return replace(fixture, info=info)
+        values = {change.column: change.after for change in changes if change.uid == fixture.uid}
+        known = self._personalities.get(self.entry(fixture.uid).model, [])
+        slots = None if PERSONALITY not in values else next(
+            (each["slots"] for each in known if each["number"] == whole(values[PERSONALITY])), 0)
+        return patched(fixture, values.get(ADDRESS), slots)
 
     def _set_undos(self, undos: List[Change]) -> None:
         """These changes can be taken back, the last one first."""

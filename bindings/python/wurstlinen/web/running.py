@@ -1,8 +1,10 @@
-"""The command web: serves the page until a signal comes."""
+"""The command web: serves the page until a signal comes, by the line's server, which it starts if none runs."""
 from __future__ import annotations
 
 import argparse
 import contextlib
+import json
+import os
 import shutil
 import signal
 import socket
@@ -10,14 +12,18 @@ import struct
 import subprocess
 import sys
 import threading
+import time
 from fcntl import ioctl
-from typing import List
+from pathlib import Path
+from typing import List, Optional
 
 from .._endings import end_by
 from ..front.opening import OLA, failures_of_lines
 from ..front.output import BAD_ARGUMENTS, DONE, FAILED, Failure, Output
+from ..line import LineFailed
 from ..lines.waiting import when_free
-from ..shared.client import SharedClient
+from ..shared.client import SharedClient, connect
+from ..shared.connection import NotServed
 from ..shared.place import canonical
 from .board import Board
 from .discoveries import Discoveries
@@ -26,14 +32,70 @@ from .hands import Hands
 from .pages import LOOPBACK, Pages
 from .plans import Plans
 from .rig import Rig
-from .server_of_line import ServerOfLine
 from .tokens import Tokens, kept
 from .watcher import Watcher
 
-ANYWHERE = "0.0.0.0"
 # Linux's number for asking an interface for its IPv4 address.
 SIOCGIFADDR = 0x8915
-INTERFACE_BYTES = 16
+PACKAGE = Path(__file__).resolve().parent.parent
+# A server that was started for the page ends when nobody has used it for so long.
+IDLE_SECONDS = 2
+# How long a server that has ended may take to come back, before another is started.
+PATIENCE_SECONDS = 3.0
+
+
+class ServerOfLine:
+    """Connects to the server of a line. If none runs, `connect_or_start` starts one."""
+
+    def __init__(self, line: str) -> None:
+        self.line = line
+        self._starting = threading.Lock()
+        self._child: Optional[subprocess.Popen[str]] = None
+        # Since when no server runs.
+        self._gone_since: Optional[float] = None
+
+    def connect(self) -> SharedClient:
+        """A client of the server that runs. Raises LineFailed."""
+        return connect(self.line)
+
+    def connect_or_start(self, patience: float = PATIENCE_SECONDS) -> SharedClient:
+        """The same. If no server has run for so long, one is started, and serves other programs too."""
+        with self._starting:
+            try:
+                client = self.connect()
+            except NotServed:
+                now = time.monotonic()
+                self._gone_since = now if self._gone_since is None else self._gone_since
+                if now < self._gone_since + patience:
+                    raise LineFailed("the server of the line has ended; another is started soon") from None
+                self._start()
+                client = self.connect()
+            self._gone_since = None
+            return client
+
+    def _start(self) -> None:
+        """Starts a server, which outlives this process if others use it.
+
+        Raises LineFailed, and ValueError for what names no line.
+        """
+        words = ["serve", "--json", "--line", self.line, "--idle", str(IDLE_SECONDS)]
+        path = os.pathsep.join(filter(None, (str(PACKAGE.parent), os.environ.get("PYTHONPATH"))))
+        if self._child is not None:
+            # The last one that was started has ended.
+            self._child.wait()
+        # An interrupt from the keyboard ends the page alone.
+        self._child = subprocess.Popen([sys.executable, "-m", "wurstlinen.tool", *words], stdin=subprocess.DEVNULL,
+                                       stdout=subprocess.PIPE, text=True, start_new_session=True,
+                                       env={**os.environ, "PYTHONPATH": path})
+        assert self._child.stdout is not None
+        with self._child.stdout as printed:
+            said = printed.readline()
+        try:
+            error = json.loads(said).get("error")
+        except ValueError:
+            raise LineFailed("the server of the line can't be started") from None
+        if error is not None:
+            raise (ValueError if self._child.wait() == BAD_ARGUMENTS else LineFailed)(error["text"])
 
 
 def run_web(chosen: argparse.Namespace, output: Output) -> int:
@@ -58,7 +120,7 @@ def run_web(chosen: argparse.Namespace, output: Output) -> int:
 def opened(chosen: argparse.Namespace) -> Door:
     """The door. Raises Failure."""
     try:
-        return Door((ANYWHERE if chosen.allow_network else LOOPBACK, chosen.port))
+        return Door(("" if chosen.allow_network else LOOPBACK, chosen.port))
     except OSError as fault:
         raise Failure(FAILED, f"port {chosen.port}: {fault.strerror}; --port N takes another", reason="port") from None
 
@@ -68,19 +130,17 @@ def serve(door: Door, server: ServerOfLine, tokens: Tokens, first: SharedClient)
     board = Board()
     rig = Rig(board, Hands(server.connect))
     discoveries = Discoveries(board, rig)
-    plans = Plans(board, rig, discoveries)
+    plans = Plans(board, rig)
     waiting = [first]
     watcher = Watcher(board, lambda: waiting.pop() if waiting else server.connect_or_start(), rig, discoveries)
-    Pages(board, rig, tokens, discoveries, plans, watcher).serve_at(door)
-    rig.hands.start()
-    plans.start()
+    Pages(door, board, rig, tokens, discoveries, plans, watcher)
+    threading.Thread(target=plans.follow, daemon=True).start()
     watcher.start()
     try:
         door.serve_forever(HOUSEKEEPING_SECONDS)
     finally:
         board.end()
         watcher.end()
-        plans.end()
         rig.hands.end()
 
 
@@ -102,7 +162,7 @@ def addresses() -> List[str]:
         for _, name in socket.if_nameindex():
             # One without an address is passed over.
             with contextlib.suppress(OSError):
-                answer = ioctl(asking, SIOCGIFADDR, struct.pack("256s", name.encode()[:INTERFACE_BYTES - 1]))
+                answer = ioctl(asking, SIOCGIFADDR, struct.pack("256s", name.encode()))
                 found.append(socket.inet_ntoa(answer[20:24]))
     return [each for each in found if not each.startswith("127.")] or [LOOPBACK]
 

@@ -8,7 +8,7 @@ const ABSENT = "the program of this page doesn't answer";
 export const token = location.hash.slice(1).split("/")[0];
 // The parts that the program shows, by their names; and why these are old, if they are.
 export const parts = new Map();
-export const state = { lost: "connecting ..." };
+export let lost = "connecting ...";
 
 const headers = { Authorization: `Bearer ${token}` };
 
@@ -21,7 +21,7 @@ export function fixtureOf(uid) {
 }
 
 export function mayUse() {
-    return parts.get("role") === "uses" && !state.lost;
+    return parts.get("role") === "uses" && !lost;
 }
 
 export async function call(name, keys = {}) {
@@ -40,14 +40,8 @@ function take(text) {
         // These are all that there are.
         parts.clear();
     }
-    for (const [name, value] of Object.entries(found)) {
-        if (value === null) {
-            parts.delete(name);
-        } else {
-            parts.set(name, value);
-        }
-    }
-    state.lost = "";
+    Object.entries(found).forEach(([name, value]) => (value === null ? parts.delete(name) : parts.set(name, value)));
+    lost = "";
 }
 
 function inTime(work) {
@@ -80,7 +74,7 @@ async function listen(changed) {
 // Calls `changed` whenever what the program shows has changed.
 export async function follow(changed) {
     for (;;) {
-        await listen(changed).catch((fault) => (state.lost = fault.name === "Error" ? fault.message : ABSENT));
+        await listen(changed).catch((fault) => (lost = fault.name === "Error" ? fault.message : ABSENT));
         changed();
         await new Promise((done) => setTimeout(done, AGAIN));
     }

@@ -1,7 +1,7 @@
 // The universe as 512 slots: who has which. Fixtures are moved by drag, or by keys.
 
-import { act, addressOf, redraw } from "/app.js";
-import { keepValues, make, setText } from "/dom.js";
+import { act, addressOf, draw, redraw } from "/app.js";
+import { classes, make } from "/dom.js";
 import { nameOf, problemOf, slotsOf } from "/fixtures.js";
 import { fixtureOf, mayUse, parts, partsOf } from "/server.js";
 
@@ -12,7 +12,7 @@ const isNarrow = matchMedia("(max-width: 700px)");
 const width = () => (isNarrow.matches ? 16 : 32);
 const rowOf = (slot) => Math.ceil(slot / width());
 // The fixture that is being moved, and where it is now.
-let counts, grid, hint, list, moving = null;
+let moving = null;
 
 // The fixtures that have slots, by address. Those that share slots are in lanes, one below another.
 function placed() {
@@ -33,24 +33,31 @@ function ownersOf(fixtures) {
 }
 
 function move(uid, to) {
-    const found = fixtureOf(uid), size = found.last - found.first + 1;
-    const first = Math.min(Math.max(to, 1), LAST + 1 - Math.min(size, LAST)), last = first + size - 1;
-    moving = { uid, first, last, lane: 0 };
-    const others = placed().filter((each) => each.root !== found.root && each.first <= last && each.last >= first);
-    setText(hint, `${nameOf(found)}: ${found.first}–${found.last} → ${first}–${last}, `
-        + (others.length ? `overlaps ${others.map(nameOf).join(", ")}` : "free"));
+    const { first, last } = fixtureOf(uid), size = last - first + 1;
+    const start = Math.min(Math.max(to, 1), LAST + 1 - Math.min(size, LAST));
+    moving = { uid, first: start, last: start + size - 1, lane: 0 };
     draw();
 }
 
 async function finish(isWanted) {
     const { uid, first } = moving ?? {};
     moving = null;
-    setText(hint, HELP);
     draw();
     if (isWanted && uid && first !== fixtureOf(uid)?.first) {
         await act("change", { uid, column: "address", value: String(first) },
             `${nameOf(fixtureOf(uid))} moved to ${first}.`);
     }
+}
+
+function hint(fixtures) {
+    const before = fixtureOf(moving?.uid);
+    if (!before) {
+        return HELP;
+    }
+    const others = fixtures.filter((each) => each.root !== before.root && each.first <= moving.last
+        && each.last >= moving.first);
+    return `${nameOf(before)}: ${slotsOf(before)} → ${slotsOf(moving)}, `
+        + (others.length ? `overlaps ${others.map(nameOf).join(", ")}` : "free");
 }
 
 function keyed(event) {
@@ -94,47 +101,30 @@ function piecesOf(found, owners) {
     for (let from = first; from <= end; from = rowOf(from) * width() + 1) {
         const to = Math.min(end, rowOf(from) * width()), isFirst = from === first;
         const isCrowded = owners.slice(from - 1, to).some((count) => count > 1);
-        const attributes = isFirst ? { type: "button", "aria-label":
-            `${nameOf(found)}, slots ${first} to ${last}${isCrowded ? ", overlaps another" : ""}` }
-            : { "aria-hidden": "true" };
-        pieces.push(make(isFirst ? "button" : "div", { ...attributes, "data-uid": uid,
-            class: `piece${isCrowded ? " crowded" : ""}${moving?.uid === uid ? " moving" : ""}`,
-            title: `${nameOf(found)}, ${first}–${last}`, style: `${areaOf(from, to)} --lane: ${lane}` },
-        isFirst ? nameOf(found) : ""));
+        const attributes = { key: `${uid} ${pieces.length}`, "data-uid": uid,
+            title: `${nameOf(found)}, ${first}–${last}`,
+            class: classes("piece", isCrowded && "crowded", moving?.uid === uid && "moving"),
+            style: `${areaOf(from, to)} --lane: ${lane}` };
+        pieces.push(isFirst ? make("button", { ...attributes, type: "button", onblur: redraw, "aria-label":
+            `${nameOf(found)}, slots ${first} to ${last}${isCrowded ? ", overlaps another" : ""}` }, nameOf(found))
+            : make("div", { ...attributes, "aria-hidden": "true" }));
     }
     return pieces;
 }
 
-function draw() {
+export function view() {
     const fixtures = placed(), owners = ownersOf(fixtures);
-    const focused = grid.contains(document.activeElement) ? document.activeElement.dataset.uid : "";
-    grid.style.setProperty("--columns", String(width()));
-    grid.replaceChildren(...owners.map((count, at) => make("i", { class: count > 1 ? "crowded" : null,
-        style: areaOf(at + 1, at + 1) }, String(at + 1))), ...fixtures.flatMap((found) => piecesOf(found, owners)));
-    grid.querySelector(`button[data-uid="${focused}"]`)?.focus({ preventScroll: true });
     const crowded = owners.filter((each) => each > 1).length, free = owners.filter((each) => !each).length;
-    setText(counts, `${free} slots are free${crowded ? `, ${crowded} overlap` : ""}.`);
-}
-
-export function open() {
-    moving = null;
-    grid = make("div", { class: "universe", role: "group", "aria-label": "512 slots", onkeydown: keyed,
-        onpointerdown: dragged, ondblclick: ({ target: { dataset: { uid } } }) =>
-            uid && (location.hash = addressOf("fixture", uid)) });
-    hint = make("p", { class: "hint", role: "status" }, HELP);
-    [counts, list] = [make("p"), make("ul", { class: "problems" })];
-    return [make("h2", { class: "hidden" }, "Slots"), hint, counts, list, grid];
-}
-
-export function update() {
-    const now = JSON.stringify([width(), placed()]);
-    if (grid.drawn !== now && !moving) {
-        grid.drawn = now;
-        draw();
-    }
-    const named = (found) => (found ? `${nameOf(found)} ${slotsOf(found)}` : "");
-    keepValues(list, (parts.get("problems") ?? []).map((each) => [each.uid, named(fixtureOf(each.uid)),
-        problemOf(each, each.uid)]), ([, name, text]) => make("li", {}, `${name} ${text}`));
+    const problems = (parts.get("problems") ?? []).map((each) => [fixtureOf(each.uid), problemOf(each, each.uid)]);
+    const opened = ({ target: { dataset: { uid } } }) => uid && (location.hash = addressOf("fixture", uid));
+    return [make("h2", { class: "hidden" }, "Slots"), make("p", { class: "hint", role: "status" }, hint(fixtures)),
+        make("p", {}, `${free} slots are free${crowded ? `, ${crowded} overlap` : ""}.`),
+        make("ul", { class: "problems" }, problems.map(([found, text]) =>
+            make("li", {}, `${found ? `${nameOf(found)} ${slotsOf(found)}` : ""} ${text}`))),
+        make("div", { class: "universe", role: "group", "aria-label": "512 slots", style: `--columns: ${width()}`,
+            onkeydown: keyed, onpointerdown: dragged, ondblclick: opened },
+        owners.map((count, at) => make("i", { class: classes(count > 1 && "crowded"), style: areaOf(at + 1, at + 1) },
+            String(at + 1))), fixtures.map((found) => piecesOf(found, owners)).flat())];
 }
 
 isNarrow.addEventListener("change", redraw);

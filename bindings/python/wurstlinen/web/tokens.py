@@ -6,14 +6,13 @@ import hashlib
 import hmac
 import os
 import secrets
-from dataclasses import dataclass
+from dataclasses import dataclass, field
 from typing import Optional
 
 from ..front.files import PRIVATE_MODE, file_of
 from ..shared.listening import made_folder
 
 TOKEN_BYTES = 16
-MOST_TEXT = 4096
 USES, LOOKS = "uses", "looks"
 
 
@@ -21,7 +20,7 @@ USES, LOOKS = "uses", "looks"
 class Tokens:
     """Both tokens. They are the same as long as the user is logged in, so that pages survive a restart."""
 
-    using: str
+    using: str = field(default_factory=lambda: secrets.token_urlsafe(TOKEN_BYTES))
 
     @property
     def looking(self) -> str:
@@ -35,19 +34,14 @@ class Tokens:
         return LOOKS if hmac.compare_digest(said.encode(), self.looking.encode()) else None
 
 
-def made() -> Tokens:
-    """New tokens."""
-    return Tokens(secrets.token_urlsafe(TOKEN_BYTES))
-
-
 def kept(line: str, wants_new: bool) -> Tokens:
     """The tokens of a line's page, in a file of the user's own. Raises BadPlace and OSError."""
     path = made_folder(None) / f"web-{hashlib.sha256(os.fsencode(line)).hexdigest()[:TOKEN_BYTES]}.token"
     with contextlib.suppress(OSError, ValueError):
-        found = "" if wants_new else path.read_text(encoding="ascii")[:MOST_TEXT]
+        found = "" if wants_new else path.read_text(encoding="ascii")
         if len(found) >= TOKEN_BYTES:
             return Tokens(found)
-    new = made()
+    new = Tokens()
     with file_of(str(path), new_mode=PRIVATE_MODE) as written:
         written.write(new.using)
     return new

@@ -3,30 +3,27 @@ from __future__ import annotations
 
 import threading
 import time
-from typing import Any, Callable, Dict, Optional, Tuple
+from typing import Any, Callable, Dict, Optional
 
 from .. import Uid
 from ..front.frames import Parts, answer_text, command_of
 from ..front.watched import Watched
 from ..line import LineFailed
 from ..lines.numbers import CommandClass, ResponseType
-from ..lines.packets import Packet, decode_packet, is_answer
-from ..lines.uids import is_broadcast, uid_text
+from ..lines.packets import decode_packet, is_answer
+from ..lines.uids import uid_text
 from ..parameters import STANDARD
 from ..shared.client import SharedClient
-from ..shared.connection import Refused
 from ..shared.words import FRAMES, Keys
 from .board import Board, latest
 from .discoveries import Discoveries
-from .hands import END_SECONDS, Silent, failure_of
+from .hands import END_SECONDS, SILENT, failure_of
 from .rig import Rig
 
 MOST_REQUESTS = 100
 # How often it is asked who is connected, and how long a part of that is waited for something to come.
 LOOK_SECONDS = 1.0
 SLICE_SECONDS = 0.25
-# How often a page hears of a discovery's progress.
-PROGRESS_SECONDS = 0.1
 # The parameters whose SET changes what the table shows.
 SHOWN = {STANDARD.named(name).number for name in ("device_label", "dmx_start_address", "dmx_personality",
                                                   "identify_device", "factory_defaults", "reset_device")}
@@ -34,51 +31,48 @@ SHOWN = {STANDARD.named(name).number for name in ("device_label", "dmx_start_add
 MOST_TEXT = 300
 
 
-class Watcher:
+class Watcher(threading.Thread):
     """Watches the server of the line by a connection of its own, and puts what it sees on the board.
 
     `connect` makes a client. The rig asks the devices again that other programs change.
     """
 
     def __init__(self, board: Board, connect: Callable[[], SharedClient], rig: Rig, discoveries: Discoveries) -> None:
+        super().__init__(name="watcher", daemon=True)
         self._board = board
         self._connect = connect
         self._rig = rig
         self._discoveries = discoveries
         self._client: Optional[SharedClient] = None
         self._has_ended = threading.Event()
-        self._thread = threading.Thread(target=self._run, name="watcher", daemon=True)
         # The last requests, by their numbers, and how many there were.
         self._requests: Dict[int, Dict[str, Any]] = {}
         self._numbers = 0
         self._parts = Parts()
-        # The run that is seen, how far it is, and when a page hears of that.
+        # The run that is seen, how far it is, and when its last frame came.
         self._run_number = 0
-        self._progress = Watched(Silent(), None)
-        self._next_progress = 0.0
+        self._progress = Watched(SILENT, None)
         self._last_frame = 0.0
         self._was_there = True
         # The last run whose devices were told.
         self._told_run: Optional[int] = None
-
-    def start(self) -> None:
-        """Begins."""
-        self._thread.start()
 
     def end(self) -> None:
         """Ends the connection."""
         self._has_ended.set()
         if self._client is not None:
             self._client.close()
-        self._thread.join(END_SECONDS)
+        self.join(END_SECONDS)
 
-    def client(self) -> SharedClient:
-        """The client by which an operator pauses the queue. Raises LineFailed."""
+    def pause(self, on: bool = False) -> Keys:
+        """Pauses the queue for all programs, or has it go on. Raises LineFailed."""
         if self._client is None:
             raise LineFailed("the server of the line has ended")
-        return self._client
+        (self._client.queue.pause if on else self._client.queue.resume)()
+        return {"paused": self._client.queue.is_paused()}
 
-    def _run(self) -> None:
+    def run(self) -> None:
+        """Watches until the end."""
         while not self._has_ended.is_set():
             try:
                 self._client = self._connect()
@@ -93,7 +87,7 @@ class Watcher:
             self._client.close()
             self._client = None
         self._board.put("line", {"served": False, "there": False, "paused": False, "reason": reason})
-        self._board.put_all("client/", {})
+        self._board.put("clients", None)
 
     def _watch(self, client: SharedClient) -> None:
         """Watches until the connection ends. Raises LineFailed."""
@@ -114,7 +108,7 @@ class Watcher:
     def _tell_line(self, client: SharedClient) -> None:
         queue = client.queue
         if queue.is_there and not self._was_there:
-            self._rig.read_rest()
+            self._rig.read_those(lambda entry: not entry.is_read)
         self._was_there = queue.is_there
         self._board.put("line", {"served": True, "there": queue.is_there, "reason": queue.reason, "name": queue.name,
                                  "paused": queue.is_paused(), "source": str(queue.source), "process": queue.process})
@@ -125,14 +119,8 @@ class Watcher:
         if run != self._told_run:
             self._told_run = run
             self._discoveries.take(client.queue.devices() if run else None)
-        try:
-            clients = client.queue.clients()
-        except Refused:
-            # An older server doesn't say.
-            return
         own = {*self._rig.hands.numbers, client.queue.number}
-        self._board.put_all("client/", {str(each["client"]): {**each, "is_page": each["client"] in own}
-                                        for each in clients})
+        self._board.put("clients", [{**each, "is_page": each["client"] in own} for each in client.queue.clients()])
 
     def _take(self, keys: Keys) -> None:
         """An exchange."""
@@ -142,44 +130,35 @@ class Watcher:
             self._take_request(keys, frame, reply)
             return
         if keys["run"] != self._run_number:
-            self._run_number, self._progress = keys["run"], Watched(Silent(), None)
+            self._run_number, self._progress = keys["run"], Watched(SILENT, None)
             self._progress.begin(None)
         self._progress.saw(frame, reply)
         self._last_frame = time.monotonic()
         self._tell_progress()
 
     def _tell_progress(self) -> None:
-        """Shows how far a run is; not each frame, since there are many."""
-        now = time.monotonic()
-        if not self._run_number or now < self._next_progress:
-            return
-        self._next_progress = now + PROGRESS_SECONDS
-        self._board.put("progress", {"run": self._run_number, "frames": self._progress.frames,
-                                     "found": list(map(uid_text, sorted(self._progress.found or ()))),
-                                     "is_over": now > self._last_frame + LOOK_SECONDS})
+        """Shows how far a run is."""
+        if self._run_number:
+            self._board.put("progress", {"run": self._run_number, "frames": self._progress.frames,
+                                         "found": list(map(uid_text, sorted(self._progress.found or ()))),
+                                         "is_over": time.monotonic() > self._last_frame + LOOK_SECONDS})
 
     def _take_request(self, keys: Keys, frame: bytes, reply: Optional[bytes]) -> None:
         """Shows a request with what came last for it."""
         number, client, command = keys["request"], keys.get("client"), decode_packet(frame)
         known = self._requests.get(number)
         if known is None:
-            known = {"at": self._numbers, "number": number, "frames": 0}
+            known = {"at": self._numbers, "frames": 0}
             self._numbers += 1
             latest(self._requests, number, known, MOST_REQUESTS)
-        text, is_good = outcome_of(frame, command, reply, self._parts)
-        known.update(client=client, command=command_of(frame)[:MOST_TEXT], answer=text[:MOST_TEXT], is_good=is_good,
-                     frames=known["frames"] + 1)
+        joined = self._parts.joined(frame, reply)
+        is_good = (command is not None and joined.response is not None and is_answer(reply or b"", frame)
+                   and joined.response.port_or_type != ResponseType.NACK_REASON)
+        known.update(client=client, command=command_of(frame)[:MOST_TEXT], frames=known["frames"] + 1,
+                     answer=answer_text(frame, joined)[:MOST_TEXT], is_good=is_good)
         self._board.put(f"request/{known['at'] % MOST_REQUESTS}", dict(known))
         if command is None or command.command_class != CommandClass.SET or command.pid not in SHOWN:
             return
-        if client not in self._rig.hands.numbers and (is_good or is_broadcast(command.destination)):
-            self._rig.read_again(Uid.from_number(command.destination))
-
-
-def outcome_of(frame: bytes, command: Optional[Packet], reply: Optional[bytes], parts: Parts) -> Tuple[str, bool]:
-    """What came after a request's frame, and whether it is what was wanted."""
-    joined = parts.joined(frame, reply)
-    response = joined.response
-    is_good = (response is not None and command is not None and is_answer(reply or b"", frame)
-               and response.port_or_type != ResponseType.NACK_REASON)
-    return answer_text(frame, joined), is_good
+        uid = Uid.from_number(command.destination)
+        if client not in self._rig.hands.numbers and (is_good or uid.is_broadcast):
+            self._rig.read_those(lambda entry: uid.is_broadcast or entry.device.uid == uid, not uid.is_broadcast)
