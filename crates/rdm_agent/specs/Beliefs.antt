@@ -134,11 +134,11 @@ abbrev pub ready : Belief → Belief
 ready b = past_zero (restarted b)
 
 -- NOISE. Noise may be taken for an answer. A sweep judges by the noise level, from 0 to 31, how likely that is: only
--- while it isn't 0, a bad answer is asked again. So a line without noise has no such questions
+-- while it isn't 0, a range is asked again after a bad answer. So a line without noise has no such questions
 abbrev pub louder : ℕ → Belief → Belief
 louder n b = record b { level = min (b.level + n) 31 }
 
--- After a bad answer the range was asked again, and isn't believed to have answered
+-- a belief once the bad answer that was doubted, if any, proves to be noise
 abbrev pub settled : Belief → Belief
 settled b = if b.doubt == 0 then b else record (louder 4 b) { doubt = 0 }
 
@@ -173,7 +173,7 @@ lower_silent r b = record b { at = r.hi + 1; quiet = min (b.quiet + 1) 3 }
 abbrev pub rest_silent : Belief → Belief
 rest_silent b = record (begin_again b) { need = if (b.begun == 0) && (b.level == 0) then b.need else 1 }
 
--- this part and range. All of the range that answered is just asked again
+-- after a silence of this part and range that is believed. All of the range that answered is just asked again
 abbrev pub part_silent : Part → Span → Belief → Belief
 part_silent Fresh r b = fresh_silent r b
 part_silent Lower r b = lower_silent r b
@@ -181,7 +181,7 @@ part_silent Rest r b = rest_silent b
 part_silent All r b = b
 part_silent Whole r b = record b { again = false }
 
--- after a silence of this part and range. If it was asked again after a bad answer, one silence isn't believed
+-- after a silence of this part and range. If it was asked again after a bad answer, only a second silence is believed
 abbrev pub believed_silent : Part → Span → Belief → Belief
 believed_silent part r b = if b.doubt == 1 then record b { doubt = 2 } else part_silent part r (settled b)
 
@@ -247,8 +247,8 @@ lower_apart r b =
 abbrev pub all_apart : Span → Belief → Belief
 all_apart r b = split_at (if nat_lt r.hi b.at then r.lo else b.at) b.begun b.back r b
 
--- Whether a bad answer of the whole range, after so many silences in a row, is asked again first: once, if noise is
--- likely
+-- Whether the whole range, which was silent so often in a row and then answered badly, is asked again first: once, if
+-- noise is likely
 abbrev pub asks_whole_again : ℕ → Belief → Bool
 asks_whole_again silences b = not b.again && (nat_lt 0 b.level || (b.found_nothing || nat_lt 1 silences))
 
@@ -262,6 +262,7 @@ next_pass r b = record (split_at 0 0 b.back r b) {
   again = false;
 }
 
+-- the whole range after a pass: it is asked again first if noise is likely; otherwise another pass begins
 abbrev pub whole_apart : Span → ℕ → Belief → Belief
 whole_apart r silences b = if asks_whole_again silences b then record b { again = true } else next_pass r b
 
@@ -269,17 +270,19 @@ whole_apart r silences b = if asks_whole_again silences b then record b { again 
 abbrev pub is_in_vain : Belief → Bool
 is_in_vain b = b.found_nothing && b.again
 
--- whether a bad answer of another range is asked again first
+-- whether another range is asked again first after a bad answer
 abbrev pub is_doubted : Belief → Bool
 is_doubted b = nat_lt 0 b.level && (b.doubt == 0)
 
--- a belief that doubts a bad answer, and one that believes it after it was asked again
+-- a belief that doubts a bad answer, so that its range is asked again
 abbrev pub doubting : Belief → Belief
 doubting b = record b { doubt = 1 }
 
+-- a belief once the answer that was doubted, if any, came again: it is believed, and the line counts as less noisy
 abbrev pub convinced : Belief → Belief
 convinced b = if b.doubt == 0 then b else record b { doubt = 0; level = b.level - 1 }
 
+-- a fresh range
 abbrev pub fresh_apart : Span → Belief → Belief
 fresh_apart r b = split_at b.at 0 b.back r b
 

@@ -222,8 +222,8 @@ abbrev pub is_last : Part → Bool
 is_last Whole = true
 is_last _ = false
 
--- what it asked collided, and then the last range was silent so often. If a pass found nothing, the steady search
--- begins
+-- what it asked collided, and then the last range was silent so often. If a pass found nothing, and the whole range
+-- was asked again, too, the steady search begins
 abbrev pub sweep_split : Sweep → Span → ℕ → ℕ → Phase
 sweep_split sweep last silences found =
     if is_last sweep.question.part && is_in_vain sweep.belief then search_whole 0

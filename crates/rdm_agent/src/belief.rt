@@ -29,7 +29,7 @@ const BEGUN: u8 = 4;
 /// By how much the width of the next range grows at most.
 const MOST_GROWTH: u64 = 1 << 32;
 
-/// What a range adds to the noise level that was silent four times in a row after it had answered.
+/// By how much the noise level rises if a range that answered is then silent four times in a row.
 const LEVEL_OF_A_RANGE: u8 = 16;
 
 /// With how many UIDs below it a single UID is asked at most.
@@ -59,8 +59,9 @@ pub(crate) struct Question {
     pub(crate) range: UidRange,
 }
 
-/// What a sweep believes. An answer is certain, and a silence may be a loss. So it remembers the range that answered.
-/// No promise depends on this: it decides only what the sweep asks.
+/// What a sweep believes. On an honest line an answer is certain, and a silence may be a loss. So it remembers the
+/// range that answered. On a noisy line it asks again before it believes a bad answer. No promise depends on this: it
+/// decides only what the sweep asks.
 #[derive(Clone, Copy, Debug, PartialEq, Eq)]
 pub(crate) struct Belief {
     /// The UIDs below were given up in this pass.
@@ -87,11 +88,11 @@ pub(crate) struct Belief {
     pub(crate) suspect: Option<Uid>,
     /// Whether nothing was found in this pass so far, and it isn't the first.
     pub(crate) found_nothing: bool,
-    /// Whether all UIDs were asked again after a bad answer.
+    /// Whether all UIDs are asked again after a bad answer.
     pub(crate) again: bool,
-    /// The noise level: 0 to 31. While it isn't 0, bad answers are asked again.
+    /// The noise level: 0 to 31. While it isn't 0, a range is asked again after a bad answer.
     pub(crate) level: u8,
-    /// Whether a bad answer is asked again: 0 if not, 1 if it is, and 2 after a silence.
+    /// Whether a range is asked again after a bad answer: 0 if not, 1 if it is, and 2 after a silence.
     pub(crate) doubt: u8,
     /// The UID that a branch spelt last.
     pub(crate) spelt: Option<Uid>,
@@ -187,7 +188,7 @@ impl Belief {
         }
     }
 
-    /// After a silence. If a bad answer was asked again, one silence isn't believed.
+    /// After a silence. If the range was asked again after a bad answer, only a second silence is believed.
     pub(crate) fn silent(self, asked: Question) -> Belief
         requires small { IsSmall self }
         ensures value { result ≡ believed_silent asked.part asked.range self }
@@ -215,7 +216,8 @@ impl Belief {
         }
     }
 
-    /// After a collision in what was asked, which had been silent this many times in a row. It has two devices.
+    /// After a bad answer of what was asked, which had been silent this many times in a row. It has two devices, but if
+    /// noise is likely it is asked again first.
     pub(crate) fn apart(self, asked: Question, silences: u8) -> Belief
         requires small { IsSmall self }
         ensures value { result ≡ believed_apart asked.part asked.range silences self }

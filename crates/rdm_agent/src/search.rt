@@ -14,6 +14,7 @@ pub enum Search {
     ///
     /// On a noisy line each disturbed exchange adds at most 15 frames, if no more than seven branches in a row are
     /// disturbed. It asks one UID alone again after a bad answer, up to [`BAD_ANSWERS`](crate::BAD_ANSWERS) times in a
-    /// row. Garbled replies to a mute, up to eight of them, don't count as lost.
+    /// row. While the line seems noisy, the sweep asks other ranges again, too. Garbled replies to a mute, up to eight
+    /// of them, don't count as lost.
     Quick,
 }

@@ -22,12 +22,13 @@ use std::alloc::Global;
 pub struct Judged {
     /// For each device that is judged, in order, the first exchange that breaks a rule towards it.
     pub devices: Vec<DeviceFinding>,
-    /// The first exchange with such bytes, and how many such exchanges come after it.
+    /// The first exchange with such bytes, and how many such exchanges come after it. `None`: there is none before the
+    /// line fails.
     pub stray: Option<Sighting>,
 }
 
 /// Judges the first `many` devices of `uids` as `first_breaches` does. In the same pass, finds the first exchange that
-/// was answered, be it by an acknowledgement, although no device of two lists was due:
+/// was answered, be it by an acknowledgement, although no device of `uids` and `passing` was due:
 /// - a branch, and each device was outside of its range, or muted;
 /// - a mute of a UID that is in neither list.
 ///

@@ -90,7 +90,7 @@ pub(crate) fn watch_all(alloc: Global, uids: &[Uid]) -> Result<Vec<Watch>, NoMem
     Ok(watches)
 }
 
-/// All of them hear an exchange. Each arm has a loop of its own, since its exchange has a kind that the compiler knows.
+/// All of them hear an exchange. Each arm has a loop of its own, in which the compiler knows what was asked.
 pub(crate) fn hear_all(watches: &mut Vec<Watch>, at: usize, exchange: &Exchange)
     requires counted { AllByRecursion (IsCounted at) watches.old.items }
     requires few { at < 2 ^ 63 }

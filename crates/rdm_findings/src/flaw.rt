@@ -68,7 +68,7 @@ fn flaw_of_bytes(frame: &Frame, event: &LineEvent, bytes: &[u8]) -> Option<Flaw>
     }
 }
 
-// Why bytes don't acknowledge a mute of a broadcast UID, which is no command that is read.
+// Why bytes don't acknowledge a mute of a broadcast UID, which `read_command` doesn't read.
 fn flaw_of_broadcast(exchange: &Exchange) -> Option<Flaw>
     ensures { result ≡ flaw_of_broadcast (seen_of exchange.now).asked (seen_of exchange.now).heard }
 {

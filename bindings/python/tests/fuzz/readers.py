@@ -60,7 +60,7 @@ log_lines = some.dictionaries(names, values | entries, max_size=8).map(json.dump
 RUNS = [Run("discovery", 0, "sfaon", Outcome.COMPLETE, 1)]
 members = some.sampled_from(
     "passing runs broken fault exchanges first run kind search end uid devices heard findings judgement sentence "
-    "exchange".split())
+    "exchange found".split())
 found_values = some.recursive(values, lambda inner: some.dictionaries(members, inner, max_size=8) | some.lists(inner))
 documents = some.fixed_dictionaries({"passing": found_values, "runs": some.lists(found_values)}).map(
     lambda found: json.dumps(found).encode())

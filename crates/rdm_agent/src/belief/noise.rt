@@ -8,14 +8,14 @@ use super::Belief;
 /// The highest noise level.
 const MOST_LEVEL: u8 = 31;
 
-/// What a bad answer adds to the noise level that wasn't repeated.
+/// By how much the noise level rises after a bad answer that wasn't repeated.
 const LEVEL_OF_AN_ANSWER: u8 = 4;
 
-/// So many silences in a row before a bad answer of all UIDs make it likely to be noise.
+/// After this many silences in a row, a bad answer of all UIDs is likely to be noise.
 const SILENCES_DOUBTED: u8 = 2;
 
 impl Belief {
-    /// The same on a line that is noisier by this.
+    /// The same with a noise level that is higher by this, up to its maximum.
     pub(crate) fn louder(self, by: u8) -> Belief
         requires small { IsSmall self }
         requires by { by ≤ 16 }
@@ -59,14 +59,14 @@ impl Belief {
         }
     }
 
-    /// Whether a bad answer of some UIDs is asked again first.
+    /// Whether a range that answered badly is asked again first.
     pub(crate) fn is_doubted(&self) -> bool
         ensures { result ≡ is_doubted self.now }
     {
         self.level > 0 && self.doubt == 0
     }
 
-    /// Whether a bad answer of all UIDs after this many silences in a row is asked again first.
+    /// Whether all UIDs, which were silent this many times in a row and then answered badly, are asked again first.
     pub(crate) fn asks_whole_again(&self, silences: u8) -> bool
         ensures { result ≡ asks_whole_again silences self.now }
     {

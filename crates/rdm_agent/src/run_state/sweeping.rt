@@ -180,7 +180,7 @@ fn sweep_silent(sweep: Sweep, found: usize) -> Phase
 }
 
 // What a sweep asked collided. Then the range `last` was silent this many times in a row. If all UIDs collide after a
-// pass that found nothing, the steady search begins.
+// pass that found nothing, and were asked again, too, the steady search begins.
 pub(super) fn sweep_split(sweep: Sweep, last: UidRange, silences: u8, found: usize) -> Phase
     requires found { found ≤ 1025 }
     requires silences { silences < TRIES }
