@@ -5,7 +5,7 @@ import unittest
 from typing import Dict, List, Sequence, Tuple
 
 from common import (
-    FIRMWARES, LOSSES, SEEDS, SEEDS_OF_LARGE_RIGS, Collide, TestCase, adapter, one, random_scene, uids_of,
+    FIRMWARES, LOSSES, SEEDS, SEEDS_OF_LARGE_RIGS, Collide, LongTestCase, TestCase, adapter, one, random_scene, uids_of,
 )
 from search import TIMEOUT, Answer, Controller, discover
 from wurstlinen.lines import EnttecPro, Rig
@@ -29,7 +29,7 @@ GETS: Sequence[Tuple[int, bytes]] = (
 )
 
 
-class Discoveries(TestCase):
+class Discoveries(LongTestCase):
     def check(self, widget: Widget, count: int, loss: float, seeds: int) -> None:
         with adapter(Rig(one()), widget) as (driver, emulator):
             for seed in range(seeds):
