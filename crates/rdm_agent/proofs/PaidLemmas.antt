@@ -20,6 +20,7 @@ use Rattle.rdm_agent.proofs.Common.{known_lost, Searching, MutingKnown}
 use Rattle.rdm_agent.proofs.Potential.{Watched}
 use Rattle.rdm_agent.proofs.Common.{NoisyStep, MuteMovesInNoise, has_bytes, lower_half, upper_half}
 use Rattle.rdm_wire.specs.Noisy.{is_disturbed_branch}
+use Rattle.rdm_agent.specs.Apart.{without}
 
 -- a phase that costs an exchange less
 pub record Cheaper (search : Search) (present : List ℕ) (line : Watched) (found : List ℕ) (cost : ℕ)
@@ -51,7 +52,13 @@ search_from-costs Quick present found line cost [] n enough ahead =
     record {
       left = n;
       saves = omega arith;
-      costs = record { few = omega arith; below = omega arith; enough = omega (arith, ahead) };
+      costs = record {
+        few = omega arith;
+        below = omega arith;
+        enough = omega (arith, ahead);
+        alone = λ one. omega arith;
+        vain = λ u is. absurd (true≢false (sym is));
+      };
     }
 search_from-costs search present found line cost (u ∷ known) n enough ahead =
     record {
@@ -334,6 +341,8 @@ module _ (present : List ℕ) (set : IsDeviceSet present) (few : length present 
             frames = a.frames + 1;
             search = a.search;
             found = with_device (device_from u ack) a.found;
+            apart = without u a.apart;
+            more = a.more;
             phase = phase;
           })
       at_new absent room =

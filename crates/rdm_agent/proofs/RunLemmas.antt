@@ -31,6 +31,7 @@ use Rattle.rdm_agent.proofs.CorruptLemmas.{is_new-device, corrupt-reply, corrupt
 use Rattle.rdm_agent.proofs.CorruptLemmas.{not_corrupt-several, sound-silent, sound-acked}
 use Rattle.rdm_agent.proofs.Invariant.{EndsWith, IsFound, MutesKnown, Searches, IsUnmuting, IsMutingKnown, IsSearching}
 use Rattle.rdm_agent.proofs.Invariant.{IsMutingRead, WasSpelt, InPhase, RunInvariant}
+use Rattle.rdm_agent.specs.Apart.{without}
 
 -- an exchange
 abbrev pub exchange : Asked → Heard → Seen
@@ -131,6 +132,8 @@ module _ (kind : Kind) (known : List ℕ) (budget : ℕ) (x : List Seen) (a : Ag
             frames = a.frames + 1;
             search = a.search;
             found = with_device d a.found;
+            apart = without u a.apart;
+            more = a.more;
             phase = phase;
           })
       at_new new space =

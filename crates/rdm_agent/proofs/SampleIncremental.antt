@@ -57,6 +57,8 @@ ended = record {
   frames = 17;
   search = Steady;
   found = sample_device ∷ other_device ∷ [];
+  apart = [];
+  more = false;
   phase = Ended None;
 }
 

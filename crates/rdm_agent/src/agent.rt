@@ -15,6 +15,7 @@ ghost use Rattle.rdm_agent.specs.Statements.{IsInOrder, IsInEach, IsInOne};
 ghost use Rattle.rdm_agent.specs.Bound.{IsUndisturbed, StaysInBound, IsInNoise, enough_by, with_exchange};
 ghost use Rattle.rdm_agent.specs.declared.op.Op.TheVariants.{End};
 
+use crate::apart::UidsApart;
 use crate::fault::AgentFault;
 use crate::kind::Kind;
 use crate::known::KnownLeft;
@@ -30,7 +31,7 @@ use std::mem::size_of;
 
 /// One discovery run by E1.20's discovery commands, between an exchange and the next.
 ///
-/// It is a plain value of 41,976 bytes, allocates nothing and stores no exchanges. Contracts see it as the state of a
+/// It is a plain value of 42,144 bytes, allocates nothing and stores no exchanges. Contracts see it as the state of a
 /// machine: its budget, how many exchanges it has made, the devices found, and its phase.
 #[derive(Debug, Drop)]
 pub struct Agent {
@@ -41,7 +42,7 @@ pub struct Agent {
 }
 
 // The size that the docs state.
-const _: () = prove!(size_of::<Agent>() == 41_976);
+const _: () = prove!(size_of::<Agent>() == 42_144);
 
 impl Model for Agent {
     ghost use Rattle.rdm_agent.specs.Machine.{AgentState};
@@ -79,6 +80,8 @@ impl Agent {
                 known: KnownLeft::new(kind, known),
                 found: DeviceSet::new(),
                 below: RangesBelow::new(),
+                apart: UidsApart::new(),
+                more: false,
             },
         }
     }

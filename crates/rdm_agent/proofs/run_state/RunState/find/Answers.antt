@@ -2,6 +2,7 @@ use Rattle.rdm_agent.proofs.Common.{◌≡◌, ◌+◌, ◌<◌, ◌≤◌, Bool
 use Rattle.rdm_agent.proofs.Common.{length-map, has, IsDeviceSet, uids_of, with_device, Device, MOST_DEVICES}
 use Rattle.rdm_agent.proofs.Common.{AgentState, Phase, to_found, found_uids, state_of, seen_phase}
 use Rattle.rdm_wire.proofs.DeviceLemmas.{with_device-present}
+use Rattle.rdm_agent.specs.Apart.{without}
 use Rattle.rdm_agent.proofs.run_state.RunState.find.Goals as goal
 
 -- a device that is found, where there is room for it
@@ -12,6 +13,8 @@ found : (a : AgentState) (d : Device) (phase : Phase) (b : Bool) → has (found_
       frames = a.frames + 1;
       search = a.search;
       found = with_device d a.found;
+      apart = without d.uid a.apart;
+      more = a.more;
       phase = phase;
     } ≡ to_found a d phase
 found a d phase true e devices room = rw (e, with_device-present d a.found devices.ascending e) refl
