@@ -1,88 +1,59 @@
-"""Debian's chromium without a screen: it opens pages, clicks, and says what happens in them."""
+"""Debian's chromium without a screen, by selenium: it opens pages, clicks, and says what happens in them."""
 from __future__ import annotations
 
-import base64
 import contextlib
+import importlib.util
 import json
 import os
 import shutil
-import signal
-import subprocess
 import tempfile
 import time
 import unittest
 from pathlib import Path
 from typing import Any, Dict, Iterator, List
 
-CHROMIUM = shutil.which("chromium")
-# It takes commands from its descriptor 3, and writes to its descriptor 4. Pages run in this user's own processes.
-START = 'exec "$0" "$@" 3<&"$FROM" 4>&"$TO"'
+CHROMIUM, DRIVER = shutil.which("chromium"), shutil.which("chromedriver")
+HAS_ALL = CHROMIUM and DRIVER and importlib.util.find_spec("selenium")
+# By its pipe it ends as soon as its driver does. Pages run in this user's own processes.
 OPTIONS = ("--headless", "--no-sandbox", "--disable-gpu", "--disable-dev-shm-usage", "--disable-background-networking",
            "--no-first-run", "--remote-debugging-pipe", "--window-size=1400,900", "--force-device-scale-factor=1")
+LOGS = {"browser": "SEVERE", "performance": "ALL"}
 READY = "document.documentElement?.dataset.ready === 'yes'"
 
 
 def needs_chromium(test: Any) -> Any:
-    """Skips a test if chromium isn't installed."""
-    return test if CHROMIUM else unittest.skip("needs chromium")(test)
+    """Skips a test if chromium, its driver or selenium isn't installed."""
+    return test if HAS_ALL else unittest.skip("needs chromium, chromium-driver and python3-selenium")(test)
 
 
 class Page:
     """A page in a browser of its own."""
 
-    def __init__(self, from_browser: int, to_browser: int) -> None:
-        self._from = os.fdopen(from_browser, "rb")
-        self._to = os.fdopen(to_browser, "wb")
-        self._number = 0
-        self._session = ""
-        self._left = b""
-        # What was thrown or logged as an error, and the addresses that were asked for.
-        self.errors: List[str] = []
-        self.requests: List[str] = []
-        target = self.call("Target.createTarget", url="about:blank")["targetId"]
-        self._session = self.call("Target.attachToTarget", targetId=target, flatten=True)["sessionId"]
-        for part in ("Page", "Runtime", "Network", "Log"):
-            self.call(f"{part}.enable")
+    def __init__(self, driver: Any) -> None:
+        self._driver = driver
+        self._errors: List[str] = []
+        self._requests: List[str] = []
+        # The driver has opened an empty page.
+        driver.get_log("performance")
 
-    def close(self) -> None:
-        """Closes the pipes, which ends the browser."""
-        self._to.close()
-        self._from.close()
+    @property
+    def errors(self) -> List[str]:
+        """What was thrown or logged as an error."""
+        self._errors += [str(entry) for entry in self._driver.get_log("browser")]
+        return self._errors
+
+    @property
+    def requests(self) -> List[str]:
+        """The addresses that were asked for."""
+        said = [json.loads(entry["message"])["message"] for entry in self._driver.get_log("performance")]
+        self._requests += [each["params"]["request"]["url"] for each in said
+                           if each["method"] == "Network.requestWillBeSent"]
+        return self._requests
 
     def call(self, method: str, **keys: Any) -> Dict[str, Any]:
-        """The result of a command. Raises AssertionError if it is refused."""
-        self._number += 1
-        message: Dict[str, Any] = {"id": self._number, "method": method, "params": keys}
-        if self._session:
-            message["sessionId"] = self._session
-        self._to.write(json.dumps(message).encode() + b"\x00")
-        self._to.flush()
-        while True:
-            said = self._next()
-            if said.get("id") == self._number:
-                assert "error" not in said, said
-                found: Dict[str, Any] = said["result"]
-                return found
-            self._note(said)
-
-    def _next(self) -> Dict[str, Any]:
-        while b"\x00" not in self._left:
-            data = os.read(self._from.fileno(), 1 << 16)
-            if not data:
-                raise EOFError("chromium has ended")
-            self._left += data
-        message, _, self._left = self._left.partition(b"\x00")
-        found: Dict[str, Any] = json.loads(message)
+        """The result of a command. Raises WebDriverException if it is refused."""
+        found: Dict[str, Any] = self._driver.execute_cdp_cmd(method, keys)
         return found
-
-    def _note(self, said: Dict[str, Any]) -> None:
-        method, params = said.get("method"), said.get("params", {})
-        if method == "Runtime.exceptionThrown":
-            self.errors.append(str(params["exceptionDetails"]))
-        elif method == "Log.entryAdded" and params["entry"]["level"] == "error":
-            self.errors.append(str(params["entry"]))
-        elif method == "Network.requestWillBeSent":
-            self.requests.append(params["request"]["url"])
 
     def value(self, text: str) -> Any:
         """What JavaScript is worth."""
@@ -107,28 +78,21 @@ class Page:
         for kind in ("mousePressed", "mouseReleased"):
             self.call("Input.dispatchMouseEvent", type=kind, x=x, y=y, button="left", clickCount=1)
 
-    def picture(self, file: Path) -> None:
-        """Writes what is seen as PNG."""
-        file.write_bytes(base64.b64decode(self.call("Page.captureScreenshot", format="png")["data"]))
-
 
 @contextlib.contextmanager
 def browser() -> Iterator[Page]:
     """A page, for the duration of a `with`."""
-    from_us, to_browser = os.pipe()
-    from_browser, to_us = os.pipe()
-    assert CHROMIUM
+    from selenium import webdriver
+    from selenium.webdriver.chrome.service import Service
+    options = webdriver.ChromeOptions()
+    options.binary_location = CHROMIUM
+    options.page_load_strategy = "none"
+    options.set_capability("goog:loggingPrefs", LOGS)
+    # Else a bar says so above the page, which takes its place.
+    options.add_experimental_option("excludeSwitches", ["enable-automation"])
+    for option in OPTIONS:
+        options.add_argument(option)
     with tempfile.TemporaryDirectory(prefix="chromium.", ignore_cleanup_errors=True) as place:
-        child = subprocess.Popen(
-            ["bash", "-c", START, CHROMIUM, *OPTIONS, f"--user-data-dir={place}", "about:blank"],
-            pass_fds=(from_us, to_us), env={**os.environ, "FROM": str(from_us), "TO": str(to_us), "HOME": place},
-            stderr=subprocess.DEVNULL, start_new_session=True)
-        os.close(from_us)
-        os.close(to_us)
-        try:
-            page = Page(from_browser, to_browser)
-            yield page
-            page.close()
-        finally:
-            os.killpg(child.pid, signal.SIGKILL)
-            child.wait()
+        service = Service(DRIVER, env={**os.environ, "HOME": place, "TMPDIR": place})
+        with webdriver.Chrome(options=options, service=service) as driver:
+            yield Page(driver)

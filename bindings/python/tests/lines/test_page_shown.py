@@ -64,6 +64,20 @@ def drawn(name: str, log: str, found: bytes, labels: Mapping[int, str] = {}) -> 
 
 
 @needs_chromium
+class Noted(unittest.TestCase):
+    """What the tests of pages rely on."""
+
+    def test_errors_and_requests_are_noted(self) -> None:
+        address = "http://127.0.0.1:9/asked"
+        with browser() as seen:
+            seen.value("setTimeout(() => { throw new Error('thrown'); }), new Promise((done) => setTimeout(done))")
+            seen.value(f"Promise.reject(new Error('rejected')), fetch('{address}').catch(() => 0)")
+            for word in ("Error: thrown", "Error: rejected", address):
+                self.assertEqual(sum(word in each for each in seen.errors), 1, word)
+            self.assertEqual(seen.requests, [address])
+
+
+@needs_chromium
 class Shown(TestCase):
     """Pages in a browser."""
 

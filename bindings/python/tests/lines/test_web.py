@@ -46,6 +46,7 @@ class Fixtures(LongTestCase):
             self.assertEqual(seen.value(f"{row(LEFT)} .label"), BAD)
             self.assertEqual(seen.page.value("[window.bad ?? 0, document.images.length]"), [0, 0])
             seen.button("Undo (2)")
+            seen.until("document.querySelector('.message')?.innerText.includes('address 1 -> 20')")
             seen.button("Undo (1)")
             events.until(lambda parts: parts[f"fixture/{LEFT}"]["label"] == "Front left")
             seen.until(f"document.querySelector(\"{row(LEFT)} .label\").value === 'Front left'")
@@ -234,6 +235,8 @@ class OtherViews(LongTestCase):
             seen.until(f"document.querySelector(\"{piece}\")")
             self.assertEqual(seen.page.value("[...document.querySelectorAll('button.crowded')].map((each) => "
                                              "each.dataset.uid)"), [LEFT, HOUSE, SECOND])
+            # Five fixtures have 7, 7, 1, 1 and 1 slots, of which three share the first one.
+            self.assertIn("497 slots are free, 1 shared.", seen.texts("main p"))
             x, y = way(seen, 8, 8 + 3 + 64)
             seen.drag(piece, x, y)
             events.until(lambda parts: parts.get(f"fixture/{RIGHT}", {}).get("address") == 8 + 3 + 64)
@@ -319,7 +322,7 @@ class OtherViews(LongTestCase):
             seen.button("Discover")
             sections = "Object.fromEntries([...document.querySelectorAll('main section')].map((each) => " \
                        "[each.firstChild.textContent, each.lastChild.textContent]))"
-            seen.until(f"{sections}['Missing']?.includes('1234:00000099 ')")
+            seen.until(f"{sections}['Missing']?.includes('Lost (1234:00000099) ')")
             found = seen.page.value(sections)
             self.assertIn("4444:00000001 ", found["Fixtures that did something wrong"])
             self.assertNotIn("4444:00000001", found["Missing"])
@@ -331,7 +334,7 @@ class OtherViews(LongTestCase):
                 servers.Program(servers.place.path_of(servers.place.own_folder(), "rig:/it"),
                                 {**servers.HELLO, "name": "console"}) as program:
             seen.until("document.querySelector('main').textContent.includes('console')")
-            seen.button("Pause")
+            seen.button("Pause all")
             seen.until("document.querySelector('#status').textContent.includes('paused')")
             program.say({"do": "get", "uid": LEFT, "pid": "0081"})
             seen.until("document.querySelector('main').textContent.includes('Paused; 1 wait')")

@@ -97,7 +97,7 @@ function header(name) {
     const [text, isBad] = statusText(), last = parts.get("undo");
     return make("header", {}, make("h1", {}, "Wurstlinen"),
         make("p", { id: "status", role: "status", class: classes(isBad && "bad") }, text),
-        button(last ? `Undo (${last.count})` : "Undo", () => act("undo", {}, "Taken back."),
+        button(last ? `Undo (${last.count})` : "Undo", () => act("undo", {}, `Taken back: ${last.text}.`),
             { id: "undo", title: last ? last.text : "nothing was changed", disabled: !mayUse() || !last }),
         make("nav", { "aria-label": "Views" }, Object.entries(TITLES).map(([each, title]) => make("a",
             { href: addressOf(each), "aria-current": each === name ? "page" : null }, title))));

@@ -26,8 +26,9 @@ function progressText(now, last) {
 
 // What is said of devices, or without a UID of the line.
 function section(title, items) {
-    const named = (uid) => (nameOf(fixtureOf(uid))
-        ? [make("a", { href: addressOf("fixture", uid) }, nameOf(fixtureOf(uid))), ` (${uid})`] : [uid]);
+    const labelOf = (uid) => parts.get("file")?.differences.find((each) => each.uid === uid)?.label;
+    const named = (uid) => (nameOf(fixtureOf(uid)) ? [make("a", { href: addressOf("fixture", uid) },
+        nameOf(fixtureOf(uid))), ` (${uid})`] : [labelOf(uid) ? `${labelOf(uid)} (${uid})` : uid]);
     return items.length > 0 && make("section", {}, make("h3", {}, title), make("ul", {},
         items.map(({ uid = "", text }) => make("li", {}, named(uid), ` ${text}`))));
 }

@@ -43,7 +43,7 @@ export function view() {
     return [make("h2", { class: "hidden" }, "Line"),
         make("p", {}, now?.served ? `${now.name} is served by process ${now.process}, as ${now.source}.`
             : "No server runs."),
-        make("div", { class: "tools" }, button(paused ? "Go on" : "Pause", () => act("pause", { on: !paused }),
+        make("div", { class: "tools" }, button(paused ? "Go on" : "Pause all", () => act("pause", { on: !paused }),
             { disabled: !mayUse() || !now?.served }), make("p", { role: "status" }, waitingText(paused, count))),
         table("Programs", { Program: "name", Process: "process", Waiting: "waits", Pause: "paused" },
             clients.map((each) => ({ key: each.client, texts: [nameOf(each.client), String(each.process ?? "gone"),

@@ -118,7 +118,7 @@ export function view() {
     const problems = (parts.get("problems") ?? []).map((each) => [fixtureOf(each.uid), problemOf(each, each.uid)]);
     const opened = ({ target: { dataset: { uid } } }) => uid && (location.hash = addressOf("fixture", uid));
     return [make("h2", { class: "hidden" }, "Slots"), make("p", { class: "hint", role: "status" }, hint(fixtures)),
-        make("p", {}, `${free} slots are free${crowded ? `, ${crowded} overlap` : ""}.`),
+        make("p", {}, `${free} slots are free${crowded ? `, ${crowded} shared` : ""}.`),
         make("ul", { class: "problems" }, problems.map(([found, text]) =>
             make("li", {}, `${found ? `${nameOf(found)} ${slotsOf(found)}` : ""} ${text}`))),
         make("div", { class: "universe", role: "group", "aria-label": "512 slots", style: `--columns: ${width()}`,
