@@ -36,6 +36,14 @@ class Findings(TestCase):
                          [("run 7", 0, "sss"), ("discovery", 3, "sss"), ("discovery", 6, "sss")])
         self.assertEqual(list(found.lines()), ["passes", "head", "silent", "head", "bytes", "head", "gap", "late"])
 
+    def test_a_certificate_is_explained(self) -> None:
+        said = "discovery: quick, 18 exchanges, 2 devices; its certificate is complete"
+        explained = "discovery: quick, 18 exchanges, 2 devices; nothing else can be on this line if it is honest"
+        found = page_findings.findings_in(document([{**self.run_with("complete"), "findings": [
+            finding("complete", said), finding("found", "a label; its certificate is complete")]}]))
+        self.assertEqual([each.explained for each in found.all], [explained, "a label; its certificate is complete"])
+        self.assertEqual(next(found.lines()), said)
+
     def test_the_headline_is_that_of_the_worst_run(self) -> None:
         complete, incomplete, cut = map(self.run_with, ("complete", "incomplete", "undecided"))
         corrupt = self.run_with("incomplete", end="corrupt", uid=LEFT)

@@ -38,8 +38,11 @@ OUTCOMES = {
     Outcome.FAILED: ("The discovery failed.", "{} of {} discoveries failed."),
 }
 BROKEN, UNBROKEN, NO_DISCOVERY = "A rule was broken.", "No broken rule was seen.", "No discovery."
-COMPLETE = "{} found; nothing else can be on this line if it is honest."
-ALL_COMPLETE = "The last of {} discoveries: {} found; nothing else can be on this line if it is honest."
+NOTHING_ELSE = "nothing else can be on this line if it is honest"
+COMPLETE = f"{{}} found; {NOTHING_ELSE}."
+ALL_COMPLETE = f"The last of {{}} discoveries: {{}} found; {NOTHING_ELSE}."
+# How the program's sentence about a complete discovery ends.
+CERTIFIED = "its certificate is complete"
 
 
 @dataclass(frozen=True)
@@ -51,6 +54,11 @@ class Finding:
     uid: Optional[int] = None
     place: Optional[int] = None
     is_head: bool = False
+
+    @property
+    def explained(self) -> str:
+        """The sentence for who doesn't know what a certificate is."""
+        return self.text.replace(CERTIFIED, NOTHING_ELSE) if self.judgement == "complete" else self.text
 
 
 @dataclass(frozen=True)
