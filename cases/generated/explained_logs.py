@@ -15,7 +15,7 @@ FINDS = "3 unmute; all > found; mute found > ack; 5 all"
 FULL = opening("full")
 QUICK = FULL.replace("steady", "quick")
 UNCOVERED = """\
-0000:00000000 is the first UID that wasn't ruled out: it needs five silences in a row of a range that holds it
+0000:00000000 is the first UID that a missed device may have: five silences in a row of a range with it rule it out
 """
 UNTRIED = """\
 exchange 7 mutes a UID that neither acknowledged nor was muted five times in a row: perhaps no device has it
@@ -47,7 +47,7 @@ which the log doesn't have
 # Its exchanges 0 to 3, exchange 3 alone, and those from 5.
 UNMUTED = """\
 discovery: full, steady, 4 exchanges, 0 devices; its certificate is incomplete, or the log ends within the run
-0000:00000000 is the first UID that wasn't ruled out: it needs five silences in a row of a range that holds it
+0000:00000000 is the first UID that a missed device may have: five silences in a row of a range with it rule it out
 exchange 3: bytes came from 0000:00000000 to ffff:ffffffff, where no listed device was due; \
 they read as 1234:00000001, which isn't listed: name it by --present, if it is there
 """
@@ -81,7 +81,7 @@ FAILED = """\
 run 1: full, 2 exchanges, fault 4 (the line failed), 0 devices; its certificate is incomplete
 exchange 2 should be one of the three unmutes that begin a run
 exchange 1 failed: check the adapter and the cable
-0000:00000000 is the first UID that wasn't ruled out: it needs five silences in a row of a range that holds it
+0000:00000000 is the first UID that a missed device may have: five silences in a row of a range with it rule it out
 """
 
 # A new session, and those of logs that continue one: no run is in progress, and discovery 1 may wait; or run 2 is in
@@ -114,7 +114,7 @@ THREE_RUNS = (
 # What one exchange leaves open.
 GAPS = """\
 exchange 1 should be one of the three unmutes that begin a run
-0000:00000000 is the first UID that wasn't ruled out: it needs five silences in a row of a range that holds it
+0000:00000000 is the first UID that a missed device may have: five silences in a row of a range with it rule it out
 """
 
 # A known device, in a run that ended too soon.
@@ -210,7 +210,7 @@ CROWDED = """\
 discovery: full, steady, 1028 exchanges, fault 2 (more than 1,024 devices answered), 1024 devices; \
 its certificate is incomplete
 1234:00000401 acknowledged a mute, but isn't reported: a run reports at most 1,024 devices
-0000:00000000 is the first UID that wasn't ruled out: it needs five silences in a row of a range that holds it
+0000:00000000 is the first UID that a missed device may have: five silences in a row of a range with it rule it out
 exchange 3 mutes a UID that no earlier branch had read
 """ + "".join(f"1234:{number:08x} was found, and followed the rules\n" for number in range(1, 1025)) + """\
 exchange 1027: bytes came after a mute of 1234:00000401, which isn't listed; \

@@ -35,7 +35,7 @@ status 3
 other bytes from another UID alone, with which a run ends
 3 unmute; alone spare > noise
 4 exchanges, fault 1 1234:00000008 (its answer showed no new device), 0 devices; its certificate is incomplete
-0000:00000000 is the first UID that wasn't ruled out: it needs five silences in a row of a range that holds it
+0000:00000000 is the first UID that a missed device may have: five silences in a row of a range with it rule it out
 1234:00000009 wasn't found: the run ended before it was ruled out; it broke no rule until then
 exchange 3: bytes came from 1234:00000008 alone that aren't its text; \
 a rule was broken, by it, another device or noise: try each device alone on the line
@@ -62,18 +62,18 @@ other bytes after a mute of all devices, and after one of a device
 3 unmute; mute nobody > noise; mute liar > noise
 5 exchanges, 0 devices; its certificate is incomplete, or the log ends within the run
 exchange 3 mutes a UID that neither acknowledged nor was muted five times in a row: perhaps no device has it
-0000:00000000 is the first UID that wasn't ruled out: it needs five silences in a row of a range that holds it
+0000:00000000 is the first UID that a missed device may have: five silences in a row of a range with it rule it out
 1234:00000009 was to mute, and other bytes came: exchange 4 has no acknowledgement; \
 a rule was broken, by it, another device or noise: try it alone, then the others
 exchange 3 (and 1 more): bytes came after a mute of ffff:ffffffff that don't acknowledge it: \
 no device may answer a broadcast; \
-a rule was broken, by it, another device or noise: try each device alone on the line
+a rule was broken, by a device or noise: try each device alone on the line
 status 3
 
 another UID's text from it alone, after which a run goes on
 3 unmute; alone spare > spare
 4 exchanges, 0 devices; its certificate is incomplete, or the log ends within the run
-0000:00000000 is the first UID that wasn't ruled out: it needs five silences in a row of a range that holds it
+0000:00000000 is the first UID that a missed device may have: five silences in a row of a range with it rule it out
 1234:00000009 wasn't found yet; it followed the rules in the exchanges that the log has
 exchange 3: bytes came from 1234:00000008 to 1234:00000008, where no listed device was due; \
 they read as 1234:00000008, which isn't listed: name it by --present, if it is there
@@ -82,7 +82,7 @@ status 0
 the same and five mutes of it, with which a run ends
 3 unmute; alone spare > spare; 5 mute spare
 9 exchanges, fault 1 1234:00000008 (its answer showed no new device), 0 devices; its certificate is incomplete
-0000:00000000 is the first UID that wasn't ruled out: it needs five silences in a row of a range that holds it
+0000:00000000 is the first UID that a missed device may have: five silences in a row of a range with it rule it out
 1234:00000009 wasn't found: the run ended before it was ruled out; it broke no rule until then
 1234:00000008 answered alone and then acknowledged no mute: it left, or broke a rule; try it alone on the line
 status 3
@@ -91,7 +91,7 @@ the same, but the line fails at the fifth mute
 3 unmute; alone spare > spare; 4 mute spare; mute spare > failed
 9 exchanges, 0 devices; its certificate is incomplete
 exchange 8 failed: check the adapter and the cable
-0000:00000000 is the first UID that wasn't ruled out: it needs five silences in a row of a range that holds it
+0000:00000000 is the first UID that a missed device may have: five silences in a row of a range with it rule it out
 1234:00000009 wasn't found: exchange 8 failed before it was ruled out; it broke no rule until then
 exchange 3: bytes came from 1234:00000008 to 1234:00000008, where no listed device was due; \
 they read as 1234:00000008, which isn't listed: name it by --present, if it is there
@@ -100,7 +100,7 @@ status 0
 the same with other bytes after each mute
 3 unmute; alone spare > spare; 5 mute spare > noise
 9 exchanges, fault 1 1234:00000008 (its answer showed no new device), 0 devices; its certificate is incomplete
-0000:00000000 is the first UID that wasn't ruled out: it needs five silences in a row of a range that holds it
+0000:00000000 is the first UID that a missed device may have: five silences in a row of a range with it rule it out
 1234:00000009 wasn't found: the run ended before it was ruled out; it broke no rule until then
 1234:00000008 answered alone and then acknowledged no mute: it left, or broke a rule; try it alone on the line
 exchange 4 (and 4 more): bytes came after a mute of 1234:00000008 that don't acknowledge it: \
@@ -113,7 +113,7 @@ LIES = """\
 four silent branches
 3 unmute; 4 all
 discovery: 7 exchanges, 0 devices; its certificate is incomplete, or the log ends within the run
-0000:00000000 is the first UID that wasn't ruled out: it needs five silences in a row of a range that holds it
+0000:00000000 is the first UID that a missed device may have: five silences in a row of a range with it rule it out
 1234:00000009 wasn't found yet; it followed the rules in the exchanges that the log has
 status 0
 
@@ -129,16 +129,26 @@ a broadcast UID that answers alone
 3 unmute; alone nobody > nobody
 discovery: 4 exchanges, fault 1 ffff:ffffffff (its answer showed no new device), \
 0 devices; its certificate is incomplete
-0000:00000000 is the first UID that wasn't ruled out: it needs five silences in a row of a range that holds it
+0000:00000000 is the first UID that a missed device may have: five silences in a row of a range with it rule it out
 1234:00000009 wasn't found: the run ended before it was ruled out; it broke no rule until then
 exchange 3: bytes came from ffff:ffffffff alone, which no device may have; a rule was broken: look for one that has it
+status 3
+
+other bytes from a broadcast UID alone
+3 unmute; alone nobody > noise
+discovery: 4 exchanges, fault 1 ffff:ffffffff (its answer showed no new device), \
+0 devices; its certificate is incomplete
+0000:00000000 is the first UID that a missed device may have: five silences in a row of a range with it rule it out
+1234:00000009 wasn't found: the run ended before it was ruled out; it broke no rule until then
+exchange 3: bytes came from ffff:ffffffff alone that aren't its text; \
+a rule was broken, by a device or noise: try each device alone on the line
 status 3
 
 four silent mutes
 3 unmute; all > liar; 4 mute liar
 discovery: 8 exchanges, 0 devices; its certificate is incomplete, or the log ends within the run
 exchange 4 mutes a UID that neither acknowledged nor was muted five times in a row: perhaps no device has it
-0000:00000000 is the first UID that wasn't ruled out: it needs five silences in a row of a range that holds it
+0000:00000000 is the first UID that a missed device may have: five silences in a row of a range with it rule it out
 1234:00000009 wasn't found yet; it followed the rules in the exchanges that the log has
 status 0
 
@@ -146,7 +156,7 @@ bytes of a device that stays unmuted, first where another one was due, and then 
 3 unmute; all > liar; mute liar > ack; all > liar; mute spare > ack; 2 alone liar > liar
 discovery: 9 exchanges, fault 1 1234:00000009 (its answer showed no new device), \
 2 devices; its certificate is incomplete
-0000:00000000 is the first UID that wasn't ruled out: it needs five silences in a row of a range that holds it
+0000:00000000 is the first UID that a missed device may have: five silences in a row of a range with it rule it out
 1234:00000008 was found, and followed the rules
 1234:00000009 was found, and followed the rules, but see exchange 7
 exchange 7 (and 1 more): bytes came from 1234:00000009 alone, which had acknowledged its mute: \
@@ -157,7 +167,7 @@ a device that answers alone, after an unmute and a mute that it didn't acknowled
 3 unmute; mute liar > ack; unmute; mute liar; mute spare > ack; alone liar > liar
 discovery: 8 exchanges, fault 1 1234:00000009 (its answer showed no new device), \
 2 devices; its certificate is incomplete
-0000:00000000 is the first UID that wasn't ruled out: it needs five silences in a row of a range that holds it
+0000:00000000 is the first UID that a missed device may have: five silences in a row of a range with it rule it out
 1234:00000008 was found, and followed the rules
 1234:00000009 was found, and followed the rules
 status 0
@@ -165,7 +175,7 @@ status 0
 the same, and then a mute that it acknowledged and silence
 3 unmute; mute liar > ack; unmute; mute liar; mute spare > ack; alone liar > liar; mute liar > ack; alone liar
 discovery: 10 exchanges, 2 devices; its certificate is incomplete, or the log ends within the run
-0000:00000000 is the first UID that wasn't ruled out: it needs five silences in a row of a range that holds it
+0000:00000000 is the first UID that a missed device may have: five silences in a row of a range with it rule it out
 1234:00000008 was found, and followed the rules in the exchanges that the log has
 1234:00000009 was found, and followed the rules in the exchanges that the log has
 status 0
@@ -175,7 +185,7 @@ the same, and then its text
 alone liar > liar
 discovery: 11 exchanges, fault 1 1234:00000009 (its answer showed no new device), \
 2 devices; its certificate is incomplete
-0000:00000000 is the first UID that wasn't ruled out: it needs five silences in a row of a range that holds it
+0000:00000000 is the first UID that a missed device may have: five silences in a row of a range with it rule it out
 1234:00000008 was found, and followed the rules
 1234:00000009 was found, and followed the rules, but see exchange 10
 exchange 10: bytes came from 1234:00000009 alone, which had acknowledged its mute: \
@@ -185,14 +195,14 @@ status 3
 bytes from a range with a listed device
 3 unmute; lower > noise
 discovery: 4 exchanges, 0 devices; its certificate is incomplete, or the log ends within the run
-0000:00000000 is the first UID that wasn't ruled out: it needs five silences in a row of a range that holds it
+0000:00000000 is the first UID that a missed device may have: five silences in a row of a range with it rule it out
 1234:00000009 wasn't found yet; it followed the rules in the exchanges that the log has
 status 0
 
 bytes from a range with a listed device, and from one without
 3 unmute; lower > noise; upper > noise
 discovery: 5 exchanges, 0 devices; its certificate is incomplete, or the log ends within the run
-0000:00000000 is the first UID that wasn't ruled out: it needs five silences in a row of a range that holds it
+0000:00000000 is the first UID that a missed device may have: five silences in a row of a range with it rule it out
 1234:00000009 wasn't found yet; it followed the rules in the exchanges that the log has
 exchange 4: bytes came from 8000:00000000 to ffff:ffffffff, where no listed device was due; \
 they may be those of a device that the log doesn't show
@@ -202,7 +212,7 @@ other bytes after a mute of a listed device, and silence after one of another UI
 3 unmute; mute liar > noise; mute spare
 discovery: 5 exchanges, 0 devices; its certificate is incomplete, or the log ends within the run
 exchange 3 mutes a UID that neither acknowledged nor was muted five times in a row: perhaps no device has it
-0000:00000000 is the first UID that wasn't ruled out: it needs five silences in a row of a range that holds it
+0000:00000000 is the first UID that a missed device may have: five silences in a row of a range with it rule it out
 1234:00000009 was to mute, and other bytes came: exchange 3 has no acknowledgement; \
 a rule was broken, by it, another device or noise: try it alone, then the others
 exchange 3: bytes came after a mute of 1234:00000009 that don't acknowledge it: \
@@ -213,7 +223,7 @@ the same, and other bytes after a mute of that UID
 3 unmute; mute liar > noise; mute spare; mute spare > noise
 discovery: 6 exchanges, 0 devices; its certificate is incomplete, or the log ends within the run
 exchange 3 mutes a UID that neither acknowledged nor was muted five times in a row: perhaps no device has it
-0000:00000000 is the first UID that wasn't ruled out: it needs five silences in a row of a range that holds it
+0000:00000000 is the first UID that a missed device may have: five silences in a row of a range with it rule it out
 1234:00000009 was to mute, and other bytes came: exchange 3 has no acknowledgement; \
 a rule was broken, by it, another device or noise: try it alone, then the others
 exchange 5: bytes came after a mute of 1234:00000008, which isn't listed; \
@@ -226,7 +236,7 @@ noise from all UIDs and from two, and then the text of one from it alone
 3 unmute; all > noise; spare to liar > noise; mute liar; alone liar; alone liar > liar
 discovery: 8 exchanges, 0 devices; its certificate is incomplete, or the log ends within the run
 exchange 5 mutes a UID that neither acknowledged nor was muted five times in a row: perhaps no device has it
-0000:00000000 is the first UID that wasn't ruled out: it needs five silences in a row of a range that holds it
+0000:00000000 is the first UID that a missed device may have: five silences in a row of a range with it rule it out
 1234:00000009 wasn't found yet; it followed the rules in the exchanges that the log has
 status 0
 
@@ -235,7 +245,7 @@ the same, and then noise from it alone
 discovery: 10 exchanges, fault 1 1234:00000009 (its answer showed no new device), \
 0 devices; its certificate is incomplete
 exchange 5 mutes a UID that neither acknowledged nor was muted five times in a row: perhaps no device has it
-0000:00000000 is the first UID that wasn't ruled out: it needs five silences in a row of a range that holds it
+0000:00000000 is the first UID that a missed device may have: five silences in a row of a range with it rule it out
 1234:00000009 wasn't found: the run ended before it was ruled out; it broke no rule until then, \
 but see exchange 8
 exchange 8 (and 1 more): bytes came from 1234:00000009 alone that aren't its text; \
@@ -245,14 +255,14 @@ status 3
 a mute that is lost, and one that is acknowledged
 3 unmute; mute liar; mute liar > ack
 discovery: 5 exchanges, 1 device; its certificate is incomplete, or the log ends within the run
-0000:00000000 is the first UID that wasn't ruled out: it needs five silences in a row of a range that holds it
+0000:00000000 is the first UID that a missed device may have: five silences in a row of a range with it rule it out
 1234:00000009 was found, and followed the rules in the exchanges that the log has
 status 0
 
 the same, and then one that is answered as a branch
 3 unmute; mute liar; mute liar > ack; mute liar > liar
 discovery: 6 exchanges, 1 device; its certificate is incomplete, or the log ends within the run
-0000:00000000 is the first UID that wasn't ruled out: it needs five silences in a row of a range that holds it
+0000:00000000 is the first UID that a missed device may have: five silences in a row of a range with it rule it out
 1234:00000009 was to mute, and other bytes came: exchange 5 has no acknowledgement; \
 a rule was broken, by it, another device or noise: try it alone, then the others
 exchange 5: bytes came after a mute of 1234:00000009 that don't acknowledge it: \
@@ -263,7 +273,7 @@ other bytes after two mutes of a UID that isn't listed
 3 unmute; 2 mute spare > noise
 discovery: 5 exchanges, 0 devices; its certificate is incomplete, or the log ends within the run
 exchange 3 mutes a UID that neither acknowledged nor was muted five times in a row: perhaps no device has it
-0000:00000000 is the first UID that wasn't ruled out: it needs five silences in a row of a range that holds it
+0000:00000000 is the first UID that a missed device may have: five silences in a row of a range with it rule it out
 1234:00000009 wasn't found yet; it followed the rules in the exchanges that the log has
 exchange 3 (and 1 more): bytes came after a mute of 1234:00000008 that don't acknowledge it: \
 they are too short for a response; a rule was broken, by it, another device or noise: try each device alone on the line
@@ -273,14 +283,14 @@ another UID's text from a UID alone, after an exchange that failed
 3 unmute; alone liar > failed; alone liar > spare
 discovery: 5 exchanges, 0 devices; its certificate is incomplete
 exchange 3 failed: check the adapter and the cable
-0000:00000000 is the first UID that wasn't ruled out: it needs five silences in a row of a range that holds it
+0000:00000000 is the first UID that a missed device may have: five silences in a row of a range with it rule it out
 1234:00000009 wasn't found: exchange 3 failed before it was ruled out; it broke no rule until then
 status 0
 
 silence of the upper half
 3 unmute; 5 upper
 discovery: 8 exchanges, 0 devices; its certificate is incomplete, or the log ends within the run
-0000:00000000 is the first UID that wasn't ruled out: it needs five silences in a row of a range that holds it
+0000:00000000 is the first UID that a missed device may have: five silences in a row of a range with it rule it out
 1234:00000009 wasn't found yet; it followed the rules in the exchanges that the log has
 status 0
 
@@ -454,7 +464,7 @@ FLAWS = (
 FLAWED = """\
 discovery: {} exchanges, 0 devices; its certificate is incomplete, or the log ends within the run
 exchange 3 mutes a UID that neither acknowledged nor was muted five times in a row: perhaps no device has it
-0000:00000000 is the first UID that wasn't ruled out: it needs five silences in a row of a range that holds it
+0000:00000000 is the first UID that a missed device may have: five silences in a row of a range with it rule it out
 1234:00000009 was to mute, and other bytes came: exchange 3 has no acknowledgement; \
 a rule was broken, by it, another device or noise: try it alone, then the others
 exchange 3{}: bytes came after a mute of 1234:00000009 that don't acknowledge it: {}; \

@@ -90,7 +90,7 @@ EXCHANGES = (
 discovery: 1 exchange, 0 devices; its certificate is incomplete
 exchange 0 should be one of the three unmutes that begin a run
 exchange 0 mutes a UID that neither acknowledged nor was muted five times in a row: perhaps no device has it
-0000:00000000 is the first UID that wasn't ruled out: it needs five silences in a row of a range that holds it
+0000:00000000 is the first UID that a missed device may have: five silences in a row of a range with it rule it out
 """, 0),
     (f'{{"number":18446744073709551615,"operation":"unmute","frame":"{UNMUTE}","failed":true}}\n', """\
 discovery: 1 exchange, 0 devices; its certificate can't be decided, since the log begins within the run
@@ -118,7 +118,7 @@ they are too short for a response; a rule was broken, by it, another device or n
 OF_UNMUTE = """\
 discovery: 1 exchange, 0 devices; its certificate is incomplete, or the log ends within the run
 exchange 1 should be one of the three unmutes that begin a run
-0000:00000000 is the first UID that wasn't ruled out: it needs five silences in a row of a range that holds it
+0000:00000000 is the first UID that a missed device may have: five silences in a row of a range with it rule it out
 exchange 0: bytes came after an unmute, which no device may answer: look for noise, or try each device alone
 """
 

@@ -16,7 +16,8 @@ use Rattle.rdm_agent.proofs.PaidLemmas.{unmuting-affords, known-affords}
 use Rattle.rdm_agent.proofs.SearchPaid.{searching-pays, searching-affords, read-affords, read-some}
 use Rattle.rdm_agent.proofs.SweepPaid.{sweeping-affords, swept-affords}
 use Rattle.rdm_agent.proofs.StrayPaid.{checking-affords, stray-affords}
-use Rattle.rdm_agent.proofs.Runs.{stands_by, wanted_next, fed-search}
+use Rattle.rdm_agent.proofs.Runs.{stands_by, wanted_next}
+use Rattle.rdm_agent.proofs.KeptSearch.{fed-search}
 use Rattle.rdm_agent.proofs.Potential.{Watched}
 use Rattle.rdm_agent.proofs.Common.{NoisyStep, Unmute, Branch, Mute, Other, cond, false, ◌∙◌}
 use Rattle.rdm_agent.specs.Bound.{disturbed_row, FewDisturbed, IsNoisy, EndsInNoisyBound}
@@ -60,7 +61,7 @@ module _ (present : List ℕ) (set : IsDeviceSet present) (few : length present 
           top below h sound paid.pays affords.finds step costs
       by_phase (Sweeping sweep) h sound costs =
           λ step paid. sweeping-affords present set few total affords.cost bonus s new a affords.within sweep h sound
-          affords.finds step costs
+          (λ is. (sym (paid.row_is ∙ ap (λ (b : Bool). cond b (s.row + 1) 0) is), paid.row)) affords.finds step costs
       by_phase (MutingSwept u tries spare sweep) h sound costs =
           λ step paid. swept-affords present set few total affords.cost bonus s new a affords.within u tries spare sweep
           h sound paid.pays affords.finds step costs

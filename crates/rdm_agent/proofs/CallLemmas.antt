@@ -13,7 +13,8 @@ use Rattle.rdm_agent.specs.Run.{IsReport}
 use Rattle.rdm_agent.specs.Calls.{fits, ended_by_abort}
 use Rattle.rdm_agent.specs.declared.fault.AgentFault.TheVariants.{Corrupt, Aborted}
 use Rattle.rdm_agent.specs.declared.op.OpReply.TheVariants.{Done, Mute as Muted, Garbled, Branch as Branched, Failed}
-use Rattle.rdm_agent.proofs.Runs.{asks_in_order_by, ends_at_failure_by, ends_at_budget_by, ends_certified_by}
+use Rattle.rdm_agent.proofs.BadLemmas.{WereBad}
+use Rattle.rdm_agent.proofs.Runs.{bad_by, asks_in_order_by, ends_at_failure_by, ends_at_budget_by, ends_certified_by}
 use Rattle.rdm_agent.proofs.Runs.{finds_acknowledged_by}
 use Rattle.rdm_wire.proofs.NoisyLemmas.{honest_is_noisy, honest_to_is_noisy}
 use Rattle.rdm_agent.proofs.HonestRuns.{finds_all_in_noise_by, finds_each_in_noise_by, finds_no_phantom_in_noise_by}
@@ -248,6 +249,14 @@ found-report {search} a kind known budget false x s =
     (finds_acknowledged_by search kind known budget x a s.devices (runs-own kind known budget x a s)).0
 found-report {search} a kind known budget true x s =
     rw s.is.1 (finds_acknowledged_by search kind known budget x s.before s.devices s.runs).0
+
+-- each UID that is set apart was answered badly
+pub apart-answered : {search : Search} (a : AgentState)
+    → OfEach search a (λ kind known budget aborted x. WereBad a.apart x)
+apart-answered {search} a kind known budget false x s =
+    bad_by search kind known budget x a s.devices (runs-own kind known budget x a s)
+apart-answered {search} a kind known budget true x s =
+    rw s.is.1 (bad_by search kind known budget x s.before s.devices s.runs)
 
 pub found-present_in_noise : {search : Search} (a : AgentState)
     → OfEach search a (λ kind known budget aborted x. (present : List ℕ) (u : ℕ) → NoisyTrace present x

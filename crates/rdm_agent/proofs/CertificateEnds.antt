@@ -17,7 +17,12 @@ use Rattle.rdm_agent.specs.Statements.{CertificateIsTheEnd}
 use Rattle.rdm_agent.proofs.Members.{member, first_part, last_part, heads, tails, put-has, has-put, has-first}
 use Rattle.rdm_agent.proofs.Sets.{has-set_of}
 use Rattle.rdm_agent.proofs.Stacks.{IsStack-pop, IsStack-ends}
-use Rattle.rdm_agent.proofs.Choices.{IsChosen, chosen}
+use Rattle.rdm_agent.specs.declared.belief.Part.{Part}
+use Rattle.rdm_agent.specs.declared.belief.Part.TheVariants as parts
+use Rattle.rdm_agent.specs.Machine.{fifth_silence, is_apart}
+use Rattle.rdm_agent.proofs.Common.{sweep_on, to_phase, eqb-true}
+use Rattle.rdm_agent.specs.Apart.{next_gap}
+use Rattle.rdm_agent.proofs.Choices.{IsChosen, IsOut, Asks, chosen}
 use Rattle.rdm_agent.proofs.Invariant.{EndsWith, InPhase}
 use Rattle.rdm_agent.proofs.Runs.{stands_by, wanted_next}
 use Rattle.rdm_agent.proofs.CallLemmas.{runs-push}
@@ -103,15 +108,16 @@ module _ {P : Seen → Type 0} where
           → s.front ++ s.run ++ (back ++ last ∷ []) ≡ (s.front ++ s.run ++ back) ++ last ∷ []
       aside back last = sym (append_assoc (s.front ++ s.run) back (last ∷ []))
 
--- while the search goes on, the range that it asks was silent no more often at the end than the phase counts
+-- While the search goes on, the range that it asks was silent no more often at the end than the phase counts. Of those
+-- that a sweep asks, only one with the greatest UID matters
 abbrev FewSilent : Phase → List Seen → Type 0
 FewSilent (Searching silences bads spent top below) x = (n : ℕ) → EndsWith n (IsSilentBranch top.lo top.hi) x
     → n ≤ silences
 FewSilent (Unmuting more known) x = Unit {0}
 FewSilent (MutingKnown u tries spare known) x = Unit {0}
 FewSilent (MutingRead u tries spare bads top below) x = Unit {0}
-FewSilent (Sweeping sweep) x =
-    (n : ℕ) → EndsWith n (IsSilentBranch sweep.question.range.lo sweep.question.range.hi) x → n ≤ sweep.silences
+FewSilent (Sweeping sweep) x = greatest ≤ sweep.question.range.hi → (n : ℕ)
+    → EndsWith n (IsSilentBranch sweep.question.range.lo sweep.question.range.hi) x → n ≤ sweep.silences
 FewSilent (MutingSwept u tries spare sweep) x = Unit {0}
 FewSilent (Checking u silences sweep) x =
     (n : ℕ) → EndsWith n (IsSilentBranch unassigned.lo unassigned.hi) x → n ≤ silences
@@ -143,7 +149,7 @@ other_exchange phase new x e goes loud k = record {
     of_phase (Unmuting more known) = tt
     of_phase (MutingKnown u tries spare known) = tt
     of_phase (MutingRead u tries spare bads top below) = tt
-    of_phase (Sweeping sweep) = none sweep.question.range.lo sweep.question.range.hi sweep.silences
+    of_phase (Sweeping sweep) = λ far. none sweep.question.range.lo sweep.question.range.hi sweep.silences
     of_phase (MutingSwept u tries spare sweep) = tt
     of_phase (Checking u silences sweep) = none unassigned.lo unassigned.hi silences
     of_phase (MutingStray u tries spare sweep) = tt
@@ -222,7 +228,7 @@ module _ (silences bads spent : ℕ) (top : Span) (below : List Span) (x : List 
 -- a range that a sweep asks is silent once more
 module _ (phase : Phase) (range : Span) (silences : ℕ) (x : List Seen) (fewer : silences < TRIES)
     (not_over : phase ≢ Ended None) (k : IsUncleared phase x)
-    (so_few : (n : ℕ) → EndsWith n (IsSilentBranch range.lo range.hi) x → n ≤ silences) where
+    (so_few : greatest ≤ range.hi → (n : ℕ) → EndsWith n (IsSilentBranch range.lo range.hi) x → n ≤ silences) where
   abbrev swept_again : Seen
   swept_again = record { asked = Branch range.lo range.hi; heard = Silent }
 
@@ -236,16 +242,17 @@ module _ (phase : Phase) (range : Span) (silences : ℕ) (x : List Seen) (fewer 
       high e = cc
 
   -- it was silent no more often than is counted now
-  more : (m : ℕ) → EndsWith m (IsSilentBranch range.lo range.hi) (x ++ swept_again ∷ []) → m ≤ silences + 1
-  more zero ends = omega arith
-  more (suc m) ends =
-      let before : m ≤ silences = so_few m (grown_end m x swept_again ends).1 in omega (arith, before)
+  more : greatest ≤ range.hi → (m : ℕ) → EndsWith m (IsSilentBranch range.lo range.hi) (x ++ swept_again ∷ [])
+      → m ≤ silences + 1
+  more far zero ends = omega arith
+  more far (suc m) ends =
+      let before : m ≤ silences = so_few far m (grown_end m x swept_again ends).1 in omega (arith, before)
 
   -- and no other range was
-  so_often : (r : Span) (count : ℕ) → (r ≡ range → count ≡ silences + 1) → (m : ℕ)
+  so_often : (r : Span) (count : ℕ) → (r ≡ range → count ≡ silences + 1) → greatest ≤ r.hi → (m : ℕ)
       → EndsWith m (IsSilentBranch r.lo r.hi) (x ++ swept_again ∷ []) → m ≤ count
-  so_often r count counts zero ends = omega arith
-  so_often r count counts (suc m) ends = by (swept_ends r.lo r.hi (grown_end m x swept_again ends).0)
+  so_often r count counts far zero ends = omega arith
+  so_often r count counts far (suc m) ends = by (swept_ends r.lo r.hi (grown_end m x swept_again ends).0)
     where
       from_to : ℕ → ℕ → Span
       from_to lo hi = record { lo = lo; hi = hi }
@@ -253,10 +260,36 @@ module _ (phase : Phase) (range : Span) (silences : ℕ) (x : List Seen) (fewer 
       by : (range.lo ≡ r.lo) × (range.hi ≡ r.hi) → suc m ≤ count
       by same =
           let is : r ≡ range = ap (λ l. from_to l r.hi) (sym same.0) ∙ ap (λ h. from_to range.lo h) (sym same.1) in
-          let is_count = counts is in
-          let most : suc m ≤ silences + 1 = more (suc m)
+          let is_count = counts is in let hi = same.1 in
+          let most : suc m ≤ silences + 1 = more (omega (arith, far, hi)) (suc m)
           (subst (λ (q : Span). EndsWith (suc m) (IsSilentBranch q.lo q.hi) (x ++ swept_again ∷ [])) is ends) in
           omega (arith, is_count, most)
+
+  -- it is without the greatest UID, however often it was silent
+  goes_below : range.hi < greatest → (sweep : Sweep) (now n : ℕ) (b : Belief)
+      → IsUncleared (sweep_on_after sweep range now 0 n b) (x ++ swept_again ∷ [])
+  goes_below low sweep now n b =
+      cond_both (nat_lt sweep.made (100 * (n + 2))) _ _ (λ p. IsUncleared p (x ++ swept_again ∷ []))
+      (λ goes. record {
+        cleared_last = λ lo hi far five. absurd (no_five lo hi far five);
+        few = λ far m ends. let none = none_far _ far m ends in omega (arith, none);
+      })
+      (λ out. record {
+        cleared_last = λ lo hi far five. absurd (no_five lo hi far five);
+        few = λ m ends. let none = none_far whole (omega arith) m ends in omega (arith, none);
+      })
+    where
+      no_five : (lo hi : ℕ) → greatest ≤ hi → InSuccession TRIES (IsSilentBranch lo hi) (x ++ swept_again ∷ []) → ⊥
+      no_five lo hi far five = elim (grown_succession TRIES x swept_again five) [
+        | inl before ↦ not_over (k.cleared_last lo hi far before)
+        | inr ends ↦ let same = (swept_ends lo hi (grown_end 4 x swept_again ends).0).1 in omega (arith, same, low, far)
+      ]
+
+      none_far : (r : Span) → greatest ≤ r.hi → (m : ℕ) → EndsWith m (IsSilentBranch r.lo r.hi) (x ++ swept_again ∷ [])
+          → m ≤ 0
+      none_far r far zero ends = omega arith
+      none_far r far (suc m) ends = let same = (swept_ends r.lo r.hi (grown_end m x swept_again ends).0).1 in
+          absurd (omega (arith, same, low, far))
 
   module _ (not_five : silences + 1 ≡ TRIES → ⊥) where
     five_before : (lo hi : ℕ) → greatest ≤ hi → InSuccession TRIES (IsSilentBranch lo hi) (x ++ swept_again ∷ []) → ⊥
@@ -267,8 +300,8 @@ module _ (phase : Phase) (range : Span) (silences : ℕ) (x : List Seen) (fewer 
       where
         no_five : IsSilentBranch lo hi swept_again × EndsWith 4 (IsSilentBranch lo hi) x → ⊥
         no_five g =
-            let same = swept_ends lo hi g.0 in
-            let four : 4 ≤ silences = so_few 4
+            let same = swept_ends lo hi g.0 in let is_hi = same.1 in
+            let four : 4 ≤ silences = so_few (omega (arith, far, is_hi)) 4
             (subst (λ l. EndsWith 4 (IsSilentBranch l range.hi) x) (sym same.0)
             (subst (λ h. EndsWith 4 (IsSilentBranch lo h) x) (sym same.1) g.1)) in
             not_five (omega (arith, four, fewer))
@@ -278,7 +311,7 @@ module _ (phase : Phase) (range : Span) (silences : ℕ) (x : List Seen) (fewer 
         → IsUncleared (search_whole count) (x ++ swept_again ∷ [])
     begins_again count counts = record {
       cleared_last = λ lo hi far five. absurd (five_before lo hi far five);
-      few = so_often whole count counts;
+      few = so_often whole count counts (omega arith);
     }
 
     -- the sweep goes on, or the steady search begins
@@ -307,18 +340,45 @@ module _ (phase : Phase) (range : Span) (silences : ℕ) (x : List Seen) (fewer 
         }
 
 -- what a sweep asks is silent once more
-swept_silent : (sweep : Sweep) (n : ℕ) (x : List Seen) → sweep.silences < TRIES → IsUncleared (Sweeping sweep) x
-    → IsUncleared (sweep_silent (counted_silent sweep) n)
+swept_silent : (a : AgentState) (sweep : Sweep) (x : List Seen) → Asks sweep → IsUncleared (Sweeping sweep) x
+    → IsUncleared (sweep_silent a (counted_silent sweep)).phase
     (x ++ record { asked = Branch sweep.question.range.lo sweep.question.range.hi; heard = Silent } ∷ [])
-swept_silent sweep n x fewer k =
-    cond_both ((sweep.silences + 1) == TRIES) _ _ (λ p. IsUncleared p (x ++ e ∷ []))
-    (λ five. record { cleared_last = λ lo hi far s. refl; few = tt })
-    (λ other. goes_to (Sweeping sweep) sweep.question.range sweep.silences x fewer (λ p. cc) k k.few
-    (eqb-false (sweep.silences + 1) TRIES other) (counted_silent sweep) n
+swept_silent a sweep x asks k = cond_both ((sweep.silences + 1) == TRIES) _ _ After
+    (λ five. fifth (asks.last (eqb-true (sweep.silences + 1) TRIES five)) sweep.question.part asks.apart)
+    (λ other. goes_to (Sweeping sweep) sweep.question.range sweep.silences x asks.few (λ p. cc) k k.few
+    (eqb-false (sweep.silences + 1) TRIES other) (counted_silent sweep) (length a.found)
     (believed_silent sweep.question.part sweep.question.range (hushing sweep.belief)))
   where
     e : Seen
     e = record { asked = Branch sweep.question.range.lo sweep.question.range.hi; heard = Silent }
+
+    After : AgentState → Type 0
+    After b = IsUncleared b.phase (x ++ e ∷ [])
+
+    below : sweep.question.range.hi < greatest → (b : Belief)
+        → IsUncleared (sweep_on (counted_silent sweep) 0 0 (length a.found) b) (x ++ e ∷ [])
+    below low b = goes_below (Sweeping sweep) sweep.question.range sweep.silences x asks.few (λ p. cc) k k.few low
+        (counted_silent sweep) 0 (length a.found) b
+
+    gap : IsOut sweep.question.range → After (cond (is_whole sweep.question.range) (to_phase a (Ended None))
+        (to_phase a (sweep_on (counted_silent sweep) 0 0 (length a.found)
+        (next_gap (sweep.belief.top + 1) a.apart (hushing sweep.belief)))))
+    gap out = cond_both (is_whole sweep.question.range) _ _ After
+        (λ all. record { cleared_last = λ lo hi far s. refl; few = tt })
+        (λ other. elim out [
+          | inl all ↦ absurd (true≢false (sym (subst (λ (r : Span). is_whole r ≡ true) (sym all) refl) ∙ other))
+          | inr low ↦ below low _
+        ])
+
+    fifth : IsOut sweep.question.range → (part : Part) → (is_apart part ≡ true → sweep.question.range.hi < greatest)
+        → After (fifth_silence part a (counted_silent sweep))
+    fifth out parts.Apart low = below (low refl) _
+    fifth out parts.Fresh low = gap out
+    fifth out parts.Lower low = gap out
+    fifth out parts.Rest low = gap out
+    fifth out parts.All low = gap out
+    fifth out parts.Whole low = gap out
+    fifth out parts.End low = gap out
 
 -- the range without devices is silent once more
 checked_silent : (u silences : ℕ) (sweep : Sweep) (n : ℕ) (x : List Seen) → silences < 2
@@ -329,14 +389,14 @@ checked_silent u silences sweep n x few k =
     cond_both (is_checked_again (counted_silent sweep).belief silences) _ _ (λ p. IsUncleared p (x ++ e ∷ []))
     (λ again. record {
       cleared_last = λ lo hi far five.
-          absurd (five_before phase unassigned silences x fewer goes k k.few not_five lo hi far five);
-      few = more phase unassigned silences x fewer goes k k.few;
+          absurd (five_before phase unassigned silences x fewer goes k (λ far. k.few) not_five lo hi far five);
+      few = more phase unassigned silences x fewer goes k (λ far. k.few) (omega arith);
     })
     (λ split. cond_both (is_last sweep.question.part && is_in_vain sweep.belief) _ _
     (λ p. IsUncleared p (x ++ e ∷ []))
-    (λ found_nothing. begins_again phase unassigned silences x fewer goes k k.few not_five 0
+    (λ found_nothing. begins_again phase unassigned silences x fewer goes k (λ far. k.few) not_five 0
     (λ is. absurd (not_whole (ap (λ (r : Span). r.lo) is))))
-    (λ other. goes_to phase unassigned silences x fewer goes k k.few not_five (counted_silent sweep) n
+    (λ other. goes_to phase unassigned silences x fewer goes k (λ far. k.few) not_five (counted_silent sweep) n
     (believed_apart sweep.question.part sweep.question.range sweep.silences (hushing sweep.belief))))
   where
     e : Seen
@@ -391,7 +451,7 @@ module _ (kind : Kind) (known : List ℕ) (budget : ℕ) where
     by_phase (Searching silences bads spent top below) Failed sound p k = absurd (sound refl)
     by_phase (MutingRead u tries spare bads top below) h sound p k =
         other_exchange (MutingRead u tries spare bads top below) _ x _ (λ e. cc) (loud (Mute u) h (λ lo hi e s. cc)) k
-    by_phase (Sweeping sweep) Silent sound p k = swept_silent sweep (length a.found) x p.asks.few k
+    by_phase (Sweeping sweep) Silent sound p k = swept_silent a sweep x p.asks k
     by_phase (Sweeping sweep) (One u) sound p k =
         other_exchange (Sweeping sweep) _ x _ (λ e. cc)
         (loud (Branch sweep.question.range.lo sweep.question.range.hi) (One u) (λ lo hi e s. cc)) k

@@ -6,9 +6,10 @@ use Rattle.rdm_agent.proofs.Common.{muted_in, acked_in, reported, is_branch, AsF
 use Rattle.rdm_agent.proofs.Common.{SearchShows, IsTried, IsCleared, MutesNamed, known_of, Cause, Phase, Search, Quick}
 use Rattle.rdm_agent.proofs.Common.{AgentState, is_new, found_uids, Unmuting, MutingKnown, Searching, MutingRead}
 use Rattle.rdm_agent.proofs.Common.{Sweeping, MutingSwept, Ended, Kind, AgentFault, Sweep, IsStack, TRIES, UNMUTES}
-use Rattle.rdm_agent.proofs.Common.{Checking, MutingStray, unassigned, spare_at, answers_in_a_row}
+use Rattle.rdm_agent.proofs.Common.{Checking, MutingStray, unassigned, spare_at, answers_in_a_row, BAD_ANSWERS}
 use Rattle.rdm_agent.proofs.OneDevice.{NotFailed}
 use Rattle.rdm_agent.proofs.Choices.{IsRange, Asks}
+use Rattle.rdm_agent.proofs.BadLemmas.{WereBad}
 use Rattle.rdm_agent.proofs.Rows.{AnswersOf, Row, NotCorrupt, Answered}
 
 -- the last n exchanges have P
@@ -98,11 +99,12 @@ pub record IsSweeping (search : Search) (known : List ℕ) (sweep : Sweep) (x : 
   pub searches : Searches known None whole [] x found
   pub asks : Asks sweep
   pub silent : EndsWith sweep.silences (IsSilentBranch sweep.question.range.lo sweep.question.range.hi) x
-  pub few_bads : sweep.bads < 4
+  pub few_bads : sweep.bads < BAD_ANSWERS
   pub row : Row sweep.question.range sweep.bads x
 
--- what the range spelt may be a new device, and is muted, n times so far in vain
-pub record IsMutingSwept (search : Search) (known : List ℕ) (u tries : ℕ) (sweep : Sweep) (x : List Seen)
+-- what the range spelt may be a new device, and is muted, n times so far in vain; each counts after the last answer of
+-- one UID alone
+pub record IsMutingSwept (search : Search) (known : List ℕ) (u tries spare : ℕ) (sweep : Sweep) (x : List Seen)
     (found : List ℕ) : Type 0 where
   pub n : ℕ
   pub quick : search ≡ Quick
@@ -112,7 +114,8 @@ pub record IsMutingSwept (search : Search) (known : List ℕ) (u tries : ℕ) (s
   pub new : is_new found sweep.question.range u ≡ true
   pub spelt : WasSpelt u n sweep.question.range x
   pub some : tries ≤ n
-  pub few_bads : sweep.bads < 4
+  pub exact : sweep.bads + 1 ≡ BAD_ANSWERS → (n ≡ tries) × (spare ≡ 0)
+  pub few_bads : sweep.bads < BAD_ANSWERS
   pub answers : AnswersOf sweep.question.range (sweep.bads + 1) x
 
 -- the range without devices is branched, so often in silence, after a UID was spelt by a range that it isn't in
@@ -158,7 +161,7 @@ InPhase search kind known budget (MutingRead u tries spare bads top below) x fou
     IsMutingRead search (known_of kind known) u tries spare bads top below x found
 InPhase search kind known budget (Sweeping sweep) x found = IsSweeping search (known_of kind known) sweep x found
 InPhase search kind known budget (MutingSwept u tries spare sweep) x found =
-    IsMutingSwept search (known_of kind known) u tries sweep x found
+    IsMutingSwept search (known_of kind known) u tries spare sweep x found
 InPhase search kind known budget (Checking u silences sweep) x found =
     IsChecking search (known_of kind known) u silences x found
 InPhase search kind known budget (MutingStray u tries spare sweep) x found =
@@ -172,4 +175,5 @@ pub record RunInvariant (kind : Kind) (known : List ℕ) (budget : ℕ) (x : Lis
   pub within : length x ≤ budget
   pub reports : found_uids a ≡ reported x
   pub first : AsFirstAcked x a.found
+  pub bad : WereBad a.apart x
   pub phase : InPhase a.search kind known budget a.phase x (found_uids a)

@@ -106,7 +106,12 @@ module _ (kind : Kind) (known : List ℕ) (budget : ℕ) (x : List Seen) (found 
   begins Quick = record {
     quick = refl;
     searches = searches;
-    asks = record { range = (omega arith, omega arith); few = omega arith; last = λ five. refl };
+    asks = record {
+      range = (omega arith, omega arith);
+      few = omega arith;
+      last = λ five. inl refl;
+      apart = λ alone. absurd (true≢false (sym alone));
+    };
     silent = EndsWith-none _ x;
     few_bads = omega arith;
     row = sound-no_branch Quick whole x m.no_branch;

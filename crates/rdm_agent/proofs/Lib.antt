@@ -11,6 +11,7 @@ pub mod Pushes
 pub mod Stacks
 pub mod Choices
 pub mod Rows
+pub mod BadLemmas
 pub mod Invariant
 pub mod CorruptLemmas
 pub mod FoundLemmas
@@ -22,15 +23,18 @@ pub mod RunLemmas
 pub mod SweepPhase
 pub mod SweepRuns
 pub mod StrayRuns
+pub mod KeptSearch
 pub mod Runs
 pub mod HonestRuns
 pub mod Carried
 pub mod Garbled
+pub mod Moved
 pub mod Potential
 pub mod LeftLemmas
 pub mod CoverLemmas
 pub mod PaidLemmas
 pub mod SearchPaid
+pub mod SuspectLemmas
 pub mod SweepPaid
 pub mod StrayPaid
 pub mod BoundRuns

@@ -19,7 +19,9 @@ use Rattle.rdm_agent.proofs.CoverLemmas.{Covers-found, Covers-split, Covers-halv
 use Rattle.rdm_agent.proofs.Common.{known_lost, Searching, MutingKnown}
 use Rattle.rdm_agent.proofs.Potential.{Watched}
 use Rattle.rdm_agent.proofs.Common.{NoisyStep, MuteMovesInNoise, has_bytes, lower_half, upper_half}
-use Rattle.rdm_wire.specs.Noisy.{is_disturbed_branch}
+use Rattle.rdm_wire.specs.Noisy.{is_disturbed_branch, MayHearInNoise}
+use Rattle.rdm_agent.proofs.CorruptLemmas.{is_new-device}
+use Rattle.rdm_agent.specs.Apart.{without}
 
 -- a phase that costs an exchange less
 pub record Cheaper (search : Search) (present : List ℕ) (line : Watched) (found : List ℕ) (cost : ℕ)
@@ -51,7 +53,13 @@ search_from-costs Quick present found line cost [] n enough ahead =
     record {
       left = n;
       saves = omega arith;
-      costs = record { few = omega arith; below = omega arith; enough = omega (arith, ahead) };
+      costs = record {
+        few = omega arith;
+        below = omega arith;
+        enough = omega (arith, ahead);
+        alone = λ one. omega arith;
+        vain = λ u is. absurd (true≢false (sym is));
+      };
     }
 search_from-costs search present found line cost (u ∷ known) n enough ahead =
     record {
@@ -264,6 +272,18 @@ answered present found s top h set loud sound f = by_due (due_in present s.muted
         rw is (omega arith) in let fewer = no_more (is_left found top) (is_due s top) present due_left in
         inr (inl (omega arith))
 
+-- what the branch of one UID alone spells is a device
+pub alone-present : (present found : List ℕ) (top : Span) (u : ℕ) → MayHearInNoise present top.lo top.hi (One u)
+    → top.lo ≡ top.hi → is_new found top u ≡ true → has present u ≡ true
+alone-present present found top u may one fresh = elim (cases_Bool (has present u)) [
+  | inl here ↦ here
+  | inr absent ↦ absurd (may one (subst (λ (v : ℕ). has present v ≡ false) is absent) (ap One is))
+]
+  where
+    is : u ≡ top.lo
+    is = let device = is_new-device found top u fresh in let from = device.from in let to = device.to in
+        omega (arith, one, from, to)
+
 module _ (present found : List ℕ) (u : ℕ) (here : has present u ≡ true) (absent : has found u ≡ false) where
   -- where one more is found, one fewer isn't
   unfound-fewer : length (unfound present (with_uid u found)) + 1 ≤ length (unfound present found)
@@ -334,6 +354,8 @@ module _ (present : List ℕ) (set : IsDeviceSet present) (few : length present 
             frames = a.frames + 1;
             search = a.search;
             found = with_device (device_from u ack) a.found;
+            apart = without u a.apart;
+            more = a.more;
             phase = phase;
           })
       at_new absent room =

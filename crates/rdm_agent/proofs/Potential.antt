@@ -4,7 +4,8 @@ use Rattle.rdm_agent.proofs.Common.{◌⊎◌, filter, has, is_within, Span, who
 use Rattle.rdm_agent.proofs.Common.{is_new, Sweep, Unmuting, MutingKnown, Searching, MutingRead, Sweeping, MutingSwept}
 use Rattle.rdm_agent.proofs.Common.{Ended, Search, Steady, Quick, Checking, MutingStray}
 use Rattle.std.specs.Prelude.{◌≡◌, ℕ, ◌+◌, ◌*◌, ◌^◌, ◌<◌, ◌≤◌, Bool, true, false, ◌&&◌, not, List, [], ◌∷◌, length}
-use Rattle.std.specs.Prelude.{None, ◌==◌}
+use Rattle.std.specs.Prelude.{None, Option, ◌==◌}
+use Rattle.rdm_agent.specs.Beliefs.{is_suspect}
 
 -- the present devices that aren't found, and those of them in a range
 abbrev pub unfound : List ℕ → List ℕ → List ℕ
@@ -102,19 +103,31 @@ pub record CostsRead (present : List ℕ) (line : Watched) (found : List ℕ)
   pub covered : Covers present found (top ∷ below) ranges
   pub cost_is : cost + 10 + 2 * tries ≡ ranges + reserve
 
--- what a sweep costs, without the exchanges that it made; it is below its limit
-pub record CostsSweeping (present found : List ℕ) (sweep : Sweep) (cost : ℕ) : Type 0 where
+-- what was muted in vain isn't there
+abbrev pub IsVain : List ℕ → Option ℕ → Type 0
+IsVain present suspect = (u : ℕ) → is_suspect suspect u ≡ true → has present u ≡ false
+
+-- What a sweep costs, without the exchanges that it made; it is below its limit. If one UID is asked alone, each of its
+-- bad answers was a disturbed branch
+pub record CostsSweeping (present : List ℕ) (row : ℕ) (found : List ℕ) (sweep : Sweep) (cost : ℕ) : Type 0 where
   pub few : sweep.silences ≤ 4
   pub below : sweep.made < 100 * (length found + 2)
   pub enough : sweep_cost present found ≤ cost + 2 * sweep.made
+  pub alone : sweep.question.range.lo ≡ sweep.question.range.hi → sweep.bads ≤ row
+  pub vain : IsVain present sweep.belief.suspect
 
--- the same in the midst of a series of mutes, which may go on past the limit, and by what noise adds to it
-pub record CostsSwept (present found : List ℕ) (u tries : ℕ) (sweep : Sweep) (cost : ℕ) : Type 0 where
+-- The same in the midst of a series of mutes, which may go on past the limit, and by what noise adds to it. What one
+-- UID alone spelt is a device
+pub record CostsSwept (present : List ℕ) (line : Watched) (found : List ℕ) (u tries : ℕ) (sweep : Sweep)
+    (cost : ℕ) : Type 0 where
   pub more : ℕ
   pub few : tries ≤ 4
   pub below : sweep.made ≤ 100 * (length found + 2) + tries + more
   pub enough : sweep_cost present found + 2 * more ≤ cost + 2 * sweep.made
   pub new : has found u ≡ false
+  pub lost : has present u ≡ true → tries ≤ line.state.lost_mutes
+  pub alone : sweep.question.range.lo ≡ sweep.question.range.hi → has present u ≡ true
+  pub vain : IsVain present sweep.belief.suspect
 
 -- the same while a check is silent: at most twice
 pub record CostsChecking (present found : List ℕ) (u silences : ℕ) (sweep : Sweep) (cost : ℕ) : Type 0 where
@@ -122,6 +135,7 @@ pub record CostsChecking (present found : List ℕ) (u silences : ℕ) (sweep : 
   pub few : silences ≤ 1
   pub below : sweep.made ≤ 100 * (length found + 2) + silences
   pub enough : sweep_cost present found ≤ cost + 2 * sweep.made
+  pub vain : IsVain present sweep.belief.suspect
 
 -- the same in the midst of a series of mutes after a check, which a device answers, or noise did
 pub record CostsStray (present : List ℕ) (line : Watched) (found : List ℕ) (u tries : ℕ) (sweep : Sweep)
@@ -132,7 +146,9 @@ pub record CostsStray (present : List ℕ) (line : Watched) (found : List ℕ) (
   pub below : sweep.made ≤ 100 * (length found + 2) + 2 + tries + more
   pub enough : sweep_cost present found + 2 * (more + extra) ≤ cost + 2 * sweep.made
   pub new : has found u ≡ false
-  pub why : ((has present u ≡ true) × (tries ≤ line.state.lost_mutes)) ⊎ (2 ≤ extra)
+  pub why : (has present u ≡ true) ⊎ (2 ≤ extra)
+  pub lost : has present u ≡ true → tries ≤ line.state.lost_mutes
+  pub vain : IsVain present sweep.belief.suspect
 
 -- a phase still costs this many half exchanges at most; a run that has ended costs nothing, and has no fault
 abbrev pub Costs : Search → List ℕ → Watched → List ℕ → Phase → ℕ → Type 0
@@ -143,8 +159,9 @@ Costs search present line found (Searching silences bads spent top below) cost =
     CostsSearching search present found line.row silences bads spent top below cost
 Costs search present line found (MutingRead u tries spare bads top below) cost =
     CostsRead present line found u tries top below cost
-Costs search present line found (Sweeping sweep) cost = CostsSweeping present found sweep cost
-Costs search present line found (MutingSwept u tries spare sweep) cost = CostsSwept present found u tries sweep cost
+Costs search present line found (Sweeping sweep) cost = CostsSweeping present line.row found sweep cost
+Costs search present line found (MutingSwept u tries spare sweep) cost =
+    CostsSwept present line found u tries sweep cost
 Costs search present line found (Checking u silences sweep) cost = CostsChecking present found u silences sweep cost
 Costs search present line found (MutingStray u tries spare sweep) cost =
     CostsStray present line found u tries sweep cost

@@ -18,6 +18,7 @@ use Rattle.rdm_agent.proofs.OneDevice.{NotFailed}
 use Rattle.rdm_agent.proofs.Pushes.{All-push, read-push_none, has-at}
 use Rattle.rdm_agent.proofs.Sets.{has-with_uid}
 use Rattle.rdm_agent.proofs.Stacks.{IsStack-ends}
+use Rattle.rdm_agent.proofs.BadLemmas.{WereBad-push, WereBad-without}
 use Rattle.rdm_agent.proofs.FoundLemmas.{IsFound-reported, IsFound-has, found-again, found-new, found-reports}
 use Rattle.rdm_agent.proofs.FoundLemmas.{found-one_too_many}
 use Rattle.rdm_agent.proofs.FirstAcked.{AsFirstAcked-push, AsFirstAcked-new}
@@ -31,6 +32,7 @@ use Rattle.rdm_agent.proofs.CorruptLemmas.{is_new-device, corrupt-reply, corrupt
 use Rattle.rdm_agent.proofs.CorruptLemmas.{not_corrupt-several, sound-silent, sound-acked}
 use Rattle.rdm_agent.proofs.Invariant.{EndsWith, IsFound, MutesKnown, Searches, IsUnmuting, IsMutingKnown, IsSearching}
 use Rattle.rdm_agent.proofs.Invariant.{IsMutingRead, WasSpelt, InPhase, RunInvariant}
+use Rattle.rdm_agent.specs.Apart.{without}
 
 -- an exchange
 abbrev pub exchange : Asked → Heard → Seen
@@ -90,6 +92,7 @@ module _ (kind : Kind) (known : List ℕ) (budget : ℕ) (x : List Seen) (a : Ag
     within = (counted e).1;
     reports = reports;
     first = AsFirstAcked-push x e a.found s.first;
+    bad = WereBad-push a.apart x e s.bad;
     phase = p;
   }
 
@@ -131,6 +134,8 @@ module _ (kind : Kind) (known : List ℕ) (budget : ℕ) (x : List Seen) (a : Ag
             frames = a.frames + 1;
             search = a.search;
             found = with_device d a.found;
+            apart = without u a.apart;
+            more = a.more;
             phase = phase;
           })
       at_new new space =
@@ -141,6 +146,7 @@ module _ (kind : Kind) (known : List ℕ) (budget : ℕ) (x : List Seen) (a : Ag
             within = (counted e).1;
             reports = grown ∙ IsFound-reported (x ++ e ∷ []) (with_uid u (found_uids a)) is_found;
             first = AsFirstAcked-new x e d a.found refl (IsFound-has x (found_uids a) f u ∙ new) s.first;
+            bad = WereBad-without u a.apart (x ++ e ∷ []) (WereBad-push a.apart x e s.bad);
             phase = subst (λ us. InPhase a.search kind known budget phase (x ++ e ∷ []) us) (sym grown)
                 (onward (with_uid u (found_uids a)) is_found (λ v here. has-with_uid u (found_uids a) v
                 ∙ or_right (v == u) (has (found_uids a) v) here)

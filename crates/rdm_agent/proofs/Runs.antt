@@ -9,7 +9,7 @@ use Rattle.rdm_agent.proofs.Common.{fed, fault_of, heard_by_phase, to_phase, fou
 use Rattle.rdm_agent.proofs.Common.{Searching, MutingRead, Sweeping, MutingSwept, Ended, IsInOrder, Kind, Search}
 use Rattle.rdm_agent.proofs.Common.{Full, Incremental, AgentFault, LineFailed, Exhausted, UNMUTES, Checking}
 use Rattle.rdm_agent.proofs.Common.{MutingStray, unassigned, whole, IsCorruptBy, Quick, answers_in_a_row, BAD_ANSWERS}
-use Rattle.rdm_agent.proofs.Common.{Device, device_from, to_found, has, cond_both, MOST_DEVICES}
+use Rattle.rdm_agent.proofs.Common.{cases_lt, inl, inr, Sweep, TRIES}
 use Rattle.std.proofs.lemmas.Bool.{le-ltb}
 use Rattle.std.proofs.lemmas.List.{length-take}
 use Rattle.rdm_agent.specs.Machine.{open_ranges}
@@ -21,6 +21,7 @@ use Rattle.rdm_agent.proofs.AllDevices.{failed_none}
 use Rattle.rdm_agent.proofs.Pushes.{All-at}
 use Rattle.rdm_agent.proofs.FoundLemmas.{IsFound-all_reported, found-same}
 use Rattle.rdm_agent.proofs.CorruptLemmas.{is_new-device, sound-no_branch, not_corrupt-by, read-sound}
+use Rattle.rdm_agent.proofs.CorruptLemmas.{not_corrupt-spelt}
 use Rattle.rdm_agent.proofs.Rows.{few-answers}
 use Rattle.rdm_agent.proofs.UnmutePhase.{no_branches}
 use Rattle.rdm_agent.proofs.Stacks.{IsStack-length, IsStack-ends}
@@ -28,7 +29,9 @@ use Rattle.rdm_agent.proofs.RunLemmas.{to_phase-stands, reported-same, unmuting-
 use Rattle.rdm_agent.proofs.RunLemmas.{muting-stands, is_muting_read-device}
 use Rattle.rdm_agent.proofs.SweepRuns.{sweeping-stands, swept-stands, is_muting_swept-device}
 use Rattle.rdm_agent.proofs.StrayRuns.{checking-stands, stray-stands}
-use Rattle.rdm_agent.proofs.Invariant.{IsFound, InPhase, IsUnderWay, RunInvariant}
+use Rattle.rdm_agent.proofs.KeptSearch.{fed-search}
+use Rattle.rdm_agent.proofs.BadLemmas.{WereBad}
+use Rattle.rdm_agent.proofs.Invariant.{IsFound, InPhase, IsUnderWay, RunInvariant, IsMutingSwept}
 
 module _ (search : Search) (kind : Kind) (known : List ℕ) (budget : ℕ) where
   -- while something is wanted, no exchange has failed, there was room for what is found, and nothing is corrupt
@@ -47,6 +50,20 @@ module _ (search : Search) (kind : Kind) (known : List ℕ) (budget : ℕ) where
   few_sound x quick few u c = let many = (subst (λ q. IsCorruptBy q u x) quick c).1 in let less = few u in
       omega (arith, many, less)
 
+  -- while what a sweep's range spelt is muted: the UID wasn't answered often enough, or fewer than five mutes were lost
+  swept_sound : (u tries spare : ℕ) (sweep : Sweep) (x : List Seen) (found : List ℕ)
+      → IsMutingSwept search (known_of kind known) u tries spare sweep x found → (w : ℕ) → IsCorruptBy search w x → ⊥
+  swept_sound u tries spare sweep x found p w c = elim (cases_lt (sweep.bads + 1) BAD_ANSWERS) [
+    | inl less ↦ few_sound x p.quick (few-answers sweep.question.range (sweep.bads + 1) x p.answers (λ one. less)) w c
+    | inr last ↦ not_corrupt-spelt w u p.n sweep.question.range x found p.searches.under_way.is_found p.range.1
+        (is_new-device found sweep.question.range u p.new) p.spelt (few last)
+        (subst (λ q. IsCorruptBy q w x) p.quick c).0
+  ]
+    where
+      few : BAD_ANSWERS ≤ sweep.bads + 1 → p.n < TRIES
+      few last = let bads = p.few_bads in let all : sweep.bads + 1 ≡ BAD_ANSWERS = omega (arith, last, bads) in
+          let same = (p.exact all).0 in let tries = p.few in omega (arith, same, tries)
+
   is_open : (phase : Phase) (x : List Seen) (found : List ℕ) → InPhase search kind known budget phase x found
       → MatchOption (wanted phase) (Unit {0}) (λ asked. IsOpen x found)
   is_open (Unmuting more left) x found p = record {
@@ -64,8 +81,7 @@ module _ (search : Search) (kind : Kind) (known : List ℕ) (budget : ℕ) where
       p.answered)
   is_open (Sweeping sweep) x found p = opened p.searches.under_way (few_sound x p.quick p.row.few)
   is_open (MutingSwept u tries spare sweep) x found p = opened p.searches.under_way
-      (few_sound x p.quick (few-answers sweep.question.range (sweep.bads + 1) x p.answers
-      (λ one. let few = p.few_bads in omega arith)))
+      (swept_sound u tries spare sweep x found p)
   is_open (Checking u silences sweep) x found p =
       opened p.searches.under_way (few_sound x p.quick (λ v. let zero = p.none v in omega (arith, zero)))
   is_open (MutingStray u tries spare sweep) x found p =
@@ -91,7 +107,7 @@ module _ (kind : Kind) (known : List ℕ) (budget : ℕ) where
         searching-stands kind known budget x a s goes silences bads spent top below h sound p
     by_phase (MutingRead u tries spare bads top below) h sound p =
         muting-stands kind known budget x a s goes u tries spare bads top below h sound p
-    by_phase (Sweeping sweep) h sound p = sweeping-stands kind known budget x a s goes sweep h sound p
+    by_phase (Sweeping sweep) h sound p = sweeping-stands kind known budget x a s goes sweep p h sound
     by_phase (MutingSwept u tries spare sweep) h sound p =
         swept-stands kind known budget x a s goes u tries spare sweep h sound p
     by_phase (Checking u silences sweep) h sound p =
@@ -174,6 +190,7 @@ stands_by search kind known budget x b set run =
       within = omega arith;
       reports = refl;
       first = tt;
+      bad = tt;
       phase = (
         omega arith,
         record {
@@ -210,58 +227,6 @@ not_wanted true asked end = absurd (some_none end)
     some_none p = cc
 
 -- a run keeps its search
-to_found-search : (a : AgentState) (d : Device) (phase : Phase) → (to_found a d phase).search ≡ a.search
-to_found-search a d phase =
-    cond_both (has (found_uids a) d.uid) _ _ (λ (b : AgentState). b.search ≡ a.search) (λ old. refl)
-    (λ new. cond_both (nat_lt (length (found_uids a)) MOST_DEVICES) _ _ (λ (b : AgentState). b.search ≡ a.search)
-    (λ room. refl) (λ full. refl))
-
-heard-search : (a : AgentState) (phase : Phase) (h : Heard) → (heard_by_phase a phase h).search ≡ a.search
-heard-search a (Unmuting more left) h = refl
-heard-search a (MutingKnown u tries spare left) (Acked ack) = to_found-search a (device_from u ack) _
-heard-search a (MutingKnown u tries spare left) Failed = refl
-heard-search a (MutingKnown u tries spare left) Silent = refl
-heard-search a (MutingKnown u tries spare left) (One v) = refl
-heard-search a (MutingKnown u tries spare left) Noise = refl
-heard-search a (Searching silences bads spent top below) (Acked ack) = refl
-heard-search a (Searching silences bads spent top below) Failed = refl
-heard-search a (Searching silences bads spent top below) Silent = refl
-heard-search a (Searching silences bads spent top below) (One v) = refl
-heard-search a (Searching silences bads spent top below) Noise = refl
-heard-search a (MutingRead u tries spare bads top below) (Acked ack) = to_found-search a (device_from u ack) _
-heard-search a (MutingRead u tries spare bads top below) Failed = refl
-heard-search a (MutingRead u tries spare bads top below) Silent = refl
-heard-search a (MutingRead u tries spare bads top below) (One v) = refl
-heard-search a (MutingRead u tries spare bads top below) Noise = refl
-heard-search a (Sweeping sweep) (Acked ack) = refl
-heard-search a (Sweeping sweep) Failed = refl
-heard-search a (Sweeping sweep) Silent = refl
-heard-search a (Sweeping sweep) (One v) = refl
-heard-search a (Sweeping sweep) Noise = refl
-heard-search a (MutingSwept u tries spare sweep) (Acked ack) = to_found-search a (device_from u ack) _
-heard-search a (MutingSwept u tries spare sweep) Failed = refl
-heard-search a (MutingSwept u tries spare sweep) Silent = refl
-heard-search a (MutingSwept u tries spare sweep) (One v) = refl
-heard-search a (MutingSwept u tries spare sweep) Noise = refl
-heard-search a (Checking u silences sweep) (Acked ack) = refl
-heard-search a (Checking u silences sweep) Failed = refl
-heard-search a (Checking u silences sweep) Silent = refl
-heard-search a (Checking u silences sweep) (One v) = refl
-heard-search a (Checking u silences sweep) Noise = refl
-heard-search a (MutingStray u tries spare sweep) (Acked ack) = to_found-search a (device_from u ack) _
-heard-search a (MutingStray u tries spare sweep) Failed = refl
-heard-search a (MutingStray u tries spare sweep) Silent = refl
-heard-search a (MutingStray u tries spare sweep) (One v) = refl
-heard-search a (MutingStray u tries spare sweep) Noise = refl
-heard-search a (Ended fault) h = refl
-
-pub fed-search : (a : AgentState) (h : Heard) → (fed a h).search ≡ a.search
-fed-search a Failed = refl
-fed-search a Silent = heard-search a a.phase Silent
-fed-search a (One u) = heard-search a a.phase (One u)
-fed-search a (Acked ack) = heard-search a a.phase (Acked ack)
-fed-search a Noise = heard-search a a.phase Noise
-
 kept-search : (a b : AgentState) (x : List Seen) → Runs a x b → b.search ≡ a.search
 kept-search a b [] run = ap (λ (c : AgentState). c.search) run
 kept-search a b (e ∷ x) run = kept-search (fed a e.heard) b x run.1 ∙ fed-search a e.heard
@@ -297,7 +262,7 @@ wants_in_order search kind known budget (Sweeping sweep) x found p = (
 )
 wants_in_order search kind known budget (MutingSwept u tries spare sweep) x found p = (
   (λ early. absurd (too_early (begun-length (known_of kind known) (Some u) x found p.searches.under_way) early)),
-  λ late. is_muting_swept-device search (known_of kind known) u tries sweep x found p,
+  λ late. is_muting_swept-device search (known_of kind known) u tries spare sweep x found p,
 )
 wants_in_order search kind known budget (Checking u silences sweep) x found p = (
   (λ early. absurd (too_early (begun-length (known_of kind known) None x found p.searches.under_way) early)),
@@ -513,3 +478,8 @@ finds_acknowledged_by search kind known budget x b set run =
     by_next : next_of b ≢ None → (next : Option Asked) → next_of b ≡ next → AllReported x
     by_next goes None end = absurd (goes end)
     by_next goes (Some asked) next = all_reported_by search kind known budget x b asked set run next
+
+-- each UID that is set apart was answered badly
+pub bad_by : (search : Search) (kind : Kind) (known : List ℕ) (budget : ℕ) (x : List Seen) (b : AgentState)
+    → IsDeviceSet known → Runs (start_by search kind known budget) x b → WereBad b.apart x
+bad_by search kind known budget x b set run = (stands_by search kind known budget x b set run).bad

@@ -2,7 +2,7 @@
 use Rattle.rdm_agent.proofs.Common.{ℕ, zero, suc, List, [], ◌∷◌, ◌++◌, drop, None, refl, ap, cond, true, inl, inr}
 use Rattle.rdm_agent.proofs.Common.{arith, IsDeviceSet, Seen, HonestTrace, Mute, Silent, Certificate, AgentState, Runs}
 use Rattle.rdm_agent.proofs.Common.{start, Ended, exchange, sample_uid, sample_device, Incremental, Steady}
-use Rattle.rdm_agent.proofs.Common.{DEFAULT_BUDGET}
+use Rattle.rdm_agent.proofs.Common.{DEFAULT_BUDGET, false}
 use Rattle.std.proofs.Common.{replicate}
 use Rattle.rdm_agent.specs.SampleRun.{absent_uid, other_device, incremental_run}
 use Rattle.rdm_agent.proofs.Runs.{ends_certified_by}
@@ -57,6 +57,8 @@ ended = record {
   frames = 17;
   search = Steady;
   found = sample_device ∷ other_device ∷ [];
+  apart = [];
+  more = false;
   phase = Ended None;
 }
 

@@ -19,10 +19,9 @@ use Rattle.rdm_agent.proofs.Common.{asks_again, is_soon, is_one, spare_at, spent
 use Rattle.rdm_agent.proofs.Common.{search_read, mute_lost, min, nat_le, leb-true, le-leb}
 use Rattle.std.proofs.Math.Nat.{min-le_left, le-min}
 use Rattle.rdm_agent.proofs.PaidLemmas.{Cheaper, search_below-costs, split-costs, SpellsNew, answered, new-left}
-use Rattle.rdm_agent.proofs.PaidLemmas.{mute-keeps, acked-mute, lost-mute}
+use Rattle.rdm_agent.proofs.PaidLemmas.{mute-keeps, acked-mute, lost-mute, alone-present}
 use Rattle.rdm_agent.proofs.Common.{NoisyStep, has_bytes, is_acked, not, cond, lt-ltb, BAD_ANSWERS}
 use Rattle.rdm_agent.proofs.Potential.{Watched, IsFirstTime, IsAskedAgain}
-use Rattle.rdm_agent.proofs.CorruptLemmas.{is_new-device}
 use Rattle.rdm_wire.specs.Noisy.{is_disturbed_branch, MayHearInNoise}
 use Rattle.rdm_agent.proofs.Common.{eq-eqb}
 use Rattle.rdm_agent.proofs.PaidLemmas.{Finds-keeps, to_phase-affords, to_found-affords}
@@ -379,17 +378,6 @@ module _ (present : List ℕ) (set : IsDeviceSet present) (few : length present 
       why k noise (inl spells) = absurd (noise spells.uid spells.heard)
       why k noise (inr either) = either
 
-      alone : (u : ℕ) → MayHearInNoise present top.lo top.hi (One u) → top.lo ≡ top.hi
-          → is_new (found_uids a) top u ≡ true → has present u ≡ true
-      alone u may one fresh = elim (cases_Bool (has present u)) [
-        | inl here ↦ here
-        | inr absent ↦ absurd (may one (subst (λ (v : ℕ). has present v ≡ false) is absent) (ap One is))
-      ]
-        where
-          is : u ≡ top.lo
-          is = let device = is_new-device (found_uids a) top u fresh in let from = device.from in
-              let to = device.to in omega (arith, one, from, to)
-
       of_heard : (k : Heard) → k ≢ Failed → (Is k → (30 ≤ bonus) × (s.row + 1 ≡ new.row) × (new.row ≤ 7))
           → (30 ≤ bonus → Is k) → MayHearInNoise present top.lo top.hi k
           → Affords present (total + bonus) new (branch_heard a silences bads spent top below k)
@@ -397,7 +385,7 @@ module _ (present : List ℕ) (set : IsDeviceSet present) (few : length present 
       of_heard (One u) sound paid only may =
           spelt-affords silences bads spent top below finds costs quick
           (λ some. ((paid (only some)).1, (paid (only some)).2)) u
-          (answer (One u) (λ p. cc) sound paid) (alone u may)
+          (answer (One u) (λ p. cc) sound paid) (alone-present present (found_uids a) top u may)
       of_heard Failed sound paid only may = absurd (sound refl)
       of_heard (Acked ack) sound paid only may =
           apart-affords silences bads spent top below finds costs quick

@@ -12,8 +12,9 @@ use Rattle.rdm_agent.proofs.Potential.{is_left, left_in, CostsChecking, CostsStr
 use Rattle.rdm_agent.proofs.Members.{member}
 use Rattle.rdm_agent.proofs.LeftLemmas.{first_passes, left-halves}
 use Rattle.rdm_agent.proofs.CoverLemmas.{one_uid}
-use Rattle.rdm_agent.proofs.SweepPaid.{on-costs, split-costs, many, goes_on}
-use Rattle.rdm_agent.proofs.PaidLemmas.{Cheaper, CountsOneMore, SpellsNew, mute-keeps, acked-mute, lost-mute}
+use Rattle.rdm_agent.proofs.SuspectLemmas.{stray-vain}
+use Rattle.rdm_agent.proofs.SweepPaid.{on-costs, split-costs, many, goes_on, one-lost, all-lost, lost-vain}
+use Rattle.rdm_agent.proofs.PaidLemmas.{Cheaper, CountsOneMore, SpellsNew, mute-keeps, acked-mute}
 use Rattle.rdm_agent.proofs.PaidLemmas.{Finds-keeps, answered, to_found-affords}
 use Rattle.rdm_agent.proofs.Potential.{Watched}
 use Rattle.rdm_agent.proofs.Common.{false, NoisyStep, has_bytes, is_acked, ◌&&◌, nat_lt, ◌⊎◌, ◌-◌, sweep_suspecting}
@@ -62,7 +63,7 @@ module _ (present : List ℕ) (set : IsDeviceSet present) (few : length present 
       let under = costs.below in let enough = costs.enough in let once = costs.few in
       goes_on present set few total base bonus s new a within _ f
       (split-costs a.search present new (found_uids a) (base + bonus) (counted sweep) unassigned 0 (length a.found)
-      (omega arith) (many present set few total base bonus s new a within)
+      (omega arith) (many present set few total base bonus s new a within) costs.vain
       (record { more = 0; below = omega arith; enough = omega arith }))
 
   quiet-affords : (u silences : ℕ) (sweep : Sweep) → Finds present new.state (found_uids a)
@@ -75,7 +76,7 @@ module _ (present : List ℕ) (set : IsDeviceSet present) (few : length present 
       (λ split. let under = costs.below in let enough = costs.enough in let once = costs.few in
       goes_on present set few total base bonus s new a within _ f
       (split-costs a.search present new (found_uids a) (base + bonus) (counted_silent sweep) unassigned (silences + 1)
-      (length a.found) (omega arith) (many present set few total base bonus s new a within)
+      (length a.found) (omega arith) (many present set few total base bonus s new a within) costs.vain
       (record { more = 0; below = omega arith; enough = omega arith })))
     where
       again : is_checked_again (counted_silent sweep).belief silences ≡ true
@@ -92,6 +93,7 @@ module _ (present : List ℕ) (set : IsDeviceSet present) (few : length present 
               few = omega (arith, none);
               below = omega (arith, none, under);
               enough = omega arith;
+              vain = costs.vain;
             };
           })
 
@@ -123,7 +125,9 @@ module _ (present : List ℕ) (set : IsDeviceSet present) (few : length present 
               below = omega arith;
               enough = omega arith;
               new = costs.new;
-              why = inl (ap (has present) (sym at) ∙ one.here, omega arith);
+              why = inl (ap (has present) (sym at) ∙ one.here);
+              lost = λ here. omega arith;
+              vain = costs.vain;
             };
           })
       muted is (inr paid) =
@@ -140,6 +144,8 @@ module _ (present : List ℕ) (set : IsDeviceSet present) (few : length present 
               enough = omega arith;
               new = costs.new;
               why = inr (omega arith);
+              lost = λ here. omega arith;
+              vain = costs.vain;
             };
           })
 
@@ -187,6 +193,7 @@ module _ (present : List ℕ) (set : IsDeviceSet present) (few : length present 
       (λ five. let all = eqb-true (tries + 1) TRIES five in let extra = noise all costs.why in
       split-costs a.search present new (found_uids a) (base + bonus) (sweep_suspecting u (counted sweep)) unassigned 0
       (length a.found) (omega arith) (many present set few total base bonus s new a within)
+      (lost-vain present s new u tries h lost step costs.lost all)
       (record { more = costs.more + costs.extra; below = omega arith; enough = omega arith }))
       (λ fewer. let other : tries + 1 ≡ TRIES → ⊥ = eqb-false (tries + 1) TRIES fewer in
       let less : tries + 1 ≤ 4 = grind (arith, other, some) in
@@ -200,18 +207,14 @@ module _ (present : List ℕ) (set : IsDeviceSet present) (few : length present 
           below = omega arith;
           enough = omega arith;
           new = costs.new;
-          why = elim costs.why [
-            | inl here ↦ let one_more = (lost-mute present s.state new.state u h lost step here.0).0 in
-                let so_far = here.1 in inl (here.0, omega (arith, one_more, so_far))
-            | inr extra ↦ inr extra
-          ];
+          why = costs.why;
+          lost = one-lost present s new u tries h lost step costs.lost;
+          vain = costs.vain;
         };
       }))
     where
-      noise : tries + 1 ≡ TRIES → ((has present u ≡ true) × (tries ≤ s.state.lost_mutes)) ⊎ (2 ≤ costs.extra)
-          → 2 ≤ costs.extra
-      noise all (inl here) = let mute = lost-mute present s.state new.state u h lost step here.0 in
-          let most = mute.1 in let so_far = here.1 in absurd (omega (arith, all, most, so_far))
+      noise : tries + 1 ≡ TRIES → (has present u ≡ true) ⊎ (2 ≤ costs.extra) → 2 ≤ costs.extra
+      noise all (inl here) = absurd (all-lost present s new u tries h lost step costs.lost all here)
       noise all (inr extra) = extra
 
   -- its reply is garbled
@@ -236,11 +239,9 @@ module _ (present : List ℕ) (set : IsDeviceSet present) (few : length present 
           below = omega arith;
           enough = omega arith;
           new = costs.new;
-          why = elim costs.why [
-            | inl here ↦ let one_more = (lost-mute present s.state new.state u h lost step here.0).0 in
-                let so_far = here.1 in inl (here.0, omega (arith, one_more, so_far))
-            | inr extra ↦ inr extra
-          ];
+          why = costs.why;
+          lost = λ here. let more = one-lost present s new u tries h lost step costs.lost here in omega (arith, more);
+          vain = costs.vain;
         };
       }))
       (λ counts. lost-affords u tries spare sweep h lost f step costs)
@@ -266,7 +267,8 @@ module _ (present : List ℕ) (set : IsDeviceSet present) (few : length present 
           let enough = costs.enough in
           let counts = many present set few total base bonus s new a within in
           on-costs a.search present new more (base + bonus) (counted sweep) sweep.question.range 0 0
-          (length a.found + 1) (stray_found sweep.belief) (omega arith) (omega (arith, counts, longer))
+          (length a.found + 1) (stray_found sweep.belief) (omega arith) (omega arith) (omega (arith, counts, longer))
+          (stray-vain present sweep.belief costs.vain)
           (record { more = costs.more; below = omega arith; enough = omega arith })
   stray-affords u tries spare sweep Failed sound paid f step costs = absurd (sound refl)
   stray-affords u tries spare sweep Silent sound paid f step costs =

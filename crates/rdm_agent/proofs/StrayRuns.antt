@@ -1,7 +1,7 @@
 -- An agent that checks a UID, or mutes one that answers for others, stands after its exchanges.
 use Rattle.rdm_agent.proofs.Common.{◌≡◌, ℕ, ◌+◌, ◌-◌, ◌<◌, ◌≤◌, true, false, List, [], ◌∷◌, ◌++◌, length, None, Some}
 use Rattle.rdm_agent.proofs.Common.{refl}
-use Rattle.rdm_agent.proofs.Common.{sym, ◌∙◌, inl, subst, arith, ◌≢◌, ◌==◌, nat_lt, cond, cond_both, eqb-true}
+use Rattle.rdm_agent.proofs.Common.{sym, ◌∙◌, subst, arith, ◌≢◌, ◌==◌, nat_lt, cond, cond_both, eqb-true}
 use Rattle.rdm_agent.proofs.Common.{eqb-false}
 use Rattle.rdm_agent.proofs.Common.{and_parts, whole, Heard, Seen, is_acked, Branch, Mute, Acked, Failed, Silent, One}
 use Rattle.rdm_agent.proofs.Common.{Noise, known_of, Phase, AgentState, to_phase, found_uids, unassigned, counted}
@@ -194,11 +194,10 @@ module _ (kind : Kind) (known : List ℕ) (budget : ℕ) (x : List Seen) (a : Ag
       (λ more is_found grows here. on-phase a.search kind known budget (x ++ exchange (Mute u) (Acked ack) ∷ []) more
       (search-acked (known_of kind known) whole [] x (found_uids a) u ack more p.device p.searches
       (read_is kind known budget x a s goes u p.n unassigned p.spelt) is_found grows here)
-      p.quick (counted sweep) sweep.question.range 0 0 0
+      p.quick (counted sweep) sweep.question.range 0 0
       (length a.found + 1) (stray_found sweep.belief) (omega arith) (omega arith)
       (EndsWith-none _ (x ++ exchange (Mute u) (Acked ack) ∷ []))
-      (none-answers sweep.question.range (x ++ exchange (Mute u) (Acked ack) ∷ []) (λ v. acked-none v x u ack))
-      (omega arith) (inl refl))
+      (none-answers sweep.question.range (x ++ exchange (Mute u) (Acked ack) ∷ []) (λ v. acked-none v x u ack)))
   stray-stands u tries spare sweep Failed sound p = absurd (sound refl)
   stray-stands u tries spare sweep Silent sound p = lost-stands u tries sweep Silent sound refl p spare
   stray-stands u tries spare sweep (One v) sound p = garbled-stands u tries sweep (One v) sound refl p spare

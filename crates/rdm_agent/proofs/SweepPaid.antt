@@ -1,30 +1,59 @@
 -- What an exchange of a sweep pays, on a noisy line too.
-use Rattle.rdm_agent.proofs.Common.{◌≡◌, ℕ, ◌+◌, ◌-◌, ◌*◌, ◌<◌, ◌≤◌, true, ◌&&◌, not, List, length, refl, sym, ◌∙◌}
+use Rattle.rdm_agent.proofs.Common.{◌≡◌, ℕ, ◌+◌, ◌-◌, ◌*◌, ◌<◌, ◌≤◌, true, false, ◌&&◌, not, List, ◌∷◌, length, refl}
 use Rattle.rdm_agent.proofs.Common.{inl, inr, true≢false, arith, ◌==◌, nat_lt, ◌≢◌, cond_both, and_parts, eqb-false}
-use Rattle.rdm_agent.proofs.Common.{ltb-true, length-map, has, IsDeviceSet, MOST_DEVICES, Span, whole, Heard}
-use Rattle.rdm_agent.proofs.Common.{Branch, Mute, Failed, Silent, One, Acked, Noise, Phase, AgentState}
+use Rattle.rdm_agent.proofs.Common.{ltb-true, length-map, has, IsDeviceSet, MOST_DEVICES, Span, whole, Heard, sym, ◌∙◌}
+use Rattle.rdm_agent.proofs.Common.{Branch, Mute, Failed, Silent, One, Acked, Noise, Phase, AgentState, cond}
 use Rattle.rdm_agent.proofs.Common.{found_uids, is_new, is_one, is_whole, is_wanted, is_last, counted, sweep_suspecting}
 use Rattle.rdm_agent.proofs.Common.{choose, to_phase, sweep_on, sweep_silent, sweep_apart, sweep_heard, swept_heard}
-use Rattle.rdm_agent.proofs.Common.{believed_silent, believed_found, believed_apart, Sweeping, MutingSwept, Search}
+use Rattle.rdm_agent.proofs.Common.{believed_silent, believed_apart, Sweeping, MutingSwept, Search, Ended, None, Some}
 use Rattle.rdm_agent.proofs.Common.{TRIES, Belief, Sweep, sweep_on_after, sweep_split, sweep_spelt, counted_spelt}
-use Rattle.rdm_agent.proofs.Common.{counted_silent, hearing, is_stray, Checking, search_whole, bads_aside, give_up}
-use Rattle.rdm_agent.proofs.Common.{garbled_mutes, swept_lost, is_in_vain}
-use Rattle.rdm_agent.proofs.SweepRuns.{believing}
+use Rattle.rdm_agent.proofs.Common.{counted_silent, hearing, is_stray, Checking, search_whole, bads_aside}
+use Rattle.rdm_agent.proofs.Common.{swept_lost, is_in_vain, BAD_ANSWERS, cases_Bool, eqb-true, subst}
+use Rattle.rdm_agent.proofs.Common.{NoisyStep, has_bytes, is_acked, due_in, give_up, is_broadcast, Bool}
+use Rattle.rdm_wire.specs.Noisy.{is_disturbed_branch, MayHearInNoise}
+use Rattle.rdm_agent.specs.declared.belief.Part.{Part}
+use Rattle.rdm_agent.specs.declared.belief.Part.TheVariants as parts
+use Rattle.rdm_agent.specs.Machine.{to_apart, fifth_silence, put_apart, given_up, asks_on, is_turn_over, badly_alone}
+use Rattle.rdm_agent.specs.Machine.{found_belief, spare_of_answer}
+use Rattle.rdm_agent.specs.Beliefs.{is_suspect, end_answered}
+use Rattle.rdm_agent.specs.Apart.{without, has_room, ask_turn, next_gap, set_apart}
+use Rattle.rdm_agent.proofs.SweepRuns.{stray-is}
+use Rattle.rdm_agent.proofs.SuspectLemmas.{choose-vain, silent-vain, apart-vain, answered-vain}
+use Rattle.rdm_agent.proofs.SuspectLemmas.{hearing-vain, ask_turn-vain, gap-vain, set_apart-vain}
+use Rattle.rdm_agent.proofs.SuspectLemmas.{found_belief-vain}
 use Rattle.rdm_agent.proofs.Choices.{IsChosen, chosen}
 use Rattle.rdm_agent.proofs.CorruptLemmas.{is_new-device}
 use Rattle.rdm_agent.proofs.Potential.{unfound, is_left, left_in, sweep_cost, CostsSweeping, CostsSwept, Finds, Affords}
+use Rattle.rdm_agent.proofs.Potential.{Watched, IsVain}
 use Rattle.rdm_agent.proofs.LeftLemmas.{no_more}
-use Rattle.rdm_agent.proofs.PaidLemmas.{Cheaper, CountsOneMore, mute-keeps, acked-mute}
-use Rattle.rdm_agent.proofs.PaidLemmas.{Finds-keeps, to_phase-affords, to_found-affords}
-use Rattle.rdm_agent.proofs.Potential.{Watched}
-use Rattle.rdm_agent.proofs.SweepRuns.{stray-is}
-use Rattle.rdm_agent.proofs.Common.{NoisyStep, has_bytes, is_acked, cond}
+use Rattle.rdm_agent.proofs.CoverLemmas.{one_uid}
+use Rattle.rdm_agent.proofs.PaidLemmas.{Cheaper, CountsOneMore, mute-keeps, acked-mute, lost-mute, alone-present}
+use Rattle.rdm_agent.proofs.PaidLemmas.{Finds-keeps, to_phase-affords, to_found-affords, answered}
 
 -- what is still needed after an exchange
 pub record Pays (present found : List ℕ) (made cost : ℕ) : Type 0 where
   pub more : ℕ
   pub below : made ≤ 100 * (length found + 2) + 5 + more
   pub enough : sweep_cost present found + 2 + 2 * more ≤ cost + 2 * made
+
+-- a mute that isn't acknowledged
+module _ (present : List ℕ) (s new : Watched) (u tries : ℕ) (h : Heard) (lost : is_acked h ≡ false)
+    (step : NoisyStep present s.state (Mute u) h new.state)
+    (so_far : has present u ≡ true → tries ≤ s.state.lost_mutes) where
+  pub one-lost : has present u ≡ true → tries + 1 ≤ new.state.lost_mutes
+  one-lost here = let one_more = (lost-mute present s.state new.state u h lost step here).0 in
+      let before = so_far here in omega (arith, one_more, before)
+
+  -- after the fifth it isn't present
+  pub all-lost : tries + 1 ≡ TRIES → has present u ≡ true → ⊥
+  all-lost all here = let most = (lost-mute present s.state new.state u h lost step here).1 in
+      let before = so_far here in omega (arith, all, most, before)
+
+  pub lost-vain : tries + 1 ≡ TRIES → IsVain present (Some u)
+  lost-vain all v is = elim (cases_Bool (has present v)) [
+    | inl here ↦ absurd (all-lost all (subst (λ (w : ℕ). has present w ≡ true) (sym (eqb-true u v is)) here))
+    | inr absent ↦ absent
+  ]
 
 module _ (search : Search) (present : List ℕ) (line : Watched) (found : List ℕ) (cost : ℕ) where
   -- the steady search begins
@@ -51,10 +80,10 @@ module _ (search : Search) (present : List ℕ) (line : Watched) (found : List �
       all_left = no_more (λ u. not (has found u)) (is_left found whole) present
           (λ u left. (and_parts _ (not (has found u)) left).1)
 
-  asks-costs : (made silences bads : ℕ) (last : Span) (c : Sweep) → made < 100 * (length found + 2)
-      → Pays present found made cost → IsChosen made silences bads last c
+  asks-costs : (made silences bads : ℕ) (last : Span) (c : Sweep) → made < 100 * (length found + 2) → bads ≤ line.row
+      → Pays present found made cost → IsChosen made silences bads last c → IsVain present c.belief.suspect
       → Cheaper search present line found cost (Sweeping c)
-  asks-costs made silences bads last c under pays is =
+  asks-costs made silences bads last c under in_row pays is vain =
       let enough = pays.enough in let same = is.made_is in let few = is.asks.few in
       record {
         left = cost - 2;
@@ -63,155 +92,295 @@ module _ (search : Search) (present : List ℕ) (line : Watched) (found : List �
           few = omega arith;
           below = omega arith;
           enough = omega arith;
+          alone = λ one. elim is.bads_are [
+            | inl again ↦ let as_many = again.1 in omega (arith, as_many, in_row)
+            | inr other ↦ let zero = other.1 in omega (arith, zero)
+          ];
+          vain = vain;
         };
       }
 
-  pub on-costs : (sweep : Sweep) (last : Span) (silences bads n : ℕ) (b : Belief) → silences ≤ 4 → n ≡ length found
-      → Pays present found sweep.made cost
+  pub on-costs : (sweep : Sweep) (last : Span) (silences bads n : ℕ) (b : Belief) → silences ≤ 4 → bads ≤ line.row
+      → n ≡ length found → IsVain present b.suspect → Pays present found sweep.made cost
       → Cheaper search present line found cost (sweep_on_after sweep last silences bads n b)
-  on-costs sweep last silences bads n b few many pays =
+  on-costs sweep last silences bads n b few in_row many vain pays =
       cond_both (nat_lt sweep.made (100 * (n + 2))) _ _ (Cheaper search present line found cost)
       (λ goes. let under : sweep.made < 100 * (n + 2) = ltb-true sweep.made (100 * (n + 2)) goes in
       asks-costs sweep.made silences bads last (choose sweep.made silences bads last b)
-      (omega (arith, under, many)) pays (chosen sweep.made silences bads last b (omega (arith, few))))
+      (omega (arith, under, many)) in_row pays (chosen sweep.made silences bads last b (omega (arith, few)))
+      (choose-vain present sweep.made silences bads last b vain))
       (λ out. cond_both (is_whole last) silences 0
       (λ m. Cheaper search present line found cost (search_whole m))
       (λ all. begins-costs sweep.made silences few pays) (λ other. begins-costs sweep.made 0 (omega arith) pays))
 
   -- what was asked collided, and then a range was silent so often
   pub split-costs : (sweep : Sweep) (last : Span) (silences n : ℕ) → silences ≤ 4 → n ≡ length found
-      → Pays present found sweep.made cost
+      → IsVain present sweep.belief.suspect → Pays present found sweep.made cost
       → Cheaper search present line found cost (sweep_split sweep last silences n)
-  split-costs sweep last silences n few many pays =
+  split-costs sweep last silences n few many vain pays =
       cond_both (is_last sweep.question.part && is_in_vain sweep.belief) _ _
       (Cheaper search present line found cost)
       (λ found_nothing. begins-costs sweep.made 0 (omega arith) pays)
       (λ goes. on-costs sweep last silences 0 n
-      (believed_apart sweep.question.part sweep.question.range sweep.silences sweep.belief) few many pays)
-
-  silent-costs : (sweep : Sweep) (n : ℕ) → sweep.silences ≤ 4 → n ≡ length found → Pays present found sweep.made cost
-      → Cheaper search present line found cost (sweep_silent sweep n)
-  silent-costs sweep n few many pays =
-      cond_both ((sweep.silences + 1) == TRIES) _ _ (Cheaper search present line found cost)
-      (λ five. let below = pays.below in let enough = pays.enough in
-      record { left = 0; saves = omega arith; costs = refl })
-      (λ other. let not_five = eqb-false (sweep.silences + 1) TRIES other in
-      on-costs sweep sweep.question.range (sweep.silences + 1) 0 n
-      (believed_silent sweep.question.part sweep.question.range sweep.belief) (grind (arith, few, not_five)) many pays)
-
-  -- what was asked was answered badly
-  apart-costs : (sweep : Sweep) (n : ℕ) → n ≡ length found → Pays present found sweep.made cost
-      → Cheaper search present line found cost (sweep_apart sweep n)
-  apart-costs sweep n many pays =
-      cond_both (is_one sweep.question.range) _ _ (Cheaper search present line found cost)
-      (λ alone. cond_both ((sweep.bads + 1) == bads_aside) _ _ (Cheaper search present line found cost)
-      (λ aside. on-costs sweep sweep.question.range 0 0 n (give_up sweep.question.range.hi sweep.belief) (omega arith)
-      many pays)
-      (λ again. on-costs sweep sweep.question.range 0 (sweep.bads + 1) n sweep.belief (omega arith) many pays))
-      (λ both. split-costs sweep sweep.question.range 0 n (omega arith) many pays)
+      (believed_apart sweep.question.part sweep.question.range sweep.silences sweep.belief) few (omega arith) many
+      (apart-vain present sweep.question.part sweep.question.range sweep.silences sweep.belief vain) pays)
 
 module _ (present : List ℕ) (set : IsDeviceSet present) (few : length present ≤ MOST_DEVICES) (total base bonus : ℕ)
     (s new : Watched) (a : AgentState) (within : 2 * a.frames + base ≤ total) where
+  abbrev After : AgentState → Type 0
+  After b = Affords present (total + bonus) new b
+
+  -- if this branch was disturbed it is one more in a row, and seven are the most
+  abbrev IsRow : Span → Heard → Type 0
+  IsRow r h = is_disturbed_branch (due_in present s.state.muted r.lo r.hi) h ≡ true
+      → (s.row + 1 ≡ new.row) × (new.row ≤ 7)
+
   pub many : length a.found ≡ length (found_uids a)
   many = sym (length-map a.found (λ d. d.uid))
 
   pub goes_on : (phase : Phase) → Finds present new.state (found_uids a)
-      → Cheaper a.search present new (found_uids a) (base + bonus) phase
-      → Affords present (total + bonus) new (to_phase a phase)
+      → Cheaper a.search present new (found_uids a) (base + bonus) phase → After (to_phase a phase)
   goes_on phase f cheaper = to_phase-affords present set few total base bonus s new a within phase f cheaper
 
+  -- whatever is set apart
+  goes_on-apart : (us : List ℕ) (more : Bool) (phase : Phase) → After (to_phase a phase)
+      → After (to_apart a us more phase)
+  goes_on-apart us more phase on = record {
+    cost = on.cost;
+    costs = on.costs;
+    within = on.within;
+    finds = on.finds;
+  }
+
+  -- a sweep after an exchange that found nobody
+  module _ (sweep : Sweep) (f : Finds present new.state (found_uids a))
+      (pays : Pays present (found_uids a) sweep.made (base + bonus)) where
+    -- the sweep goes on, whatever it believes
+    onward : (silences bads : ℕ) (b : Belief) → silences ≤ 4 → bads ≤ new.row → IsVain present b.suspect
+        → After (to_phase a (sweep_on sweep silences bads (length a.found) b))
+    onward silences bads b few in_row vain =
+        goes_on _ f
+        (on-costs a.search present new (found_uids a) (base + bonus) sweep sweep.question.range silences bads
+        (length a.found) b few in_row many vain pays)
+
+    -- what it asked was silent for the fifth time
+    fifth-affords : (part : Part) → After (fifth_silence part a sweep)
+    fifth-affords part = of_part part
+      where
+        above : After (cond (is_whole sweep.question.range) (to_phase a (Ended None))
+            (to_phase a (sweep_on sweep 0 0 (length a.found) (next_gap (sweep.belief.top + 1) a.apart sweep.belief))))
+        above = cond_both (is_whole sweep.question.range) _ _ After
+            (λ all. goes_on (Ended None) f
+            (let below = pays.below in let enough = pays.enough in
+            record { left = 0; saves = omega arith; costs = refl }))
+            (λ gap. onward 0 0 (next_gap (sweep.belief.top + 1) a.apart sweep.belief) (omega arith) (omega arith)
+            (gap-vain present (sweep.belief.top + 1) a.apart sweep.belief))
+
+        of_part : (part : Part) → After (fifth_silence part a sweep)
+        of_part parts.Apart = goes_on-apart (without sweep.question.range.hi a.apart) a.more _
+            (onward 0 0 (ask_turn (without sweep.question.range.hi a.apart) sweep.belief.turn sweep.belief)
+            (omega arith) (omega arith)
+            (ask_turn-vain present (without sweep.question.range.hi a.apart) sweep.belief.turn sweep.belief))
+        of_part parts.Fresh = above
+        of_part parts.Lower = above
+        of_part parts.Rest = above
+        of_part parts.All = above
+        of_part parts.Whole = above
+        of_part parts.End = above
+
+    module _ (vain : IsVain present sweep.belief.suspect) where
+      silent-affords : sweep.silences ≤ 4 → After (sweep_silent a sweep)
+      silent-affords few = cond_both ((sweep.silences + 1) == TRIES) _ _ After
+          (λ five. fifth-affords sweep.question.part)
+          (λ other. let not_five = eqb-false (sweep.silences + 1) TRIES other in
+          onward (sweep.silences + 1) 0 (believed_silent sweep.question.part sweep.question.range sweep.belief)
+          (grind (arith, few, not_five)) (omega arith)
+          (silent-vain present sweep.question.part sweep.question.range sweep.belief vain))
+
+      -- one UID that was asked alone is given up, or set apart
+      aside-affords : (u : ℕ) → bads_aside ≤ new.row → After (put_apart a sweep u)
+      aside-affords u in_row = cond_both (is_broadcast u) _ _ After (λ broadcast. given)
+          (λ own. cond_both (has_room a.apart) _ _ After
+          (λ room. goes_on-apart (u ∷ a.apart) a.more _
+          (onward 0 bads_aside (set_apart u (u ∷ a.apart) sweep.belief) (omega arith) in_row
+          (set_apart-vain present u (u ∷ a.apart) sweep.belief)))
+          (λ full. goes_on-apart a.apart true _ given))
+        where
+          given : After (to_phase a (given_up a.found sweep u))
+          given = onward 0 bads_aside (give_up u sweep.belief) (omega arith) in_row vain
+
+      -- what it asked was answered badly. If that was one UID alone, each such branch in a row was disturbed
+      apart-affords : (sweep.question.range.lo ≡ sweep.question.range.hi
+          → (sweep.bads + 1 ≤ new.row) × (new.row ≤ 7)) → After (sweep_apart a sweep)
+      apart-affords rows = cond_both (is_one sweep.question.range) _ _ After
+          (λ one. alone (rows (eqb-true sweep.question.range.lo sweep.question.range.hi one)))
+          (λ several. goes_on _ f
+          (split-costs a.search present new (found_uids a) (base + bonus) sweep sweep.question.range 0 (length a.found)
+          (omega arith) many vain pays))
+        where
+          aside : sweep.bads + 1 ≤ new.row
+              → After (cond ((sweep.bads + 1) == bads_aside) (put_apart a sweep sweep.question.range.hi)
+              (to_phase a (sweep_on sweep 0 (sweep.bads + 1) (length a.found) (end_answered sweep.belief))))
+          aside in_row = cond_both ((sweep.bads + 1) == bads_aside) _ _ After
+              (λ is. let four = eqb-true (sweep.bads + 1) bads_aside is in
+              aside-affords sweep.question.range.hi (omega (arith, four, in_row)))
+              (λ again. onward 0 (sweep.bads + 1) (end_answered sweep.belief) (omega arith) in_row
+              (answered-vain present sweep.belief vain))
+
+          of_part : sweep.bads + 1 ≤ new.row → (part : Part) → After (asks_on part a sweep (sweep.bads + 1))
+          of_part in_row parts.Apart =
+              onward 0 (sweep.bads + 1)
+              (cond (is_turn_over a.apart sweep (sweep.bads + 1))
+              (ask_turn a.apart (sweep.belief.turn + 1) sweep.belief) sweep.belief) (omega arith) in_row
+              (cond_both (is_turn_over a.apart sweep (sweep.bads + 1)) _ _ (λ (b : Belief). IsVain present b.suspect)
+              (λ over. ask_turn-vain present a.apart (sweep.belief.turn + 1) sweep.belief) (λ again. vain))
+          of_part in_row parts.Fresh = aside in_row
+          of_part in_row parts.Lower = aside in_row
+          of_part in_row parts.Rest = aside in_row
+          of_part in_row parts.All = aside in_row
+          of_part in_row parts.Whole = aside in_row
+          of_part in_row parts.End = aside in_row
+
+          alone : (sweep.bads + 1 ≤ new.row) × (new.row ≤ 7) → After (badly_alone a sweep (sweep.bads + 1))
+          alone rows = let in_row = rows.0 in let most = rows.1 in
+              cond_both ((sweep.bads + 1) == BAD_ANSWERS) _ _ After
+              (λ all. absurd (let eight = eqb-true (sweep.bads + 1) BAD_ANSWERS all in
+              omega (arith, eight, in_row, most)))
+              (λ fewer. of_part in_row sweep.question.part)
+
   -- the range is branched
-  paid : (sweep : Sweep) → CostsSweeping present (found_uids a) sweep base
-      → Pays present (found_uids a) (sweep.made + 1) (base + bonus)
-  paid sweep costs =
-      let below = costs.below in let enough = costs.enough in
-      record { more = 0; below = omega arith; enough = omega arith }
+  module _ (sweep : Sweep) (f : Finds present new.state (found_uids a))
+      (costs : CostsSweeping present s.row (found_uids a) sweep base) where
+    paid : Pays present (found_uids a) (sweep.made + 1) (base + bonus)
+    paid = let below = costs.below in let enough = costs.enough in
+        record { more = 0; below = omega arith; enough = omega arith }
 
-  apart-affords : (sweep : Sweep) (b : Belief) → Finds present new.state (found_uids a)
-      → CostsSweeping present (found_uids a) sweep base
-      → Affords present (total + bonus) new (to_phase a (sweep_apart (counted (believing b sweep)) (length a.found)))
-  apart-affords sweep b f costs =
-      goes_on _ f
-      (apart-costs a.search present new (found_uids a) (base + bonus) (counted (believing b sweep)) (length a.found)
-      many (paid sweep costs))
+    heard-vain : (u : ℕ) → IsVain present (hearing u sweep.belief).suspect
+    heard-vain u = hearing-vain present u sweep.belief costs.vain
 
-  spelt-affords : (sweep : Sweep) (u : ℕ) → Finds present new.state (found_uids a)
-      → CostsSweeping present (found_uids a) sweep base
-      → Affords present (total + bonus) new
-      (to_phase a (sweep_spelt (found_uids a) (counted_spelt u sweep) (length a.found) u))
-  spelt-affords sweep u f costs =
-      cond_both (is_wanted (found_uids a) (counted_spelt u sweep) u) _ _
-      (λ p. Affords present (total + bonus) new (to_phase a p)) muted
-      (λ refused. cond_both (is_stray (found_uids a) (counted_spelt u sweep) u) _ _
-      (λ p. Affords present (total + bonus) new (to_phase a p)) checked
-      (λ split. apart-affords sweep (hearing u sweep.belief) f costs))
+    -- one UID alone was answered badly once more
+    abbrev OneMore : Type 0
+    OneMore = sweep.question.range.lo ≡ sweep.question.range.hi → (sweep.bads + 1 ≤ new.row) × (new.row ≤ 7)
+
+    spelt-affords : (u : ℕ) → MayHearInNoise present sweep.question.range.lo sweep.question.range.hi (One u)
+        → (is_wanted (found_uids a) (counted_spelt u sweep) u ≡ false → OneMore)
+        → After (sweep_spelt a (counted_spelt u sweep) u)
+    spelt-affords u may rows =
+        cond_both (is_wanted (found_uids a) (counted_spelt u sweep) u) _ _ After muted
+        (λ refused. cond_both (is_stray (found_uids a) (counted_spelt u sweep) u) _ _ After checked
+        (λ split. apart-affords (counted_spelt u sweep) f paid (heard-vain u) (rows refused)))
+      where
+        checked : is_stray (found_uids a) (counted_spelt u sweep) u ≡ true
+            → After (to_phase a (Checking u 0 (counted_spelt u sweep)))
+        checked stray =
+            let under = costs.below in let enough = costs.enough in
+            goes_on (Checking u 0 (counted_spelt u sweep)) f (record {
+              left = base - 2;
+              saves = omega arith;
+              costs = record {
+                new = (stray-is (found_uids a) (counted_spelt u sweep) u stray).new;
+                few = omega arith;
+                below = omega arith;
+                enough = omega arith;
+                vain = heard-vain u;
+              };
+            })
+
+        muted : is_wanted (found_uids a) (counted_spelt u sweep) u ≡ true → After
+            (to_phase a (MutingSwept u 0 (spare_of_answer (counted_spelt u sweep)) (counted_spelt u sweep)))
+        muted wanted =
+            let fresh = (and_parts (is_new (found_uids a) sweep.question.range u) _ wanted).0 in
+            let under = costs.below in let enough = costs.enough in
+            goes_on (MutingSwept u 0 (spare_of_answer (counted_spelt u sweep)) (counted_spelt u sweep)) f (record {
+              left = base - 2;
+              saves = omega arith;
+              costs = record {
+                more = 0;
+                few = omega arith;
+                below = omega arith;
+                enough = omega arith;
+                new = (is_new-device (found_uids a) sweep.question.range u fresh).new;
+                lost = λ here. omega arith;
+                alone = λ one. alone-present present (found_uids a) sweep.question.range u may one fresh;
+                vain = heard-vain u;
+              };
+            })
+
+    -- what isn't a new device's text was disturbed
+    disturbs : (h : Heard) → h ≢ Silent → h ≢ Failed → IsRow sweep.question.range h
+        → Finds present s.state (found_uids a)
+        → ((u : ℕ) → h ≡ One u → has present u ≡ true → is_new (found_uids a) sweep.question.range u ≡ true → ⊥)
+        → OneMore
+    disturbs h loud sound rows before refused one =
+        elim (answered present (found_uids a) s.state sweep.question.range h set loud sound before) [
+          | inl spells ↦ absurd (refused spells.uid spells.heard spells.here spells.new)
+          | inr (inl two) ↦ absurd (let most = one_uid present (found_uids a) sweep.question.range (omega (arith, one))
+              set.ascending in omega (arith, two, most))
+          | inr (inr is) ↦ let next = (rows is).0 in let so_far = costs.alone one in
+              (omega (arith, so_far, next), (rows is).1)
+        ]
+
+  -- what is new and isn't muted was muted in vain
+  refused-absent : (sweep : Sweep) (u : ℕ) → IsVain present sweep.belief.suspect
+      → is_wanted (found_uids a) sweep u ≡ false → has present u ≡ true
+      → is_new (found_uids a) sweep.question.range u ≡ true → ⊥
+  refused-absent sweep u vain refused here fresh = elim (cases_Bool (is_suspect sweep.belief.suspect u)) [
+    | inl is ↦ true≢false (sym here ∙ vain u is)
+    | inr other ↦ true≢false (sym (wanted fresh other) ∙ refused)
+  ]
     where
-      checked : is_stray (found_uids a) (counted_spelt u sweep) u ≡ true
-          → Affords present (total + bonus) new (to_phase a (Checking u 0 (counted_spelt u sweep)))
-      checked stray =
-          let under = costs.below in let enough = costs.enough in
-          goes_on (Checking u 0 (counted_spelt u sweep)) f (record {
-            left = base - 2;
-            saves = omega arith;
-            costs = record {
-              new = (stray-is (found_uids a) (counted_spelt u sweep) u stray).new;
-              few = omega arith;
-              below = omega arith;
-              enough = omega arith;
-            };
-          })
-
-      muted : is_wanted (found_uids a) (counted_spelt u sweep) u ≡ true
-          → Affords present (total + bonus) new (to_phase a (MutingSwept u 0 garbled_mutes (counted_spelt u sweep)))
-      muted wanted =
-          let under = costs.below in let enough = costs.enough in
-          goes_on (MutingSwept u 0 garbled_mutes (counted_spelt u sweep)) f (record {
-            left = base - 2;
-            saves = omega arith;
-            costs = record {
-              more = 0;
-              few = omega arith;
-              below = omega arith;
-              enough = omega arith;
-              new = (is_new-device (found_uids a) sweep.question.range u
-                  (and_parts (is_new (found_uids a) sweep.question.range u) _ wanted).0).new;
-            };
-          })
+      wanted : is_new (found_uids a) sweep.question.range u ≡ true → is_suspect sweep.belief.suspect u ≡ false
+          → is_wanted (found_uids a) sweep u ≡ true
+      wanted fresh other = rw (fresh, other) refl
 
   pub sweeping-affords : (sweep : Sweep) (h : Heard) → h ≢ Failed
-      → Finds present s.state (found_uids a) → NoisyStep present s.state
+      → IsRow sweep.question.range h → Finds present s.state (found_uids a) → NoisyStep present s.state
       (Branch sweep.question.range.lo sweep.question.range.hi) h new.state
-      → CostsSweeping present (found_uids a) sweep base
-      → Affords present (total + bonus) new (sweep_heard a sweep h)
-  sweeping-affords sweep h sound f step costs = of_heard h sound
+      → CostsSweeping present s.row (found_uids a) sweep base → After (sweep_heard a sweep h)
+  sweeping-affords sweep h sound disturbed f step costs = of_heard h sound disturbed step.0
     where
       finds : Finds present new.state (found_uids a)
       finds = Finds-keeps present (found_uids a) s.state new.state (λ u muted. step.1 u ∙ muted) f
 
-      of_heard : (h : Heard) → h ≢ Failed → Affords present (total + bonus) new (sweep_heard a sweep h)
-      of_heard Silent sound =
-          goes_on _ finds
-          (silent-costs a.search present new (found_uids a) (base + bonus) (counted_silent sweep) (length a.found)
-          costs.few many
-          (paid sweep costs))
-      of_heard (One u) sound = spelt-affords sweep u finds costs
-      of_heard Failed sound = absurd (sound refl)
-      of_heard (Acked ack) sound = apart-affords sweep sweep.belief finds costs
-      of_heard Noise sound = apart-affords sweep sweep.belief finds costs
+      same : (u v : ℕ) → One u ≡ One v → u ≡ v
+      same u v p = cc
+
+      noisy : (k : Heard) → k ≢ Silent → k ≢ Failed → ((u : ℕ) → k ≡ One u → ⊥) → IsRow sweep.question.range k
+          → After (sweep_apart a (counted sweep))
+      noisy k loud sound noise rows =
+          apart-affords (counted sweep) finds (paid sweep finds costs) costs.vain
+          (disturbs sweep finds costs k loud sound rows f (λ u is here fresh. noise u is))
+
+      of_heard : (k : Heard) → k ≢ Failed → IsRow sweep.question.range k
+          → MayHearInNoise present sweep.question.range.lo sweep.question.range.hi k → After (sweep_heard a sweep k)
+      of_heard Silent sound rows may =
+          silent-affords (counted_silent sweep) finds (paid sweep finds costs) costs.vain costs.few
+      of_heard (One u) sound rows may =
+          spelt-affords sweep finds costs u may
+          (λ refused. disturbs sweep finds costs (One u) (λ p. cc) sound rows f
+          (λ v is here fresh. refused-absent (counted_spelt u sweep) u (heard-vain sweep finds costs u) refused
+          (subst (λ (w : ℕ). has present w ≡ true) (sym (same u v is)) here)
+          (subst (λ (w : ℕ). is_new (found_uids a) sweep.question.range w ≡ true) (sym (same u v is)) fresh)))
+      of_heard Failed sound rows may = absurd (sound refl)
+      of_heard (Acked ack) sound rows may = noisy (Acked ack) (λ p. cc) sound (λ u p. cc) rows
+      of_heard Noise sound rows may = noisy Noise (λ p. cc) sound (λ u p. cc) rows
 
   -- what it spelt is muted
-  lost-affords : (u tries spare : ℕ) (sweep : Sweep) (h : Heard) → Finds present s.state (found_uids a)
-      → NoisyStep present s.state (Mute u) h new.state → CostsSwept present (found_uids a) u tries sweep base
-      → Affords present (total + bonus) new (to_phase a (swept_lost u tries spare (counted sweep) (length a.found)))
-  lost-affords u tries spare sweep h f step costs =
+  lost-affords : (u tries spare : ℕ) (sweep : Sweep) (h : Heard) → is_acked h ≡ false
+      → Finds present s.state (found_uids a) → NoisyStep present s.state (Mute u) h new.state
+      → CostsSwept present s (found_uids a) u tries sweep base
+      → After (swept_lost a u tries spare (counted sweep))
+  lost-affords u tries spare sweep h lost f step costs =
       let few = costs.few in let under = costs.below in let enough = costs.enough in
-      goes_on _ (Finds-keeps present (found_uids a) s.state new.state (mute-keeps present s.state new.state u h step) f)
-      (cond_both ((tries + 1) == TRIES) _ _ (Cheaper a.search present new (found_uids a) (base + bonus))
-      (λ five. apart-costs a.search present new (found_uids a) (base + bonus) (sweep_suspecting u (counted sweep))
-      (length a.found) many (record { more = costs.more; below = omega arith; enough = omega arith }))
+      cond_both ((tries + 1) == TRIES) _ _ After
+      (λ five. let all = eqb-true (tries + 1) TRIES five in
+      apart-affords (sweep_suspecting u (counted sweep)) finds
+      (record { more = costs.more; below = omega arith; enough = omega arith })
+      (lost-vain present s new u tries h lost step costs.lost all)
+      (λ one. absurd (all-lost present s new u tries h lost step costs.lost all (costs.alone one))))
       (λ fewer. let other : tries + 1 ≡ TRIES → ⊥ = eqb-false (tries + 1) TRIES fewer in
       let less : tries + 1 ≤ 4 = grind (arith, other, few) in
-      record {
+      goes_on (MutingSwept u (tries + 1) spare (counted sweep)) finds (record {
         left = base - 2;
         saves = omega arith;
         costs = record {
@@ -220,17 +389,23 @@ module _ (present : List ℕ) (set : IsDeviceSet present) (few : length present 
           below = omega arith;
           enough = omega arith;
           new = costs.new;
+          lost = one-lost present s new u tries h lost step costs.lost;
+          alone = costs.alone;
+          vain = costs.vain;
         };
       }))
+    where
+      finds : Finds present new.state (found_uids a)
+      finds = Finds-keeps present (found_uids a) s.state new.state (mute-keeps present s.state new.state u h step) f
 
   -- its reply is garbled
-  garbled-affords : (u tries spare : ℕ) (sweep : Sweep) (h : Heard) → 30 ≤ bonus → Finds present s.state (found_uids a)
-      → NoisyStep present s.state (Mute u) h new.state → CostsSwept present (found_uids a) u tries sweep base
-      → Affords present (total + bonus) new
-      (to_phase a (cond (nat_lt 0 spare) (MutingSwept u tries (spare - 1) (counted sweep))
-      (swept_lost u tries spare (counted sweep) (length a.found))))
-  garbled-affords u tries spare sweep h paid f step costs =
-      cond_both (nat_lt 0 spare) _ _ (λ p. Affords present (total + bonus) new (to_phase a p))
+  garbled-affords : (u tries spare : ℕ) (sweep : Sweep) (h : Heard) → is_acked h ≡ false → 30 ≤ bonus
+      → Finds present s.state (found_uids a) → NoisyStep present s.state (Mute u) h new.state
+      → CostsSwept present s (found_uids a) u tries sweep base
+      → After (cond (nat_lt 0 spare) (to_phase a (MutingSwept u tries (spare - 1) (counted sweep)))
+      (swept_lost a u tries spare (counted sweep)))
+  garbled-affords u tries spare sweep h lost paid f step costs =
+      cond_both (nat_lt 0 spare) _ _ After
       (λ spares. let few = costs.few in let under = costs.below in let enough = costs.enough in
       goes_on (MutingSwept u tries (spare - 1) (counted sweep))
       (Finds-keeps present (found_uids a) s.state new.state (mute-keeps present s.state new.state u h step) f)
@@ -243,38 +418,41 @@ module _ (present : List ℕ) (set : IsDeviceSet present) (few : length present 
           below = omega arith;
           enough = omega arith;
           new = costs.new;
+          lost = λ here. let more = one-lost present s new u tries h lost step costs.lost here in omega (arith, more);
+          alone = costs.alone;
+          vain = costs.vain;
         };
       }))
-      (λ counts. lost-affords u tries spare sweep h f step costs)
+      (λ counts. lost-affords u tries spare sweep h lost f step costs)
 
   pub swept-affords : (u tries spare : ℕ) (sweep : Sweep) (h : Heard) → h ≢ Failed
       → ((has_bytes h && not (is_acked h)) ≡ true → 30 ≤ bonus)
       → Finds present s.state (found_uids a) → NoisyStep present s.state (Mute u) h new.state
-      → CostsSwept present (found_uids a) u tries sweep base
-      → Affords present (total + bonus) new (swept_heard a u tries spare sweep h)
+      → CostsSwept present s (found_uids a) u tries sweep base → After (swept_heard a u tries spare sweep h)
   swept-affords u tries spare sweep (Acked ack) sound paid f step costs =
       let acked = acked-mute present s.state new.state u ack step in
       to_found-affords present set few total base bonus s new a within u ack
       (sweep_on (counted sweep) 0 0 (length a.found + 1) after) acked.0 acked.1
       (mute-keeps present s.state new.state u (Acked ack) step) f
-      (λ more grows now one_more. onward more one_more)
+      (λ more grows now one_more. onward_found more one_more)
     where
       after : Belief
-      after = believed_found sweep.question.part sweep.question.range sweep.belief
+      after = found_belief sweep.question.part u a.apart sweep
 
-      onward : (more : List ℕ) → CountsOneMore present (found_uids a) u more
+      onward_found : (more : List ℕ) → CountsOneMore present (found_uids a) u more
           → Cheaper a.search present new more (base + bonus) (sweep_on (counted sweep) 0 0 (length a.found + 1) after)
-      onward more (inl old) = absurd (true≢false (sym old.0 ∙ costs.new))
-      onward more (inr one_more) =
+      onward_found more (inl old) = absurd (true≢false (sym old.0 ∙ costs.new))
+      onward_found more (inr one_more) =
           let longer = one_more.0 in let fewer = one_more.1 in let few = costs.few in let under = costs.below in
           let enough = costs.enough in
           on-costs a.search present new more (base + bonus) (counted sweep) sweep.question.range 0 0
-          (length a.found + 1) after (omega arith) (omega (arith, many, longer))
+          (length a.found + 1) after (omega arith) (omega arith) (omega (arith, many, longer))
+          (found_belief-vain present sweep.question.part u a.apart sweep costs.vain)
           (record { more = costs.more; below = omega arith; enough = omega arith })
   swept-affords u tries spare sweep Failed sound paid f step costs = absurd (sound refl)
   swept-affords u tries spare sweep Silent sound paid f step costs =
-      lost-affords u tries spare sweep Silent f step costs
+      lost-affords u tries spare sweep Silent refl f step costs
   swept-affords u tries spare sweep (One v) sound paid f step costs =
-      garbled-affords u tries spare sweep (One v) (paid refl) f step costs
+      garbled-affords u tries spare sweep (One v) refl (paid refl) f step costs
   swept-affords u tries spare sweep Noise sound paid f step costs =
-      garbled-affords u tries spare sweep Noise (paid refl) f step costs
+      garbled-affords u tries spare sweep Noise refl (paid refl) f step costs

@@ -5,7 +5,9 @@ use Rattle.rdm_wire.specs.Span.{Span, whole}
 use Rattle.rdm_agent.specs.declared.belief.Belief.{Belief}
 use Rattle.rdm_agent.specs.declared.belief.Question.{Question}
 use Rattle.rdm_agent.specs.declared.belief.Part.{Part}
-use Rattle.rdm_agent.specs.declared.belief.Part.TheVariants.{Fresh, Lower, Rest, All, Whole}
+use Rattle.rdm_agent.specs.declared.belief.Part.TheVariants.{Fresh, Lower, Rest, All, Whole, End, Apart}
+use Rattle.rdm_agent.specs.declared.belief.Alone.{Alone}
+use Rattle.rdm_agent.specs.declared.belief.Alone.TheVariants as alone
 
 -- whether a sweep remembers this UID
 abbrev pub is_suspect : Option ℕ → ℕ → Bool
@@ -39,6 +41,8 @@ spanning lo hi = record { lo = min lo (min hi last_uid); hi = min hi last_uid }
 -- - it asks ranges of UIDs, and mutes only what a range has just shown;
 -- - five silences in a row of the whole range end the run, and no other range is silent five times in a row;
 -- - its exchanges are limited.
+-- Some UIDs may be set apart, which can't be read or muted. Then it searches the gaps between them like the whole
+-- range, one after the other; it is in that from gap to top.
 abbrev pub first_belief : Belief
 first_belief = record {
   base = 0;
@@ -51,6 +55,10 @@ first_belief = record {
   quiet = 0;
   begun = 0;
   back = 1;
+  gap = 0;
+  top = last_uid;
+  alone = alone.No;
+  turn = 0;
   suspect = None;
   found_nothing = false;
   again = false;
@@ -70,11 +78,20 @@ is_same r q = (r.lo == q.lo) && (r.hi == q.hi)
 abbrev pub is_whole : Span → Bool
 is_whole r = is_same r whole
 
+-- the gap, which is the whole range if no UID is set apart. Another gap doesn't have the greatest UID: five silences in
+-- a row of a range with it would be the certificate
+abbrev pub all_of : Belief → Span
+all_of b = if b.top == last_uid then whole else spanning b.gap (min b.top (last_uid - 1))
+
+-- the UIDs from lo to hi, up to the end of the gap
+abbrev pub in_gap : Belief → ℕ → ℕ → Span
+in_gap b lo hi = spanning lo (min hi b.top)
+
 -- CHOOSE. A fresh range is the next one that wasn't swept. It also looks back as far as ahead: a device that was
 -- missed just before answers now. The last one looks back to the start, so that its silence is one of the whole range
 abbrev pub fresh_range : Belief → Span
 fresh_range b =
-    spanning (if nat_lt last_uid (b.at + b.width) then b.base else max b.base (b.at - b.width)) (b.at + (b.width - 1))
+    in_gap b (if nat_lt b.top (b.at + b.width) then b.base else max b.base (b.at - b.width)) (b.at + (b.width - 1))
 
 -- If no range has answered, a fresh one is asked. If the range that answered has one more device, all of it is asked
 -- again, since an answer is certain. If it has two, the lower half of what is left is asked. After three silences in a
@@ -82,9 +99,9 @@ fresh_range b =
 abbrev pub part_of : Belief → Question
 part_of b =
     if b.need == 0 then record { part = Fresh; range = fresh_range b }
-    else (if b.need == 1 then record { part = All; range = spanning b.lo b.end }
-    else (if nat_lt b.lo b.at && nat_lt 2 b.quiet then record { part = Rest; range = spanning b.at b.end }
-    else record { part = Lower; range = spanning b.at (b.at + (b.end - b.at) / 2) }))
+    else (if b.need == 1 then record { part = All; range = in_gap b b.lo b.end }
+    else (if nat_lt b.lo b.at && nat_lt 2 b.quiet then record { part = Rest; range = in_gap b b.at b.end }
+    else record { part = Lower; range = in_gap b b.at (b.at + (b.end - b.at) / 2) }))
 
 -- One UID is asked together with UIDs below it, which were swept, because some of them may have been missed. It is
 -- asked alone if those below it were given up
@@ -93,17 +110,34 @@ with_lower b q =
     if is_one q.range
     then record { part = q.part; range = spanning (max b.base (q.range.hi - b.back)) q.range.hi } else q
 
--- what a sweep asks; after a pass this is the whole range
+-- what a sweep asks in a gap; after a pass this is all of it
+abbrev pub swept : Belief → Question
+swept b =
+    if nat_lt (min b.top last_uid) b.at then record { part = Whole; range = all_of b }
+    else with_lower b (part_of b)
+
+-- the end of the range that answered alone, or a UID that was set apart alone, which isn't the greatest UID
+abbrev pub asked_alone : Alone → Belief → Question
+asked_alone alone.No b = swept b
+asked_alone alone.End b = record { part = End; range = spanning b.end b.end }
+asked_alone alone.Apart b =
+    record { part = Apart; range = spanning (min b.end (last_uid - 1)) (min b.end (last_uid - 1)) }
+
+-- what a sweep asks
 abbrev pub question : Belief → Question
-question b =
-    if nat_lt last_uid b.at then record { part = Whole; range = whole } else with_lower b (part_of b)
+question b = asked_alone b.alone b
+
+-- whether it asks a UID alone for that UID's sake
+abbrev pub is_alone : Alone → Bool
+is_alone alone.No = false
+is_alone _ = true
 
 -- BEGIN AGAIN. One silence in the range that answered was a loss, so the range is swept again
 abbrev pub begin_again : Belief → Belief
 begin_again b = record b { at = b.lo; quiet = 0; begun = min (b.begun + 1) 4 }
 
--- A UID is given up, since it answers and can't be muted. The sweep goes on above it, and doesn't look back to it in
--- this pass
+-- A UID is given up, since its range answers and can't be searched. The sweep goes on above it, and doesn't look back
+-- to it in this pass
 abbrev pub give_up : ℕ → Belief → Belief
 give_up u b = record b {
   base = u + 1;
@@ -114,20 +148,25 @@ give_up u b = record b {
   growth = 2;
   quiet = 0;
   begun = 0;
-  suspect = Some u;
+  alone = alone.No;
 }
 
+-- the end of the range that answered is asked alone
+abbrev pub ask_end : Belief → Belief
+ask_end b = record b { alone = alone.End; quiet = 0; suspect = None }
+
 -- If at most one UID is left of a range that has two devices, the range is searched again. The fourth time its last UID
--- is given up
+-- is asked alone
 abbrev pub restarted : Belief → Belief
 restarted b =
-    if not (b.need == 2) || (not (nat_lt b.lo b.at) || nat_lt b.at b.end) then b
-    else (if nat_lt (b.begun + 1) 4 then begin_again b else give_up b.end b)
+    if is_alone b.alone || (not (b.need == 2) || (not (nat_lt b.lo b.at) || nat_lt b.at b.end)) then b
+    else (if nat_lt (b.begun + 1) 4 then begin_again b else ask_end b)
 
 -- UID 0 alone isn't asked, since no UID is below it. The whole range asks it at the end. It may be one of the two
 abbrev pub past_zero : Belief → Belief
 past_zero b =
-    if (question b).range.hi == 0 then record b { base = 1; lo = 1; at = 1; need = b.need / 2 } else b
+    if ((question b).range.hi == 0) && (nat_lt 0 b.top && not (is_alone b.alone))
+    then record b { base = 1; lo = 1; at = 1; need = b.need / 2 } else b
 
 -- what a sweep believes when it asks
 abbrev pub ready : Belief → Belief
@@ -153,6 +192,7 @@ above r b = record (louder 16 b) {
   growth = 2;
   quiet = 0;
   begun = 0;
+  alone = alone.No;
 }
 
 -- SILENT. A fresh range: the next one begins above it. It is 2, 4, 16, 256, .. times as wide, so that a gap is crossed
@@ -173,6 +213,14 @@ lower_silent r b = record b { at = r.hi + 1; quiet = min (b.quiet + 1) 3 }
 abbrev pub rest_silent : Belief → Belief
 rest_silent b = record (begin_again b) { need = if (b.begun == 0) && (b.level == 0) then b.need else 1 }
 
+-- the end of the range that answered alone: the second time in a row that UID is given up
+abbrev pub end_silent : Belief → Belief
+end_silent b = if b.quiet == 0 then record b { quiet = 1 } else give_up b.end b
+
+-- it was answered badly alone, so its silences aren't in a row
+abbrev pub end_answered : Belief → Belief
+end_answered b = if is_alone b.alone then record b { quiet = 0 } else b
+
 -- after a silence of this part and range that is believed. All of the range that answered is just asked again
 abbrev pub part_silent : Part → Span → Belief → Belief
 part_silent Fresh r b = fresh_silent r b
@@ -180,6 +228,8 @@ part_silent Lower r b = lower_silent r b
 part_silent Rest r b = rest_silent b
 part_silent All r b = b
 part_silent Whole r b = record b { again = false }
+part_silent End r b = end_silent b
+part_silent Apart r b = b
 
 -- after a silence of this part and range. If it was asked again after a bad answer, only a second silence is believed
 abbrev pub believed_silent : Part → Span → Belief → Belief
@@ -223,6 +273,8 @@ believed_found Lower r b = lower_found r (renewed b)
 believed_found Rest r b = rest_found (renewed b)
 believed_found All r b = all_found (renewed b)
 believed_found Whole r b = renewed b
+believed_found End r b = record (all_found (renewed b)) { alone = alone.No }
+believed_found Apart r b = b
 
 -- COLLISION. The range has two devices, and is searched from this UID on. What is above it is forgotten
 abbrev pub split_at : ℕ → ℕ → ℕ → Span → Belief → Belief
@@ -254,8 +306,8 @@ asks_whole_again silences b = not b.again && (nat_lt 0 b.level || (b.found_nothi
 
 -- the whole range after a pass: something was missed, and another pass begins
 abbrev pub next_pass : Span → Belief → Belief
-next_pass r b = record (split_at 0 0 b.back r b) {
-  base = 0;
+next_pass r b = record (split_at b.gap 0 b.back r b) {
+  base = b.gap;
   width = all_uids;
   suspect = None;
   found_nothing = true;
@@ -293,6 +345,8 @@ believed_apart Lower r silences b = if is_doubted b then doubting b else lower_a
 believed_apart Rest r silences b = if is_doubted b then doubting b else lower_apart r (convinced b)
 believed_apart All r silences b = all_apart r b
 believed_apart Whole r silences b = whole_apart r silences b
+believed_apart End r silences b = b
+believed_apart Apart r silences b = b
 
 -- a belief that gives up this UID
 abbrev pub suspecting : ℕ → Belief → Belief

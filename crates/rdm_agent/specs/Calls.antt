@@ -46,6 +46,8 @@ ended_by_abort a = record {
   frames = a.frames;
   search = a.search;
   found = a.found;
+  apart = a.apart;
+  more = a.more;
   phase = Ended (Some Aborted);
 }
 

@@ -45,6 +45,13 @@ answered_again u n Other heard = 0
 abbrev pub answers_in_a_row : ℕ → List Seen → ℕ
 answers_in_a_row u x = fold (λ n e. answered_again u n e.asked e.heard) 0 x
 
+-- at some moment of the exchanges this UID, asked alone, had been answered by bytes four times in a row
+pub record WasBad (u : ℕ) (x : List Seen) : Type 0 where
+  pub before : List Seen
+  pub after : List Seen
+  pub whole : x ≡ before ++ after
+  pub often : 4 ≤ answers_in_a_row u before
+
 -- the same by the run's search: a quick run has asked u alone at least BAD_ANSWERS times in a row
 abbrev pub IsCorruptBy : Search → ℕ → List Seen → Type 0
 IsCorruptBy Steady u x = IsCorrupt u x

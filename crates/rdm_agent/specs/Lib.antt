@@ -2,6 +2,7 @@ pub mod Run
 pub mod Certificate
 pub mod Cause
 pub mod Fault
+pub mod Apart
 pub mod Beliefs
 pub mod Machine
 pub mod SampleRun

@@ -19,12 +19,13 @@ use Rattle.rdm_agent.specs.declared.limits.TheConstants.{TRIES, UNMUTES, BAD_ANS
 use Rattle.rdm_agent.specs.declared.belief.Belief.{Belief}
 use Rattle.rdm_agent.specs.declared.belief.Question.{Question}
 use Rattle.rdm_agent.specs.declared.belief.Part.{Part}
-use Rattle.rdm_agent.specs.declared.belief.Part.TheVariants.{Fresh, Whole}
+use Rattle.rdm_agent.specs.declared.belief.Part.TheVariants.{Fresh, Whole, Apart}
 use Rattle.rdm_agent.specs.declared.sweep.Sweep.{Sweep}
 use Rattle.rdm_agent.specs.declared.fault.AgentFault.TheVariants.{Corrupt, TooMany, Exhausted, LineFailed}
 use Rattle.rdm_agent.specs.Beliefs.{is_suspect, is_one, last_uid, first_belief, is_same, is_whole, question, ready}
 use Rattle.rdm_agent.specs.Beliefs.{above, believed_silent, believed_found, believed_apart, suspecting, hushing}
-use Rattle.rdm_agent.specs.Beliefs.{give_up, is_in_vain}
+use Rattle.rdm_agent.specs.Beliefs.{give_up, is_in_vain, all_of, end_answered}
+use Rattle.rdm_agent.specs.Apart.{without, has_room, ask_turn, next_gap, set_apart}
 use Rattle.rdm_agent.specs.Beliefs.{hearing, is_due, is_checked_again, stray_found}
 
 -- The phases: the unmutes still to send; the mute of a known UID, with the tries made, and with how many garbled
@@ -44,12 +45,15 @@ pub data Phase : Type 0 where
   MutingStray : (u tries spare : ℕ) (sweep : Sweep) → Phase
   Ended : (fault : Option AgentFault) → Phase
 
--- an agent: how many exchanges it may make and how many it has made, how it searches, the devices found, its phase
+-- an agent: how many exchanges it may make and how many it has made, how it searches, the devices found, the UIDs that
+-- are set apart, the newest first, whether there were more, and its phase
 pub record AgentState : Type 0 where
   pub budget : ℕ
   pub frames : ℕ
   pub search : Search
   pub found : List Device
+  pub apart : List ℕ
+  pub more : Bool
   pub phase : Phase
 
 -- the UIDs of the devices found
@@ -63,6 +67,8 @@ start_by search kind known budget = record {
   frames = 0;
   search = search;
   found = [];
+  apart = [];
+  more = false;
   phase = Unmuting UNMUTES (known_of kind known);
 }
 
@@ -167,11 +173,20 @@ search_apart search bads spent top below =
 abbrev pub is_new : List ℕ → Span → ℕ → Bool
 is_new found r u = not (is_broadcast u) && is_within r.lo r.hi u && not (has found u)
 
--- No range but the whole one is asked for a fifth silence in a row: the sweep continues above it. With five silences of
--- every open range a run would have its certificate, and would have to end
+-- whether a UID that was set apart is asked
+abbrev pub is_apart : Part → Bool
+is_apart Apart = true
+is_apart _ = false
+
+-- whether a fifth silence in a row is asked for: in the gap, and of a UID that was set apart
+abbrev pub is_asked_out : Question → Belief → Bool
+is_asked_out q b = is_same q.range (all_of b) || is_apart q.part
+
+-- No other range is asked for a fifth silence in a row: the sweep continues above it. With five silences of every open
+-- range a run would have its certificate, and would have to end
 abbrev pub asking : ℕ → ℕ → ℕ → Question → Belief → Sweep
 asking made again bads q b =
-    if ((again + 1) == TRIES) && not (is_whole q.range)
+    if ((again + 1) == TRIES) && not (is_asked_out q b)
     then record { made = made; silences = 0; bads = 0; question = question (above q.range b); belief = above q.range b }
     else record { made = made; silences = again; bads = bads; question = q; belief = b }
 
@@ -210,13 +225,6 @@ sweep_on_after sweep last silences bads found b =
 abbrev pub sweep_on : Sweep → ℕ → ℕ → ℕ → Belief → Phase
 sweep_on sweep silences bads found b = sweep_on_after sweep sweep.question.range silences bads found b
 
--- what it asked was silent; the fifth silence in a row, which is one of the whole range, ends the run
-abbrev pub sweep_silent : Sweep → ℕ → Phase
-sweep_silent sweep found =
-    if (sweep.silences + 1) == TRIES then Ended None
-    else sweep_on sweep (sweep.silences + 1) 0 found
-    (believed_silent sweep.question.part sweep.question.range sweep.belief)
-
 -- whether the whole range was asked after a pass
 abbrev pub is_last : Part → Bool
 is_last Whole = true
@@ -230,22 +238,6 @@ sweep_split sweep last silences found =
     else sweep_on_after sweep last silences 0 found
     (believed_apart sweep.question.part sweep.question.range sweep.silences sweep.belief)
 
--- a UID alone that answered badly so often in a row is given up
-abbrev pub bads_aside : ℕ
-bads_aside = 4
-
--- one UID that was asked alone answered badly once more: it is asked again, or given up
-abbrev pub sweep_alone : Sweep → ℕ → Phase
-sweep_alone sweep found =
-    if (sweep.bads + 1) == bads_aside then sweep_on sweep 0 0 found (give_up sweep.question.range.hi sweep.belief)
-    else sweep_on sweep 0 (sweep.bads + 1) found sweep.belief
-
--- what it asked was answered badly. A range of several UIDs collided
-abbrev pub sweep_apart : Sweep → ℕ → Phase
-sweep_apart sweep found =
-    if is_one sweep.question.range then sweep_alone sweep found
-    else sweep_split sweep sweep.question.range 0 found
-
 -- the agent after one more exchange, in this phase
 abbrev pub to_phase : AgentState → Phase → AgentState
 to_phase a phase = record {
@@ -253,6 +245,20 @@ to_phase a phase = record {
   frames = a.frames + 1;
   search = a.search;
   found = a.found;
+  apart = a.apart;
+  more = a.more;
+  phase = phase;
+}
+
+-- the same, and these UIDs are set apart, or there are more
+abbrev pub to_apart : AgentState → List ℕ → Bool → Phase → AgentState
+to_apart a us more phase = record {
+  budget = a.budget;
+  frames = a.frames + 1;
+  search = a.search;
+  found = a.found;
+  apart = us;
+  more = more;
   phase = phase;
 }
 
@@ -265,9 +271,76 @@ to_found a d phase =
       frames = a.frames + 1;
       search = a.search;
       found = with_device d a.found;
+      apart = without d.uid a.apart;
+      more = a.more;
       phase = phase;
     }
     else to_phase a (Ended (Some TooMany)))
+
+-- What a sweep asked was silent for the fifth time in a row. The whole range ends the run, and above another gap the
+-- next one is searched. A UID that was set apart isn't any more
+abbrev pub fifth_silence : Part → AgentState → Sweep → AgentState
+fifth_silence Apart a sweep =
+    to_apart a (without sweep.question.range.hi a.apart) a.more
+    (sweep_on sweep 0 0 (length a.found)
+    (ask_turn (without sweep.question.range.hi a.apart) sweep.belief.turn sweep.belief))
+fifth_silence _ a sweep =
+    if is_whole sweep.question.range then to_phase a (Ended None)
+    else to_phase a (sweep_on sweep 0 0 (length a.found) (next_gap (sweep.belief.top + 1) a.apart sweep.belief))
+
+-- what a sweep asked was silent
+abbrev pub sweep_silent : AgentState → Sweep → AgentState
+sweep_silent a sweep =
+    if (sweep.silences + 1) == TRIES then fifth_silence sweep.question.part a sweep
+    else to_phase a (sweep_on sweep (sweep.silences + 1) 0 (length a.found)
+    (believed_silent sweep.question.part sweep.question.range sweep.belief))
+
+-- a UID alone that answered badly so often in a row is set apart
+abbrev pub bads_aside : ℕ
+bads_aside = 4
+
+-- the UID that was asked alone is given up
+abbrev pub given_up : List Device → Sweep → ℕ → Phase
+given_up found sweep u = sweep_on sweep 0 bads_aside (length found) (give_up u sweep.belief)
+
+-- the same for one more than can be set apart
+abbrev pub put_aside : AgentState → Sweep → ℕ → AgentState
+put_aside a sweep u = to_apart a a.apart true (given_up a.found sweep u)
+
+-- The UID that was asked alone is set apart. It is given up instead if no device has it, or if too many are set apart
+abbrev pub put_apart : AgentState → Sweep → ℕ → AgentState
+put_apart a sweep u =
+    if is_broadcast u then to_phase a (given_up a.found sweep u)
+    else (if has_room a.apart then to_apart a (u ∷ a.apart) a.more
+    (sweep_on sweep 0 bads_aside (length a.found) (set_apart u (u ∷ a.apart) sweep.belief))
+    else put_aside a sweep u)
+
+-- whether a UID that was set apart, and then answered badly so often in a row, was asked often enough: seven times, but
+-- for the first one that was set apart
+abbrev pub is_turn_over : List ℕ → Sweep → ℕ → Bool
+is_turn_over apart sweep bads = ((bads + 1) == BAD_ANSWERS) && nat_lt (sweep.belief.turn + 1) (length apart)
+
+-- One UID that was asked alone answered badly so often in a row. It is asked again, or set apart. If it was set apart
+-- before, it may be another one's turn
+abbrev pub asks_on : Part → AgentState → Sweep → ℕ → AgentState
+asks_on Apart a sweep bads =
+    to_phase a (sweep_on sweep 0 bads (length a.found)
+    (if is_turn_over a.apart sweep bads then ask_turn a.apart (sweep.belief.turn + 1) sweep.belief else sweep.belief))
+asks_on _ a sweep bads =
+    if bads == bads_aside then put_apart a sweep sweep.question.range.hi
+    else to_phase a (sweep_on sweep 0 bads (length a.found) (end_answered sweep.belief))
+
+-- the last bad answer in a row ends the run
+abbrev pub badly_alone : AgentState → Sweep → ℕ → AgentState
+badly_alone a sweep bads =
+    if bads == BAD_ANSWERS then to_phase a (Ended (Some (Corrupt sweep.question.range.lo)))
+    else asks_on sweep.question.part a sweep bads
+
+-- what it asked was answered badly. A range of several UIDs collided
+abbrev pub sweep_apart : AgentState → Sweep → AgentState
+sweep_apart a sweep =
+    if is_one sweep.question.range then badly_alone a sweep (sweep.bads + 1)
+    else to_phase a (sweep_split sweep sweep.question.range 0 (length a.found))
 
 -- what follows a silence of the top range: the fifth in a row ends it
 abbrev pub search_silent : ℕ → ℕ → Span → List Span → Phase
@@ -317,9 +390,18 @@ mute_heard a u tries spare bads top below _ =
     to_phase a (if nat_lt 0 spare then MutingRead u tries (spare - 1) bads top below
     else mute_lost a.search u tries spare bads top below)
 
--- whether the UID that a sweep's branch spelt is muted: not if it was given up
+-- whether a sweep asked a UID alone for the last time
+abbrev pub is_last_answer : Sweep → Bool
+is_last_answer sweep = (sweep.bads + 1) == BAD_ANSWERS
+
+-- whether the UID that a sweep's branch spelt is muted: not if that was in vain before, but always at the last answer
 abbrev pub is_wanted : List ℕ → Sweep → ℕ → Bool
-is_wanted found sweep u = is_new found sweep.question.range u && not (is_suspect sweep.belief.suspect u)
+is_wanted found sweep u =
+    is_new found sweep.question.range u && (not (is_suspect sweep.belief.suspect u) || is_last_answer sweep)
+
+-- how many garbled replies to its mutes needn't be counted: none after the last answer
+abbrev pub spare_of_answer : Sweep → ℕ
+spare_of_answer sweep = if is_last_answer sweep then 0 else garbled_mutes
 
 -- whether the UID that a sweep's branch spelt may be a device's outside the range, that wasn't found or given up
 abbrev pub is_outside : List ℕ → Sweep → ℕ → Bool
@@ -332,35 +414,39 @@ is_outside found sweep u =
 abbrev pub is_stray : List ℕ → Sweep → ℕ → Bool
 is_stray found sweep u = is_outside found sweep u && (not (is_one sweep.question.range) && is_due sweep.belief)
 
--- what follows a branch of a sweep that spelt this UID
-abbrev pub sweep_spelt : List ℕ → Sweep → ℕ → ℕ → Phase
-sweep_spelt uids sweep found u =
-    if is_wanted uids sweep u then MutingSwept u 0 garbled_mutes sweep
-    else (if is_stray uids sweep u then Checking u 0 sweep else sweep_apart sweep found)
+-- the agent after a branch of a sweep that spelt this UID
+abbrev pub sweep_spelt : AgentState → Sweep → ℕ → AgentState
+sweep_spelt a sweep u =
+    if is_wanted (found_uids a) sweep u then to_phase a (MutingSwept u 0 (spare_of_answer sweep) sweep)
+    else (if is_stray (found_uids a) sweep u then to_phase a (Checking u 0 sweep) else sweep_apart a sweep)
 
 -- the agent after a branch of a sweep
 abbrev pub sweep_heard : AgentState → Sweep → Heard → AgentState
-sweep_heard a sweep Silent = to_phase a (sweep_silent (counted_silent sweep) (length a.found))
-sweep_heard a sweep (One u) =
-    to_phase a (sweep_spelt (found_uids a) (counted_spelt u sweep) (length a.found) u)
-sweep_heard a sweep _ = to_phase a (sweep_apart (counted sweep) (length a.found))
+sweep_heard a sweep Silent = sweep_silent a (counted_silent sweep)
+sweep_heard a sweep (One u) = sweep_spelt a (counted_spelt u sweep) u
+sweep_heard a sweep _ = sweep_apart a (counted sweep)
 
--- what follows a mute of a UID that a sweep read, if it counts as a try: after the fifth it is given up. A series of
--- mutes is never cut short
-abbrev pub swept_lost : ℕ → ℕ → ℕ → Sweep → ℕ → Phase
-swept_lost u tries spare sweep found =
-    if (tries + 1) == TRIES then sweep_apart (sweep_suspecting u sweep) found else MutingSwept u (tries + 1) spare sweep
+-- the agent after a mute of a UID that a sweep read, if it counts as a try: after the fifth what spelt it was a bad
+-- answer. A series of mutes is never cut short
+abbrev pub swept_lost : AgentState → ℕ → ℕ → ℕ → Sweep → AgentState
+swept_lost a u tries spare sweep =
+    if (tries + 1) == TRIES then sweep_apart a (sweep_suspecting u sweep)
+    else to_phase a (MutingSwept u (tries + 1) spare sweep)
+
+-- what a sweep believes after it found this UID. If that was set apart, it is another one's turn
+abbrev pub found_belief : Part → ℕ → List ℕ → Sweep → Belief
+found_belief Apart u us sweep = ask_turn (without u us) sweep.belief.turn sweep.belief
+found_belief part u us sweep = believed_found part sweep.question.range sweep.belief
 
 -- the agent after the mute of a UID that a sweep read. It is found if acknowledged
 abbrev pub swept_heard : AgentState → ℕ → ℕ → ℕ → Sweep → Heard → AgentState
 swept_heard a u tries spare sweep (Acked ack) =
     to_found a (device_from u ack)
-    (sweep_on (counted sweep) 0 0 (length a.found + 1)
-    (believed_found sweep.question.part sweep.question.range sweep.belief))
-swept_heard a u tries spare sweep Silent = to_phase a (swept_lost u tries spare (counted sweep) (length a.found))
+    (sweep_on (counted sweep) 0 0 (length a.found + 1) (found_belief sweep.question.part u a.apart sweep))
+swept_heard a u tries spare sweep Silent = swept_lost a u tries spare (counted sweep)
 swept_heard a u tries spare sweep _ =
-    to_phase a (if nat_lt 0 spare then MutingSwept u tries (spare - 1) (counted sweep)
-    else swept_lost u tries spare (counted sweep) (length a.found))
+    if nat_lt 0 spare then to_phase a (MutingSwept u tries (spare - 1) (counted sweep))
+    else swept_lost a u tries spare (counted sweep)
 
 -- what follows a silence of the check
 abbrev pub check_silent : ℕ → ℕ → Sweep → ℕ → Phase

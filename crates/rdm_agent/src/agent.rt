@@ -1,6 +1,7 @@
 //! The agent of a discovery run.
 ghost use Rattle.std.specs.Prelude.{◌≡◌, ◌≢◌, ◌≤◌, ◌++◌, ◌∷◌, [], ℕ, List, true, false, length, IfOk, IfErr, IsOkAnd};
 ghost use Rattle.std.specs.Prelude.{IfSome, IfNone};
+ghost use Rattle.std.specs.List.{AllByRecursion};
 ghost use Rattle.rdm_wire.specs.Uid.{has, IsDevice};
 ghost use Rattle.rdm_wire.specs.Devices.{uids_of};
 ghost use Rattle.rdm_wire.specs.Honest.{HonestTrace, HonestTo};
@@ -10,28 +11,30 @@ ghost use Rattle.rdm_agent.specs.Machine.{start, start_by, fed, fault_of, open_r
 ghost use Rattle.rdm_agent.specs.Run.{asked_by, heard_by, seen_op, IsReport};
 ghost use Rattle.rdm_agent.specs.Calls.{fits, next_op, run_result, ended_by_abort, HasRun, HasRunBy, AfterEach};
 ghost use Rattle.rdm_agent.specs.Certificate.{Certificate};
-ghost use Rattle.rdm_agent.specs.Cause.{Cause, EndsFailed};
+ghost use Rattle.rdm_agent.specs.Cause.{Cause, EndsFailed, WasBad};
 ghost use Rattle.rdm_agent.specs.Statements.{IsInOrder, IsInEach, IsInOne};
 ghost use Rattle.rdm_agent.specs.Bound.{IsUndisturbed, StaysInBound, IsInNoise, enough_by, with_exchange};
 ghost use Rattle.rdm_agent.specs.declared.op.Op.TheVariants.{End};
 
+use crate::apart::UidsApart;
 use crate::fault::AgentFault;
 use crate::kind::Kind;
 use crate::known::KnownLeft;
-use crate::limits::{MOST_RANGES, UNMUTES};
+use crate::limits::{MOST_APART, MOST_RANGES, UNMUTES};
 use crate::op::{Op, OpReply};
 use crate::phase::Phase;
 use crate::ranges::RangesBelow;
 use crate::run_state::RunState;
 use crate::search::Search;
-use rdm_wire::{DeviceSet, UidSet};
+use rdm_wire::{DeviceSet, Uid, UidSet};
 use std::marker::Model;
 use std::mem::size_of;
 
 /// One discovery run by E1.20's discovery commands, between an exchange and the next.
 ///
-/// It is a plain value of 41,976 bytes, allocates nothing and stores no exchanges. Contracts see it as the state of a
-/// machine: its budget, how many exchanges it has made, the devices found, and its phase.
+/// It is a plain value of 42,144 bytes, allocates nothing and stores no exchanges. Contracts see it as the state of a
+/// machine: its budget, how many exchanges it has made, the devices found, the UIDs set apart, and its
+/// phase.
 #[derive(Debug, Drop)]
 pub struct Agent {
     budget: u64,
@@ -41,7 +44,7 @@ pub struct Agent {
 }
 
 // The size that the docs state.
-const _: () = prove!(size_of::<Agent>() == 41_976);
+const _: () = prove!(size_of::<Agent>() == 42_144);
 
 impl Model for Agent {
     ghost use Rattle.rdm_agent.specs.Machine.{AgentState};
@@ -79,6 +82,8 @@ impl Agent {
                 known: KnownLeft::new(kind, known),
                 found: DeviceSet::new(),
                 below: RangesBelow::new(),
+                apart: UidsApart::new(),
+                more: false,
             },
         }
     }
@@ -181,6 +186,25 @@ impl Agent {
         &self.run_state.found
     }
 
+    /// The bad UIDs: those that a quick run has set apart, the newest first, at most [`MOST_APART`]. Each was answered
+    /// badly four times in a row when it was asked alone: a faulty device has it, or several devices do. The run
+    /// searches what is between these UIDs, and asks each again at the end. Those that are then found or silent aren't
+    /// listed any more. It is empty in a steady run.
+    pub fn bad_uids(&self) -> &[Uid]
+        ensures value { result.now ≡ self.now.apart }
+        ensures fits { length result.now ≤ MOST_APART }
+        ensures answered { AfterEach self.now (λ run. AllByRecursion (λ u. WasBad u run.exchanges) result.now) }
+    {
+        self.run_state.apart.as_slice()
+    }
+
+    /// Whether a quick run gave up further UIDs like these, since [`MOST_APART`] were set apart.
+    pub fn has_more_bad_uids(&self) -> bool
+        ensures { result ≡ self.now.more }
+    {
+        self.run_state.more
+    }
+
     /// Why the run has no answer; None if it has one. The run must have ended (`next` returns [`Op::End`]). This is the
     /// fault that [`Agent::end`] returns, without the set.
     pub fn fault(&self) -> Option<AgentFault>
@@ -201,8 +225,8 @@ impl Agent {
     ///
     /// On an honest line the result has no device that was never there, and `Ok` has each one that was always there. On
     /// a noisy line whose devices stay, `Ok` has exactly these, and `Err` no others. On an honest line the result is
-    /// `Ok` if at most 1,024 devices stayed, the budget suffices for them, no exchange failed and the run wasn't
-    /// aborted. A quick run on a noisy line also ends with `Ok`, if its budget allows 15 exchanges more for each
+    /// `Ok` if its devices stayed and were at most 1,024, the budget suffices for them, no exchange failed and the run
+    /// wasn't aborted. A quick run on a noisy line also ends with `Ok`, if its budget allows 15 exchanges more for each
     /// disturbed one, and never more than seven branches in a row were disturbed.
     ///
     /// The set is copied. [`Agent::found`] and [`Agent::fault`] return the same without a copy.

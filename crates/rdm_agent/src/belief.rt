@@ -4,11 +4,12 @@ ghost use Rattle.rdm_wire.specs.Span.{Span};
 ghost use Rattle.rdm_agent.specs.Beliefs.{first_belief, suspecting, begin_again, give_up, restarted, past_zero, ready};
 ghost use Rattle.rdm_agent.specs.Beliefs.{spanning, fresh_range, question, with_lower, part_of};
 ghost use Rattle.rdm_agent.specs.Beliefs.{fresh_silent, lower_silent, rest_silent, renewed, fresh_found, lower_found};
-ghost use Rattle.rdm_agent.specs.Beliefs.{rest_found, all_found, split_at, lower_apart, all_apart};
-ghost use Rattle.rdm_agent.specs.Beliefs.{believed_silent, believed_found, believed_apart, above, part_silent};
-ghost use Rattle.rdm_agent.specs.Beliefs.{fresh_apart, next_pass};
+ghost use Rattle.rdm_agent.specs.Beliefs.{rest_found, all_found};
+ghost use Rattle.rdm_agent.specs.Beliefs.{believed_silent, believed_found, above, part_silent, ask_end, end_silent};
 ghost use Rattle.rdm_agent.specs.body.Sound.{IsSmall};
 
+mod collisions;
+mod gaps;
 mod noise;
 mod strays;
 
@@ -32,9 +33,6 @@ const MOST_GROWTH: u64 = 1 << 32;
 /// By how much the noise level rises if a range that answered is then silent four times in a row.
 const LEVEL_OF_A_RANGE: u8 = 16;
 
-/// With how many UIDs below it a single UID is asked at most.
-const MOST_BACK: u64 = 1 << 46;
-
 /// Which part of the UIDs a sweep asks.
 #[derive(Clone, Copy, Debug, PartialEq, Eq)]
 pub(crate) enum Part {
@@ -46,8 +44,23 @@ pub(crate) enum Part {
     Rest,
     /// All of the range that answered.
     All,
-    /// All UIDs, after a pass.
+    /// All of the gap, after a pass.
     Whole,
+    /// The last UID of the range that answered, alone.
+    End,
+    /// A UID that was set apart, alone.
+    Apart,
+}
+
+/// Which UID a sweep asks alone for that UID's sake.
+#[derive(Clone, Copy, Debug, PartialEq, Eq)]
+pub(crate) enum Alone {
+    /// None.
+    No,
+    /// The last one of the range that answered.
+    End,
+    /// One that was set apart.
+    Apart,
 }
 
 /// What a sweep asks: a part of the UIDs, and its range.
@@ -70,7 +83,7 @@ pub(crate) struct Belief {
     pub(crate) lo: u64,
     /// The first UID that wasn't swept.
     pub(crate) at: u64,
-    /// The last UID of the range that answered.
+    /// The last UID of the range that answered, or the UID that was set apart and is asked.
     pub(crate) end: u64,
     /// How many devices that aren't found the range that answered has at least: 0 to 2. With 0 there is no such range.
     pub(crate) need: u8,
@@ -84,7 +97,15 @@ pub(crate) struct Belief {
     pub(crate) begun: u8,
     /// How many UIDs below it a single UID is asked with.
     pub(crate) back: u64,
-    /// The UID that it gave up last: its mutes weren't acknowledged, or its range couldn't be searched.
+    /// The first UID of the gap that is searched: all UIDs, or those between two that were set apart.
+    pub(crate) gap: u64,
+    /// The last UID of the gap.
+    pub(crate) top: u64,
+    /// Which UID it asks alone.
+    pub(crate) alone: Alone,
+    /// Which of the UIDs that were set apart is asked, from 0, the newest.
+    pub(crate) turn: u8,
+    /// The UID that it muted last in vain.
     pub(crate) suspect: Option<Uid>,
     /// Whether nothing was found in this pass so far, and it isn't the first.
     pub(crate) found_nothing: bool,
@@ -121,6 +142,10 @@ impl Belief {
             quiet: 0,
             begun: 0,
             back: 1,
+            gap: 0,
+            top: LAST_UID,
+            alone: Alone::No,
+            turn: 0,
             suspect: None,
             found_nothing: false,
             again: false,
@@ -133,7 +158,7 @@ impl Belief {
         }
     }
 
-    /// The same with this UID given up.
+    /// The same after this UID was muted in vain.
     pub(crate) fn suspecting(self, uid: Uid) -> Belief
         requires small { IsSmall self }
         ensures value { result ≡ suspecting uid self }
@@ -150,13 +175,20 @@ impl Belief {
         requires small { IsSmall self.now }
         ensures value { result ≡ question self.now }
     {
-        if LAST_UID < self.at {
-            return Question {
-                part: Part::Whole,
-                range: UidRange::whole(),
-            };
+        match self.alone {
+            Alone::No => self.swept(),
+            Alone::End => Question {
+                part: Part::End,
+                range: spanning(self.end, self.end),
+            },
+            Alone::Apart => {
+                let uid = self.end.min(LAST_UID - 1);
+                Question {
+                    part: Part::Apart,
+                    range: spanning(uid, uid),
+                }
+            }
         }
-        self.with_lower(self.part())
     }
 
     /// The same, ready to ask: a range of which too little is left is begun again, and UID 0 alone is left out.
@@ -184,6 +216,7 @@ impl Belief {
             growth: 2,
             quiet: 0,
             begun: 0,
+            alone: Alone::No,
             ..self.louder(LEVEL_OF_A_RANGE)
         }
     }
@@ -213,26 +246,11 @@ impl Belief {
             Part::Rest => renewed.rest_found(),
             Part::All => renewed.all_found(),
             Part::Whole => renewed,
-        }
-    }
-
-    /// After a bad answer of what was asked, which had been silent this many times in a row. It has two devices, but if
-    /// noise is likely it is asked again first.
-    pub(crate) fn apart(self, asked: Question, silences: u8) -> Belief
-        requires small { IsSmall self }
-        ensures value { result ≡ believed_apart asked.part asked.range silences self }
-        ensures small { IsSmall result }
-    {
-        match asked.part {
-            Part::All => self.all_apart(asked.range),
-            Part::Whole if self.asks_whole_again(silences) => Belief {
-                again: true,
-                ..self
+            Part::End => Belief {
+                alone: Alone::No,
+                ..renewed.all_found()
             },
-            Part::Whole => self.next_pass(asked.range),
-            _ if self.is_doubted() => Belief { doubt: 1, ..self },
-            Part::Fresh => self.convinced().fresh_apart(asked.range),
-            Part::Lower | Part::Rest => self.convinced().lower_apart(asked.range),
+            Part::Apart => *self,
         }
     }
 
@@ -251,6 +269,8 @@ impl Belief {
                 again: false,
                 ..self
             },
+            Part::End => self.end_silent(),
+            Part::Apart => self,
         }
     }
 
@@ -268,7 +288,7 @@ impl Belief {
         }
     }
 
-    /// This UID is given up, since it answers and can't be muted.
+    /// This UID is given up, since its range answers and can't be searched.
     pub(crate) fn give_up(self, uid: Uid) -> Belief
         requires small { IsSmall self }
         ensures value { result ≡ give_up uid self }
@@ -284,24 +304,38 @@ impl Belief {
             growth: 2,
             quiet: 0,
             begun: 0,
-            suspect: Some(uid),
+            alone: Alone::No,
+            ..self
+        }
+    }
+
+    // The last UID of the range that answered is asked alone.
+    fn ask_end(self) -> Belief
+        requires small { IsSmall self }
+        ensures value { result ≡ ask_end self }
+        ensures small { IsSmall result }
+    {
+        Belief {
+            alone: Alone::End,
+            quiet: 0,
+            suspect: None,
             ..self
         }
     }
 
     // If only one UID is left of a range that has two devices, the range is begun again. The fourth time its last UID
-    // is given up.
+    // is asked alone.
     fn restarted(self) -> Belief
         requires small { IsSmall self }
         ensures value { result ≡ restarted self }
         ensures small { IsSmall result }
     {
-        if self.need != 2 || self.at <= self.lo || self.at < self.end {
+        if self.is_alone() || self.need != 2 || self.at <= self.lo || self.at < self.end {
             self
         } else if self.begun + 1 < BEGUN {
             self.begin_again()
         } else {
-            self.give_up(Uid::from_number(self.end).unwrap())
+            self.ask_end()
         }
     }
 
@@ -311,7 +345,7 @@ impl Belief {
         ensures value { result ≡ past_zero self }
         ensures small { IsSmall result }
     {
-        if self.question().range.hi.number() != 0 {
+        if self.question().range.hi.number() != 0 || self.top == 0 || self.is_alone() {
             return self;
         }
         Belief {
@@ -338,18 +372,18 @@ impl Belief {
         if self.need == 1 {
             return Question {
                 part: Part::All,
-                range: spanning(self.lo, self.end),
+                range: self.in_gap(self.lo, self.end),
             };
         }
         if self.lo < self.at && BELIEVED <= self.quiet {
             return Question {
                 part: Part::Rest,
-                range: spanning(self.at, self.end),
+                range: self.in_gap(self.at, self.end),
             };
         }
         Question {
             part: Part::Lower,
-            range: spanning(self.at, self.at + self.end.saturating_sub(self.at) / 2),
+            range: self.in_gap(self.at, self.at + self.end.saturating_sub(self.at) / 2),
         }
     }
 
@@ -359,12 +393,12 @@ impl Belief {
         requires small { IsSmall self.now }
         ensures value { result ≡ fresh_range self.now }
     {
-        let lo = if LAST_UID < self.at + self.width {
+        let lo = if self.top < self.at + self.width {
             self.base
         } else {
             self.base.max(self.at.saturating_sub(self.width))
         };
-        spanning(lo, self.at + self.width.saturating_sub(1))
+        self.in_gap(lo, self.at + self.width.saturating_sub(1))
     }
 
     // One UID is asked together with UIDs below it, which were swept, because some may have been missed there. It is
@@ -394,6 +428,18 @@ impl Belief {
             growth: self.growth.saturating_mul(self.growth).min(MOST_GROWTH),
             ..self
         }
+    }
+
+    // The last UID of the range that answered was silent alone. The second time in a row it is given up.
+    fn end_silent(self) -> Belief
+        requires small { IsSmall self }
+        ensures value { result ≡ end_silent self }
+        ensures small { IsSmall result }
+    {
+        if self.quiet == 0 {
+            return Belief { quiet: 1, ..self };
+        }
+        self.give_up(Uid::from_number(self.end).unwrap())
     }
 
     // A lower half was silent: the devices are above it.
@@ -502,83 +548,6 @@ impl Belief {
             need: 0,
             width: self.width.min(8 * next.saturating_sub(self.lo)),
             ..self
-        }
-    }
-
-    // A fresh range collided.
-    fn fresh_apart(&self, range: UidRange) -> Belief
-        requires small { IsSmall self.now }
-        ensures value { result ≡ fresh_apart range self.now }
-        ensures small { IsSmall result }
-    {
-        self.split_at(self.at, 0, self.back, range)
-    }
-
-    // A lower half or all the rest collided. If UIDs below it were asked too, some were missed there: the next single
-    // UID is asked with four times as many.
-    fn lower_apart(&self, range: UidRange) -> Belief
-        requires small { IsSmall self.now }
-        ensures value { result ≡ lower_apart range self.now }
-        ensures small { IsSmall result }
-    {
-        let lo = range.lo.number();
-        let back = if lo < self.at {
-            (4 * self.back).min(MOST_BACK)
-        } else {
-            self.back
-        };
-        self.split_at(lo, 0, back, range)
-    }
-
-    // All of the range that answered collided again.
-    fn all_apart(&self, range: UidRange) -> Belief
-        requires small { IsSmall self.now }
-        ensures value { result ≡ all_apart range self.now }
-        ensures small { IsSmall result }
-    {
-        let at = if range.hi.number() < self.at {
-            range.lo.number()
-        } else {
-            self.at
-        };
-        self.split_at(at, self.begun, self.back, range)
-    }
-
-    // After a pass all UIDs collided: something was missed, and another pass begins.
-    fn next_pass(&self, range: UidRange) -> Belief
-        requires small { IsSmall self.now }
-        ensures value { result ≡ next_pass range self.now }
-        ensures small { IsSmall result }
-    {
-        Belief {
-            base: 0,
-            width: ALL_UIDS,
-            suspect: None,
-            found_nothing: true,
-            again: false,
-            ..self.split_at(0, 0, self.back, range)
-        }
-    }
-
-    // This range has two devices, and is searched from `at` on.
-    fn split_at(&self, at: u64, begun: u8, back: u64, range: UidRange) -> Belief
-        requires small { IsSmall self.now }
-        requires at { at ≤ 2 ^ 48 }
-        requires begun { begun ≤ 4 }
-        requires back { back ≤ 2 ^ 46 }
-        ensures value { result ≡ split_at at begun back range self.now }
-        ensures small { IsSmall result }
-    {
-        Belief {
-            lo: range.lo.number(),
-            at,
-            end: range.hi.number(),
-            need: 2,
-            growth: 2,
-            quiet: 0,
-            begun,
-            back,
-            ..*self
         }
     }
 }

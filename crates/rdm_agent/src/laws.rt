@@ -160,12 +160,22 @@ pub fn noisy_certificate()
 /// Whole runs: on an empty line, on a line that answers each branch with one byte, and with budgets of 8, 7 and 0.
 pub fn worked_runs()
     ensures empty { fed_all (start Full [] DEFAULT_BUDGET) (replicate 8 Silent)
-        ≡ record { budget = DEFAULT_BUDGET; frames = 8; search = Steady; found = []; phase = Ended None } }
+        ≡ (record {
+          budget = DEFAULT_BUDGET;
+          frames = 8;
+          search = Steady;
+          found = [];
+          apart = [];
+          more = false;
+          phase = Ended None;
+        }) }
     ensures corrupt { fed_all (start Full [] DEFAULT_BUDGET) (replicate 3 Silent ++ replicate 49 Noise) ≡ (record {
       budget = DEFAULT_BUDGET;
       frames = 52;
       search = Steady;
       found = [];
+      apart = [];
+      more = false;
       phase = Ended (Some (AgentFault.Corrupt 0));
     }) }
     ensures in_budget { (fed_all (start Full [] 8) (replicate 8 Silent)).phase ≡ Ended None }
@@ -187,6 +197,8 @@ pub fn honest_run()
       frames = 10;
       search = Steady;
       found = sample_device ∷ [];
+      apart = [];
+      more = false;
       phase = Ended None;
     }) }
 {}
@@ -202,6 +214,8 @@ pub fn incremental_sample()
       frames = 17;
       search = Steady;
       found = sample_device ∷ other_device ∷ [];
+      apart = [];
+      more = false;
       phase = Ended None;
     }) }
 {}
@@ -211,8 +225,15 @@ pub fn incremental_sample()
 pub fn undisturbed_run()
     ensures undisturbed { IsUndisturbed (sample_uid ∷ [])
         (record { search = Steady; kind = Full; known = []; budget = 378; aborted = false; exchanges = sample_run }) }
-    ensures ends { Runs (start Full [] 378) sample_run
-        (record { budget = 378; frames = 10; search = Steady; found = sample_device ∷ []; phase = Ended None }) }
+    ensures ends { Runs (start Full [] 378) sample_run (record {
+      budget = 378;
+      frames = 10;
+      search = Steady;
+      found = sample_device ∷ [];
+      apart = [];
+      more = false;
+      phase = Ended None;
+    }) }
     ensures one_device { most_frames 1 0 ≡ 378 }
     ensures most_devices { most_frames 1024 0 ≡ 378888 }
 {}
@@ -227,6 +248,8 @@ pub fn honest_losses()
       frames = 18;
       search = Steady;
       found = sample_device ∷ [];
+      apart = [];
+      more = false;
       phase = Ended None;
     }) }
     ensures five_branches { ¬ HonestTrace (sample_uid ∷ []) (lossy_run 5 0) }
@@ -243,6 +266,8 @@ pub fn noisy_run()
       frames = 23;
       search = Steady;
       found = sample_device ∷ [];
+      apart = [];
+      more = false;
       phase = Ended None;
     }) }
     ensures five_branches { ¬ NoisyTrace (sample_uid ∷ []) (lossy_run 5 0) }
@@ -259,6 +284,8 @@ pub fn honest_lines()
       frames = 18;
       search = Steady;
       found = sample_device ∷ other_device ∷ [];
+      apart = [];
+      more = false;
       phase = Ended None;
     }) }
     ensures failing { HonestTrace (sample_uid ∷ []) failed_run }
@@ -267,6 +294,8 @@ pub fn honest_lines()
       frames = 4;
       search = Steady;
       found = [];
+      apart = [];
+      more = false;
       phase = Ended (Some LineFailed);
     }) }
     ensures to_one { HonestTo sample_uid garbled_run }
@@ -279,12 +308,22 @@ pub fn honest_lines()
 /// finds UID 0 corrupt.
 pub fn quick_runs()
     ensures empty { fed_all (start_by Quick Full [] DEFAULT_BUDGET) (replicate 8 Silent)
-        ≡ record { budget = DEFAULT_BUDGET; frames = 8; search = Quick; found = []; phase = Ended None } }
+        ≡ (record {
+          budget = DEFAULT_BUDGET;
+          frames = 8;
+          search = Quick;
+          found = [];
+          apart = [];
+          more = false;
+          phase = Ended None;
+        }) }
     ensures one { Runs (start_by Quick Full [] DEFAULT_BUDGET) sample_run (record {
       budget = DEFAULT_BUDGET;
       frames = 10;
       search = Quick;
       found = sample_device ∷ [];
+      apart = [];
+      more = false;
       phase = Ended None;
     }) }
     ensures honest { HonestTrace (sample_uid ∷ other_uid ∷ []) swept_run }
@@ -293,6 +332,8 @@ pub fn quick_runs()
       frames = 13;
       search = Quick;
       found = sample_device ∷ other_device ∷ [];
+      apart = [];
+      more = false;
       phase = Ended None;
     }) }
     ensures corrupt { (fed_all (start_by Quick Full [] DEFAULT_BUDGET)

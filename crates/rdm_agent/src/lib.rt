@@ -2,6 +2,7 @@
 #![tactic(auto)]
 
 mod agent;
+mod apart;
 mod belief;
 mod fault;
 mod kind;
@@ -18,6 +19,6 @@ mod sweep;
 pub use agent::Agent;
 pub use fault::AgentFault;
 pub use kind::Kind;
-pub use limits::{BAD_ANSWERS, DEFAULT_BUDGET, MOST_RANGES, TRIES, UNMUTES};
+pub use limits::{BAD_ANSWERS, DEFAULT_BUDGET, MOST_APART, MOST_RANGES, TRIES, UNMUTES};
 pub use op::{Op, OpReply};
 pub use search::Search;

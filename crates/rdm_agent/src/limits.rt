@@ -15,8 +15,11 @@ pub const BAD_ANSWERS: u8 = 8;
 /// How many garbled replies to a series of mutes a quick run needn't count as tries.
 pub(crate) const GARBLED_MUTES: u8 = 8;
 
-/// A sweep gives up a UID that it asked alone after this many bad answers in a row.
+/// A sweep sets a UID apart that it asked alone after this many bad answers in a row.
 pub(crate) const BADS_ASIDE: u8 = 4;
+
+/// So many UIDs are set apart at most.
+pub const MOST_APART: usize = 16;
 
 /// The steady search of a quick run asks a range again after a bad answer, and mutes what it spelt, only while it had
 /// at most this many branches.

@@ -18,6 +18,7 @@ mod searching;
 mod straying;
 mod sweeping;
 
+use crate::apart::UidsApart;
 use crate::fault::AgentFault;
 use crate::kind::Kind;
 use crate::known::KnownLeft;
@@ -27,7 +28,7 @@ use crate::phase::Phase;
 use crate::ranges::RangesBelow;
 use crate::search::Search;
 use crate::sweep::Sweep;
-use rdm_wire::{Device, DeviceSet, MuteAck, SetFull, Uid, UidRange, UidSet};
+use rdm_wire::{Device, DeviceSet, MuteAck, Uid, UidRange, UidSet};
 
 /// What a run has found, and what it still has to search.
 #[derive(Debug, Drop)]
@@ -40,6 +41,10 @@ pub(crate) struct RunState {
     pub(crate) found: DeviceSet,
     /// The open ranges but the top one.
     pub(crate) below: RangesBelow,
+    /// The UIDs that are set apart.
+    pub(crate) apart: UidsApart,
+    /// Whether there were more.
+    pub(crate) more: bool,
 }
 
 impl RunState {
@@ -49,12 +54,16 @@ impl RunState {
         ensures known { self.new.known ≡ known_of kind known.now }
         ensures found { self.new.found ≡ [] }
         ensures below { self.new.below ≡ [] }
+        ensures apart { self.new.apart ≡ [] }
+        ensures more { self.new.more ≡ false }
         ensures devices { IsDeviceSet known.now }
     {
         self.search = search;
         self.known.reset(kind, known);
         self.found.clear();
         self.below.clear();
+        self.apart.clear();
+        self.more = false;
     }
 
     /// The phase after a reply that fits what the phase before it asks.
@@ -235,10 +244,14 @@ impl RunState {
         ensures below { self.new.below ≡ self.old.below }
         ensures onward { (result ≡ onward) ⊎ (result ≡ Phase.Ended (Some TooMany)) }
     {
-        match self.found.insert(device) {
-            Ok(_) => onward,
-            Err(SetFull) => Phase::Ended(Some(AgentFault::TooMany)),
+        let uid = device.uid;
+        let Ok(is_new) = self.found.insert(device) else {
+            return Phase::Ended(Some(AgentFault::TooMany));
+        };
+        if is_new {
+            self.apart.remove(uid);
         }
+        onward
     }
 
     // Whether a UID may be that of a device of the range that wasn't found yet.

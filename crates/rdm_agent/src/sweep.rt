@@ -3,7 +3,7 @@ ghost use Rattle.std.specs.Prelude.{◌≡◌, ◌<◌, ◌≤◌, ◌^◌, ◌+
 ghost use Rattle.rdm_wire.specs.Span.{Span};
 ghost use Rattle.rdm_agent.specs.Machine.{first_sweep, counted, sweep_suspecting, choose, asking};
 ghost use Rattle.rdm_agent.specs.Beliefs.{is_whole, is_same};
-ghost use Rattle.rdm_agent.specs.Machine.{counted_silent, counted_spelt, unassigned};
+ghost use Rattle.rdm_agent.specs.Machine.{counted_silent, counted_spelt, unassigned, is_asked_out};
 ghost use Rattle.rdm_agent.specs.body.Sound.{IsSmall};
 
 use crate::belief::{Belief, Part, Question};
@@ -17,7 +17,7 @@ pub(crate) struct Sweep {
     pub(crate) made: usize,
     /// How often in a row the range that it asks was silent: below [`TRIES`].
     pub(crate) silences: u8,
-    /// How many bad answers in a row it had, if it asks one UID alone: below [`BADS_ASIDE`].
+    /// How many bad answers in a row it had, if it asks one UID alone: below [`BAD_ANSWERS`].
     pub(crate) bads: u8,
     /// What it asks.
     pub(crate) question: Question,
@@ -106,11 +106,11 @@ impl Sweep {
     ) -> Sweep
         requires small { IsSmall belief }
         requires silences { silences < TRIES }
-        requires bads { bads < 4 }
+        requires bads { bads < 8 }
         ensures value { result ≡ choose made silences bads last belief }
         ensures small { IsSmall result.belief }
         ensures silences { result.silences < TRIES }
-        ensures bads { result.bads < 4 }
+        ensures bads { result.bads < 8 }
         ensures made { result.made ≡ made }
     {
         let belief = belief.ready();
@@ -122,20 +122,19 @@ impl Sweep {
         }
     }
 
-    // A sweep that asks this, after this many silences or bad answers in a row. No range but that of all UIDs is asked
-    // for a fifth silence: the sweep continues above it.
+    // A sweep that asks this, after this many silences or bad answers in a row. Only the gap and a UID that was set
+    // apart are asked for a fifth silence: the sweep continues above any other range.
     fn asking(made: usize, again: u8, bads: u8, question: Question, belief: Belief) -> Sweep
         requires small { IsSmall belief }
         requires silences { again < TRIES }
-        requires bads { bads < 4 }
+        requires bads { bads < 8 }
         ensures value { result ≡ asking made again bads question belief }
         ensures small { IsSmall result.belief }
         ensures silences { result.silences < TRIES }
-        ensures bads { result.bads < 4 }
+        ensures bads { result.bads < 8 }
         ensures made { result.made ≡ made }
     {
-        let is_whole = is_whole(question.range);
-        if again + 1 == TRIES && !is_whole {
+        if again + 1 == TRIES && !is_asked_out(&question, &belief) {
             let above = belief.above(question.range);
             return Sweep {
                 made,
@@ -164,6 +163,13 @@ pub(crate) fn unassigned() -> UidRange
         lo: Uid::from_number(0xffff_ffff_fffe).unwrap(),
         hi: Uid::ALL,
     }
+}
+
+// Whether a question is asked for a fifth silence in a row.
+fn is_asked_out(question: &Question, belief: &Belief) -> bool
+    ensures { result ≡ is_asked_out question.now belief.now }
+{
+    is_same(question.range, belief.all_of()) || question.part == Part::Apart
 }
 
 /// Whether a range is that of all UIDs.

@@ -11,7 +11,7 @@ use crate::table::{
 };
 use crate::usage::{Usage, VERSION};
 use rdm_wire::MOST_DEVICES;
-use std::{fmt, mem};
+use std::fmt;
 
 /// What is wrong with arguments that fit no command, or what they ask for instead. Options are named without hyphens.
 #[derive(Clone, Copy)]
@@ -149,7 +149,7 @@ fn times_given(option: &ArgumentRule, words: &[&str]) -> usize {
 }
 
 // The name of an option, without its hyphens and its value.
-fn option_name<'a>(word: &'a str) -> Option<&'a str> {
+fn option_name(word: &str) -> Option<&str> {
     let option = word.strip_prefix("--")?;
     match option.split_once('=') {
         Some((name, _)) => Some(name),
@@ -184,7 +184,7 @@ impl Reader {
         ensures true_after { IfSome result (IsTrueAfter self.old.command.now.name.now (word.entry ∷ [])) }
         ensures kept { self.new.command ≡ self.old.command }
     {
-        if let Some(option) = mem::replace(&mut self.wants, None) {
+        if let Some(option) = self.wants.take() {
             return value_after(option, word);
         }
         if self.is_past_options || !is_option(word) {

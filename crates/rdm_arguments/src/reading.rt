@@ -262,7 +262,7 @@ pub(crate) fn budget_named(text: &str) -> Option<u64>
     ensures none { IfNone result ((budget : ℕ) → IsBudget (Some text.now) budget → ⊥) }
 {
     let budget = text.parse::<u64>().ok()?;
-    if 1 <= budget && budget <= MOST_BUDGET {
+    if (1..=MOST_BUDGET).contains(&budget) {
         Some(budget)
     } else {
         None

@@ -188,7 +188,7 @@ impl Asks for Drawn {
         if self.random.below(100) == 0 {
             return None;
         }
-        let reply = self.line.exchange(frame).unwrap_or(LineReply::new());
+        let reply = self.line.exchange(frame).unwrap_or_default();
         if self.random.below(50) == 0 {
             return Some(LineReply::new());
         }

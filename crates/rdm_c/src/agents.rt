@@ -2,7 +2,9 @@
 ghost use Rattle.std.specs.Prelude.{◌≡◌, ◌≢◌, ◌++◌, ◌∷◌, ◌+◌, ◌%◌, ◌^◌, ◌⊎◌, ◌==◌, [], length, take, map};
 ghost use Rattle.std.specs.Prelude.{true, false};
 ghost use Rattle.std.specs.Prelude.{Some, None, nat_lt, if◌then◌else◌};
+ghost use Rattle.std.specs.List.{AllByRecursion};
 ghost use Rattle.rdm_agent.specs.Machine.{fed, fault_of};
+ghost use Rattle.rdm_agent.specs.Cause.{WasBad};
 ghost use Rattle.rdm_agent.specs.Run.{heard_by, seen_op, IsReport};
 ghost use Rattle.rdm_agent.specs.Calls.{next_op, fits, ended_by_abort, HasRunBy, AfterEach};
 ghost use Rattle.rdm_agent.specs.OpFrames.{op_frame};
@@ -148,6 +150,33 @@ pub extern "C" fn wurst_agent_devices(
 {
     on_held!(discovery: Discovery in handle, alloc => {
         controllers::devices(discovery.agent.found(), devices, count)
+    })
+}
+
+/// Writes the bad UIDs at the front of a buffer, how many there are, and whether there were more; with
+/// `BUFFER_TOO_SMALL` only how many.
+#[unsafe(no_mangle)]
+pub extern "C" fn wurst_agent_bad_uids(
+    alloc: Global,
+    handle: &mut Handle,
+    uids: &mut [u64],
+    count: &mut usize,
+    more: &mut bool,
+) -> u32
+    ensures reads { Reads a_discovery handle.old handle.new result }
+    ensures count { holds a_discovery handle.old ≡ true → count.new ≡ length handle.old.discovery.agent.apart }
+    ensures kept { result ≡ NOT_OPEN → count.new ≡ count.old }
+    ensures status { holds a_discovery handle.old ≡ true →
+        result ≡ (if nat_lt (length uids.old) count.new then BUFFER_TOO_SMALL else DONE) }
+    ensures written { result ≡ DONE → take count.new uids.new ≡ handle.old.discovery.agent.apart }
+    ensures more { result ≡ DONE → more.new ≡ handle.old.discovery.agent.more }
+    ensures answered { holds a_discovery handle.old ≡ true → AfterEach handle.old.discovery.agent
+        (λ run. AllByRecursion (λ u. WasBad u run.exchanges) handle.old.discovery.agent.apart) }
+    ensures unchanged { result ≢ DONE → (uids.new ≡ uids.old) × (more.new ≡ more.old) }
+{
+    on_held!(discovery: Discovery in handle, alloc => {
+        let has_more = discovery.agent.has_more_bad_uids();
+        controllers::bad_uids(discovery.agent.bad_uids(), has_more, uids, count, more)
     })
 }
 

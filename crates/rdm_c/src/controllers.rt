@@ -1,6 +1,6 @@
 //! C's calls on controllers. Each is the library's call with that name, on what the handle holds.
 ghost use Rattle.std.specs.Prelude.{◌≡◌, ◌≢◌, ◌≤◌, ◌<◌, ◌↔◌, ◌⊎◌, ℕ, length, take, map, true, false, Some};
-ghost use Rattle.std.specs.Prelude.{None, Ok};
+ghost use Rattle.std.specs.Prelude.{None, Ok, ◌-◌};
 ghost use Rattle.std.specs.Prelude.{if◌then◌else◌, nat_lt, List, option_map};
 ghost use Rattle.arrayvec.specs.ArrayVec.{ArrayVec as Bytes};
 ghost use Rattle.rdm_wire.specs.declared.device.Device.{Device};
@@ -10,11 +10,12 @@ ghost use Rattle.rdm_log.specs.declared.outcome.Completion.{Completion};
 ghost use Rattle.rdm_log.specs.declared.outcome.DiscoveryEnd.{DiscoveryEnd};
 ghost use Rattle.rdm_log.specs.declared.outcome.OutcomeKind.TheVariants as kinds;
 ghost use Rattle.rdm_log.specs.log.History.{awaited, is_idle, is_paused, is_closed, can_pause, can_resume};
-ghost use Rattle.rdm_log.specs.log.Runs.{known_devices, devices_run};
+ghost use Rattle.rdm_log.specs.log.Runs.{known_devices, devices_run, next_run};
 ghost use Rattle.rdm_log.specs.promises.Blocks.{JoinAdds, SubmitAdds, DiscoverAdds, PauseAdds, ResumeAdds, CloseAdds};
 ghost use Rattle.rdm_log.specs.promises.Blocks.{TakeAdds, DeliverAdds, CollectAdds};
 ghost use Rattle.rdm_log.specs.log.Broken.{oldest_may_be_incomplete};
 ghost use Rattle.rdm_log.specs.promises.Outcomes.{oldest_kind, request_outcome, discovery_outcome};
+ghost use Rattle.rdm_queue.specs.promises.BadUids.{AreBadUids, HasMoreBadUids};
 ghost use Rattle.rdm_queue.specs.promises.EachLog.{ForEachLog, AddsToEach, IsSetUp};
 ghost use Rattle.rdm_queue.specs.promises.Lengths.{oldest_length};
 ghost use Rattle.rdm_handles.specs.Forms.{setup_status, setup_of, request_status, request_of, kind_of};
@@ -23,6 +24,7 @@ ghost use Rattle.rdm_handles.specs.Answers.{join_answer, submit_answer, ask_answ
 ghost use Rattle.rdm_handles.specs.Answers.{number_of_outcome_kind};
 ghost use Rattle.rdm_handles.specs.Handles.{holds, a_controller, Opens, Closes, StaysOpen, Reads, Reports};
 
+use rdm_agent::MOST_APART;
 use rdm_handles::status::{
     ALREADY_OPEN, BAD_KIND, BUFFER_TOO_SMALL, DONE, NOT_ASKED, NOT_OPEN, NOTHING, OUT_OF_MEMORY,
     REPLY_TOO_LONG,
@@ -339,6 +341,49 @@ pub extern "C" fn wurst_controller_devices_run(
 {
     on_held!(controller: Controller in handle, alloc => {
         *run = controller.devices_run();
+        DONE
+    })
+}
+
+/// Writes the bad UIDs of the run that began last at the front of a buffer, how many there are, and whether there were
+/// more; with `BUFFER_TOO_SMALL` only how many.
+#[unsafe(no_mangle)]
+pub extern "C" fn wurst_controller_bad_uids(
+    alloc: Global,
+    handle: &mut Handle,
+    uids: &mut [u64],
+    count: &mut usize,
+    more: &mut bool,
+) -> u32
+    ensures reads { Reads a_controller handle.old handle.new result }
+    ensures count { holds a_controller handle.old ≡ true → (us : List ℕ) × (count.new ≡ length us)
+        × (length us ≤ MOST_APART) × ForEachLog handle.old.controller (λ o h. AreBadUids o h us) }
+    ensures kept { result ≡ NOT_OPEN → count.new ≡ count.old }
+    ensures status { holds a_controller handle.old ≡ true →
+        result ≡ (if nat_lt (length uids.old) count.new then BUFFER_TOO_SMALL else DONE) }
+    ensures written { result ≡ DONE → ForEachLog handle.old.controller
+        (λ o h. AreBadUids o h (take count.new uids.new)) }
+    ensures more { result ≡ DONE → ForEachLog handle.old.controller (λ o h. HasMoreBadUids o h more.new) }
+    ensures unchanged { result ≢ DONE → (uids.new ≡ uids.old) × (more.new ≡ more.old) }
+{
+    on_held!(controller: Controller in handle, alloc => {
+        let has_more = controller.has_more_bad_uids();
+        controllers::bad_uids(controller.bad_uids(), has_more, uids, count, more)
+    })
+}
+
+/// Writes the number of that run; 0 before the first.
+#[unsafe(no_mangle)]
+pub extern "C" fn wurst_controller_bad_uids_run(
+    alloc: Global,
+    handle: &mut Handle,
+    run: &mut u64,
+) -> u32
+    ensures reports { Reports a_controller handle.old handle.new result
+        (ForEachLog handle.old.controller (λ o h. run.new ≡ next_run o h - 1)) (run.new ≡ run.old) }
+{
+    on_held!(controller: Controller in handle, alloc => {
+        *run = controller.bad_uids_run();
         DONE
     })
 }

@@ -1,6 +1,6 @@
 //! C's calls on sessions. Each is the library's call with that name, on what the handle holds.
-ghost use Rattle.std.specs.Prelude.{◌≡◌, ◌≢◌, ◌≤◌, ◌<◌, ◌+◌, ◌⊎◌, ℕ, length, take, map, true, false, Some, None, Ok};
-ghost use Rattle.std.specs.Prelude.{if◌then◌else◌, nat_lt, List, ◌↔◌, option_map};
+ghost use Rattle.std.specs.Prelude.{◌≡◌, ◌≢◌, ◌≤◌, ◌<◌, ◌+◌, ◌-◌, ◌⊎◌, ℕ, length, take, map, true, false, Some, None};
+ghost use Rattle.std.specs.Prelude.{Ok, if◌then◌else◌, nat_lt, List, ◌↔◌, option_map};
 ghost use Rattle.arrayvec.specs.ArrayVec.{ArrayVec as Bytes};
 ghost use Rattle.rdm_wire.specs.declared.device.Device.{Device};
 ghost use Rattle.rdm_join.specs.declared.event.LineEvent.TheVariants.{Reply, Failed};
@@ -11,11 +11,12 @@ ghost use Rattle.rdm_log.specs.declared.outcome.OutcomeKind.TheVariants as kinds
 ghost use Rattle.rdm_log.specs.log.History.{awaited, is_idle, is_paused, is_closed};
 ghost use Rattle.rdm_log.specs.log.Legal.{Legal};
 ghost use Rattle.rdm_log.specs.log.LogState.{is_full_log, begun, blank_log, nothing_log};
-ghost use Rattle.rdm_log.specs.log.Runs.{known_devices, devices_run};
+ghost use Rattle.rdm_log.specs.log.Runs.{known_devices, devices_run, next_run};
 ghost use Rattle.rdm_log.specs.promises.Blocks.{JoinLogs, SubmitLogs, DiscoverLogs, PauseLogs, ResumeLogs, TakeLogs};
 ghost use Rattle.rdm_log.specs.promises.Blocks.{CloseAdds, DeliverAdds, CollectAdds, GrowsBy};
 ghost use Rattle.rdm_log.specs.log.Broken.{oldest_may_be_incomplete};
 ghost use Rattle.rdm_log.specs.promises.Outcomes.{oldest_kind, request_outcome, discovery_outcome};
+ghost use Rattle.rdm_queue.specs.promises.BadUids.{AreBadUids, HasMoreBadUids};
 ghost use Rattle.rdm_queue.specs.promises.Lengths.{oldest_length};
 ghost use Rattle.rdm_handles.specs.Forms.{setup_of, setup_status, request_status, request_of, kind_of};
 ghost use Rattle.rdm_handles.specs.Forms.{form_of_completion, form_of_end, form_of_device};
@@ -24,6 +25,7 @@ ghost use Rattle.rdm_handles.specs.Answers.{number_of_outcome_kind, join_fault_o
 ghost use Rattle.rdm_handles.specs.Sessions.{open_status, full_status};
 ghost use Rattle.rdm_handles.specs.Handles.{holds, a_session, Opens, Closes, StaysOpen, Reads, Reports};
 
+use rdm_agent::MOST_APART;
 use rdm_handles::status::{
     ALREADY_OPEN, BAD_KIND, BUFFER_TOO_SMALL, DONE, LOG_FULL, NOT_ASKED, NOT_OPEN, NOTHING,
     OUT_OF_MEMORY, REPLY_TOO_LONG,
@@ -360,6 +362,49 @@ pub extern "C" fn wurst_session_devices_run(
 {
     on_held!(session: Session in handle, alloc => {
         *run = session.devices_run();
+        DONE
+    })
+}
+
+/// Writes the bad UIDs of the run that began last at the front of a buffer, how many there are, and whether there were
+/// more; with `BUFFER_TOO_SMALL` only how many.
+#[unsafe(no_mangle)]
+pub extern "C" fn wurst_session_bad_uids(
+    alloc: Global,
+    handle: &mut Handle,
+    uids: &mut [u64],
+    count: &mut usize,
+    more: &mut bool,
+) -> u32
+    ensures reads { Reads a_session handle.old handle.new result }
+    ensures count { holds a_session handle.old ≡ true → (us : List ℕ) × (count.new ≡ length us)
+        × (length us ≤ MOST_APART) × AreBadUids handle.old.session.opening handle.old.session.entries us }
+    ensures kept { result ≡ NOT_OPEN → count.new ≡ count.old }
+    ensures status { holds a_session handle.old ≡ true →
+        result ≡ (if nat_lt (length uids.old) count.new then BUFFER_TOO_SMALL else DONE) }
+    ensures written { result ≡ DONE →
+        AreBadUids handle.old.session.opening handle.old.session.entries (take count.new uids.new) }
+    ensures more { result ≡ DONE → HasMoreBadUids handle.old.session.opening handle.old.session.entries more.new }
+    ensures unchanged { result ≢ DONE → (uids.new ≡ uids.old) × (more.new ≡ more.old) }
+{
+    on_held!(session: Session in handle, alloc => {
+        let has_more = session.has_more_bad_uids();
+        controllers::bad_uids(session.bad_uids(), has_more, uids, count, more)
+    })
+}
+
+/// Writes the number of that run; 0 before the first.
+#[unsafe(no_mangle)]
+pub extern "C" fn wurst_session_bad_uids_run(
+    alloc: Global,
+    handle: &mut Handle,
+    run: &mut u64,
+) -> u32
+    ensures reports { Reports a_session handle.old handle.new result (run.new ≡ next_run handle.old.session.opening
+        handle.old.session.entries - 1) (run.new ≡ run.old) }
+{
+    on_held!(session: Session in handle, alloc => {
+        *run = session.bad_uids_run();
         DONE
     })
 }

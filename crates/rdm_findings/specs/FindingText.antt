@@ -210,7 +210,7 @@ end_gaps form f =
     exchange_gap form judged.Gap f.untried
     (codes " mutes a UID that neither acknowledged nor was muted five times in a row: perhaps no device has it")
     ++ uid_gap form f.uncovered
-    (codes " is the first UID that wasn't ruled out: it needs five silences in a row of a range that holds it")
+    (codes " is the first UID that a missed device may have: five silences in a row of a range with it rule it out")
     ++ device_gap form f.other_data (codes " isn't reported as in its first acknowledgement")
 
 -- the parts of the certificate that fail
@@ -320,20 +320,23 @@ unless_garbled None stray = stray
 unless_garbled (Some garbled) None = None
 unless_garbled (Some garbled) (Some s) = if s.at == garbled.at then None else Some s
 
--- what to do about bytes that no honest line allows, whichever devices are on it
-abbrev pub each_text : List ℕ
-each_text = codes "; a rule was broken, by it, another device or noise: try each device alone on the line"
+-- what to do about bytes that no honest line allows, whichever devices are on it, after u was asked. A broadcast UID is
+-- no device's
+abbrev pub each_text : ℕ → List ℕ
+each_text u =
+    if is_broadcast u then codes "; a rule was broken, by a device or noise: try each device alone on the line"
+    else codes "; a rule was broken, by it, another device or noise: try each device alone on the line"
 
--- the same after a branch of one UID alone. Another device may have sent its own UID
-abbrev pub reply_text : Heard → List ℕ
-reply_text (One v) =
-    if is_broadcast v then each_text
+-- the same after a branch of u alone. Another device may have sent its own UID
+abbrev pub reply_text : ℕ → Heard → List ℕ
+reply_text u (One v) =
+    if is_broadcast v then each_text u
     else codes "; they read as " ++ uid_text v ++ codes "; a rule was broken: try that one alone on the line"
-reply_text _ = each_text
+reply_text u _ = each_text u
 
--- after a branch of one UID alone: bytes that aren't its text
-abbrev pub other_bytes : Heard → List ℕ
-other_bytes heard = codes " alone that aren't its text" ++ reply_text heard
+-- after a branch of u alone: bytes that aren't its text
+abbrev pub other_bytes : ℕ → Heard → List ℕ
+other_bytes u heard = codes " alone that aren't its text" ++ reply_text u heard
 
 -- after a branch of u alone, its text: no device has such a UID, or it is muted
 abbrev pub same_text : ℕ → List ℕ
@@ -343,22 +346,22 @@ same_text u =
 
 -- the same, or other bytes
 abbrev pub own_text : ℕ → Heard → List ℕ
-own_text u (Heard.One v) = if v == u then same_text u else other_bytes (Heard.One v)
-own_text u heard = other_bytes heard
+own_text u (Heard.One v) = if v == u then same_text u else other_bytes u (Heard.One v)
+own_text u heard = other_bytes u heard
 
 -- why they don't acknowledge a mute, if that is known
 abbrev pub why_text : Option Flaw → List ℕ
 why_text None = []
 why_text (Some flaw) = codes ": " ++ flaw_text flaw
 
--- bytes that don't acknowledge a mute
-abbrev pub unacked_text : Option Flaw → List ℕ
-unacked_text flaw = codes " that don't acknowledge it" ++ why_text flaw ++ each_text
+-- bytes that don't acknowledge a mute of u
+abbrev pub unacked_text : ℕ → Option Flaw → List ℕ
+unacked_text u flaw = codes " that don't acknowledge it" ++ why_text flaw ++ each_text u
 
 -- about bytes that came after a branch of one UID alone and aren't its text, or after a mute and don't acknowledge it
 abbrev pub garbled_text : Option Flaw → Asked → Heard → List ℕ
 garbled_text flaw (Branch lo hi) heard = codes ": bytes came from " ++ uid_text lo ++ own_text lo heard
-garbled_text flaw (Mute u) heard = codes ": bytes came after a mute of " ++ uid_text u ++ unacked_text flaw
+garbled_text flaw (Mute u) heard = codes ": bytes came after a mute of " ++ uid_text u ++ unacked_text u flaw
 garbled_text flaw _ heard = []
 
 -- the UID that was asked alone

@@ -122,7 +122,7 @@ fn write_end_gaps(text: &mut Vec<u8>, form: Form, found: &RunFinding) -> Result<
         text,
         form,
         found.uncovered,
-        " is the first UID that wasn't ruled out: it needs five silences in a row of a range that holds it",
+        " is the first UID that a missed device may have: five silences in a row of a range with it rule it out",
     )?;
     write_device_gap(
         text,

@@ -113,7 +113,7 @@ fn write_own(text: &mut Vec<u8>, uid: Uid, heard: &Heard) -> Result<(), AllocErr
 {
     match heard {
         Heard::One(read) if *read == uid => write(text, same_text(uid)),
-        _ => write_other_bytes(text, heard),
+        _ => write_other_bytes(text, uid, heard),
     }
 }
 
@@ -130,19 +130,19 @@ fn same_text(uid: Uid) -> &'static str
 
 fn write_unmuted(text: &mut Vec<u8>, flaw: Option<Flaw>, uid: Uid) -> Result<(), AllocError>
     ensures { OnOk result (text.new.items ≡ text.old.items
-        ++ (codes ": bytes came after a mute of " ++ uid_text uid ++ unacked_text flaw)) }
+        ++ (codes ": bytes came after a mute of " ++ uid_text uid ++ unacked_text uid flaw)) }
 {
     write(text, ": bytes came after a mute of ")?;
     write_uid(text, uid)?;
-    write_unacked(text, flaw)
+    write_unacked(text, uid, flaw)
 }
 
-fn write_unacked(text: &mut Vec<u8>, flaw: Option<Flaw>) -> Result<(), AllocError>
-    ensures { OnOk result (text.new.items ≡ text.old.items ++ unacked_text flaw) }
+fn write_unacked(text: &mut Vec<u8>, uid: Uid, flaw: Option<Flaw>) -> Result<(), AllocError>
+    ensures { OnOk result (text.new.items ≡ text.old.items ++ unacked_text uid flaw) }
 {
     write(text, " that don't acknowledge it")?;
     write_why(text, flaw)?;
-    write(text, EACH)
+    write_each(text, uid)
 }
 
 // Why they don't, if that is known.
@@ -158,33 +158,48 @@ fn write_why(text: &mut Vec<u8>, flaw: Option<Flaw>) -> Result<(), AllocError>
     }
 }
 
-fn write_other_bytes(text: &mut Vec<u8>, heard: &Heard) -> Result<(), AllocError>
-    ensures { OnOk result (text.new.items ≡ text.old.items ++ other_bytes heard.now) }
+fn write_other_bytes(text: &mut Vec<u8>, uid: Uid, heard: &Heard) -> Result<(), AllocError>
+    ensures { OnOk result (text.new.items ≡ text.old.items ++ other_bytes uid heard.now) }
 {
     write(text, " alone that aren't its text")?;
-    write_reply(text, heard)
+    write_reply(text, uid, heard)
 }
 
-// What the bytes read as after a branch, and what to do.
-fn write_reply(text: &mut Vec<u8>, heard: &Heard) -> Result<(), AllocError>
-    ensures { OnOk result (text.new.items ≡ text.old.items ++ reply_text heard.now) }
+// What the bytes read as after a branch of this UID, and what to do.
+fn write_reply(text: &mut Vec<u8>, uid: Uid, heard: &Heard) -> Result<(), AllocError>
+    ensures { OnOk result (text.new.items ≡ text.old.items ++ reply_text uid heard.now) }
 {
     match heard {
-        Heard::One(uid) => write_spelt(text, *uid),
-        _ => write(text, EACH),
+        Heard::One(read) => write_spelt(text, uid, *read),
+        _ => write_each(text, uid),
     }
 }
 
-const EACH: &str =
-    "; a rule was broken, by it, another device or noise: try each device alone on the line";
+// What to do, whatever the bytes are.
+fn write_each(text: &mut Vec<u8>, uid: Uid) -> Result<(), AllocError>
+    ensures { OnOk result (text.new.items ≡ text.old.items ++ each_text uid) }
+{
+    write(text, each_text(uid))
+}
 
-fn write_spelt(text: &mut Vec<u8>, uid: Uid) -> Result<(), AllocError>
-    ensures { OnOk result (text.new.items ≡ text.old.items ++ reply_text (Heard.One uid)) }
+// A broadcast UID is no device's.
+fn each_text(uid: Uid) -> &'static str
+    ensures { result.now ≡ each_text uid }
 {
     if uid.is_broadcast() {
-        write(text, EACH)
+        "; a rule was broken, by a device or noise: try each device alone on the line"
     } else {
-        write_other(text, uid)
+        "; a rule was broken, by it, another device or noise: try each device alone on the line"
+    }
+}
+
+fn write_spelt(text: &mut Vec<u8>, uid: Uid, read: Uid) -> Result<(), AllocError>
+    ensures { OnOk result (text.new.items ≡ text.old.items ++ reply_text uid (Heard.One read)) }
+{
+    if read.is_broadcast() {
+        write_each(text, uid)
+    } else {
+        write_other(text, read)
     }
 }
 

@@ -20,7 +20,7 @@ ghost use Rattle.rdm_handles.specs.Answers.{join_answer, submit_answer, ask_answ
 ghost use Rattle.rdm_handles.specs.Answers.{number_of_outcome_kind};
 
 use crate::convert::{
-    completion_for_c, end_for_c, kind_of, put_bytes, put_devices, request_of, setup_of,
+    completion_for_c, end_for_c, kind_of, put_bytes, put_devices, put_uids, request_of, setup_of,
     status_of_ask, status_of_join, status_of_submit,
 };
 use crate::forms::{CompletionForC, DeviceForC, EndForC, RequestForC, SetupForC};
@@ -32,7 +32,7 @@ use arrayvec::ArrayVec;
 use rdm_join::{LineEvent, LineReply};
 use rdm_log::ClientId;
 use rdm_queue::{Controller, Oldest};
-use rdm_wire::{DeviceSet, MOST_FRAME_BYTES};
+use rdm_wire::{DeviceSet, MOST_FRAME_BYTES, Uid};
 use std::alloc::Global;
 
 /// A controller with this set-up.
@@ -298,5 +298,29 @@ pub fn devices(set: &DeviceSet, devices: &mut [DeviceForC], count: &mut usize) -
         return BUFFER_TOO_SMALL;
     }
     put_devices(devices, set.as_slice());
+    DONE
+}
+
+/// Writes bad UIDs at the front of a buffer, how many there are, and whether there were more; with `BUFFER_TOO_SMALL`
+/// only how many.
+pub fn bad_uids(
+    uids: &[Uid],
+    has_more: bool,
+    buffer: &mut [u64],
+    count: &mut usize,
+    more: &mut bool,
+) -> u32
+    ensures count { count.new ≡ length uids.now }
+    ensures status { result ≡ (if nat_lt (length buffer.old) (length uids.now) then BUFFER_TOO_SMALL else DONE) }
+    ensures written { result ≡ DONE → take count.new buffer.new ≡ uids.now }
+    ensures more { result ≡ DONE → more.new ≡ has_more }
+    ensures unchanged { result ≢ DONE → (buffer.new ≡ buffer.old) × (more.new ≡ more.old) }
+{
+    *count = uids.len();
+    if uids.len() > buffer.len() {
+        return BUFFER_TOO_SMALL;
+    }
+    put_uids(buffer, uids);
+    *more = has_more;
     DONE
 }

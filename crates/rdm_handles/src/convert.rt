@@ -317,3 +317,14 @@ pub fn put_devices(buffer: &mut [DeviceForC], devices: &[Device])
         buffer[i] = device_for_c(&devices[i]);
     }
 }
+
+/// Writes UIDs at the front of a buffer, as many as fit.
+pub fn put_uids(buffer: &mut [u64], uids: &[Uid])
+    ensures len { length buffer.new ≡ length buffer.old }
+    ensures front { length uids.now ≤ length buffer.old → take (length uids.now) buffer.new ≡ uids.now }
+{
+    let len = uids.len().min(buffer.len());
+    'copying: for i in 0..len {
+        buffer[i] = uids[i].number();
+    }
+}

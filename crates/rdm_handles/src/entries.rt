@@ -44,6 +44,7 @@ pub fn read(log: &Log, index: usize, form: &mut EntryForC, buffer: &mut [u8]) ->
 }
 
 /// Each entry can be read back from its form and its bytes. So no two entries have the same.
+#[tactic(auto, using(crate::proofs::EntryLemmas::read_back))]
 pub fn entries_can_be_read()
     ensures { (e : Entry) → entry_in (form_of_entry e) (bytes_of_entry e) ≡ e }
 {}

@@ -34,8 +34,8 @@ pub use Rattle.rdm_log.proofs.LogLemmas.ClientFacts.{client_facts}
 pub use Rattle.rdm_log.proofs.LogLemmas.Grows.{front}
 pub use Rattle.rdm_log.proofs.LogLemmas.Indices.{slice_get-append_left, slice_get-push}
 pub use Rattle.rdm_log.proofs.LogLemmas.LegalFacts.{legal_facts}
-pub use Rattle.rdm_log.proofs.LogLemmas.PushLemmas.{answered-append, awaited-push, answered_more, answered_same}
-pub use Rattle.rdm_log.proofs.LogLemmas.PushLemmas.{finishes-append, is_closed-push, is_paused-push, sends_same}
+pub use Rattle.rdm_log.proofs.LogLemmas.PushLemmas.{answered-append, awaited-push, answers-push}
+pub use Rattle.rdm_log.proofs.LogLemmas.PushLemmas.{finishes-append, is_closed-push, is_paused-push, sends-push}
 pub use Rattle.rdm_log.proofs.LogLemmas.RunLemmas.{last_run_same}
 pub use Rattle.rdm_log.proofs.PromiseLemmas.StableResults.{filter_has}
 pub use Rattle.rdm_log.specs.declared.config.Setup.{Setup}

@@ -4,7 +4,7 @@ use Rattle.rdm_lanes.proofs.Common.{Option, Some, None, refl, sym, ap, ◌∙◌
 use Rattle.rdm_lanes.proofs.Common.{length-append, arith, ◌⊎◌, if◌then◌else◌, cases_Bool, none-some, slice_get_within}
 use Rattle.rdm_lanes.proofs.Common.{known_items, AgentFault, DeviceView, Entry, Answer, Answered, answers, LogState}
 use Rattle.rdm_lanes.proofs.Common.{OutcomeValue, Discovered, never_begun, DiscoveryValue, slice_get-append_left}
-use Rattle.rdm_lanes.proofs.Common.{answered-append, answered_more, Ghosts, RingClient, ClientEnd, Lane, RingOutcome}
+use Rattle.rdm_lanes.proofs.Common.{answered-append, answers-push, Ghosts, RingClient, ClientEnd, Lane, RingOutcome}
 use Rattle.rdm_lanes.proofs.Common.{values_in, uncollected_values, AllFit, end_got, AllAgree, AreNewWith, last_view_run}
 use Rattle.rdm_lanes.proofs.Common.{last_number, is_last, with_run, with_found, runs_found, view_of, all_views}
 use Rattle.rdm_lanes.proofs.Common.{NoneLater, AreShownFirst, NoExchange, Publishing, Publishes, Worker}
@@ -86,7 +86,7 @@ answered_index front back n r f =
     let parts : answers (front ++ Answer n r f ∷ back) ≡ (answers front ++ b ∷ []) ++ answers back =
     ap answers (sym (append_assoc front (Answer n r f ∷ []) back))
     ∙ (answered-append (front ++ Answer n r f ∷ []) back
-    ∙ ap (λ (bs : List Answered). bs ++ answers back) (answered_more front (Answer n r f) b refl)) in
+    ∙ ap (λ (bs : List Answered). bs ++ answers back) (answers-push front (Answer n r f))) in
     ap (λ (bs : List Answered). slice_get bs (length (answers front))) parts
     ∙ slice_get-append_left (answers front ++ b ∷ []) (answers back) (length (answers front)) b
     (last_index (answers front) b)

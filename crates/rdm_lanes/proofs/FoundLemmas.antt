@@ -6,8 +6,8 @@ use Rattle.rdm_lanes.proofs.Common.{AllByRecursion, list_any, map-append, fold-a
 use Rattle.rdm_lanes.proofs.Common.{none-some, same_Some, ArrayVec, EachAfter, uids_of, AgentFault, DeviceView}
 use Rattle.rdm_lanes.proofs.Common.{LineEvent, Opening, Owner, Entry, Send, Came, Finish, Answer, Close, AskedDiscovery}
 use Rattle.rdm_lanes.proofs.Common.{Answered, answered_of, answers, known_devices, devices_run, MayBegin, MayFollow}
-use Rattle.rdm_lanes.proofs.Common.{is_result, AllResults, front, answered-append, answered_same, answered_more}
-use Rattle.rdm_lanes.proofs.Common.{sends_same, ask_facts, last_run_same, opening_view, last_view, last_view_run}
+use Rattle.rdm_lanes.proofs.Common.{is_result, AllResults, front, answered-append, answers-push}
+use Rattle.rdm_lanes.proofs.Common.{sends-push, ask_facts, last_run_same, opening_view, last_view, last_view_run}
 use Rattle.rdm_lanes.proofs.Common.{last_number, is_last, with_run, with_found, runs_found, view_of, views_found}
 use Rattle.rdm_lanes.proofs.Common.{all_views, GainOneAtMost}
 use Rattle.std.proofs.lemmas.List.Folds.{list_any-append}
@@ -130,13 +130,13 @@ views_same o h e each may same = ap (map (view_of (h ++ e ∷ []))) same ∙ set
 
 runs_same : (h : List Entry) (e : Entry) → answered_of e ≡ None → runs_found (h ++ e ∷ []) ≡ runs_found h
 unfolding runs_found
-runs_same h e none = ap (fold adds_found []) (answered_same h e none)
+runs_same h e none = ap (fold adds_found []) (rw none at (answers-push h e))
 
 runs_more : (h : List Entry) (n r : ℕ) (f : Option AgentFault)
     → runs_found (h ++ Answer n r f ∷ []) ≡ with_found (runs_found h) f r
 unfolding runs_found
 runs_more h n r f =
-    ap (fold adds_found []) (answered_more h (Answer n r f) (record { number = n; run = r; fault = f }) refl)
+    ap (fold adds_found []) (answers-push h (Answer n r f))
     ∙ fold-append adds_found [] (answers h) (record { number = n; run = r; fault = f } ∷ [])
 
 -- without Answers and frames all stays
@@ -228,7 +228,7 @@ settled_step o h (Send (owners.Request n) frame) each before may =
     settled_kept h (Send (owners.Request n) frame) (last_run_sent h (owners.Request n) frame)
     (λ r. begun_same r h (Send (owners.Request n) frame) refl) before
 settled_step o h e each before may =
-    settled_kept h e (last_run_same h (h ++ e ∷ []) (sends_same h e refl)) (λ r. begun_same r h e (not_sent r e refl))
+    settled_kept h e (last_run_same h (h ++ e ∷ []) (sends-push h e)) (λ r. begun_same r h e (not_sent r e refl))
     before
 
 settled : (o : Opening) (h : List Entry) → EachAfter (MayFollow o) h → Settled h
@@ -365,7 +365,7 @@ grown_answer o before h n r each may grown = by_test (cases_Bool (is_last (last_
     e = Answer n r None
 
     last : last_run (h ++ e ∷ []) ≡ last_run h
-    last = last_run_same h (h ++ e ∷ []) (sends_same h e refl)
+    last = last_run_same h (h ++ e ∷ []) (sends-push h e)
 
     by_test : (is_last (last_number (runs_found h)) r ≡ true) ⊎ (is_last (last_number (runs_found h)) r ≡ false)
         → Grown before h → Grown before (h ++ e ∷ [])
@@ -391,10 +391,10 @@ grown_result : (o : Opening) (before : List DeviceView) (h : List Entry) (e : En
 grown_result o before h (Answer n r None) each may is grown = grown_answer o before h n r each may grown
 grown_result o before h (Answer n r (Some fault)) each may is grown =
     grown_kept o before h (Answer n r (Some fault)) each may (runs_more h n r (Some fault))
-    (last_run_same h (h ++ Answer n r (Some fault) ∷ []) (sends_same h (Answer n r (Some fault)) refl)) grown
+    (last_run_same h (h ++ Answer n r (Some fault) ∷ []) (sends-push h (Answer n r (Some fault)))) grown
 grown_result o before h (Finish n status len) each may is grown =
     grown_kept o before h (Finish n status len) each may (runs_same h (Finish n status len) refl)
-    (last_run_same h (h ++ Finish n status len ∷ []) (sends_same h (Finish n status len) refl)) grown
+    (last_run_same h (h ++ Finish n status len ∷ []) (sends-push h (Finish n status len))) grown
 grown_result o before h _ each may is grown = absurd (false≢true is)
 
 grown_results : (o : Opening) (before : List DeviceView) (h block : List Entry) → EachAfter (MayFollow o) (h ++ block)

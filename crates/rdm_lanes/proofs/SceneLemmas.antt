@@ -22,13 +22,7 @@ use Rattle.rdm_lanes.specs.OverThreads.{IsEnough, IsByDefault, HasGot, IsEndOver
 use Rattle.rdm_lanes.specs.OverThreads.{GetsTheChanging}
 use Rattle.rdm_lanes.proofs.GrowthLemmas.{tells}
 use Rattle.rdm_lanes.proofs.ToldLemmas.{IsToldBy, told_by, IsAnswered, IsRefusedByClose, discovery_of}
-
--- a queue that was closed stays so
-closed_stays : (o : Opening) (h more : List Entry) → is_closed o h ≡ true → is_closed o (h ++ more) ≡ true
-closed_stays o h [] closed = subst (λ (l : List Entry). is_closed o l ≡ true) (sym (append-nil h)) closed
-closed_stays o h (e ∷ more) closed =
-    subst (λ (l : List Entry). is_closed o l ≡ true) (append_assoc h (e ∷ []) more)
-    (closed_stays o (h ++ e ∷ []) more (closed_more o h e closed))
+use Rattle.rdm_log.proofs.PromiseLemmas.ClosedEvents.{stays_closed}
 
 -- a discover that was refused by a close came after one
 ask_closed : (b : Bool) (ps : List ℕ) (outstanding next c : ℕ)
@@ -141,7 +135,7 @@ module _ {J : Type 0} {h : Ghosts J} {C A : Type 0} (setup : Setup) (room : ℕ)
       open_ front back x whole closed =
           true≢false (sym
           (subst (λ (l : List Entry). is_closed k.opening l ≡ true) (sym whole)
-          (closed_stays k.opening front (x ∷ back) closed)) ∙ over.session.not_closed)
+          (stays_closed k.opening front (x ∷ back) closed)) ∙ over.session.not_closed)
 
       by_fault : (n r : ℕ) (fault : Option AgentFault) → k.entries ≡ told.front ++ Answer n r fault ∷ told.back
           → fault ≡ None

@@ -53,6 +53,7 @@ use Rattle.rdm_locked.specs.Clients.{calls_of, called, got, logged, entries_of, 
 use Rattle.rdm_locked.specs.body.Own.{AreCallsOf}
 use Rattle.rdm_locked.specs.body.Keeps.{Keeps}
 use Rattle.rdm_locked.specs.declared.history.LoggedCall.{LoggedCall}
+use Rattle.rdm_log.proofs.PromiseLemmas.InOrder.{taken_index}
 
 -- lists
 same_consed : {X Y : Type 0} (f g : X → Option Y) (x : X) (xs : List X) → f x ≡ g x → filter_map f xs ≡ filter_map g xs
@@ -69,23 +70,12 @@ filter_map_same f g [] same = refl
 filter_map_same f g (x ∷ xs) same =
     same_consed f g x xs (same 0 x refl) (filter_map_same f g xs (λ i y at. same (suc i) y at))
 
-pub get_take : {X : Type 0} (n : ℕ) (xs : List X) (i : ℕ) (x : X) → slice_get (take n xs) i ≡ Some x → slice_get xs i
-    ≡ Some x
-get_take zero xs i x at = absurd (none i at)
-  where
-    none : (i : ℕ) → slice_get [] i ≡ Some x → ⊥
-    none zero e = cc
-    none (suc i) e = cc
-get_take (suc n) [] i x at = at
-get_take (suc n) (y ∷ xs) zero x at = at
-get_take (suc n) (y ∷ xs) (suc i) x at = get_take n xs i x at
-
 -- the outcomes that were collected stay as they are
 outcomes_stay : (o : Opening) (c : ℕ) (h block : List Entry) → EachAfter (MayFollow o) (h ++ block)
     → collected_outcomes o c h (h ++ block) ≡ collected_outcomes o c h h
 outcomes_stay o c h block each =
     filter_map_same (outcome_of (h ++ block)) (outcome_of h) (collected o c h)
-    (λ i x at. outcome_stays o h block each c i x (get_take _ (answers_to o c h) i x at))
+    (λ i x at. outcome_stays o h block each c i x (taken_index _ (answers_to o c h) i x at))
 
 outcomes_grow : (c : ℕ) (k k' : LogState) (e : Event) (r : Answer) → IsAnswered k e r k' → Legal k'.opening k'.entries
     → collected_outcomes k'.opening c k'.entries k'.entries

@@ -14,7 +14,7 @@ impl Position {
     /// The position of the last character of these bytes; none if they have only white space.
     pub(crate) fn of_last(bytes: &[u8]) -> Option<Position> {
         let text = bytes.trim_ascii_end();
-        let line = text.split(|byte| *byte == b'\n').last()?;
+        let line = text.split(|byte| *byte == b'\n').next_back()?;
         if line.is_empty() {
             return None;
         }

@@ -54,10 +54,9 @@ pub use Rattle.rdm_log.proofs.LogLemmas.Indices.{index_within, slice_get_first, 
 pub use Rattle.rdm_log.proofs.LogLemmas.Indices.{slice_get-drop}
 pub use Rattle.rdm_log.proofs.LogLemmas.LegalFacts.{LogFacts, legal_facts, unfinished_number, IsAwaited, IsRunAwaited}
 pub use Rattle.rdm_log.proofs.LogLemmas.LegalFacts.{later_unsent}
-pub use Rattle.rdm_log.proofs.LogLemmas.PushLemmas.{is_closed-push, is_paused-push, joins_same, sends_same}
-pub use Rattle.rdm_log.proofs.LogLemmas.PushLemmas.{awaited-push, accepts_same, answered_more, answered_same, asks_same}
-pub use Rattle.rdm_log.proofs.LogLemmas.PushLemmas.{cames_same, collectors_same, finishes_same, unfinished_same}
-pub use Rattle.rdm_log.proofs.LogLemmas.PushLemmas.{sends_more}
+pub use Rattle.rdm_log.proofs.LogLemmas.PushLemmas.{is_closed-push, is_paused-push, joins-push, sends-push}
+pub use Rattle.rdm_log.proofs.LogLemmas.PushLemmas.{awaited-push, accepts-push, answers-push, asks-push}
+pub use Rattle.rdm_log.proofs.LogLemmas.PushLemmas.{cames-push, collectors-push, finishes-push, unfinished_same}
 pub use Rattle.rdm_log.proofs.LogLemmas.RunFacts.{run_facts}
 pub use Rattle.rdm_log.proofs.LogLemmas.RunLemmas.{last_run_same, last_begun, entries_before_run_stays, last_run_sent}
 pub use Rattle.rdm_log.proofs.LogLemmas.RunLemmas.{served_stays}

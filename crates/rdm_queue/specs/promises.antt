@@ -2,3 +2,4 @@
 pub mod EachLog
 pub mod Lengths
 pub mod Oldest
+pub mod BadUids

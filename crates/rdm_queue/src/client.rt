@@ -1,7 +1,8 @@
 //! A client's queue depth, and the rings of what it has outstanding.
 ghost use Rattle.std.specs.Prelude.{◌≡◌, ◌≢◌, ◌+◌, ◌-◌, ◌<◌, ◌≤◌, IfOk, IfSome, IfNone, Some, length, option_map};
-ghost use Rattle.std.specs.Prelude.{slice_get, nat_le, ◌||◌};
+ghost use Rattle.std.specs.Prelude.{slice_get, nat_le, ◌||◌, []};
 ghost use Rattle.std.specs.VecDeque.{deque_len, deque_capacity};
+ghost use Rattle.rdm_agent.specs.declared.fault.AgentFault.TheVariants.{Aborted};
 
 use crate::oldest::Oldest;
 use crate::set_ring::SetRing;
@@ -173,6 +174,18 @@ impl Client {
         self.outcomes
             .push_back_reserved(Owed::Discovery { number, run, fault });
         self.sets.push_back(found);
+    }
+
+    /// Answers its discovery of this number, which a close ended before a run served it. This isn't inlined, since a
+    /// set is made in its frame.
+    #[inline(never)]
+    pub(crate) fn answer_aborted(&mut self, number: u64)
+        requires sets { HasSets self.old }
+        requires room { deque_len self.old.outcomes < deque_capacity self.old.outcomes }
+        requires set_room { length self.old.sets.items < self.old.sets.room }
+        ensures { ClientAnswers self.old number 0 (Some Aborted) [] self.new }
+    {
+        self.answer(number, 0, Some(AgentFault::Aborted), &DeviceSet::new());
     }
 
     /// A look at its oldest outcome.

@@ -3,13 +3,13 @@
 use crate::oldest::Oldest;
 use crate::queue::Queue;
 use crate::takes_devices::TakesDevices;
-use rdm_agent::{Kind, Search};
+use rdm_agent::{Kind, MOST_APART, Search};
 use rdm_join::LineEvent;
 use rdm_log::{
     AskFault, ClientId, Completion, DiscoveryEnd, Entry, IntoSetup, JoinFault, NotAsked, Opening,
     Outcome, Owner, SubmitFault, Work, WorkFault,
 };
-use rdm_wire::{DeviceSet, Frame, NoMemory, Request};
+use rdm_wire::{DeviceSet, Frame, NoMemory, Request, Uid};
 use std::alloc::Global;
 use std::marker::Model;
 
@@ -34,8 +34,8 @@ impl Model for Controller {
 }
 
 impl Controller {
-    ghost use Rattle.std.specs.Prelude.{◌≡◌, ◌∷◌, ◌<◌, ◌≤◌, ◌+◌, ◌*◌, [], true, false, length, IfOk, IfErr, IfSome};
-    ghost use Rattle.std.specs.Prelude.{IfNone, OnErr, OnSome, Some, ◌≢◌, option_map};
+    ghost use Rattle.std.specs.Prelude.{◌≡◌, ◌∷◌, ◌<◌, ◌≤◌, ◌+◌, ◌-◌, ◌*◌, [], true, false, length, IfOk, IfErr};
+    ghost use Rattle.std.specs.Prelude.{IfSome, IfNone, OnErr, OnSome, Some, ◌≢◌, option_map};
     ghost use Rattle.rdm_log.specs.declared.entry.Entry.TheVariants.{Send, Came, Close};
     ghost use Rattle.rdm_log.specs.log.History.{awaited, is_paused, is_closed, can_pause, can_resume, is_idle};
     ghost use Rattle.rdm_log.specs.log.History.{next_client};
@@ -45,12 +45,13 @@ impl Controller {
     ghost use Rattle.rdm_log.specs.promises.Blocks.{JoinAdds, SubmitAdds, PauseAdds, ResumeAdds, CloseAdds};
     ghost use Rattle.rdm_log.specs.promises.Blocks.{DiscoverAdds, TakeAdds, DeliverAdds, CollectAdds, WorkAdds};
     ghost use Rattle.rdm_log.specs.promises.Blocks.{number_or_fault, IsOldest};
+    ghost use Rattle.rdm_queue.specs.promises.BadUids.{AreBadUids, HasMoreBadUids};
     ghost use Rattle.rdm_queue.specs.promises.EachLog.{ForEachLog, AddsToEach, IsSetUp};
     ghost use Rattle.rdm_queue.specs.promises.Oldest.{outcome_shown, kind_shown, flag_shown};
     ghost use Rattle.rdm_log.specs.log.Broken.{oldest_may_be_incomplete};
     ghost use Rattle.rdm_queue.specs.body.Agrees.{StandsAfter, ForEachBlock, AddsAmid, Ends, FinishesEach};
     ghost use Rattle.rdm_queue.specs.body.State.{unended, uncollected};
-    ghost use Rattle.rdm_log.specs.log.Runs.{known_devices, devices_run};
+    ghost use Rattle.rdm_log.specs.log.Runs.{known_devices, devices_run, next_run};
     ghost use Rattle.rdm_log.specs.promises.Outcomes.{oldest_kind, request_outcome, discovery_outcome};
     ghost use Rattle.rdm_log.specs.declared.outcome.OutcomeKind.TheVariants as kinds;
 
@@ -262,6 +263,30 @@ impl Controller {
         ensures { ForEachLog self.now (λ o h. result ≡ devices_run o h) }
     {
         self.queue.devices_run()
+    }
+
+    /// The bad UIDs of the run that began last, open or ended: those that it has set apart, the newest first, at most
+    /// [`MOST_APART`]. Each was answered badly when it was asked alone: it couldn't be read, or what was read couldn't
+    /// be muted. None before the first run, and none in steady runs.
+    pub fn bad_uids(&self) -> &[Uid]
+        ensures fits { length result.now ≤ MOST_APART }
+        ensures value { ForEachLog self.now (λ o h. AreBadUids o h result.now) }
+    {
+        self.queue.bad_uids()
+    }
+
+    /// Whether that run gave up further UIDs like these, since [`MOST_APART`] were set apart.
+    pub fn has_more_bad_uids(&self) -> bool
+        ensures { ForEachLog self.now (λ o h. HasMoreBadUids o h result) }
+    {
+        self.queue.has_more_bad_uids()
+    }
+
+    /// The number of that run; 0 before the first.
+    pub fn bad_uids_run(&self) -> u64
+        ensures { ForEachLog self.now (λ o h. result ≡ next_run o h - 1) }
+    {
+        self.queue.bad_uids_run()
     }
 
     /// How many clients have joined, 0 to 16. They are numbered from 0.

@@ -11,13 +11,13 @@ use crate::oldest::Oldest;
 use crate::pending::{Asked, Awaited, Running};
 use crate::takes_devices::TakesDevices;
 use arrayvec::ArrayVec;
-use rdm_agent::{Agent, Kind, Op, Search};
+use rdm_agent::{Agent, Kind, MOST_APART, Op, Search};
 use rdm_join::{Joiner, Sent};
 use rdm_log::{
     AskCompletion, BrokenAnswers, ClientId, Completion, Config, DiscoveryEnd, JoinFault,
     MOST_CLIENTS, Opening, Outcome, Owner, Setup, Work, WorkFault,
 };
-use rdm_wire::{DeviceSet, Frame, Request, UidSet, encode_request};
+use rdm_wire::{DeviceSet, Frame, Request, Uid, UidSet, encode_request};
 use std::alloc::Global;
 use std::marker::Model;
 
@@ -73,12 +73,14 @@ impl Model for Queue {
 }
 
 impl Queue {
-    ghost use Rattle.std.specs.Prelude.{◌≡◌, ◌<◌, ◌+◌, ◌*◌, ◌++◌, ◌∷◌, [], ℕ, Bool, ◌==◌, ◌&&◌, false, true, List};
+    ghost use Rattle.std.specs.Prelude.{◌≡◌, ◌<◌, ◌+◌, ◌-◌, ◌*◌, ◌++◌, ◌∷◌, [], ℕ, Bool, ◌==◌, ◌&&◌, false, true, List};
     ghost use Rattle.std.specs.Prelude.{length, drop, sum, map, IfOk, IfErr, IfSome, IfNone, OnOk, OnErr, OnSome};
     ghost use Rattle.std.specs.Prelude.{Some, None};
     ghost use Rattle.std.specs.Prelude.{is_some, option_map, slice_get, if◌then◌else◌, ◌≢◌, ◌≤◌};
     ghost use Rattle.rdm_wire.specs.Devices.{uids_of};
-    ghost use Rattle.rdm_agent.specs.Calls.{HasRunBy};
+    ghost use Rattle.std.specs.List.{AllByRecursion};
+    ghost use Rattle.rdm_agent.specs.Calls.{HasRunBy, AfterEach};
+    ghost use Rattle.rdm_agent.specs.Cause.{WasBad};
     ghost use Rattle.rdm_log.specs.promises.Outcomes.{outcome_value, request_outcome, discovery_outcome};
     ghost use Rattle.rdm_log.specs.declared.outcome.OutcomeKind.TheVariants as kinds;
     ghost use Rattle.rdm_log.specs.promises.Blocks.{RefusesJoin};
@@ -436,6 +438,30 @@ impl Queue {
         ensures { result ≡ self.now.devices_run }
     {
         self.devices_run
+    }
+
+    /// The UIDs that the run that began last has set apart, the newest first; none before the first run.
+    pub(crate) fn bad_uids(&self) -> &[Uid]
+        ensures value { result.now ≡ self.now.agent.apart }
+        ensures fits { length result.now ≤ MOST_APART }
+        ensures answered { AfterEach self.now.agent (λ run.
+            AllByRecursion (λ u. WasBad u run.exchanges) result.now) }
+    {
+        self.agent.bad_uids()
+    }
+
+    /// Whether that run gave up further ones.
+    pub(crate) fn has_more_bad_uids(&self) -> bool
+        ensures { result ≡ self.now.agent.more }
+    {
+        self.agent.has_more_bad_uids()
+    }
+
+    /// The number of that run; 0 before the first.
+    pub(crate) fn bad_uids_run(&self) -> u64
+        ensures { result ≡ self.now.next_run - 1 }
+    {
+        self.next_run.saturating_sub(1)
     }
 
     /// The opening of a log that continues from here.

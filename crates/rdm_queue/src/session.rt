@@ -7,14 +7,14 @@ use crate::controller::Controller;
 use crate::oldest::Oldest;
 use crate::takes_devices::TakesDevices;
 use arrayvec::ArrayVec;
-use rdm_agent::Kind;
+use rdm_agent::{Kind, MOST_APART};
 use rdm_join::LineEvent;
 use rdm_log::{
     AskFault, BrokenAnswers, Call, Cause, ClientId, Completion, DiscoveryEnd, Entry, IntoSetup,
     JoinFault, LEAST_FREE, Log, LogFull, MOST_ENTRIES, NotAsked, NotIdle, Opening, Outcome, Setup,
     SubmitFault, Work, WorkFault,
 };
-use rdm_wire::{DeviceSet, Frame, NoMemory, Request, copy_of_frame};
+use rdm_wire::{DeviceSet, Frame, NoMemory, Request, Uid, copy_of_frame};
 use std::alloc::Global;
 use std::marker::Model;
 use std::mem;
@@ -49,11 +49,12 @@ impl Session {
     ghost use Rattle.rdm_log.specs.log.LogState.{MayGoOn};
     ghost use Rattle.rdm_log.specs.promises.Promised.{Promised};
     ghost use Rattle.rdm_log.specs.promises.Blocks.{JoinLogs, SubmitLogs, PauseLogs, ResumeLogs, TakeLogs};
-    ghost use Rattle.rdm_log.specs.log.Runs.{known_devices, devices_run};
+    ghost use Rattle.rdm_log.specs.log.Runs.{known_devices, devices_run, next_run};
     ghost use Rattle.rdm_log.specs.promises.Blocks.{DiscoverLogs, CloseAdds, DeliverAdds, CollectAdds, GrowsBy};
     ghost use Rattle.rdm_log.specs.promises.Blocks.{WorkLogs, number_or_fault, IsOldest};
     ghost use Rattle.rdm_log.specs.promises.Outcomes.{oldest_kind, request_outcome, discovery_outcome};
     ghost use Rattle.rdm_log.specs.declared.outcome.OutcomeKind.TheVariants as kinds;
+    ghost use Rattle.rdm_queue.specs.promises.BadUids.{AreBadUids, HasMoreBadUids};
     ghost use Rattle.rdm_queue.specs.promises.Oldest.{outcome_shown, kind_shown, flag_shown};
     ghost use Rattle.rdm_log.specs.log.Broken.{oldest_may_be_incomplete};
     ghost use Rattle.rdm_queue.specs.body.Agrees.{StandsAfter};
@@ -428,6 +429,29 @@ impl Session {
         ensures { result ≡ devices_run self.now.opening self.now.entries }
     {
         self.controller.devices_run()
+    }
+
+    /// The bad UIDs of the run that began last, as [`Controller::bad_uids`] lists them. After a rotation they are still
+    /// those of that run, which the old log has, but no clause says so.
+    pub fn bad_uids(&self) -> &[Uid]
+        ensures fits { length result.now ≤ MOST_APART }
+        ensures value { AreBadUids self.now.opening self.now.entries result.now }
+    {
+        self.controller.bad_uids()
+    }
+
+    /// Whether that run gave up further UIDs like these, since [`MOST_APART`] were set apart.
+    pub fn has_more_bad_uids(&self) -> bool
+        ensures { HasMoreBadUids self.now.opening self.now.entries result }
+    {
+        self.controller.has_more_bad_uids()
+    }
+
+    /// The number of that run; 0 before the first.
+    pub fn bad_uids_run(&self) -> u64
+        ensures { result ≡ next_run self.now.opening self.now.entries - 1 }
+    {
+        self.controller.bad_uids_run()
     }
 
     /// How many clients have joined, 0 to 16. They are numbered from 0.

@@ -25,7 +25,7 @@ use Rattle.rdm_log.specs.log.Runs.{has_begun, open_run, next_run, run_exchanges,
 use Rattle.rdm_log.specs.log.MaySend.{MaySendRun}
 use Rattle.rdm_log.specs.log.Legal.{MayFollow}
 use Rattle.rdm_log.proofs.LogLemmas.LegalFacts.{along, legal_facts, sent_evenly}
-use Rattle.rdm_log.proofs.LogLemmas.PushLemmas.{sends_same, sends_more, answered_same, answered_more}
+use Rattle.rdm_log.proofs.LogLemmas.PushLemmas.{sends-push, answers-push}
 use Rattle.rdm_log.proofs.LogLemmas.RunLemmas.{sent_begins, open_run_same, last_run_same, same_runs_sent}
 use Rattle.rdm_log.proofs.LogLemmas.RunFacts.{open_is, is_open, run_facts, opened_by}
 use Rattle.rdm_scenes.specs.Exchanges.{RunPart}
@@ -70,7 +70,7 @@ unsent r h e none stays p = record {
   before = p.before;
   during = p.during;
   after = p.after;
-  whole = sends_same h e none ∙ p.whole;
+  whole = rw none at (sends-push h e) ∙ p.whole;
   others_before = p.others_before;
   own = p.own;
   others_after = p.others_after;
@@ -80,7 +80,7 @@ unsent r h e none stays p = record {
 stays_open : (r : ℕ) (h : List Entry) (e : Entry) → sending_of e ≡ None → answered_of e ≡ None
     → open_run (h ++ e ∷ []) ≡ Some r → open_run h ≡ Some r
 stays_open r h e sent answer is =
-    sym (open_run_same h (h ++ e ∷ []) (sends_same h e sent) (answered_same h e answer)) ∙ is
+    sym (open_run_same h (h ++ e ∷ []) (rw sent at (sends-push h e)) (rw answer at (answers-push h e))) ∙ is
 
 any_front : {X : Type 0} (p : X → Bool) (xs : List X) (x : X) → list_any p (xs ++ x ∷ []) ≡ false
     → list_any p xs ≡ false
@@ -99,9 +99,9 @@ answered_open : (r : ℕ) (h : List Entry) (e : Entry) (b : Answered) → sendin
 answered_open r h e b sent answer is =
     let o = open_is (h ++ e ∷ []) r is in
     is_open h r (record {
-      last = sym (last_run_same h (h ++ e ∷ []) (sends_same h e sent)) ∙ o.last;
+      last = sym (last_run_same h (h ++ e ∷ []) (rw sent at (sends-push h e))) ∙ o.last;
       left = any_front (λ (a : Answered). a.run == r) (answers h) b
-          (ap (list_any (λ (a : Answered). a.run == r)) (sym (answered_more h e b answer)) ∙ o.left);
+          (ap (list_any (λ (a : Answered). a.run == r)) (sym (rw answer at (answers-push h e))) ∙ o.left);
     })
 
 -- a frame that isn't the run's
@@ -113,7 +113,7 @@ other_sent r h owner frame other over p =
       before = p.before;
       during = p.during;
       after = p.after ++ s ∷ [];
-      whole = sends_more h (Send owner frame) s refl ∙ ap (λ (ss : List Sending). ss ++ s ∷ []) p.whole
+      whole = sends-push h (Send owner frame) ∙ ap (λ (ss : List Sending). ss ++ s ∷ []) p.whole
           ∙ append_assoc p.before (p.during ++ p.after) (s ∷ [])
           ∙ ap (λ (ss : List Sending). p.before ++ ss) (append_assoc p.during p.after (s ∷ []));
       others_before = p.others_before;
@@ -131,7 +131,7 @@ first_sent r h frame none =
       before = sends h;
       during = s ∷ [];
       after = [];
-      whole = sends_more h (Send (owners.Run r) frame) s refl;
+      whole = sends-push h (Send (owners.Run r) frame);
       others_before = none;
       own = (eq-eqb r r refl, tt);
       others_after = tt;
@@ -151,7 +151,7 @@ later_sent r h frame goes p = by_over p.over
       during = p.during ++ s ∷ [];
       after = [];
       whole =
-          sends_more h (Send (owners.Run r) frame) s refl
+          sends-push h (Send (owners.Run r) frame)
           ∙ ap (λ (ss : List Sending). ss ++ s ∷ [])
           (p.whole ∙ ap (λ (ss : List Sending). p.before ++ (p.during ++ ss)) none)
           ∙ append_assoc p.before (p.during ++ []) (s ∷ [])

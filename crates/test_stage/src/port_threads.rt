@@ -10,8 +10,8 @@ use rdm_locked::{Blank, CallShare, Exchange, Ledger, Left, LockedClient, Port};
 use std::alloc::Global;
 use std::marker::Brand;
 use std::sync::Wait;
+use std::thread;
 use std::thread::{Threads, join_mut};
-use std::{mem, thread};
 use test_rig::{AskNote, Heard, Note, Stop, cancels, request, told};
 
 type Client<'a, L> = LockedClient<'a, L, Note, AskNote>;
@@ -159,7 +159,7 @@ fn sits<L: Ledger + Send + Sync, R: Wait>(
     sleeps: bool,
     seat: &mut Seat<'_, L>,
 ) {
-    let Some(mut client) = mem::replace(&mut seat.client, None) else {
+    let Some(mut client) = seat.client.take() else {
         return;
     };
     seat.right = if sleeps {

@@ -100,7 +100,7 @@ fn args(rt: &HostRuntime) -> Result<Vec<String>, WordsFault> {
         .map_err(|_| WordsFault::NoMemory)
 }
 
-fn words<'a>(alloc: Global, args: &'a [String]) -> Result<Vec<&'a str>, AllocError>
+fn words(alloc: Global, args: &[String]) -> Result<Vec<&str>, AllocError>
     ensures { IfOk result (λ words. texts_of words.items ≡ map string_bytes args.now) }
 {
     let mut words = Vec::new(alloc);

@@ -34,6 +34,8 @@ state_of budget frames phase p = record {
   frames = frames;
   search = p.search;
   found = p.found;
+  apart = p.apart;
+  more = p.more;
   phase = seen_phase phase p;
 }
 

@@ -21,7 +21,16 @@ pub record MovesTo (next : machine.Phase) (old : RunState) (result : Phase) (new
   pub phase : seen_phase result new ≡ next
   pub search : new.search ≡ old.search
   pub found : new.found ≡ old.found
+  pub apart : new.apart ≡ old.apart
+  pub more : new.more ≡ old.more
   pub consistent : IsConsistent result new
+
+-- The machine makes this step, whatever phase it was in. No range is open.
+pub record Moves (step : machine.AgentState → machine.AgentState) (old : RunState) (result : Phase) (new : RunState)
+    : Type 0 where
+  pub state : (phase : Phase) → Steps step phase old result new
+  pub consistent : IsConsistent result new
+  pub fresh : new.below ≡ []
 
 -- The machine is in this phase if no range is open, whatever known UIDs are left.
 pub record Follows (next : machine.Phase) (result : Phase) : Type 0 where

@@ -35,6 +35,9 @@ pub record IsSmall (b : Belief) : Type 0 where
   pub begun : b.begun ≤ 4
   pub back : b.back ≤ 2 ^ 46
   pub level : b.level ≤ 31
+  pub gap : b.gap ≤ 2 ^ 48
+  pub top : b.top < 2 ^ 48
+  pub turn : b.turn ≤ 16
   pub times : b.times ≤ 2 ^ 20
   pub due : b.due ≤ 2 ^ 21
 
@@ -47,13 +50,13 @@ IsSound (Searching silences bads spent top below) =
 IsSound (MutingRead u tries spare bads top below) =
     IsDevice u × (tries < TRIES) × (bads ≤ 8) × IsStack top below
 IsSound (Sweeping sweep) =
-    (sweep.made < 2 ^ 20) × (sweep.silences < TRIES) × (sweep.bads < 4) × IsSmall sweep.belief
+    (sweep.made < 2 ^ 20) × (sweep.silences < TRIES) × (sweep.bads < 8) × IsSmall sweep.belief
 IsSound (MutingSwept u tries spare sweep) = IsDevice u × (tries < TRIES) × (spare ≤ 8)
-    × (sweep.made + spare ≤ 2 ^ 20 + 8 + tries) × (sweep.silences < TRIES) × (sweep.bads < 4) × IsSmall sweep.belief
+    × (sweep.made + spare ≤ 2 ^ 20 + 8 + tries) × (sweep.silences < TRIES) × (sweep.bads < 8) × IsSmall sweep.belief
 IsSound (Checking u silences sweep) = IsDevice u × (silences < 2) × (sweep.made ≤ 2 ^ 20 + silences)
-    × (sweep.silences < TRIES) × (sweep.bads < 4) × IsSmall sweep.belief
+    × (sweep.silences < TRIES) × (sweep.bads < 8) × IsSmall sweep.belief
 IsSound (MutingStray u tries spare sweep) = IsDevice u × (tries < TRIES) × (spare ≤ 8)
-    × (sweep.made + spare ≤ 2 ^ 20 + 10 + tries) × (sweep.silences < TRIES) × (sweep.bads < 4) × IsSmall sweep.belief
+    × (sweep.made + spare ≤ 2 ^ 20 + 10 + tries) × (sweep.silences < TRIES) × (sweep.bads < 8) × IsSmall sweep.belief
 IsSound (Ended fault) = Unit {0}
 
 -- before the steady search there is no other range

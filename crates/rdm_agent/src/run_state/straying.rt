@@ -89,7 +89,7 @@ impl RunState {
 fn check_spelt(uid: Uid, other: Uid, sweep: Sweep, found: usize) -> Phase
     requires found { found ≤ 1025 }
     requires device { is_broadcast uid ≡ false }
-    requires counted { (sweep.silences < TRIES) × (sweep.bads < 4) × (sweep.made ≤ 2 ^ 20 + 2) }
+    requires counted { (sweep.silences < TRIES) × (sweep.bads < 8) × (sweep.made ≤ 2 ^ 20 + 2) }
     requires small { IsSmall sweep.belief }
     ensures { Follows (check_spelt uid other sweep found) result }
 {
@@ -109,7 +109,7 @@ fn check_silent(uid: Uid, silences: u8, sweep: Sweep, found: usize) -> Phase
     requires found { found ≤ 1025 }
     requires silences { silences < 2 }
     requires device { is_broadcast uid ≡ false }
-    requires counted { (sweep.silences < TRIES) × (sweep.bads < 4) × (sweep.made ≤ 2 ^ 20 + (silences + 1)) }
+    requires counted { (sweep.silences < TRIES) × (sweep.bads < 8) × (sweep.made ≤ 2 ^ 20 + (silences + 1)) }
     requires small { IsSmall sweep.belief }
     ensures { Follows (check_silent uid silences sweep found) result }
 {

@@ -4,11 +4,12 @@ use Rattle.rdm_log.proofs.Common.{refl, sym, ◌∙◌, arith, length-append, no
 use Rattle.rdm_log.proofs.Common.{EachAfter, Kind, AgentFault, ClientId, Opening, Entry, Ask, Answer, AskedDiscovery}
 use Rattle.rdm_log.proofs.Common.{Answered, asked_of, answered_of, joins, asks, answers, next_client, unanswered}
 use Rattle.rdm_log.proofs.Common.{MayAnswer, MayFollow}
-use Rattle.rdm_log.proofs.LogLemmas.PushLemmas.{joins-append, asks_same, asks_more, answered_same, answered_more}
+use Rattle.rdm_log.proofs.LogLemmas.PushLemmas.{joins-append, asks-push, answers-push}
 use Rattle.rdm_log.specs.declared.work.Work.TheVariants as works
 use Rattle.rdm_log.proofs.LogLemmas.RefusalLemmas.{work_passes}
 use Rattle.rdm_log.proofs.LogLemmas.LegalFacts.{along}
 use Rattle.rdm_log.proofs.LogLemmas.Indices.{slice_get-drop, each_index_push}
+use Rattle.rdm_log.proofs.LogLemmas.LegalFacts.{more_clients}
 
 pub record AskFacts (o : Opening) (h : List Entry) : Type 0 where
   -- no more Answers than Asks
@@ -41,32 +42,22 @@ facts_of_empty o = record {
   askers = λ i a at. absurd (none-some a at);
 }
 
-more_clients : (o : Opening) (h : List Entry) (e : Entry) → next_client o h ≤ next_client o (h ++ e ∷ [])
-more_clients o h e =
-    rw joins-append
-    (omega (
-      arith,
-      length-append o.places.items (joins h),
-      length-append o.places.items (joins h ++ joins (e ∷ [])),
-      length-append (joins h) (joins (e ∷ [])),
-    ))
-
 -- each entry keeps the facts: others, an Ask, an Answer
 facts_other : (o : Opening) (h : List Entry) (e : Entry) → asked_of e ≡ None → answered_of e ≡ None → AskFacts o h
     → AskFacts o (h ++ e ∷ [])
 facts_other o h e ask answer facts = record {
-  answered_within = rw (asks_same h e ask, answered_same h e answer) facts.answered_within;
-  ask_numbers = rw (asks_same h e ask) facts.ask_numbers;
-  answer_numbers = rw (answered_same h e answer) facts.answer_numbers;
-  askers = rw (asks_same h e ask) (λ i a at. omega (arith, facts.askers i a at, more_clients o h e));
+  answered_within = rw (asks-push h e, ask, answers-push h e, answer) facts.answered_within;
+  ask_numbers = rw (asks-push h e, ask) facts.ask_numbers;
+  answer_numbers = rw (answers-push h e, answer) facts.answer_numbers;
+  askers = rw (asks-push h e, ask) (λ i a at. omega (arith, facts.askers i a at, more_clients o h e));
 }
 
 facts_ask : (o : Opening) (h : List Entry) (c : ClientId) (n : ℕ) (kind : Kind) → AskFacts o h
     → MayFollow o h (Ask c n kind) → AskFacts o (h ++ Ask c n kind ∷ [])
 facts_ask o h c n kind facts may = record {
-  answered_within = rw (more, answered_same h e refl) (omega (arith, facts.answered_within, length_push (asks h) a));
+  answered_within = rw (more, answers-push h e) (omega (arith, facts.answered_within, length_push (asks h) a));
   ask_numbers = rw more (each_index_push (λ i b. b.number ≡ o.next_ask + i) (asks h) a facts.ask_numbers may.2);
-  answer_numbers = rw (answered_same h e refl) facts.answer_numbers;
+  answer_numbers = rw (answers-push h e) facts.answer_numbers;
   askers = rw more
       (each_index_push (λ i b. b.client < next_client o (h ++ e ∷ [])) (asks h) a
       (λ i b at. omega (arith, facts.askers i b at, more_clients o h e))
@@ -80,19 +71,19 @@ facts_ask o h c n kind facts may = record {
     a = record { client = c.0; number = n; kind = kind }
 
     more : asks (h ++ e ∷ []) ≡ asks h ++ a ∷ []
-    more = asks_more h e a refl
+    more = asks-push h e
 
 facts_answer : (o : Opening) (h : List Entry) (n r : ℕ) (fault : Option AgentFault) → AskFacts o h
     → MayAnswer o h n r fault → AskFacts o (h ++ Answer n r fault ∷ [])
 facts_answer o h n r fault facts may = record {
   answered_within =
-      rw (asks_same h e refl, more)
+      rw (asks-push h e, more)
       (omega (arith, length_push (answers h) b, unanswered_within h 0 may.asked may.oldest));
-  ask_numbers = rw (asks_same h e refl) facts.ask_numbers;
+  ask_numbers = rw (asks-push h e) facts.ask_numbers;
   answer_numbers =
       rw more (each_index_push (λ i x. x.number ≡ o.next_ask + i) (answers h) b facts.answer_numbers
       (omega (arith, may.number, unanswered_number o h facts 0 may.asked may.oldest)));
-  askers = rw (asks_same h e refl) (λ i a at. omega (arith, facts.askers i a at, more_clients o h e));
+  askers = rw (asks-push h e) (λ i a at. omega (arith, facts.askers i a at, more_clients o h e));
 }
   where
     e : Entry
@@ -102,7 +93,7 @@ facts_answer o h n r fault facts may = record {
     b = record { number = n; run = r; fault = fault }
 
     more : answers (h ++ e ∷ []) ≡ answers h ++ b ∷ []
-    more = answered_more h e b refl
+    more = answers-push h e
 
 facts_step : (o : Opening) (h : List Entry) (e : Entry) → EachAfter (MayFollow o) h → AskFacts o h → MayFollow o h e
     → AskFacts o (h ++ e ∷ [])

@@ -11,7 +11,7 @@ use Rattle.std.proofs.lemmas.Map.Keys.{any_passes_from_place}
 use Rattle.rdm_log.specs.declared.entry.Owner.TheVariants as owners
 use Rattle.rdm_log.proofs.LogLemmas.Indices.{all_from_indices, slice_get-drop, slice_get-append_left, index_within}
 use Rattle.rdm_log.proofs.LogLemmas.Indices.{within_some}
-use Rattle.rdm_log.proofs.LogLemmas.PushLemmas.{asks-append, sends_same}
+use Rattle.rdm_log.proofs.LogLemmas.PushLemmas.{asks-append, sends-push}
 use Rattle.rdm_log.proofs.LogLemmas.LegalFacts.{along}
 use Rattle.rdm_log.proofs.LogLemmas.AskFacts.{AskFacts}
 use Rattle.rdm_log.proofs.LogLemmas.RunFacts.{RunFacts, run_facts, open_is}
@@ -19,7 +19,7 @@ use Rattle.rdm_log.proofs.LogLemmas.RunLemmas.{sent_begins, last_run_same, last_
 use Rattle.rdm_log.proofs.LogLemmas.RunLemmas.{has_begun_more, entries_before_run_stays, not_sent, before_first-cons}
 
 -- the entries before a run that begins
-before_new : {X : Type 0} (p : X → Bool) (xs : List X) (y : X) → list_any p xs ≡ false → p y ≡ true
+pub before_new : {X : Type 0} (p : X → Bool) (xs : List X) (y : X) → list_any p xs ≡ false → p y ≡ true
     → before_first p (xs ++ y ∷ []) ≡ xs
 before_new p [] y none own = before_first-cons p y [] ∙ rw own refl
 before_new p (x ∷ xs) y none own =
@@ -116,7 +116,7 @@ carried h e same begins before r last q begun = by_old (begins q begun)
 
 other_step : (h : List Entry) (e : Entry) → sending_of e ≡ None → InOrder h → InOrder (h ++ e ∷ [])
 other_step h e send before =
-    carried h e (last_run_same h (h ++ e ∷ []) (sends_same h e send))
+    carried h e (last_run_same h (h ++ e ∷ []) (rw send at (sends-push h e)))
     (λ q begun. inl (sym (begun_same q h e (not_sent q e send)) ∙ begun)) before
 
 request_step : (h : List Entry) (n : ℕ) (frame : ArrayVec ℕ) → InOrder h

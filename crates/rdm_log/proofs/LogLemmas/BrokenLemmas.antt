@@ -7,7 +7,7 @@ use Rattle.rdm_log.specs.log.Entries.{finished_of}
 use Rattle.rdm_log.specs.log.Broken.{Incomplete, after_entry, incomplete, flags_more}
 unfoldable use Rattle.rdm_log.specs.log.Broken.{after_entries}
 use Rattle.rdm_log.proofs.LogLemmas.LegalFacts.{along, legal_facts, unfinished_number}
-use Rattle.rdm_log.proofs.LogLemmas.PushLemmas.{finishes_more, finishes_same}
+use Rattle.rdm_log.proofs.LogLemmas.PushLemmas.{finishes-push}
 
 -- the entries of one list after those of another
 pub after_entries-append : (front xs ys : List Entry) (i : Incomplete)
@@ -74,12 +74,12 @@ flagged_below o h each = along o Q tt step h each
     step k e all below may = by_kind (which e)
       where
         by_kind : IsFinishOf e ⊎ (finished_of e ≡ None) → Q (k ++ e ∷ [])
-        by_kind (inr other) = rw (incomplete_same o k e other, finishes_same k e other) below
+        by_kind (inr other) = rw (incomplete_same o k e other, finishes-push k e, other) below
         by_kind (inl f) =
             rw (
               f.is,
               incomplete_push o k (Finish f.number f.status f.len),
-              finishes_more k (Finish f.number f.status f.len) _ refl,
+              finishes-push k (Finish f.number f.status f.len),
               length-append (finishes k) _,
             )
             (below_push f.number (o.next_request + (length (finishes k) + 1)) (incomplete o k).flagged _

@@ -12,9 +12,9 @@ use Rattle.rdm_log.proofs.Common.{collected, uncollected, outstanding_requests, 
 use Rattle.rdm_log.proofs.Common.{MayAnswer, MayFollow}
 use Rattle.rdm_log.proofs.LogLemmas.Indices.{slice_get_first, drop_some_within}
 use Rattle.rdm_log.proofs.LogLemmas.Counts.{count, count-map, length_filter_push, length_filter_cons, no_longer}
-use Rattle.rdm_log.proofs.LogLemmas.PushLemmas.{accepts_same, accepts_more, asks_same, asks_more, finishes_same}
-use Rattle.rdm_log.proofs.LogLemmas.PushLemmas.{finishes_more, finishes-append, answered_same, answered_more}
-use Rattle.rdm_log.proofs.LogLemmas.PushLemmas.{answered-append, collectors_same, collectors_more, unfinished_accept}
+use Rattle.rdm_log.proofs.LogLemmas.PushLemmas.{accepts-push, asks-push, finishes-push}
+use Rattle.rdm_log.proofs.LogLemmas.PushLemmas.{finishes-append, answers-push}
+use Rattle.rdm_log.proofs.LogLemmas.PushLemmas.{answered-append, collectors-push, unfinished_accept}
 use Rattle.rdm_log.proofs.LogLemmas.PushLemmas.{unfinished_finish, unanswered_ask, unanswered_answer}
 use Rattle.rdm_log.proofs.LogLemmas.LegalFacts.{LogFacts, along, legal_facts, unfinished_index}
 use Rattle.rdm_log.proofs.LogLemmas.AskFacts.{AskFacts, ask_facts, unanswered_index}
@@ -49,15 +49,20 @@ facts_other : (o : Opening) (h : List Entry) (e : Entry) → brings_work e ≡ f
 facts_other o h e brings ends collect facts = record {
   finished = λ c. rw (
     answers_same o c h e brings ends,
-    accepts_same h e (no_accept e brings),
-    finishes_same h e (no_finish e ends),
+    accepts-push h e,
+    no_accept e brings,
+    finishes-push h e,
+    no_finish e ends,
   ) (facts.finished c);
   answered = λ c. rw (
     answers_same o c h e brings ends,
-    asks_same h e (no_ask e brings),
-    answered_same h e (no_reply e ends),
+    asks-push h e,
+    no_ask e brings,
+    answers-push h e,
+    no_reply e ends,
   ) (facts.answered c);
-  collected_within = λ c. rw (answers_same o c h e brings ends, collectors_same h e collect) (facts.collected_within c);
+  collected_within =
+      λ c. rw (answers_same o c h e brings ends, collectors-push h e, collect) (facts.collected_within c);
 }
 
 facts_accept : (o : Opening) (h : List Entry) (d : ClientId) (n : ℕ) (request : Request) → LogFacts o h → AskFacts o h
@@ -66,7 +71,7 @@ facts_accept o h d n request log asked facts = record {
   finished = λ c. rw (
     answers_accept o c h log asked d n request,
     unfinished_accept h d n request log.finished_within,
-    accepts_more h e a refl,
+    accepts-push h e,
   )
       (omega (
         arith,
@@ -74,10 +79,10 @@ facts_accept o h d n request log asked facts = record {
         length_filter_push (λ b. c == b.client) (accepts h) a,
         facts.finished c,
       ));
-  answered = λ c. rw (answers_accept o c h log asked d n request, asks_same h e refl, answered_same h e refl)
+  answered = λ c. rw (answers_accept o c h log asked d n request, asks-push h e, answers-push h e)
       (facts.answered c);
   collected_within =
-      λ c. rw (answers_accept o c h log asked d n request, collectors_same h e refl) (facts.collected_within c);
+      λ c. rw (answers_accept o c h log asked d n request, collectors-push h e) (facts.collected_within c);
 }
   where
     e : Entry
@@ -89,12 +94,12 @@ facts_accept o h d n request log asked facts = record {
 facts_ask : (o : Opening) (h : List Entry) (d : ClientId) (n : ℕ) (kind : Kind) → LogFacts o h → AskFacts o h
     → ClientFacts o h → ClientFacts o (h ++ Ask d n kind ∷ [])
 facts_ask o h d n kind log asked facts = record {
-  finished = λ c. rw (answers_ask o c h log asked d n kind, accepts_same h e refl, finishes_same h e refl)
+  finished = λ c. rw (answers_ask o c h log asked d n kind, accepts-push h e, finishes-push h e)
       (facts.finished c);
   answered = λ c. rw (
     answers_ask o c h log asked d n kind,
     unanswered_ask h e a refl refl asked.answered_within,
-    asks_more h e a refl,
+    asks-push h e,
   )
       (omega (
         arith,
@@ -103,7 +108,7 @@ facts_ask o h d n kind log asked facts = record {
         facts.answered c,
       ));
   collected_within =
-      λ c. rw (answers_ask o c h log asked d n kind, collectors_same h e refl) (facts.collected_within c);
+      λ c. rw (answers_ask o c h log asked d n kind, collectors-push h e) (facts.collected_within c);
 }
   where
     e : Entry
@@ -115,11 +120,11 @@ facts_ask o h d n kind log asked facts = record {
 facts_finish : (o : Opening) (h : List Entry) (n : ℕ) (status : Status) (len : ℕ) → LogFacts o h
     → MayFinish o h n status len → ClientFacts o h → ClientFacts o (h ++ Finish n status len ∷ [])
 facts_finish o h n status len log may facts = record {
-  finished = λ c. rw (unfinished_finish h n status len, accepts_same h e refl)
+  finished = λ c. rw (unfinished_finish h n status len, accepts-push h e)
       (finished_by c (cases_Bool (c == may.accepted.client)));
-  answered = λ c. rw (asks_same h e refl, answered_same h e refl)
+  answered = λ c. rw (asks-push h e, answers-push h e)
       (answered_by c (cases_Bool (c == may.accepted.client)));
-  collected_within = λ c. rw (collectors_same h e refl) (collected_by c (cases_Bool (c == may.accepted.client)));
+  collected_within = λ c. rw (collectors-push h e) (collected_by c (cases_Bool (c == may.accepted.client)));
 }
   where
     e : Entry
@@ -146,7 +151,7 @@ facts_finish o h n status len log may facts = record {
     finished_by c (inl own) =
         rw (
           answers_finish_own o c h n status len may.accepted.client client own,
-          finishes_more (answers_to o c h) e f refl,
+          finishes-push (answers_to o c h) e,
         )
         (let x = rw own at (first c) in
         omega (arith, x, length_push (finishes (answers_to o c h)) f, facts.finished c))
@@ -159,7 +164,7 @@ facts_finish o h n status len log may facts = record {
     answered_by c (inl own) =
         rw (
           answers_finish_own o c h n status len may.accepted.client client own,
-          answered_same (answers_to o c h) e refl,
+          answers-push (answers_to o c h) e,
         ) (facts.answered c)
     answered_by c (inr other) =
         rw (answers_finish_other o c h n status len may.accepted.client client other) (facts.answered c)
@@ -175,11 +180,11 @@ facts_finish o h n status len log may facts = record {
 facts_answer : (o : Opening) (h : List Entry) (n r : ℕ) (fault : Option AgentFault) → AskFacts o h
     → MayAnswer o h n r fault → ClientFacts o h → ClientFacts o (h ++ Answer n r fault ∷ [])
 facts_answer o h n r fault asked may facts = record {
-  finished = λ c. rw (accepts_same h e refl, finishes_same h e refl)
+  finished = λ c. rw (accepts-push h e, finishes-push h e)
       (finished_by c (cases_Bool (c == may.asked.client)));
-  answered = λ c. rw (unanswered_answer h e b refl refl, asks_same h e refl)
+  answered = λ c. rw (unanswered_answer h e b refl refl, asks-push h e)
       (answered_by c (cases_Bool (c == may.asked.client)));
-  collected_within = λ c. rw (collectors_same h e refl) (collected_by c (cases_Bool (c == may.asked.client)));
+  collected_within = λ c. rw (collectors-push h e) (collected_by c (cases_Bool (c == may.asked.client)));
 }
   where
     e : Entry
@@ -201,7 +206,7 @@ facts_answer o h n r fault asked may facts = record {
     finished_by : (c : ℕ) → ((c == may.asked.client) ≡ true) ⊎ ((c == may.asked.client) ≡ false)
         → length (finishes (answers_to o c (h ++ e ∷ []))) + length (unfinished_by c h) ≡ length (accepts_by c h)
     finished_by c (inl own) =
-        rw (answers_answer_own o c h n r fault may.asked.client client own, finishes_same (answers_to o c h) e refl)
+        rw (answers_answer_own o c h n r fault may.asked.client client own, finishes-push (answers_to o c h) e)
         (facts.finished c)
     finished_by c (inr other) =
         rw (answers_answer_other o c h n r fault may.asked.client client other) (facts.finished c)
@@ -210,7 +215,7 @@ facts_answer o h n r fault asked may facts = record {
         → length (answers (answers_to o c (h ++ e ∷ []))) + length (filter (λ a. c == a.client) (drop 1 (unanswered h)))
         ≡ length (asks_by c h)
     answered_by c (inl own) =
-        rw (answers_answer_own o c h n r fault may.asked.client client own, answered_more (answers_to o c h) e b refl)
+        rw (answers_answer_own o c h n r fault may.asked.client client own, answers-push (answers_to o c h) e)
         (let x = rw own at (first c) in
         omega (arith, x, length_push (answers (answers_to o c h)) b, facts.answered c))
     answered_by c (inr other) =
@@ -228,12 +233,12 @@ facts_answer o h n r fault asked may facts = record {
 facts_collect : (o : Opening) (h : List Entry) (d : ClientId) → uncollected o d.0 h ≢ [] → ClientFacts o h
     → ClientFacts o (h ++ Collect d ∷ [])
 facts_collect o h d some facts = record {
-  finished = λ c. rw (answers_same o c h e refl refl, accepts_same h e refl, finishes_same h e refl) (facts.finished c);
-  answered = λ c. rw (answers_same o c h e refl refl, asks_same h e refl, answered_same h e refl) (facts.answered c);
+  finished = λ c. rw (answers_same o c h e refl refl, accepts-push h e, finishes-push h e) (facts.finished c);
+  answered = λ c. rw (answers_same o c h e refl refl, asks-push h e, answers-push h e) (facts.answered c);
   collected_within =
       λ c. rw (
         answers_same o c h e refl refl,
-        collectors_more h e d.0 refl,
+        collectors-push h e,
         filter-append (λ x. c == x) (collectors h) (d.0 ∷ []),
       ) (by_client c (cases_Bool (c == d.0)));
 }

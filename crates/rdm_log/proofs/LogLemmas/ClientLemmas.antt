@@ -8,7 +8,7 @@ use Rattle.rdm_log.proofs.Common.{finishes, answers, unfinished, unanswered, cli
 use Rattle.rdm_log.proofs.Common.{is_client_of, is_answer_to, answers_to}
 use Rattle.std.proofs.lemmas.List.Elements.{filter_agree}
 use Rattle.rdm_log.proofs.LogLemmas.Indices.{slice_get_append_within, filter_map_has, filter_agree_on}
-use Rattle.rdm_log.proofs.LogLemmas.PushLemmas.{accepts-append, accepts_same, asks-append, asks_same}
+use Rattle.rdm_log.proofs.LogLemmas.PushLemmas.{accepts-append, accepts-push, asks-append, asks-push}
 use Rattle.rdm_log.proofs.LogLemmas.LegalFacts.{LogFacts, unfinished_index}
 use Rattle.rdm_log.proofs.LogLemmas.AskFacts.{AskFacts, unanswered_index}
 
@@ -92,7 +92,8 @@ answers-push : (o : Opening) (c : ℕ) (h : List Entry) (e : Entry) → brings_w
 unfolding answers_to
 answers-push o c h e none =
     filter_agree (is_answer_to o c (h ++ e ∷ [])) (is_answer_to o c h)
-    (answer_same o c h (h ++ e ∷ []) (accepts_same h e (no_accept e none)) (asks_same h e (no_ask e none)))
+    (answer_same o c h (h ++ e ∷ []) (rw (no_accept e none) at (accepts-push h e))
+    (rw (no_ask e none) at (asks-push h e)))
     (h ++ e ∷ [])
     ∙ filter-append (is_answer_to o c h) h (e ∷ [])
 

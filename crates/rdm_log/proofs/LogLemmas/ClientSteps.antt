@@ -6,7 +6,7 @@ use Rattle.rdm_log.proofs.Common.{answers_to, collects_by, collected, uncollecte
 use Rattle.rdm_log.proofs.Common.{outstanding_discoveries, MayFollow}
 use Rattle.std.proofs.lemmas.List.{take-append-le}
 use Rattle.rdm_log.proofs.LogLemmas.Grows.{front}
-use Rattle.rdm_log.proofs.LogLemmas.PushLemmas.{accepts_same, asks_same, collectors_same}
+use Rattle.rdm_log.proofs.LogLemmas.PushLemmas.{accepts-push, asks-push, collectors-push}
 use Rattle.rdm_log.proofs.LogLemmas.LegalFacts.{legal_facts}
 use Rattle.rdm_log.proofs.LogLemmas.AskFacts.{ask_facts}
 use Rattle.rdm_log.proofs.LogLemmas.ClientLemmas.{brings_work, ends_work, client_of_unfinished, client_of_unanswered}
@@ -17,7 +17,7 @@ use Rattle.rdm_log.proofs.LogLemmas.ClientFacts.{client_facts}
 -- after an entry that neither brings nor ends work nor collects it may collect the same
 pub uncollected_same : (o : Opening) (c : ℕ) (h : List Entry) (e : Entry) → brings_work e ≡ false → ends_work e ≡ false
     → collector_of e ≡ None → uncollected o c (h ++ e ∷ []) ≡ uncollected o c h
-uncollected_same o c h e brings ends collect = rw (answers_same o c h e brings ends, collectors_same h e collect) refl
+uncollected_same o c h e brings ends collect = rw (answers_same o c h e brings ends, collectors-push h e, collect) refl
 
 -- what it has collected is the same after each entry but its Collect
 taken_same : (m : ℕ) (xs ys more : List Entry) → m ≤ length xs → ys ≡ xs ++ more → take m ys ≡ take m xs
@@ -25,20 +25,20 @@ taken_same m xs ys more within is = rw is (take-append-le m xs more within)
 
 collected_same : (o : Opening) (c : ℕ) (h : List Entry) (e : Entry) → brings_work e ≡ false → ends_work e ≡ false
     → collector_of e ≡ None → collected o c (h ++ e ∷ []) ≡ collected o c h
-collected_same o c h e brings ends collect = rw (answers_same o c h e brings ends, collectors_same h e collect) refl
+collected_same o c h e brings ends collect = rw (answers_same o c h e brings ends, collectors-push h e, collect) refl
 
 pub collected_step : (o : Opening) (c : ℕ) (h : List Entry) (e : Entry) → EachAfter (MayFollow o) h → MayFollow o h e
     → collector_of e ≡ None → collected o c (h ++ e ∷ []) ≡ collected o c h
 collected_step o c h (Accept d n request) each may none =
     rw (
       answers_accept o c h (legal_facts o h each) (ask_facts o h each) d n request,
-      collectors_same h (Accept d n request) refl,
+      collectors-push h (Accept d n request),
     ) refl
 collected_step o c h (Ask d n kind) each may none =
-    rw (answers_ask o c h (legal_facts o h each) (ask_facts o h each) d n kind, collectors_same h (Ask d n kind) refl)
+    rw (answers_ask o c h (legal_facts o h each) (ask_facts o h each) d n kind, collectors-push h (Ask d n kind))
     refl
 collected_step o c h (Finish n status len) each may none =
-    rw (collectors_same h (Finish n status len) refl) (by_client (cases_Bool (c == may.accepted.client)))
+    rw (collectors-push h (Finish n status len)) (by_client (cases_Bool (c == may.accepted.client)))
   where
     e : Entry
     e = Finish n status len
@@ -54,7 +54,7 @@ collected_step o c h (Finish n status len) each may none =
         (answers_finish_own o c h n status len may.accepted.client client own)
     by_client (inr other) = rw (answers_finish_other o c h n status len may.accepted.client client other) refl
 collected_step o c h (Answer n r fault) each may none =
-    rw (collectors_same h (Answer n r fault) refl) (by_client (cases_Bool (c == may.asked.client)))
+    rw (collectors-push h (Answer n r fault)) (by_client (cases_Bool (c == may.asked.client)))
   where
     e : Entry
     e = Answer n r fault
@@ -76,10 +76,10 @@ collected_step o c h e each may none = collected_same o c h e refl refl none
 pub outstanding_same : (o : Opening) (c : ℕ) (h : List Entry) (e : Entry) → EachAfter (MayFollow o) (h ++ e ∷ [])
     → accepted_of e ≡ None → collector_of e ≡ None → outstanding_requests o c (h ++ e ∷ []) ≡ outstanding_requests o c h
 outstanding_same o c h e each accept collect =
-    rw (accepts_same h e accept, collected_step o c h e (front o h (e ∷ []) each) (each h [] e refl) collect) refl
+    rw (accepts-push h e, accept, collected_step o c h e (front o h (e ∷ []) each) (each h [] e refl) collect) refl
 
 pub outstanding_discoveries_same : (o : Opening) (c : ℕ) (h : List Entry) (e : Entry)
     → EachAfter (MayFollow o) (h ++ e ∷ []) → asked_of e ≡ None → collector_of e ≡ None
     → outstanding_discoveries o c (h ++ e ∷ []) ≡ outstanding_discoveries o c h
 outstanding_discoveries_same o c h e each ask collect =
-    rw (asks_same h e ask, collected_step o c h e (front o h (e ∷ []) each) (each h [] e refl) collect) refl
+    rw (asks-push h e, ask, collected_step o c h e (front o h (e ∷ []) each) (each h [] e refl) collect) refl

@@ -5,7 +5,7 @@ use Rattle.rdm_log.proofs.Common.{Entry, Send, Came, Sending, traded_of, is_requ
 use Rattle.rdm_log.proofs.Common.{of_request, verdicts, result}
 use Rattle.rdm_join.specs.Result.{result_of}
 use Rattle.rdm_log.proofs.LogLemmas.Indices.{zip_first_more, zip_both_more}
-use Rattle.rdm_log.proofs.LogLemmas.PushLemmas.{sends_same, sends_more, cames_same, cames_more}
+use Rattle.rdm_log.proofs.LogLemmas.PushLemmas.{sends-push, cames-push}
 
 -- nothing sent and nothing come: the same exchanges
 pub verdicts_same : (h k : List Entry) (n : ℕ) → sends k ≡ sends h → cames k ≡ cames h → verdicts n k ≡ verdicts n h
@@ -22,8 +22,8 @@ pub traded_sent : (h : List Entry) (owner : Owner) (frame : ArrayVec ℕ) → le
 unfolding traded
 traded_sent h owner frame even =
     rw (
-      sends_more h (Send owner frame) (record { owner = owner; frame = frame }) refl,
-      cames_same h (Send owner frame) refl,
+      sends-push h (Send owner frame),
+      cames-push h (Send owner frame),
     )
     (ap (λ l. map traded_of l) (zip_first_more (sends h) (cames h) (record { owner = owner; frame = frame }) even))
 
@@ -49,8 +49,8 @@ pub traded_came : (h : List Entry) (s : Sending) (event : LineEvent) → IsUnans
 unfolding traded
 traded_came h s event waits =
     rw (
-      sends_same h (Came event) refl,
-      cames_more h (Came event) event refl,
+      sends-push h (Came event),
+      cames-push h (Came event),
       waits.last,
       zip_both_more waits.earlier (cames h) s event waits.answered,
       zip_first_more waits.earlier (cames h) s waits.answered,

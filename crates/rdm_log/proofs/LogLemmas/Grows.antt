@@ -10,9 +10,9 @@ pushed o h e all last = EachAfter-push (MayFollow o) h e all last
 pub front : (o : Opening) (h more : List Entry) → EachAfter (MayFollow o) (h ++ more) → EachAfter (MayFollow o) h
 front o h more all = EachAfter-front (MayFollow o) h more all
 
-no_element : (front back : List Entry) (e : Entry) → [] ≡ front ++ e ∷ back → ⊥
-no_element [] back e w = cc
-no_element (f ∷ front) back e w = cc
+pub no_element : {X : Type 0} (front back : List X) (x : X) → [] ≡ front ++ x ∷ back → ⊥
+no_element [] back x w = cc
+no_element (y ∷ front) back x w = cc
 
 pub empty : (o : Opening) → Legal o []
 unfolding accepts asks sends finishes answers last_run

@@ -14,10 +14,10 @@ use Rattle.rdm_agent.specs.declared.search.Search.TheVariants.{Steady, Quick}
 use Rattle.rdm_log.specs.declared.entry.Owner.TheVariants as owners
 use Rattle.rdm_log.specs.log.Refusals.{IsRefused}
 use Rattle.rdm_log.specs.log.MaySend.{NoSend}
-use Rattle.rdm_log.proofs.LogLemmas.Grows.{pushed}
+use Rattle.rdm_log.proofs.LogLemmas.Grows.{pushed, no_element}
 use Rattle.rdm_log.proofs.LogLemmas.Indices.{all_at, all_from_indices, each_index_push}
-use Rattle.rdm_log.proofs.LogLemmas.PushLemmas.{unfinished_accept, SameRequests, same_after, accepts_same}
-use Rattle.rdm_log.proofs.LogLemmas.PushLemmas.{finishes_same, sends_same, cames_same, asks_same, answered_same}
+use Rattle.rdm_log.proofs.LogLemmas.PushLemmas.{unfinished_accept, SameRequests, same_after, accepts-push}
+use Rattle.rdm_log.proofs.LogLemmas.PushLemmas.{finishes-push, sends-push, cames-push, asks-push, answers-push}
 use Rattle.rdm_log.proofs.LogLemmas.PushLemmas.{is_closed-push}
 use Rattle.rdm_log.proofs.LogLemmas.ExchangeLemmas.{result_unsent, result_same, result_sent}
 use Rattle.rdm_log.proofs.LogLemmas.RunLemmas.{SameRuns, same_runs, same_runs_sent, last_begun}
@@ -54,13 +54,9 @@ goes_on_same o h k r serves before same goes = record {
 }
 
 -- a run without exchanges goes on
-no_part : {X : Type 0} (front back : List X) (x : X) → [] ≡ front ++ x ∷ back → ⊥
-no_part [] back x w = cc
-no_part (y ∷ front) back x w = cc
-
 not_at_first : (search : Search) (u : ℕ) → IsCorruptBy search u [] → ⊥
-not_at_first Steady u c = no_part c.before c.mutes _ c.whole
-not_at_first Quick u c = no_part c.0.before c.0.mutes _ c.0.whole
+not_at_first Steady u c = no_element c.before c.mutes _ c.whole
+not_at_first Quick u c = no_element c.0.before c.0.mutes _ c.0.whole
 
 goes_on_empty : (o : Opening) (h : List Entry) (r : ℕ) → run_exchanges r h ≡ [] → 0 < o.budget → GoesOn o h r
 goes_on_empty o h r none some = record {
@@ -132,32 +128,32 @@ pub join_keeps : (o : Opening) (h : List Entry) (c : ClientId) (n : ℕ) → Leg
 join_keeps o h c n legal passes next =
     let e = Join c n in
     other_keeps o h e legal (legal.settled, passes, next) (same_after h e refl refl refl refl refl)
-    (same_runs h e refl refl refl) (asks_same h e refl) (λ closed idle. sym (is_closed-push o h e) ∙ closed)
+    (same_runs h e refl refl refl) (asks-push h e) (λ closed idle. sym (is_closed-push o h e) ∙ closed)
 
 pub refuse_keeps : (o : Opening) (h : List Entry) (c : Option ClientId) (call : Call) (cause : Cause) → Legal o h
     → IsRefused o h c call cause.0 → Legal o (h ++ Refuse c call cause ∷ [])
 refuse_keeps o h c call cause legal refused =
     let e = Refuse c call cause in
     other_keeps o h e legal (legal.settled, refused) (same_after h e refl refl refl refl refl)
-    (same_runs h e refl refl refl) (asks_same h e refl) (λ closed idle. sym (is_closed-push o h e) ∙ closed)
+    (same_runs h e refl refl refl) (asks-push h e) (λ closed idle. sym (is_closed-push o h e) ∙ closed)
 
 pub collect_keeps : (o : Opening) (h : List Entry) (c : ClientId) → Legal o h → uncollected o c.0 h ≢ []
     → Legal o (h ++ Collect c ∷ [])
 collect_keeps o h c legal some =
     let e = Collect c in
     other_keeps o h e legal (legal.settled, some) (same_after h e refl refl refl refl refl)
-    (same_runs h e refl refl refl) (asks_same h e refl) (λ closed idle. sym (is_closed-push o h e) ∙ closed)
+    (same_runs h e refl refl refl) (asks-push h e) (λ closed idle. sym (is_closed-push o h e) ∙ closed)
 
 pub pause_keeps : (o : Opening) (h : List Entry) → Legal o h → can_pause o h ≡ true → Legal o (h ++ Pause ∷ [])
 pause_keeps o h legal can =
     other_keeps o h Pause legal (legal.settled, can) (same_after h Pause refl refl refl refl refl)
-    (same_runs h Pause refl refl refl) (asks_same h Pause refl)
+    (same_runs h Pause refl refl refl) (asks-push h Pause)
     (λ closed idle. sym (is_closed-push o h Pause) ∙ closed)
 
 pub resume_keeps : (o : Opening) (h : List Entry) → Legal o h → can_resume o h ≡ true → Legal o (h ++ Resume ∷ [])
 resume_keeps o h legal can =
     other_keeps o h Resume legal (legal.settled, can) (same_after h Resume refl refl refl refl refl)
-    (same_runs h Resume refl refl refl) (asks_same h Resume refl)
+    (same_runs h Resume refl refl refl) (asks-push h Resume)
     (λ closed idle. sym (is_closed-push o h Resume) ∙ closed)
 
 -- a request that isn't refused, under the next number
@@ -188,7 +184,7 @@ accept_keeps o h c n request legal passes next = record {
     later = unfinished_accept h c n request facts.finished_within
 
     same : (m : ℕ) → result m k ≡ result m h
-    same m = result_same h k m (sends_same h e refl) (cames_same h e refl)
+    same m = result_same h k m (sends-push h e) (cames-push h e)
 
 -- a discovery that isn't refused, under the next number
 pub ask_keeps : (o : Opening) (h : List Entry) (c : ClientId) (n : ℕ) (kind : Kind) → Legal o h
@@ -198,8 +194,8 @@ ask_keeps o h c n kind legal passes next = record {
   settled = settled_open o (h ++ e ∷ [])
       (is_closed-push o h e ∙ (work_passes o h c.0 (works.Discover kind) passes).not_closed)
       (runs_settled o h (h ++ e ∷ []) (same_runs h e refl refl refl) legal.settled)
-      (rw (accepts_same h e refl, finishes_same h e refl)
-      (λ i a at. result_same h (h ++ e ∷ []) a.number (sends_same h e refl) (cames_same h e refl)
+      (rw (accepts-push h e, finishes-push h e)
+      (λ i a at. result_same h (h ++ e ∷ []) a.number (sends-push h e) (cames-push h e)
       ∙ due_at o h legal.settled i a at));
 }
   where
@@ -213,7 +209,7 @@ send_keeps o h n frame legal may = record {
   each = pushed o h e legal.each (legal.settled, may);
   settled = settled_open o (h ++ e ∷ []) (is_closed-push o h e ∙ may.not_closed)
       (runs_settled o h (h ++ e ∷ []) (same_runs_sent h n frame even) legal.settled)
-      (rw (accepts_same h e refl, finishes_same h e refl)
+      (rw (accepts-push h e, finishes-push h e)
       (λ i a at. result_sent h (owners.Request n) frame a.number even ∙ due_at o h legal.settled i a at));
 }
   where
@@ -246,7 +242,7 @@ pub run_send_keeps : (o : Opening) (h : List Entry) (r : ℕ) (frame : ArrayVec 
 run_send_keeps o h r frame legal may = record {
   each = pushed o h e legal.each (legal.settled, may);
   settled = settled_open o k (is_closed-push o h e ∙ may.not_closed) runs
-      (rw (accepts_same h e refl, finishes_same h e refl)
+      (rw (accepts-push h e, finishes-push h e)
       (λ i a at. result_sent h (owners.Run r) frame a.number even ∙ due_at o h legal.settled i a at));
 }
   where
@@ -285,8 +281,8 @@ run_send_keeps o h r frame legal may = record {
     runs = record {
       runs_answered =
           all_from_indices (λ b. AllAnswered b.run k) (answers k)
-          (λ i b at. let before = sym (ap (λ l. slice_get l i) (answered_same h e refl)) ∙ at in
-          all_answered_same h k b.run (served_named o h r frame facts from i b before) (answered_same h e refl)
+          (λ i b at. let before = sym (ap (λ l. slice_get l i) (answers-push h e)) ∙ at in
+          all_answered_same h k b.run (served_named o h r frame facts from i b before) (answers-push h e)
           (all_at (λ x. AllAnswered x.run h) (answers h) legal.settled.runs_answered i b before));
       run_goes_on = rw (opened_by o h r frame facts may) (goes_on may.turn);
     }

@@ -8,12 +8,9 @@ use Rattle.rdm_log.specs.declared.broken.AnswerKey.{AnswerKey}
 use Rattle.rdm_log.specs.declared.broken.TheConstants.{MOST_BROKEN}
 use Rattle.rdm_log.specs.log.BrokenKeys.{BrokenKeys, same_key, lists, without, is_open, listed_open, listed_closed}
 use Rattle.rdm_log.specs.log.BrokenKeys.{with_open, with_closed}
+use Rattle.std.proofs.lemmas.Bool.{and_parts}
 
 -- the same key is equal
-pub and_parts : (a b : Bool) → (a && b) ≡ true → (a ≡ true) × (b ≡ true)
-and_parts true b all = (refl, all)
-and_parts false b all = absurd (false≢true all)
-
 pub same_from : (j k : AnswerKey) → same_key j k ≡ true → j ≡ k
 same_from j k same =
     let one = and_parts (j.target == k.target) ((j.sub_device == k.sub_device) && (j.pid == k.pid)) same in
@@ -118,7 +115,7 @@ opens_own k b = by_mode b.inverted
     by_mode true = ap not (own_struck k b.keys)
     by_mode false = by_room (nat_lt (length (without k b.keys)) MOST_BROKEN)
 
-from_not : (b : Bool) → not b ≡ true → b ≡ false
+pub from_not : (b : Bool) → not b ≡ true → b ≡ false
 from_not true is = absurd (false≢true is)
 from_not false is = refl
 

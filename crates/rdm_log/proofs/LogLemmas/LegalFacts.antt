@@ -10,9 +10,9 @@ use Rattle.rdm_log.proofs.Common.{IsClosing, FitsResult, MayFollow}
 use Rattle.std.proofs.lemmas.Bool.{false_from_ne_true}
 use Rattle.rdm_log.specs.declared.entry.Owner.TheVariants as owners
 use Rattle.rdm_log.proofs.LogLemmas.Grows.{front}
-use Rattle.rdm_log.proofs.LogLemmas.PushLemmas.{unfinished_accept, SameRequests, same_after, joins-append, accepts_more}
-use Rattle.rdm_log.proofs.LogLemmas.PushLemmas.{accepts_same, sends_more, sends_same, cames_more, cames_same}
-use Rattle.rdm_log.proofs.LogLemmas.PushLemmas.{finishes_more, finishes_same, awaited-push}
+use Rattle.rdm_log.proofs.LogLemmas.PushLemmas.{unfinished_accept, SameRequests, same_after, joins-append, accepts-push}
+use Rattle.rdm_log.proofs.LogLemmas.PushLemmas.{sends-push, cames-push}
+use Rattle.rdm_log.proofs.LogLemmas.PushLemmas.{finishes-push, awaited-push}
 use Rattle.rdm_log.proofs.LogLemmas.ExchangeLemmas.{IsUnanswered, result_same, result_sent, result_unsent}
 use Rattle.rdm_log.specs.declared.work.Work.TheVariants as works
 use Rattle.rdm_log.proofs.LogLemmas.RefusalLemmas.{work_passes}
@@ -116,7 +116,7 @@ facts_of_empty o = record {
 }
 
 -- no entry removes a client
-more_clients : (o : Opening) (h : List Entry) (e : Entry) → next_client o h ≤ next_client o (h ++ e ∷ [])
+pub more_clients : (o : Opening) (h : List Entry) (e : Entry) → next_client o h ≤ next_client o (h ++ e ∷ [])
 more_clients o h e =
     rw joins-append
     (omega (
@@ -179,15 +179,15 @@ facts_same o h k same more facts = record {
 facts_accept : (o : Opening) (h : List Entry) (c : ClientId) (n : ℕ) (request : Request) → LogFacts o h
     → MayFollow o h (Accept c n request) → LogFacts o (h ++ Accept c n request ∷ [])
 facts_accept o h c n request facts may = record {
-  finished_within = rw (more, finishes_same h e refl) (omega (arith, facts.finished_within, length_push (accepts h) a));
-  exchanges = rw (sends_same h e refl, cames_same h e refl, awaited-push h e) facts.exchanges;
+  finished_within = rw (more, finishes-push h e) (omega (arith, facts.finished_within, length_push (accepts h) a));
+  exchanges = rw (sends-push h e, cames-push h e, awaited-push h e) facts.exchanges;
   accept_numbers =
       rw more (each_index_push (λ i b. b.number ≡ o.next_request + i) (accepts h) a facts.accept_numbers may.2);
-  finish_numbers = rw (finishes_same h e refl) facts.finish_numbers;
+  finish_numbers = rw (finishes-push h e) facts.finish_numbers;
   sent_accepted =
-      rw (sends_same h e refl, more)
+      rw (sends-push h e, more)
       (λ i s at m own. omega (arith, facts.sent_accepted i s at m own, length_push (accepts h) a));
-  sent_oldest = rw (sends_same h e refl, finishes_same h e refl) facts.sent_oldest;
+  sent_oldest = rw (sends-push h e, finishes-push h e) facts.sent_oldest;
   waits = λ waits. awaited_accept (facts.waits (sym (awaited-push h e) ∙ waits));
   clients = rw more
       (each_index_push (λ i b. b.client < next_client o k) (accepts h) a
@@ -205,13 +205,13 @@ facts_accept o h c n request facts may = record {
     a = record { client = c.0; number = n; request = request }
 
     more : accepts k ≡ accepts h ++ a ∷ []
-    more = accepts_more h e a refl
+    more = accepts-push h e
 
     later : unfinished k ≡ unfinished h ++ a ∷ []
     later = unfinished_accept h c n request facts.finished_within
 
     same : (m : ℕ) → result m k ≡ result m h
-    same m = result_same h k m (sends_same h e refl) (cames_same h e refl)
+    same m = result_same h k m (sends-push h e) (cames-push h e)
 
     unsent : result n k ≡ None
     unsent = same n ∙ result_unsent h n (unaccepted_unsent o h facts n (omega (arith, may.2)))
@@ -221,13 +221,13 @@ facts_accept o h c n request facts may = record {
       accepted = w.accepted;
       oldest = rw later (slice_get-append_left (unfinished h) (a ∷ []) 0 w.accepted w.oldest);
       frame = w.frame;
-      unanswered = unanswered_same h k _ (sends_same h e refl) (cames_same h e refl) w.unanswered;
+      unanswered = unanswered_same h k _ (sends-push h e) (cames-push h e) w.unanswered;
       undecided = same w.accepted.number ∙ w.undecided;
     })
     awaited_accept (inr w) = inr (record {
       run = w.run;
       frame = w.frame;
-      unanswered = unanswered_same h k _ (sends_same h e refl) (cames_same h e refl) w.unanswered;
+      unanswered = unanswered_same h k _ (sends-push h e) (cames-push h e) w.unanswered;
       undecided = rw later (λ b at. by_index b (slice_get-push (unfinished h) a 0 b at));
     })
       where
@@ -239,12 +239,12 @@ facts_accept o h c n request facts may = record {
 facts_send : (o : Opening) (h : List Entry) (n : ℕ) (frame : ArrayVec ℕ) → LogFacts o h → NothingDue o h
     → MaySendRequest o h n frame → LogFacts o (h ++ Send (owners.Request n) frame ∷ [])
 facts_send o h n frame facts due may = record {
-  finished_within = rw (accepts_same h e refl, finishes_same h e refl) facts.finished_within;
-  exchanges = rw (more, cames_same h e refl, awaited-push h e) (omega (arith, length_push (sends h) s, even));
-  accept_numbers = rw (accepts_same h e refl) facts.accept_numbers;
-  finish_numbers = rw (finishes_same h e refl) facts.finish_numbers;
+  finished_within = rw (accepts-push h e, finishes-push h e) facts.finished_within;
+  exchanges = rw (more, cames-push h e, awaited-push h e) (omega (arith, length_push (sends h) s, even));
+  accept_numbers = rw (accepts-push h e) facts.accept_numbers;
+  finish_numbers = rw (finishes-push h e) facts.finish_numbers;
   sent_accepted =
-      rw (more, accepts_same h e refl)
+      rw (more, accepts-push h e)
       (each_index_push (λ i t. (m : ℕ) → is_request m t.owner ≡ true → m < next_request o h) (sends h) s
       facts.sent_accepted
       (λ m own. omega (
@@ -255,18 +255,18 @@ facts_send o h n frame facts due may = record {
         unfinished_within h 0 may.accepted may.lowest,
       )));
   sent_oldest =
-      rw (more, finishes_same h e refl)
+      rw (more, finishes-push h e)
       (each_index_push (λ i t. (m : ℕ) → is_request m t.owner ≡ true → m ≤ o.next_request + length (finishes h))
       (sends h) s facts.sent_oldest (λ m own. omega (arith, eqb-true m n own, may.number, number)));
   waits = λ waits. inl (record {
     accepted = may.accepted;
-    oldest = rw (accepts_same h e refl, finishes_same h e refl) may.lowest;
+    oldest = rw (accepts-push h e, finishes-push h e) may.lowest;
     frame = frame;
-    unanswered = record { earlier = sends h; last = rw (← may.number) more; answered = rw (cames_same h e refl) even };
+    unanswered = record { earlier = sends h; last = rw (← may.number) more; answered = rw (cames-push h e) even };
     undecided = result_sent h (owners.Request n) frame may.accepted.number even
         ∙ all_at (λ a. result a.number h ≡ None) (unfinished h) due.results_open 0 may.accepted may.lowest;
   });
-  clients = rw (accepts_same h e refl) (λ i a at. omega (arith, facts.clients i a at, more_clients o h e));
+  clients = rw (accepts-push h e) (λ i a at. omega (arith, facts.clients i a at, more_clients o h e));
 }
   where
     e : Entry
@@ -276,7 +276,7 @@ facts_send o h n frame facts due may = record {
     s = record { owner = owners.Request n; frame = frame }
 
     more : sends (h ++ e ∷ []) ≡ sends h ++ s ∷ []
-    more = sends_more h e s refl
+    more = sends-push h e
 
     even : length (sends h) ≡ length (cames h)
     even = sent_evenly o h facts may.not_awaited
@@ -287,27 +287,27 @@ facts_send o h n frame facts due may = record {
 facts_run_send : (o : Opening) (h : List Entry) (r : ℕ) (frame : ArrayVec ℕ) → LogFacts o h → NothingDue o h
     → MaySendRun o h r frame → LogFacts o (h ++ Send (owners.Run r) frame ∷ [])
 facts_run_send o h r frame facts due may = record {
-  finished_within = rw (accepts_same h e refl, finishes_same h e refl) facts.finished_within;
-  exchanges = rw (more, cames_same h e refl, awaited-push h e) (omega (arith, length_push (sends h) s, even));
-  accept_numbers = rw (accepts_same h e refl) facts.accept_numbers;
-  finish_numbers = rw (finishes_same h e refl) facts.finish_numbers;
+  finished_within = rw (accepts-push h e, finishes-push h e) facts.finished_within;
+  exchanges = rw (more, cames-push h e, awaited-push h e) (omega (arith, length_push (sends h) s, even));
+  accept_numbers = rw (accepts-push h e) facts.accept_numbers;
+  finish_numbers = rw (finishes-push h e) facts.finish_numbers;
   sent_accepted =
-      rw (more, accepts_same h e refl)
+      rw (more, accepts-push h e)
       (each_index_push (λ i t. (m : ℕ) → is_request m t.owner ≡ true → m < next_request o h) (sends h) s
       facts.sent_accepted (λ m own. absurd (false≢true own)));
   sent_oldest =
-      rw (more, finishes_same h e refl)
+      rw (more, finishes-push h e)
       (each_index_push (λ i t. (m : ℕ) → is_request m t.owner ≡ true → m ≤ o.next_request + length (finishes h))
       (sends h) s facts.sent_oldest (λ m own. absurd (false≢true own)));
   waits = λ waits. inr (record {
     run = r;
     frame = frame;
-    unanswered = record { earlier = sends h; last = more; answered = rw (cames_same h e refl) even };
-    undecided = rw (accepts_same h e refl, finishes_same h e refl)
+    unanswered = record { earlier = sends h; last = more; answered = rw (cames-push h e) even };
+    undecided = rw (accepts-push h e, finishes-push h e)
         (λ a at. result_sent h (owners.Run r) frame a.number even
         ∙ all_at (λ b. result b.number h ≡ None) (unfinished h) due.results_open 0 a at);
   });
-  clients = rw (accepts_same h e refl) (λ i a at. omega (arith, facts.clients i a at, more_clients o h e));
+  clients = rw (accepts-push h e) (λ i a at. omega (arith, facts.clients i a at, more_clients o h e));
 }
   where
     e : Entry
@@ -317,7 +317,7 @@ facts_run_send o h r frame facts due may = record {
     s = record { owner = owners.Run r; frame = frame }
 
     more : sends (h ++ e ∷ []) ≡ sends h ++ s ∷ []
-    more = sends_more h e s refl
+    more = sends-push h e
 
     even : length (sends h) ≡ length (cames h)
     even = sent_evenly o h facts may.not_awaited
@@ -325,15 +325,15 @@ facts_run_send o h r frame facts due may = record {
 facts_came : (o : Opening) (h : List Entry) (event : LineEvent) → LogFacts o h → awaited h ≡ true
     → LogFacts o (h ++ Came event ∷ [])
 facts_came o h event facts waits = record {
-  finished_within = rw (accepts_same h e refl, finishes_same h e refl) facts.finished_within;
-  exchanges = rw (sends_same h e refl, cames_more h e event refl, awaited-push h e)
+  finished_within = rw (accepts-push h e, finishes-push h e) facts.finished_within;
+  exchanges = rw (sends-push h e, cames-push h e, awaited-push h e)
       (let x = rw waits at facts.exchanges in omega (arith, length_push (cames h) event));
-  accept_numbers = rw (accepts_same h e refl) facts.accept_numbers;
-  finish_numbers = rw (finishes_same h e refl) facts.finish_numbers;
-  sent_accepted = rw (sends_same h e refl, accepts_same h e refl) facts.sent_accepted;
-  sent_oldest = rw (sends_same h e refl, finishes_same h e refl) facts.sent_oldest;
+  accept_numbers = rw (accepts-push h e) facts.accept_numbers;
+  finish_numbers = rw (finishes-push h e) facts.finish_numbers;
+  sent_accepted = rw (sends-push h e, accepts-push h e) facts.sent_accepted;
+  sent_oldest = rw (sends-push h e, finishes-push h e) facts.sent_oldest;
   waits = λ still. absurd (false≢true (sym (awaited-push h e) ∙ still));
-  clients = rw (accepts_same h e refl) (λ i a at. omega (arith, facts.clients i a at, more_clients o h e));
+  clients = rw (accepts-push h e) (λ i a at. omega (arith, facts.clients i a at, more_clients o h e));
 }
   where
     e : Entry
@@ -343,19 +343,19 @@ facts_finish : (o : Opening) (h : List Entry) (n : ℕ) (status : Status) (len :
     → MayFinish o h n status len → LogFacts o (h ++ Finish n status len ∷ [])
 facts_finish o h n status len facts may = record {
   finished_within =
-      rw (accepts_same h e refl, more)
+      rw (accepts-push h e, more)
       (omega (arith, length_push (finishes h) f, unfinished_within h 0 may.accepted may.oldest));
-  exchanges = rw (sends_same h e refl, cames_same h e refl, awaited-push h e) facts.exchanges;
-  accept_numbers = rw (accepts_same h e refl) facts.accept_numbers;
+  exchanges = rw (sends-push h e, cames-push h e, awaited-push h e) facts.exchanges;
+  accept_numbers = rw (accepts-push h e) facts.accept_numbers;
   finish_numbers =
       rw more (each_index_push (λ i g. g.number ≡ o.next_request + i) (finishes h) f facts.finish_numbers
       (omega (arith, may.number, unfinished_number o h facts 0 may.accepted may.oldest)));
-  sent_accepted = rw (sends_same h e refl, accepts_same h e refl) facts.sent_accepted;
+  sent_accepted = rw (sends-push h e, accepts-push h e) facts.sent_accepted;
   sent_oldest =
-      rw (sends_same h e refl, more)
+      rw (sends-push h e, more)
       (λ i s at m own. omega (arith, facts.sent_oldest i s at m own, length_push (finishes h) f));
   waits = λ waits. absurd (no_finish_awaited o h n status len facts may (sym (awaited-push h e) ∙ waits));
-  clients = rw (accepts_same h e refl) (λ i a at. omega (arith, facts.clients i a at, more_clients o h e));
+  clients = rw (accepts-push h e) (λ i a at. omega (arith, facts.clients i a at, more_clients o h e));
 }
   where
     e : Entry
@@ -365,7 +365,7 @@ facts_finish o h n status len facts may = record {
     f = record { number = n; status = status; len = len }
 
     more : finishes (h ++ e ∷ []) ≡ finishes h ++ f ∷ []
-    more = finishes_more h e f refl
+    more = finishes-push h e
 
 facts_step : (o : Opening) (h : List Entry) (e : Entry) → EachAfter (MayFollow o) h → LogFacts o h → MayFollow o h e
     → LogFacts o (h ++ e ∷ [])

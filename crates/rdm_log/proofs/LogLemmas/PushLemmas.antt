@@ -36,78 +36,6 @@ pub finishes-append : (h k : List Entry) → finishes (h ++ k) ≡ finishes h ++
 unfolding finishes
 finishes-append h k = filter_map-append finished_of h k
 
--- with one more entry: the same if it is of another kind, or else one more
-pub joins_same : (h : List Entry) (e : Entry) → join_of e ≡ None → joins (h ++ e ∷ []) ≡ joins h
-unfolding joins
-joins_same h e other = filter_map_none join_of h e other
-
-pub joins_more : (h : List Entry) (e : Entry) (n : ℕ) → join_of e ≡ Some n → joins (h ++ e ∷ []) ≡ joins h ++ n ∷ []
-unfolding joins
-joins_more h e n is = filter_map_some join_of h e n is
-
-pub accepts_same : (h : List Entry) (e : Entry) → accepted_of e ≡ None → accepts (h ++ e ∷ []) ≡ accepts h
-unfolding accepts
-accepts_same h e other = filter_map_none accepted_of h e other
-
-pub accepts_more : (h : List Entry) (e : Entry) (a : Accepted) → accepted_of e ≡ Some a
-    → accepts (h ++ e ∷ []) ≡ accepts h ++ a ∷ []
-unfolding accepts
-accepts_more h e a is = filter_map_some accepted_of h e a is
-
-pub asks_same : (h : List Entry) (e : Entry) → asked_of e ≡ None → asks (h ++ e ∷ []) ≡ asks h
-unfolding asks
-asks_same h e other = filter_map_none asked_of h e other
-
-pub asks_more : (h : List Entry) (e : Entry) (a : AskedDiscovery) → asked_of e ≡ Some a
-    → asks (h ++ e ∷ []) ≡ asks h ++ a ∷ []
-unfolding asks
-asks_more h e a is = filter_map_some asked_of h e a is
-
-pub answered_same : (h : List Entry) (e : Entry) → answered_of e ≡ None → answers (h ++ e ∷ []) ≡ answers h
-unfolding answers
-answered_same h e other = filter_map_none answered_of h e other
-
-pub answered_more : (h : List Entry) (e : Entry) (b : Answered) → answered_of e ≡ Some b
-    → answers (h ++ e ∷ []) ≡ answers h ++ b ∷ []
-unfolding answers
-answered_more h e b is = filter_map_some answered_of h e b is
-
-pub sends_same : (h : List Entry) (e : Entry) → sending_of e ≡ None → sends (h ++ e ∷ []) ≡ sends h
-unfolding sends
-sends_same h e other = filter_map_none sending_of h e other
-
-pub sends_more : (h : List Entry) (e : Entry) (s : Sending) → sending_of e ≡ Some s
-    → sends (h ++ e ∷ []) ≡ sends h ++ s ∷ []
-unfolding sends
-sends_more h e s is = filter_map_some sending_of h e s is
-
-pub cames_same : (h : List Entry) (e : Entry) → came_of e ≡ None → cames (h ++ e ∷ []) ≡ cames h
-unfolding cames
-cames_same h e other = filter_map_none came_of h e other
-
-pub cames_more : (h : List Entry) (e : Entry) (event : LineEvent) → came_of e ≡ Some event
-    → cames (h ++ e ∷ []) ≡ cames h ++ event ∷ []
-unfolding cames
-cames_more h e event is = filter_map_some came_of h e event is
-
-pub finishes_same : (h : List Entry) (e : Entry) → finished_of e ≡ None → finishes (h ++ e ∷ []) ≡ finishes h
-unfolding finishes
-finishes_same h e other = filter_map_none finished_of h e other
-
-pub finishes_more : (h : List Entry) (e : Entry) (f : Finished) → finished_of e ≡ Some f
-    → finishes (h ++ e ∷ []) ≡ finishes h ++ f ∷ []
-unfolding finishes
-finishes_more h e f is = filter_map_some finished_of h e f is
-
-pub collectors_same : (h : List Entry) (e : Entry) → collector_of e ≡ None → collectors (h ++ e ∷ []) ≡ collectors h
-unfolding collectors
-collectors_same h e other = filter_map_none collector_of h e other
-
-pub collectors_more : (h : List Entry) (e : Entry) (c : ℕ) → collector_of e ≡ Some c
-    → collectors (h ++ e ∷ []) ≡ collectors h ++ c ∷ []
-unfolding collectors
-collectors_more h e c is = filter_map_some collector_of h e c is
-
 -- the flags go by the last entry
 pub awaited-push : (h : List Entry) (e : Entry) → awaited (h ++ e ∷ []) ≡ awaits_after (awaited h) e
 unfolding awaited
@@ -194,10 +122,10 @@ pub record SameRequests (h k : List Entry) : Type 0 where
 pub same_after : (h : List Entry) (e : Entry) → accepted_of e ≡ None → finished_of e ≡ None → sending_of e ≡ None
     → came_of e ≡ None → awaits_after (awaited h) e ≡ awaited h → SameRequests h (h ++ e ∷ [])
 same_after h e accept finish send came waits = record {
-  same_accepts = accepts_same h e accept;
-  same_finishes = finishes_same h e finish;
-  same_sends = sends_same h e send;
-  same_cames = cames_same h e came;
+  same_accepts = rw accept at (accepts-push h e);
+  same_finishes = rw finish at (finishes-push h e);
+  same_sends = rw send at (sends-push h e);
+  same_cames = rw came at (cames-push h e);
   same_awaited = awaited-push h e ∙ waits;
 }
 
@@ -211,7 +139,7 @@ pub unfinished_accept : (h : List Entry) (c : ClientId) (n : ℕ) (request : Req
     ++ record { client = c.0; number = n; request = request } ∷ []
 unfinished_accept h c n request within =
     let a : Accepted = record { client = c.0; number = n; request = request } in
-    rw (accepts_more h (Accept c n request) a refl, finishes_same h (Accept c n request) refl)
+    rw (accepts-push h (Accept c n request), finishes-push h (Accept c n request))
     (drop-append-le (length (finishes h)) (accepts h) (a ∷ []) within)
 
 pub unfinished_finish : (h : List Entry) (n : ℕ) (status : Status) (len : ℕ)
@@ -219,8 +147,8 @@ pub unfinished_finish : (h : List Entry) (n : ℕ) (status : Status) (len : ℕ)
 unfinished_finish h n status len =
     let f : Finished = record { number = n; status = status; len = len } in
     rw (
-      accepts_same h (Finish n status len) refl,
-      finishes_more h (Finish n status len) f refl,
+      accepts-push h (Finish n status len),
+      finishes-push h (Finish n status len),
       length_push (finishes h) f,
     ) (sym (drop-drop 1 (length (finishes h)) (accepts h)))
 
@@ -228,10 +156,10 @@ unfinished_finish h n status len =
 pub unanswered_ask : (h : List Entry) (e : Entry) (a : AskedDiscovery) → asked_of e ≡ Some a → answered_of e ≡ None
     → length (answers h) ≤ length (asks h) → unanswered (h ++ e ∷ []) ≡ unanswered h ++ a ∷ []
 unanswered_ask h e a is other within =
-    rw (asks_more h e a is, answered_same h e other) (drop-append-le (length (answers h)) (asks h) (a ∷ []) within)
+    rw (asks-push h e, is, answers-push h e, other) (drop-append-le (length (answers h)) (asks h) (a ∷ []) within)
 
 pub unanswered_answer : (h : List Entry) (e : Entry) (b : Answered) → asked_of e ≡ None → answered_of e ≡ Some b
     → unanswered (h ++ e ∷ []) ≡ drop 1 (unanswered h)
 unanswered_answer h e b other is =
-    rw (asks_same h e other, answered_more h e b is, length_push (answers h) b)
+    rw (asks-push h e, other, answers-push h e, is, length_push (answers h) b)
     (sym (drop-drop 1 (length (answers h)) (asks h)))

@@ -10,7 +10,7 @@ use Rattle.rdm_log.proofs.Common.{NothingDue, MayBegin, MaySendRun, MayAnswer, M
 use Rattle.rdm_agent.specs.Run.{FailureIsLast}
 use Rattle.rdm_log.specs.declared.entry.Owner.TheVariants as owners
 use Rattle.rdm_log.specs.log.Runs.{next_run}
-use Rattle.rdm_log.proofs.LogLemmas.PushLemmas.{sends_same, sends_more, cames_same, answered_same, answered_more}
+use Rattle.rdm_log.proofs.LogLemmas.PushLemmas.{sends-push, cames-push, answers-push}
 use Rattle.rdm_log.proofs.LogLemmas.PushLemmas.{awaited-push}
 use Rattle.rdm_log.proofs.LogLemmas.ExchangeLemmas.{IsUnanswered}
 use Rattle.rdm_log.proofs.LogLemmas.Indices.{slice_get-push, IsPushed, all_at, each_index_push}
@@ -18,6 +18,7 @@ use Rattle.rdm_log.proofs.LogLemmas.LegalFacts.{along, legal_facts, IsAwaited, I
 use Rattle.rdm_log.proofs.LogLemmas.RunLemmas.{not_sent, last_run_same, last_run_sent, has_begun_more, begun_stays}
 use Rattle.rdm_log.proofs.LogLemmas.RunLemmas.{begun_same, last_begun, open_run_same, run_exchanges_same}
 use Rattle.rdm_log.proofs.LogLemmas.RunLemmas.{run_exchanges_sent, run_exchanges_came_own, run_exchanges_came_other}
+use Rattle.rdm_log.proofs.LogLemmas.Grows.{no_element}
 
 -- the open run is the last one, and no Answer names it
 pub record IsOpen (h : List Entry) (r : ℕ) : Type 0 where
@@ -63,10 +64,6 @@ facts_of_empty o = record {
   agree = λ i j a b at_i at_j run same. absurd (none-some a at_i);
   failures = λ r front back e w failed. absurd (no_element front back e w);
 }
-  where
-    no_element : (front back : List Seen) (e : Seen) → [] ≡ front ++ e ∷ back → ⊥
-    no_element [] back e w = cc
-    no_element (f ∷ front) back e w = cc
 
 -- an entry that is neither Send nor Came nor Answer
 last_frame : (h k : List Entry) (s : Sending) → sends k ≡ sends h → cames k ≡ cames h → IsUnanswered k s
@@ -81,19 +78,20 @@ facts_other : (o : Opening) (h : List Entry) (e : Entry) → sending_of e ≡ No
     → awaits_after (awaited h) e ≡ awaited h → RunFacts o h → RunFacts o (h ++ e ∷ [])
 facts_other o h e send came answer same facts = record {
   begun_below = λ r begun. rw last (facts.begun_below r (sym (begun_same r h e (not_sent r e send)) ∙ begun));
-  named = λ i b at run. begun_stays b.run h (e ∷ []) (facts.named i b (rw (answered_same h e answer) at at) run);
-  waits = λ waits s is r own. open_run_same h k (sends_same h e send) (answered_same h e answer)
+  named = λ i b at run. begun_stays b.run h (e ∷ []) (facts.named i b (rw (answers-push h e, answer) at at) run);
+  waits = λ waits s is r own. open_run_same h k (rw send at (sends-push h e)) (rw answer at (answers-push h e))
       ∙ facts.waits (sym (awaited-push h e ∙ same) ∙ waits) s
-      (last_frame h k s (sends_same h e send) (cames_same h e came) is) r own;
-  agree = rw (answered_same h e answer) facts.agree;
-  failures = λ r. rw (run_exchanges_same h k r (sends_same h e send) (cames_same h e came)) (facts.failures r);
+      (last_frame h k s (rw send at (sends-push h e)) (rw came at (cames-push h e)) is) r own;
+  agree = rw (answers-push h e, answer) facts.agree;
+  failures =
+      λ r. rw (run_exchanges_same h k r (rw send at (sends-push h e)) (rw came at (cames-push h e))) (facts.failures r);
 }
   where
     k : List Entry
     k = h ++ e ∷ []
 
     last : last_run k ≡ last_run h
-    last = last_run_same h k (sends_same h e send)
+    last = last_run_same h k (rw send at (sends-push h e))
 
 last_of : (xs ys : List Sending) (x y : Sending) → xs ++ x ∷ [] ≡ ys ++ y ∷ [] → x ≡ y
 last_of [] [] x y e = cc
@@ -112,10 +110,10 @@ facts_request_send o h n frame even facts = record {
   begun_below =
       λ r begun. rw (last_run_sent h (owners.Request n) frame)
       (facts.begun_below r (sym (begun_same r h e refl) ∙ begun));
-  named = λ i b at run. begun_stays b.run h (e ∷ []) (facts.named i b (rw (answered_same h e refl) at at) run);
+  named = λ i b at run. begun_stays b.run h (e ∷ []) (facts.named i b (rw (answers-push h e) at at) run);
   waits = λ waits s is r
-      own. absurd (no_run r s own (last_of (sends h) is.earlier x s (sym (sends_more h e x refl) ∙ is.last)));
-  agree = rw (answered_same h e refl) facts.agree;
+      own. absurd (no_run r s own (last_of (sends h) is.earlier x s (sym (sends-push h e) ∙ is.last)));
+  agree = rw (answers-push h e) facts.agree;
   failures = λ r. rw (run_exchanges_sent h (owners.Request n) frame r even) (facts.failures r);
 }
   where
@@ -169,7 +167,7 @@ pub opened_by : (o : Opening) (h : List Entry) (r : ℕ) (frame : ArrayVec ℕ) 
     → open_run (h ++ Send (owners.Run r) frame ∷ []) ≡ Some r
 opened_by o h r frame facts may = is_open k r (record {
   last = last_run_sent h (owners.Run r) frame;
-  left = rw (answered_same h (Send (owners.Run r) frame) refl) (by_turn may.turn);
+  left = rw (answers-push h (Send (owners.Run r) frame)) (by_turn may.turn);
 })
   where
     k : List Entry
@@ -183,11 +181,11 @@ facts_run_send : (o : Opening) (h : List Entry) (r : ℕ) (frame : ArrayVec ℕ)
     → RunFacts o h → MaySendRun o h r frame → RunFacts o (h ++ Send (owners.Run r) frame ∷ [])
 facts_run_send o h r frame even facts may = record {
   begun_below = λ q begun. by_begun q (cases_Bool (has_begun q h)) begun;
-  named = λ i b at run. begun_stays b.run h (e ∷ []) (facts.named i b (rw (answered_same h e refl) at at) run);
+  named = λ i b at run. begun_stays b.run h (e ∷ []) (facts.named i b (rw (answers-push h e) at at) run);
   waits = λ waits s is q
-      own. rw (own_of q s own (last_of (sends h) is.earlier x s (sym (sends_more h e x refl) ∙ is.last)))
+      own. rw (own_of q s own (last_of (sends h) is.earlier x s (sym (sends-push h e) ∙ is.last)))
       (opened_by o h r frame facts may);
-  agree = rw (answered_same h e refl) facts.agree;
+  agree = rw (answers-push h e) facts.agree;
   failures = λ q. rw (run_exchanges_sent h (owners.Run r) frame q even) (facts.failures q);
 }
   where
@@ -226,11 +224,11 @@ facts_came : (o : Opening) (h : List Entry) (event : LineEvent) → EachAfter (M
     → awaited h ≡ true → RunFacts o h → RunFacts o (h ++ Came event ∷ [])
 facts_came o h event each due waits facts = record {
   begun_below =
-      λ r begun. rw (last_run_same h k (sends_same h e refl))
+      λ r begun. rw (last_run_same h k (sends-push h e))
       (facts.begun_below r (sym (begun_same r h e refl) ∙ begun));
-  named = λ i b at run. begun_stays b.run h (e ∷ []) (facts.named i b (rw (answered_same h e refl) at at) run);
+  named = λ i b at run. begun_stays b.run h (e ∷ []) (facts.named i b (rw (answers-push h e) at at) run);
   waits = λ still s is r own. absurd (false≢true (sym (awaited-push h e) ∙ still));
-  agree = rw (answered_same h e refl) facts.agree;
+  agree = rw (answers-push h e) facts.agree;
   failures = λ r. by_owner r ((legal_facts o h each).waits waits);
 }
   where
@@ -280,7 +278,7 @@ facts_answer : (o : Opening) (h : List Entry) (n r : ℕ) (fault : Option AgentF
     → RunFacts o h → RunFacts o (h ++ Answer n r fault ∷ [])
 facts_answer o h n r fault may facts = record {
   begun_below =
-      λ q begun. rw (last_run_same h k (sends_same h e refl))
+      λ q begun. rw (last_run_same h k (sends-push h e))
       (facts.begun_below q (sym (begun_same q h e refl) ∙ begun));
   named = rw more
       (each_index_push (λ i x. x.run ≢ 0 → has_begun x.run k ≡ true) (answers h) b
@@ -288,7 +286,7 @@ facts_answer o h n r fault may facts = record {
       (λ run. begun_stays r h (e ∷ []) (named_begun run)));
   waits = λ still s is q own. absurd (not_awaited_true (sym (awaited-push h e) ∙ still));
   agree = rw more agree;
-  failures = λ q. rw (run_exchanges_same h k q (sends_same h e refl) (cames_same h e refl)) (facts.failures q);
+  failures = λ q. rw (run_exchanges_same h k q (sends-push h e) (cames-push h e)) (facts.failures q);
 }
   where
     e : Entry
@@ -301,7 +299,7 @@ facts_answer o h n r fault may facts = record {
     b = record { number = n; run = r; fault = fault }
 
     more : answers k ≡ answers h ++ b ∷ []
-    more = answered_more h e b refl
+    more = answers-push h e
 
     named_begun : r ≢ 0 → has_begun r h ≡ true
     named_begun run = by_begun (cases_Bool (has_begun r h)) (may.by_run run).serves

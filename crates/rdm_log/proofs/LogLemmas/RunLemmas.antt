@@ -11,7 +11,7 @@ use Rattle.rdm_log.proofs.Common.{run_exchanges, run_frames, last_run_without_fa
 use Rattle.std.specs.Prelude.{zip}
 use Rattle.rdm_log.specs.declared.entry.Owner.TheVariants as owners
 use Rattle.rdm_log.specs.log.Runs.{seen_of}
-use Rattle.rdm_log.proofs.LogLemmas.PushLemmas.{sends_more, sends_same, cames_same, answered_same}
+use Rattle.rdm_log.proofs.LogLemmas.PushLemmas.{sends-push, cames-push, answers-push}
 use Rattle.rdm_log.proofs.LogLemmas.ExchangeLemmas.{IsUnanswered, traded_sent, traded_came}
 
 -- which run began last
@@ -23,7 +23,7 @@ pub last_run_sent : (h : List Entry) (owner : Owner) (frame : ArrayVec ℕ)
     → last_run (h ++ Send owner frame ∷ []) ≡ run_of_owner (last_run h) owner
 unfolding last_run
 last_run_sent h owner frame =
-    rw (sends_more h (Send owner frame) (record { owner = owner; frame = frame }) refl)
+    rw (sends-push h (Send owner frame))
     (fold_push (λ before (s : Sending). run_of_owner before s.owner) None (sends h) (record {
       owner = owner;
       frame = frame;
@@ -127,7 +127,8 @@ open_run_same h k sent answered = rw (last_run_same h k sent) (by_last (last_run
 -- how many discoveries were asked for before the last run began, and which no run serves
 pub asked_before_same : (h : List Entry) (e : Entry) → sending_of e ≡ None
     → asked_before (last_run (h ++ e ∷ [])) (h ++ e ∷ []) ≡ asked_before (last_run h) h
-asked_before_same h e other = rw (last_run_same h (h ++ e ∷ []) (sends_same h e other)) (by_last (last_run h) refl)
+asked_before_same h e other =
+    rw (last_run_same h (h ++ e ∷ []) (rw other at (sends-push h e))) (by_last (last_run h) refl)
   where
     by_last : (last : Option ℕ) → last_run h ≡ last → asked_before last (h ++ e ∷ []) ≡ asked_before last h
     by_last None is = refl
@@ -227,10 +228,11 @@ not_sent r _ none = refl
 pub same_runs : (h : List Entry) (e : Entry) → sending_of e ≡ None → came_of e ≡ None → answered_of e ≡ None
     → SameRuns h (h ++ e ∷ [])
 same_runs h e send came answer = record {
-  same_answers = answered_same h e answer;
+  same_answers = rw answer at (answers-push h e);
   same_served = λ r. served_same r h e (not_sent r e send);
-  same_open = open_run_same h (h ++ e ∷ []) (sends_same h e send) (answered_same h e answer);
-  same_exchanges = λ r. run_exchanges_same h (h ++ e ∷ []) r (sends_same h e send) (cames_same h e came);
+  same_open = open_run_same h (h ++ e ∷ []) (rw send at (sends-push h e)) (rw answer at (answers-push h e));
+  same_exchanges =
+      λ r. run_exchanges_same h (h ++ e ∷ []) r (rw send at (sends-push h e)) (rw came at (cames-push h e));
   same_before = λ r begun. entries_before_run_stays r h (e ∷ []) begun;
 }
 
@@ -238,7 +240,7 @@ same_runs h e send came answer = record {
 pub same_runs_sent : (h : List Entry) (n : ℕ) (frame : ArrayVec ℕ) → length (sends h) ≡ length (cames h)
     → SameRuns h (h ++ Send (owners.Request n) frame ∷ [])
 same_runs_sent h n frame even = record {
-  same_answers = answered_same h e refl;
+  same_answers = answers-push h e;
   same_served = λ r. served_same r h e refl;
   same_open = rw (last_run_sent h (owners.Request n) frame) (by_last (last_run h));
   same_exchanges = λ r. run_exchanges_sent h (owners.Request n) frame r even;
@@ -250,7 +252,7 @@ same_runs_sent h n frame even = record {
 
     by_last : (last : Option ℕ) → unless_answered last (h ++ e ∷ []) ≡ unless_answered last h
     by_last None = refl
-    by_last (Some r) = rw (answered_same h e refl) refl
+    by_last (Some r) = rw (answers-push h e) refl
 
 -- the devices known depend on the Answers and on their runs' exchanges alone
 pub known_same : (o : Opening) (h k : List Entry) → answers k ≡ answers h

@@ -5,7 +5,7 @@ use Rattle.rdm_log.proofs.Common.{sending_of, came_of, answered_of, answers, ask
 use Rattle.rdm_log.proofs.Common.{is_closed, has_begun, entries_before_run, last_run, unless_answered, open_run}
 use Rattle.rdm_log.proofs.Common.{asked_before, served, run_exchanges, run_kind, known_at_run, known_devices}
 use Rattle.rdm_log.specs.declared.entry.Owner.TheVariants as owners
-use Rattle.rdm_log.proofs.LogLemmas.PushLemmas.{sends_same, answered_same, awaited-push, is_closed-push, pushes}
+use Rattle.rdm_log.proofs.LogLemmas.PushLemmas.{sends-push, answers-push, awaited-push, is_closed-push, pushes}
 use Rattle.rdm_log.proofs.LogLemmas.ExchangeLemmas.{IsUnanswered}
 use Rattle.rdm_log.proofs.LogLemmas.RunLemmas.{last_run_same, last_begun, served_stays, entries_before_run_stays}
 use Rattle.rdm_log.proofs.LogLemmas.RunLemmas.{asked_before_same, run_exchanges_came_other, same_runs}
@@ -38,12 +38,12 @@ asked_stays h e (Some r) is =
 
 -- rules for `simp` and `search`, beside those of what an entry adds
 pub last_run_other : (h : List Entry) (e : Entry) → sending_of e ≡ None → last_run (h ++ e ∷ []) ≡ last_run h
-last_run_other h e other = last_run_same h (h ++ e ∷ []) (sends_same h e other)
+last_run_other h e other = last_run_same h (h ++ e ∷ []) (rw other at (sends-push h e))
 
 pub unless_other : (last : Option ℕ) (h : List Entry) (e : Entry) → answered_of e ≡ None
     → unless_answered last (h ++ e ∷ []) ≡ unless_answered last h
 unless_other None h e other = refl
-unless_other (Some r) h e other = rw (answered_same h e other) refl
+unless_other (Some r) h e other = rw (answers-push h e, other) refl
 
 pub asked_before_other : (h : List Entry) (e : Entry)
     → asked_before (last_run h) (h ++ e ∷ []) ≡ asked_before (last_run h) h
@@ -56,7 +56,7 @@ pub same_running : (o : Opening) (h : List Entry) (e : Entry) → sending_of e �
 same_running o h e send came answer =
     let same = same_runs h e send came answer in
     record {
-      same_last = last_run_same h (h ++ e ∷ []) (sends_same h e send);
+      same_last = last_run_same h (h ++ e ∷ []) (rw send at (sends-push h e));
       same_answers = same.same_answers;
       same_asked = asked_before_same h e send;
       same_exchanges = same.same_exchanges;
@@ -70,8 +70,8 @@ same_running o h e send came answer =
 pub same_running_came : (o : Opening) (h : List Entry) (n : ℕ) (frame : ArrayVec ℕ) (event : LineEvent)
     → IsUnanswered h (record { owner = owners.Request n; frame = frame }) → SameRunning o h (h ++ Came event ∷ [])
 same_running_came o h n frame event waits = record {
-  same_last = last_run_same h (h ++ Came event ∷ []) (sends_same h (Came event) refl);
-  same_answers = answered_same h (Came event) refl;
+  same_last = last_run_same h (h ++ Came event ∷ []) (sends-push h (Came event));
+  same_answers = answers-push h (Came event);
   same_asked = asked_before_same h (Came event) refl;
   same_exchanges = λ r. run_exchanges_came_other h _ event r waits refl;
   same_served = λ r begun. served_stays r h (Came event ∷ []) begun;

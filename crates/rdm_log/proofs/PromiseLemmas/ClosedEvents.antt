@@ -17,7 +17,7 @@ use Rattle.rdm_log.proofs.PromiseLemmas.NothingAfterClose.{closed_more}
 use Rattle.rdm_log.proofs.PromiseLemmas.ExplainsLemmas.{explained_grows}
 
 -- a queue stays closed
-stays_closed : (o : Opening) (h more : List Entry) → is_closed o h ≡ true → is_closed o (h ++ more) ≡ true
+pub stays_closed : (o : Opening) (h more : List Entry) → is_closed o h ≡ true → is_closed o (h ++ more) ≡ true
 stays_closed o h [] closed = rw append-nil closed
 stays_closed o h (e ∷ more) closed =
     rw (append_assoc h (e ∷ []) more) at (stays_closed o (h ++ e ∷ []) more (closed_more o h e closed))

@@ -13,7 +13,7 @@ use Rattle.rdm_log.specs.declared.event.Answer.TheVariants as answers
 use Rattle.rdm_log.proofs.PromiseLemmas.EntriesOf.{EachOf, adds_each}
 use Rattle.rdm_log.specs.promises.EventsHeadline.{outcome_given, given_to, collected_outcomes}
 use Rattle.rdm_log.proofs.LogLemmas.Grows.{front}
-use Rattle.rdm_log.proofs.LogLemmas.PushLemmas.{collectors_more}
+use Rattle.rdm_log.proofs.LogLemmas.PushLemmas.{collectors-push}
 use Rattle.rdm_log.proofs.LogLemmas.ClientLemmas.{answers_same}
 use Rattle.rdm_log.proofs.LogLemmas.ClientSteps.{collected_step}
 use Rattle.rdm_log.proofs.PromiseLemmas.StableOutcomes.{outcome_stays}
@@ -44,7 +44,7 @@ collected_own : (o : Opening) (h : List Entry) (d : ClientId) (x : Entry) → sl
 collected_own o h d x at =
     rw (
       answers_same o d.0 h (Collect d) refl refl,
-      collectors_more h (Collect d) d.0 refl,
+      collectors-push h (Collect d),
       filter-append (λ c. d.0 == c) (collectors h) (d.0 ∷ []),
       eq-eqb d.0 d.0 refl,
       length_push (collects_by d.0 h) d.0,
@@ -57,7 +57,7 @@ collected_other : (o : Opening) (c : ℕ) (h : List Entry) (d : ClientId) → (c
 collected_other o c h d other =
     rw (
       answers_same o c h (Collect d) refl refl,
-      collectors_more h (Collect d) d.0 refl,
+      collectors-push h (Collect d),
       filter-append (λ x. c == x) (collectors h) (d.0 ∷ []),
       other,
       append-nil,

@@ -4,7 +4,7 @@ use Rattle.rdm_log.proofs.Common.{sym, ap, ◌∙◌, subst, arith, append_assoc
 use Rattle.rdm_log.proofs.Common.{list_any, list_any-append, eq-eqb, false≢true, same_Some}
 use Rattle.rdm_log.proofs.Common.{if◌then◌else◌, EachAfter, Status, Opening, Entry, Finish, Accepted, accepts, finishes}
 use Rattle.rdm_log.proofs.Common.{MayFollow, Legal, append-nil, ◌<◌, length-append, Completed, drop}
-use Rattle.rdm_log.proofs.LogLemmas.PushLemmas.{finishes_more, finishes_same}
+use Rattle.rdm_log.proofs.LogLemmas.PushLemmas.{finishes-push}
 use Rattle.rdm_join.specs.declared.joiner.ReplyHead.{ReplyHead}
 use Rattle.rdm_log.specs.declared.broken.AnswerKey.{AnswerKey}
 use Rattle.rdm_log.specs.log.Entries.{finished_of}
@@ -16,13 +16,14 @@ use Rattle.rdm_log.specs.log.Broken.{may_be_incomplete, broken_keys}
 unfoldable use Rattle.rdm_log.specs.log.Broken.{after_entries}
 use Rattle.rdm_log.specs.promises.Flags.{IsGetOf, BreaksOff, AnswersWhole, WholeWithin, BrokenWithin, FlagsHold}
 use Rattle.rdm_log.specs.promises.Flags.{IsLeftBroken, NeedsFlag}
-use Rattle.rdm_log.proofs.LogLemmas.Grows.{front as front_of}
+use Rattle.rdm_log.proofs.LogLemmas.Grows.{front as front_of, no_element}
 use Rattle.rdm_log.proofs.LogLemmas.LegalFacts.{legal_facts, unfinished_index, LogFacts}
 use Rattle.rdm_log.proofs.LogLemmas.BrokenLemmas.{after_entries-append, which, IsFinishOf, finish_number}
 use Rattle.rdm_log.proofs.LogLemmas.BrokenLemmas.{flag_of_new, flag_of_old, flagged_below, unchanged}
 use Rattle.rdm_log.proofs.LogLemmas.KeyLemmas.{same_from, opens_own, opens_none_else, closes_none_else}
-use Rattle.rdm_log.proofs.LogLemmas.KeyLemmas.{closes_own, and_parts}
+use Rattle.rdm_log.proofs.LogLemmas.KeyLemmas.{closes_own}
 use Rattle.rdm_log.proofs.LogLemmas.KeyLemmas.{opened_before, closed_before, inverted_of}
+use Rattle.std.proofs.lemmas.Bool.{and_parts}
 
 -- the request of a Finish is the oldest unfinished one
 key_is_first : (o : Opening) (h : List Entry) (n : ℕ) (status : Status) (len : ℕ) (key : AnswerKey)
@@ -371,11 +372,7 @@ was_open : (o : Opening) (front entries : List Entry) (key : AnswerKey) (i : Inc
     → BrokenWithin front entries key
     ⊎ ((i.keys.inverted ≡ false) × (is_open i.keys key ≡ true) × (WholeWithin front entries key → ⊥))
 unfolding after_entries
-was_open o front [] key i each fits is = inr (fits, is, λ w. none_there w.first w.last _ w.stands)
-  where
-    none_there : (first last : List Entry) (e : Entry) → [] ≡ first ++ e ∷ last → ⊥
-    none_there [] last e same = cc
-    none_there (x ∷ first) last e same = cc
+was_open o front [] key i each fits is = inr (fits, is, λ w. no_element w.first w.last _ w.stands)
 was_open o front (e ∷ entries) key i each fits is =
     either (was_open o (front ++ e ∷ []) entries key (after_entry front e i)
     (rw (append_assoc front (e ∷ []) entries) each) fits is)
@@ -432,9 +429,9 @@ flagged_there o front (e ∷ entries) n i each old is =
     (rw (append_assoc front (e ∷ []) entries) each) (more (which e)) is)
   where
     more : IsFinishOf e ⊎ (finished_of e ≡ None) → n < o.next_request + length (finishes (front ++ e ∷ []))
-    more (inr other) = rw (finishes_same front e other) old
+    more (inr other) = rw (finishes-push front e, other) old
     more (inl f) =
-        rw (f.is, finishes_more front (Finish f.number f.status f.len) _ refl, length-append (finishes front) _)
+        rw (f.is, finishes-push front (Finish f.number f.status f.len), length-append (finishes front) _)
         (omega (arith, old))
 
     by_kind : IsFinishOf e ⊎ (finished_of e ≡ None) → list_any (λ m. n == m) (after_entry front e i).flagged ≡ true
@@ -479,7 +476,7 @@ own_flag o h front back n status len legal is flagged =
 
     old : n < o.next_request + length (finishes (front ++ e ∷ []))
     old =
-        rw (finishes_more front e _ refl, length-append (finishes front) _)
+        rw (finishes-push front e, length-append (finishes front) _)
         (let number = finish_number o front n status len here.each here.may in omega arith)
 
     own : list_any (λ m. n == m) (after_entry front e (incomplete o front)).flagged ≡ true

@@ -70,7 +70,7 @@ same_numbers number ended q p (e ∷ es) (a ∷ rs) even at =
     by_test false true same n later = cc
     by_test false false same n later = later
 
-taken_index : {X : Type 0} (n : ℕ) (xs : List X) (i : ℕ) (x : X) → slice_get (take n xs) i ≡ Some x
+pub taken_index : {X : Type 0} (n : ℕ) (xs : List X) (i : ℕ) (x : X) → slice_get (take n xs) i ≡ Some x
     → slice_get xs i ≡ Some x
 taken_index zero xs i x e = cc
 taken_index (suc n) [] i x e = cc

@@ -6,6 +6,7 @@ use Rattle.rdm_log.specs.declared.entry.Entry.TheVariants as entries
 use Rattle.rdm_log.specs.promises.LogInBound.{InBound}
 use Rattle.rdm_log.proofs.PromiseLemmas.Promises.{promised}
 use Rattle.rdm_log.specs.promises.Promised.{Promised}
+use Rattle.rdm_log.proofs.LogLemmas.Grows.{no_element}
 
 -- what is asked of an entry after these
 abbrev BoundAt : LogState → List Entry → Entry → Type 0
@@ -51,14 +52,10 @@ pub empty_in_bound : (k : LogState) → k.entries ≡ [] → InBound k
 empty_in_bound k empty = record {
   closed_first =
       λ front back n r fault
-      present at calm. absurd (not_empty front (entries.Answer n r (Some fault)) back (sym empty ∙ at));
+      present at calm. absurd (no_element front back (entries.Answer n r (Some fault)) (sym empty ∙ at));
   closed_first_in_noise = λ front back n r fault present w at noisy.
-      absurd (not_empty front (entries.Answer n r (Some fault)) back (sym empty ∙ at));
+      absurd (no_element front back (entries.Answer n r (Some fault)) (sym empty ∙ at));
 }
-  where
-    not_empty : (front : List Entry) (x : Entry) (back : List Entry) → [] ≡ front ++ x ∷ back → ⊥
-    not_empty [] x back at = cc
-    not_empty (y ∷ front) x back at = cc
 
 -- so is a log that grew by a block whose Answers are
 pub in_bound_grows : (k : LogState) (block : List Entry) → InBound k → AnswersInBound k block → InBound (grown k block)

@@ -11,12 +11,13 @@ use Rattle.rdm_log.specs.declared.entry.Owner.TheVariants as owners
 use Rattle.rdm_log.specs.log.MayAnswer.{MayAnswerUnserved}
 use Rattle.rdm_log.proofs.LogLemmas.Grows.{front, pushed}
 use Rattle.rdm_log.proofs.LogLemmas.Indices.{slice_get-drop, slice_get-push, IsPushed}
-use Rattle.rdm_log.proofs.LogLemmas.PushLemmas.{asks-append, sends_same, answered_same, answered_more}
+use Rattle.rdm_log.proofs.LogLemmas.PushLemmas.{asks-append, sends-push, answers-push}
 use Rattle.rdm_log.proofs.LogLemmas.LegalFacts.{along}
 use Rattle.rdm_log.proofs.LogLemmas.AskFacts.{AskFacts, ask_facts, unanswered_number}
 use Rattle.rdm_log.proofs.LogLemmas.RunLemmas.{not_sent, last_run_same, last_run_sent, begun_same, last_begun}
 use Rattle.rdm_log.proofs.LogLemmas.RunLemmas.{before_first-cons, entries_before_run_stays, served_same, served_stays}
 use Rattle.rdm_log.proofs.LogLemmas.RunFacts.{run_facts, open_is, any_from_index}
+use Rattle.rdm_log.proofs.LogLemmas.BegunLemmas.{before_fewer, before_new as before_pushed}
 
 -- the entries before a run are a prefix of the log
 before_is_front : (o : Opening) (h : List Entry) (r : ℕ) → EachAfter (MayFollow o) h
@@ -33,19 +34,6 @@ unfolding entries_before_run
 before_stays r q h begun =
     ap (λ (l : List Entry). entries_before_run q l) (sym (take-append-drop n h))
     ∙ entries_before_run_stays q (take n h) (drop n h) begun
-  where
-    n : ℕ
-    n = position_or_len (sends_run r) h
-
-fewer_asks : (r : ℕ) (h : List Entry) → length (asks (entries_before_run r h)) ≤ length (asks h)
-unfolding entries_before_run
-fewer_asks r h =
-    omega (
-      arith,
-      ap (λ (l : List Entry). length (asks l)) (take-append-drop n h),
-      ap length (asks-append (take n h) (drop n h)),
-      length-append (asks (take n h)) (asks (drop n h)),
-    )
   where
     n : ℕ
     n = position_or_len (sends_run r) h
@@ -140,17 +128,6 @@ before_kept : (h : List Entry) (e : Entry) → last_run (h ++ e ∷ []) ≡ last
 before_kept h e same back before q begun =
     rw (kept_before h e same, entries_before_run_stays q h (e ∷ []) (back q begun)) (before q (back q begun))
 
-before_pushed : {X : Type 0} (p : X → Bool) (xs : List X) (y : X) → list_any p xs ≡ false → p y ≡ true
-    → before_first p (xs ++ y ∷ []) ≡ xs
-before_pushed p [] y none passes = before_first-cons p y [] ∙ rw passes refl
-before_pushed {X} p (x ∷ xs) y none passes =
-    before_first-cons p x (xs ++ y ∷ []) ∙ by_test (cases_Bool (p x)) (before_pushed p xs y)
-  where
-    by_test : (p x ≡ true) ⊎ (p x ≡ false) → (list_any p xs ≡ false → p y ≡ true → before_first p (xs ++ y ∷ []) ≡ xs)
-        → cond (p x) [] (x ∷ before_first p (xs ++ y ∷ [])) ≡ x ∷ xs
-    by_test (inl here) later = absurd (false≢true (sym none ∙ rw here refl))
-    by_test (inr there) later = rw there (ap (λ l. x ∷ l) (later (rw there at none) passes))
-
 before_new : (r : ℕ) (h : List Entry) (e : Entry) → has_begun r h ≡ false → sends_run r e ≡ true
     → entries_before_run r (h ++ e ∷ []) ≡ h
 unfolding has_begun entries_before_run
@@ -201,7 +178,7 @@ before_run_send o h r frame each (inl begins) before = λ q begun. by_entry q (b
 
     by_entry : (q : ℕ) → (has_begun q h ≡ true) ⊎ ((q == r) ≡ true)
         → length (asks (entries_before_run q (h ++ e ∷ []))) ≤ asked_before (last_run (h ++ e ∷ [])) (h ++ e ∷ [])
-    by_entry q (inl earlier) = rw (all, entries_before_run_stays q h (e ∷ []) earlier) (fewer_asks q h)
+    by_entry q (inl earlier) = rw (all, entries_before_run_stays q h (e ∷ []) earlier) (before_fewer q h)
     by_entry q (inr own) = rw (all, eqb-true q r own, before_new r h e none (eq-eqb r r refl)) (omega arith)
 
 before_none : AskedBefore []
@@ -215,7 +192,7 @@ before_step o h (Send (owners.Request n) frame) each before may =
     before_kept h (Send (owners.Request n) frame) (last_run_sent h (owners.Request n) frame)
     (λ q begun. sym (begun_same q h (Send (owners.Request n) frame) refl) ∙ begun) before
 before_step o h e each before may =
-    before_kept h e (last_run_same h (h ++ e ∷ []) (sends_same h e refl))
+    before_kept h e (last_run_same h (h ++ e ∷ []) (sends-push h e))
     (λ q begun. sym (begun_same q h e (not_sent q e refl)) ∙ begun) before
 
 asked_before_all : (o : Opening) (h : List Entry) → EachAfter (MayFollow o) h → AskedBefore h
@@ -262,7 +239,7 @@ by_one_none i b r j a at there same = absurd (none-some b at)
 by_one_same : (h : List Entry) (e : Entry) → answered_of e ≡ None → ((r : ℕ) → sends_run r e ≡ false) → ServedByOne h
     → ServedByOne (h ++ e ∷ [])
 by_one_same h e answer sends before i b r j a at there same =
-    before i b r j a (rw (answered_same h e answer) at at) (rw (served_same r h e (sends r)) at there) same
+    before i b r j a (rw (answers-push h e, answer) at at) (rw (served_same r h e (sends r)) at there) same
 
 by_one_sent : (o : Opening) (h : List Entry) (q : ℕ) (frame : ArrayVec ℕ) → EachAfter (MayFollow o) h
     → EachAfter (MayFollow o) (h ++ Send (owners.Run q) frame ∷ []) → ServedByOne h
@@ -276,7 +253,7 @@ by_one_sent o h q frame each later before i b r j a at there same = by_begun (ca
     facts = ask_facts o h each
 
     at_h : slice_get (answers h) i ≡ Some b
-    at_h = rw (answered_same h e refl) at at
+    at_h = rw (answers-push h e) at at
 
     clash : IsServed o (h ++ e ∷ []) r a → entries_before_run r (h ++ e ∷ []) ≡ h → ⊥
     clash is whole =
@@ -301,7 +278,7 @@ by_one_sent o h q frame each later before i b r j a at there same = by_begun (ca
 by_one_answered : (o : Opening) (h : List Entry) (n q : ℕ) (fault : Option AgentFault) → EachAfter (MayFollow o) h
     → MayAnswer o h n q fault → ServedByOne h → ServedByOne (h ++ Answer n q fault ∷ [])
 by_one_answered o h n q fault each may before i b r j a at there same =
-    by_index (slice_get-push (answers h) x i b (rw (answered_more h e x refl) at at))
+    by_index (slice_get-push (answers h) x i b (rw (answers-push h e) at at))
   where
     e : Entry
     e = Answer n q fault

@@ -32,7 +32,7 @@ some_at r (x ∷ bs) (suc j) b at is = or_right (x.run == r) (some_at r bs j b a
     or_right true t = refl
     or_right false t = t
 
-named : (h : List Entry) (i n r : ℕ) (f : Option AgentFault) → slice_get h i ≡ Some (Answer n r f)
+pub named : (h : List Entry) (i n r : ℕ) (f : Option AgentFault) → slice_get h i ≡ Some (Answer n r f)
     → is_answered r h ≡ true
 unfolding answers
 named h i n r f at =

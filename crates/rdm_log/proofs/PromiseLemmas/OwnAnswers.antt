@@ -28,7 +28,7 @@ use Rattle.rdm_join.specs.Result.{decides, decides_option, IsResult}
 use Rattle.rdm_join.proofs.Determined.{meets, only}
 use Rattle.rdm_log.specs.log.MayFinish.{FitsJoined}
 use Rattle.rdm_log.proofs.LogLemmas.Grows.{front}
-use Rattle.rdm_log.proofs.LogLemmas.PushLemmas.{finishes-append, finishes_more, sends_same, cames_same}
+use Rattle.rdm_log.proofs.LogLemmas.PushLemmas.{finishes-append, finishes-push, sends-push, cames-push}
 use Rattle.rdm_log.proofs.LogLemmas.ExchangeLemmas.{result_same}
 use Rattle.rdm_log.proofs.LogLemmas.LegalFacts.{legal_facts, unfinished_number}
 use Rattle.rdm_log.proofs.PromiseLemmas.StableResults.{result_step}
@@ -196,7 +196,7 @@ result_stays : (o : Opening) (h : List Entry) → Legal o h
     → result n h ≡ result n before
 result_stays o h legal before back n status len is =
     ap (result n) (is ∙ sym (append_assoc before (e ∷ []) back)) ∙ finished_stays o (before ++ e ∷ []) back n all within
-    ∙ result_same before (before ++ e ∷ []) n (sends_same before e refl) (cames_same before e refl)
+    ∙ result_same before (before ++ e ∷ []) n (sends-push before e) (cames-push before e)
   where
     e : Entry
     e = Finish n status len
@@ -216,7 +216,7 @@ result_stays o h legal before back n status len is =
           arith,
           may.number,
           unfinished_number o before facts 0 may.accepted may.oldest,
-          ap length (finishes_more before e f refl),
+          ap length (finishes-push before e),
           length_push (finishes before) f,
         )
 

@@ -20,6 +20,7 @@ use Rattle.rdm_log.proofs.PromiseLemmas.InOrder.{asks_in_order}
 use Rattle.rdm_log.proofs.PromiseLemmas.FullRefuses.{full_refuses_discoveries}
 use Rattle.rdm_log.proofs.PromiseLemmas.AnswersReportTheLine.{all_report_the_line}
 use Rattle.rdm_log.proofs.PromiseLemmas.RunsAnswer.{runs_answer, exchanges_stay}
+use Rattle.rdm_log.proofs.PromiseLemmas.OutcomeLemmas.{named}
 
 -- an Ask of the log
 record IsAskAt (h : List Entry) (a : AskedDiscovery) : Type 0 where
@@ -107,22 +108,6 @@ asked_by o h legal c n r fault has facts = (
         by_index found =
             omega (arith, facts.answer_numbers found.0 _ found.1, facts.ask_numbers (n - o.next_ask) a.0 a.1)
 
--- a run that an Answer of the log names is answered
-answered_from : (h : List Entry) (j n r : ℕ) (fault : Option AgentFault) → slice_get h j ≡ Some (Answer n r fault)
-    → is_answered r h ≡ true
-unfolding answers
-answered_from h j n r fault at = by_index (filter_map_has answered_of h j (Answer n r fault) b at refl)
-  where
-    b : Answered
-    b = record { number = n; run = r; fault = fault }
-
-    by_index : (i : ℕ) × (slice_get (filter_map answered_of h) i ≡ Some b)
-        → list_any (λ x. x.run == r) (filter_map answered_of h) ≡ true
-    by_index found =
-        list_any_at (λ x. x.run == r) (filter_map answered_of h) found.0 b
-        (slice_get_within (filter_map answered_of h) found.0 b found.1)
-        (rw (get_or_from_slice_get (filter_map answered_of h) found.0 b b found.1) (eq-eqb r r refl))
-
 -- the outcome of a client's answer stays
 pub outcome_stays : (o : Opening) (front back : List Entry) → EachAfter (MayFollow o) (front ++ back)
     → (c i : ℕ) (x : Entry) → slice_get (answers_to o c front) i ≡ Some x
@@ -145,7 +130,7 @@ outcome_stays o early back each c i x at =
         → outcome_of (early ++ back) (Answer g.number g.run g.fault) ≡ outcome_of early (Answer g.number g.run g.fault)
     of_reply g =
         rw (exchanges_stay o early back g.run each
-        (answered_from early found.0 g.number g.run g.fault (found.1 ∙ ap (λ (y : Entry). Some y) g.is))) refl
+        (named early found.0 g.number g.run g.fault (found.1 ∙ ap (λ (y : Entry). Some y) g.is))) refl
 
     by_kind : IsFinish o early x ⊎ IsReply x → outcome_of (early ++ back) x ≡ outcome_of early x
     by_kind (inl f) = ap (outcome_of (early ++ back)) f.is ∙ of_finish f ∙ sym (ap (outcome_of early) f.is)

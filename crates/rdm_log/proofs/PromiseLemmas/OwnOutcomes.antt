@@ -15,9 +15,10 @@ use Rattle.rdm_log.proofs.LogLemmas.ClientLemmas.{client_stays, asker_stays}
 use Rattle.rdm_log.proofs.PromiseLemmas.StableResults.{contains_from_get, client_is, IsFinish, IsReply}
 use Rattle.rdm_log.proofs.PromiseLemmas.StableResults.{uncollected_found, uncollected_answer}
 use Rattle.rdm_log.proofs.PromiseLemmas.OwnAnswers.{finished_stays}
-use Rattle.rdm_log.proofs.PromiseLemmas.StableOutcomes.{named_in, devices_stay}
+use Rattle.rdm_log.proofs.PromiseLemmas.StableOutcomes.{devices_stay}
 use Rattle.rdm_log.proofs.PromiseLemmas.AnswersReportTheLine.{all_report_the_line, all_report_a_noisy_line}
 use Rattle.rdm_log.proofs.PromiseLemmas.AnswersReportTheLine.{split_at}
+use Rattle.rdm_log.proofs.PromiseLemmas.OutcomeLemmas.{named}
 
 -- an outcome's value has its parts
 same_result : (n m : Option ℕ) (i j : Joined)
@@ -98,7 +99,7 @@ of_reply o h more c j x (outcomes.Discovery number done) each f at own told =
           (contains_from_get h j (Answer f.number f.run f.fault) here));
       client = discovery_client o h more c f.number (client_is c (client_of_discovery o h f.number) (rw f.is at own));
       told = ap (λ (d : Discovered). d.devices) same.1
-          ∙ sym (devices_stay o h more f.run each (named_in h j f.number f.run f.fault here))
+          ∙ sym (devices_stay o h more f.run each (named h j f.number f.run f.fault here))
           ∙ ap (λ r. answer_devices r (h ++ more)) (sym (ap (λ (d : Discovered). d.run) same.1));
     }
 

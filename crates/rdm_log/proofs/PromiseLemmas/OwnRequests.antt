@@ -7,7 +7,7 @@ use Rattle.rdm_log.proofs.Common.{is_request, next_tn, MaySendRequest, MayFollow
 use Rattle.rdm_log.specs.declared.entry.Owner.TheVariants as owners
 use Rattle.rdm_log.specs.promises.Headline.{CarriesRequest, OwnRequests}
 use Rattle.rdm_log.proofs.LogLemmas.Indices.{slice_get-append_left, each_index_push}
-use Rattle.rdm_log.proofs.LogLemmas.PushLemmas.{accepts_same, accepts_more, sends_same, sends_more}
+use Rattle.rdm_log.proofs.LogLemmas.PushLemmas.{accepts-push, sends-push}
 use Rattle.rdm_log.proofs.LogLemmas.LegalFacts.{along, unfinished_index}
 use Rattle.rdm_log.proofs.PromiseLemmas.StableResults.{filter_has}
 
@@ -47,13 +47,13 @@ carries_accept : (o : Opening) (h : List Entry) (c : ClientId) (n : ℕ) (reques
 carries_accept o h c n request before =
     let e = Accept c n request in
     let a : Accepted = record { client = c.0; number = n; request = request } in
-    λ i s at m own. carries_later o h (h ++ e ∷ []) (a ∷ []) m _ s.frame.items (accepts_more h e a refl)
-    (before i s (rw (sends_same h e refl) at at) m own)
+    λ i s at m own. carries_later o h (h ++ e ∷ []) (a ∷ []) m _ s.frame.items (accepts-push h e)
+    (before i s (rw (sends-push h e) at at) m own)
 
 carries_send : (o : Opening) (h : List Entry) (n : ℕ) (frame : ArrayVec ℕ) → MaySendRequest o h n frame → SendsCarry o h
     → SendsCarry o (h ++ Send (owners.Request n) frame ∷ [])
 carries_send o h n frame may before =
-    rw (sends_more h e s refl)
+    rw (sends-push h e)
     (each_index_push
     (λ i x. (m : ℕ) → is_request m x.owner ≡ true
     → CarriesRequest o (h ++ e ∷ []) m ((o.next_tn + i) % 256) x.frame.items) (sends h) s earlier own_frame)
@@ -67,14 +67,14 @@ carries_send o h n frame may before =
     earlier : (i : ℕ) (x : Sending) → slice_get (sends h) i ≡ Some x → (m : ℕ) → is_request m x.owner ≡ true
         → CarriesRequest o (h ++ e ∷ []) m ((o.next_tn + i) % 256) x.frame.items
     earlier i x at m own =
-        carries_still o h (h ++ e ∷ []) m _ x.frame.items (accepts_same h e refl) (before i x at m own)
+        carries_still o h (h ++ e ∷ []) m _ x.frame.items (accepts-push h e) (before i x at m own)
 
     own_frame : (m : ℕ) → is_request m (owners.Request n) ≡ true
         → CarriesRequest o (h ++ e ∷ []) m (next_tn o h) frame.items
     own_frame m own = record {
       accepted = may.accepted;
       index = length (finishes h) + 0;
-      stands = rw (accepts_same h e refl) (unfinished_index h 0 may.accepted may.lowest);
+      stands = rw (accepts-push h e) (unfinished_index h 0 may.accepted may.lowest);
       number = sym may.number ∙ sym (eqb-true m n own);
       packet = may.packet;
     }
@@ -82,11 +82,11 @@ carries_send o h n frame may before =
 carries_run_send : (o : Opening) (h : List Entry) (r : ℕ) (frame : ArrayVec ℕ) → SendsCarry o h
     → SendsCarry o (h ++ Send (owners.Run r) frame ∷ [])
 carries_run_send o h r frame before =
-    rw (sends_more h e s refl)
+    rw (sends-push h e)
     (each_index_push
     (λ i x. (m : ℕ) → is_request m x.owner ≡ true
     → CarriesRequest o (h ++ e ∷ []) m ((o.next_tn + i) % 256) x.frame.items) (sends h) s
-    (λ i x at m own. carries_still o h (h ++ e ∷ []) m _ x.frame.items (accepts_same h e refl)
+    (λ i x at m own. carries_still o h (h ++ e ∷ []) m _ x.frame.items (accepts-push h e)
     (before i x at m own)) (λ m own. absurd (false≢true own)))
   where
     e : Entry
@@ -100,7 +100,7 @@ carries_step : (o : Opening) (h : List Entry) (e : Entry) → EachAfter (MayFoll
 carries_step o h (Accept c n request) each before may = carries_accept o h c n request before
 carries_step o h (Send (owners.Request n) frame) each before may = carries_send o h n frame may.1 before
 carries_step o h (Send (owners.Run r) frame) each before may = carries_run_send o h r frame before
-carries_step o h e each before may = carries_same o h (h ++ e ∷ []) (accepts_same h e refl) (sends_same h e refl) before
+carries_step o h e each before may = carries_same o h (h ++ e ∷ []) (accepts-push h e) (sends-push h e) before
 
 carries_none : (o : Opening) → SendsCarry o []
 unfolding sends

@@ -6,7 +6,7 @@ use Rattle.rdm_log.proofs.Common.{Explains}
 use Rattle.rdm_log.specs.declared.event.Event.TheVariants as events
 use Rattle.rdm_log.specs.declared.event.Answer.{Answer}
 use Rattle.rdm_log.specs.declared.event.Answer.TheVariants as answers
-use Rattle.rdm_log.proofs.LogLemmas.PushLemmas.{accepts-append, accepts_more, asks-append, asks_more}
+use Rattle.rdm_log.proofs.LogLemmas.PushLemmas.{accepts-append, accepts-push, asks-append, asks-push}
 use Rattle.rdm_log.specs.declared.work.Work.TheVariants as works
 use Rattle.rdm_log.proofs.PromiseLemmas.BlockLemmas.{work_ok, work_adds}
 
@@ -67,7 +67,7 @@ accepted_number k (events.Submit c request) n block adds =
       own.1,
       rw (
         own.2,
-        accepts_more k.entries (Accept c n request) (record { client = c.0; number = n; request = request }) refl,
+        accepts-push k.entries (Accept c n request),
       )
           (omega (
             arith,
@@ -108,7 +108,7 @@ asked_number : (k : LogState) (e : Event) (n : ℕ) (block : List Entry) → Add
 asked_number k (events.Discover c kind) n block adds =
     let own = work_ok k c (works.Discover kind) n block adds in (
       own.1,
-      rw (own.2, asks_more k.entries (Ask c n kind) (record { client = c.0; number = n; kind = kind }) refl)
+      rw (own.2, asks-push k.entries (Ask c n kind))
           (omega (arith, own.1, length_push (asks k.entries) (record { client = c.0; number = n; kind = kind }))),
     )
 asked_number k _ n block adds = absurd adds

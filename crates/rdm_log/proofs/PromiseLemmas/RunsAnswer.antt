@@ -15,7 +15,7 @@ use Rattle.rdm_log.specs.log.Runs.{is_full_kind}
 use Rattle.rdm_log.specs.promises.Discoveries.{RunsAnswer}
 use Rattle.rdm_log.proofs.LogLemmas.Grows.{front}
 use Rattle.rdm_log.proofs.LogLemmas.Indices.{all_at, slice_get-drop}
-use Rattle.rdm_log.proofs.LogLemmas.PushLemmas.{answered-append, answered_more, sends_same, cames_same}
+use Rattle.rdm_log.proofs.LogLemmas.PushLemmas.{answered-append, answers-push, sends-push, cames-push}
 use Rattle.rdm_log.proofs.LogLemmas.ExchangeLemmas.{IsUnanswered}
 use Rattle.rdm_log.proofs.LogLemmas.LegalFacts.{legal_facts, IsAwaited, IsRunAwaited, sent_evenly}
 use Rattle.rdm_log.proofs.LogLemmas.RunLemmas.{entries_before_run_stays, run_exchanges_same, run_exchanges_sent}
@@ -55,7 +55,7 @@ exchanges_step o h (Came event) each may r left = by_owner ((legal_facts o h eac
         by_run 0 (record { owner = owners.Request w.accepted.number; frame = w.frame }) w.unanswered (inr refl)
     by_owner (inr w) =
         by_run w.run (record { owner = owners.Run w.run; frame = w.frame }) w.unanswered (cases_Bool (r == w.run))
-exchanges_step o h e each may r left = run_exchanges_same h (h ++ e ∷ []) r (sends_same h e refl) (cames_same h e refl)
+exchanges_step o h e each may r left = run_exchanges_same h (h ++ e ∷ []) r (sends-push h e) (cames-push h e)
 
 -- so it stays after an Answer of it
 answered_stays : (r : ℕ) (h more : List Entry) → is_answered r h ≡ true → is_answered r (h ++ more) ≡ true
@@ -76,7 +76,7 @@ exchanges_stay o h (e ∷ more) r each is =
 named_by : (h : List Entry) (n r : ℕ) (fault : Option AgentFault) → is_answered r (h ++ Answer n r fault ∷ []) ≡ true
 named_by h n r fault =
     let b : Answered = record { number = n; run = r; fault = fault } in
-    rw (answered_more h (Answer n r fault) b refl)
+    rw (answers-push h (Answer n r fault))
     (list_any-append (λ x. x.run == r) (answers h) (b ∷ [])
     ∙ rw (eq-eqb r r refl) (or_true (list_any (λ x. x.run == r) (answers h))))
   where
@@ -91,7 +91,7 @@ ended o h each before back n r fault is =
     ap (run_exchanges r) (is ∙ sym (append_assoc before (e ∷ []) back))
     ∙ exchanges_stay o (before ++ e ∷ []) back r (rw (append_assoc before (e ∷ []) back, ← is) each)
     (named_by before n r fault)
-    ∙ run_exchanges_same before (before ++ e ∷ []) r (sends_same before e refl) (cames_same before e refl)
+    ∙ run_exchanges_same before (before ++ e ∷ []) r (sends-push before e) (cames-push before e)
   where
     e : Entry
     e = Answer n r fault

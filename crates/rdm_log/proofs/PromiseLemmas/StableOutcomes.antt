@@ -10,22 +10,9 @@ use Rattle.rdm_log.proofs.PromiseLemmas.StableResults.{contains_from_get, IsFini
 use Rattle.rdm_log.proofs.PromiseLemmas.StableResults.{uncollected_answer}
 use Rattle.rdm_log.proofs.PromiseLemmas.OwnAnswers.{finished_stays}
 use Rattle.rdm_log.proofs.PromiseLemmas.RunsAnswer.{exchanges_stay}
+use Rattle.rdm_log.proofs.PromiseLemmas.OutcomeLemmas.{named}
 
--- the run of an Answer is answered
-pub named_in : (h : List Entry) (j n r : ℕ) (fault : Option AgentFault) → slice_get h j ≡ Some (Answer n r fault)
-    → is_answered r h ≡ true
-unfolding answers
-named_in h j n r fault at = by_index (filter_map_has answered_of h j (Answer n r fault) b at refl)
-  where
-    b : Answered
-    b = record { number = n; run = r; fault = fault }
-
-    by_index : (i : ℕ) × (slice_get (answers h) i ≡ Some b) → is_answered r h ≡ true
-    by_index found =
-        let has : Contains (answers h) b = contains_from_get (answers h) found.0 b found.1 in
-        list_any_at (λ x. x.run == r) (answers h) has.0 b has.1 (rw has.2 (eq-eqb r r refl))
-
--- and so its devices don't change
+-- the devices of an answered run don't change
 pub devices_stay : (o : Opening) (h more : List Entry) (r : ℕ) → EachAfter (MayFollow o) (h ++ more)
     → is_answered r h ≡ true → answer_devices r (h ++ more) ≡ answer_devices r h
 devices_stay o h more r each is = rw (exchanges_stay o h more r each is) refl
@@ -46,4 +33,4 @@ outcome_stays o h more c i x each at = by_kind (uncollected_answer o h (legal_fa
         (ap (λ (ds : List Device).
         Some (DiscoveryValue (Some f.number) (record { run = f.run; fault = f.fault; devices = ds })))
         (devices_stay o h more f.run each
-        (named_in h found.0 f.number f.run f.fault (found.1 ∙ ap (λ y. Some y) f.is))))
+        (named h found.0 f.number f.run f.fault (found.1 ∙ ap (λ y. Some y) f.is))))

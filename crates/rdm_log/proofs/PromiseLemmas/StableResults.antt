@@ -7,14 +7,14 @@ use Rattle.rdm_log.proofs.Common.{sending_of, came_of, finishes, result, is_clie
 use Rattle.rdm_log.proofs.Common.{collects_by, uncollected, MayFollow, AgentFault}
 use Rattle.rdm_log.specs.declared.entry.Owner.TheVariants as owners
 use Rattle.rdm_log.proofs.LogLemmas.Indices.{slice_get-drop, filter_map_has}
-use Rattle.rdm_log.proofs.LogLemmas.PushLemmas.{sends_same, cames_same}
+use Rattle.rdm_log.proofs.LogLemmas.PushLemmas.{sends-push, cames-push}
 use Rattle.rdm_log.proofs.LogLemmas.ExchangeLemmas.{result_same, result_sent, result_came_other}
 use Rattle.rdm_log.proofs.LogLemmas.LegalFacts.{LogFacts, IsAwaited, IsRunAwaited, legal_facts, unfinished_number}
 use Rattle.rdm_log.proofs.LogLemmas.LegalFacts.{sent_evenly}
 
 result_other : (h : List Entry) (e : Entry) (n : ℕ) → sending_of e ≡ None → came_of e ≡ None
     → result n (h ++ e ∷ []) ≡ result n h
-result_other h e n send came = result_same h (h ++ e ∷ []) n (sends_same h e send) (cames_same h e came)
+result_other h e n send came = result_same h (h ++ e ∷ []) n (rw send at (sends-push h e)) (rw came at (cames-push h e))
 
 -- an entry changes no result but the oldest unfinished request's
 pub result_step : (o : Opening) (h : List Entry) (e : Entry) → EachAfter (MayFollow o) h → MayFollow o h e → (n : ℕ)

@@ -40,6 +40,7 @@ pub fn failing_run_is_explained()
 {}
 
 /// If a log explains the answers to a list of events, it explains each of them at its index.
+#[tactic(auto, using(crate::proofs::PromiseLemmas::ExplainsLemmas::answered_at))]
 pub fn each_event_is_answered()
     ensures { (old : LogState) (es : List Event) (rs : List Answer) (new : LogState) → Explains old es rs new
         → (i : ℕ) (event : Event) (answer : Answer) → slice_get es i ≡ Some event → slice_get rs i ≡ Some answer

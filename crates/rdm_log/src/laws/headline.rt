@@ -16,17 +16,20 @@ ghost use Rattle.rdm_log.specs.promises.EventsHeadline.{EventsPromised};
 
 /// Each accepted request is finished with exactly one result: never with two, and with one once the queue is closed
 /// and no reply is awaited.
+#[tactic(auto, using(crate::proofs::PromiseLemmas::OneResult::one_result))]
 pub fn exactly_one_result()
     ensures { (o : Opening) (h : List Entry) → Legal o h → OneResult o h }
 {}
 
 /// Each frame that is sent for a request is that request's packet, with the transaction number of its index among all
 /// frames.
+#[tactic(auto, using(crate::proofs::PromiseLemmas::OwnRequests::own_requests))]
 pub fn own_requests()
     ensures { (o : Opening) (h : List Entry) → Legal o h → OwnRequests o h }
 {}
 
 /// Each result is the joined answer of the request's own exchanges.
+#[tactic(auto, using(crate::proofs::PromiseLemmas::OwnAnswers::own_answers))]
 pub fn joined_answer()
     ensures { (o : Opening) (h : List Entry) → Legal o h → OwnAnswers o h }
 {}
@@ -38,11 +41,13 @@ pub fn first_in_first_out()
 
 /// A request is refused as full only if its client's queue is full, and no request is accepted then. After a refusal's
 /// entry the log says the same about the queue as before.
+#[tactic(auto, using(crate::proofs::PromiseLemmas::FullRefuses::full_refuses))]
 pub fn full_queue_refuses()
     ensures { (o : Opening) (h : List Entry) → Legal o h → FullRefuses o h }
 {}
 
 /// Nothing starts after a close.
+#[tactic(auto, using(crate::proofs::PromiseLemmas::NothingAfterClose::after_close))]
 pub fn nothing_after_close()
     ensures { (o : Opening) (h : List Entry) → Legal o h → NothingAfterClose o h }
 {}
@@ -51,6 +56,7 @@ pub fn nothing_after_close()
 /// GET of it broke off (E1.20, ACK_OVERFLOW): after a GET that broke off, the next one of the same that is answered
 /// whole is flagged. While the queue notes all GETs that broke off, nothing else is. Those that it notes at a log's end
 /// are in the next log's opening.
+#[tactic(auto, using(crate::proofs::PromiseLemmas::FlagLemmas::flags_hold))]
 pub fn flags_hold()
     ensures { (o : Opening) (h : List Entry) → Legal o h → FlagsHold o h }
 {}
@@ -72,6 +78,7 @@ pub fn legal_keeps_promises()
 /// If the exchanges of a run are those of an honest line, its discoveries that are collected without fault have exactly
 /// the devices present. With at most 1,024 devices, no failure and a sufficient budget, they are answered with a fault
 /// only after a close.
+#[tactic(auto, using(crate::proofs::PromiseLemmas::EventsPromises::events_promised))]
 pub fn answers_keep_promises()
     ensures { (old : LogState) (es : List Event) (rs : List Answer) (new : LogState) → Explains old es rs new
         → Legal new.opening new.entries → EventsPromised old es rs new }

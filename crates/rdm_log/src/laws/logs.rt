@@ -43,6 +43,7 @@ pub fn no_send_is_no_legal_send()
 {}
 
 /// A whole log is legal: a join, a request, its frame, silence, its Finish, a Collect, a Close.
+#[tactic(auto, using(crate::proofs::SampleLemmas::SampleLegal::sample))]
 pub fn sample_is_legal()
     ensures { Legal sample_opening closed_log }
 {}

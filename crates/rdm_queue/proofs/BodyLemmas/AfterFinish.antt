@@ -4,7 +4,7 @@ use Rattle.rdm_queue.proofs.Common.{arith, ◌≢◌, ◌⊎◌, ℕ, inl, inr, 
 use Rattle.rdm_queue.proofs.Common.{verdict, Joined, result_of, JoinerStanding, StandsAt, next_op, End, Opening, Entry}
 use Rattle.rdm_queue.proofs.Common.{Came, Close, Awaited, sends, verdicts, result, awaited, is_closed, QueueState}
 use Rattle.rdm_queue.proofs.Common.{StandingAt, hears_run, AwaitsRequest, IsPending, oldest_number, Agrees, StandsAfter}
-use Rattle.rdm_queue.proofs.Common.{StandsAmid, pushed, joins_same, is_paused-push, is_closed-push, LogFacts, IsAwaited}
+use Rattle.rdm_queue.proofs.Common.{StandsAmid, pushed, joins-push, is_paused-push, is_closed-push, LogFacts, IsAwaited}
 use Rattle.rdm_queue.proofs.Common.{IsRunAwaited, legal_facts, unfinished_number}
 use Rattle.rdm_queue.specs.declared.pending.Awaited.TheVariants as awaiting
 use Rattle.rdm_queue.specs.body.State.{Hears, HearsRequest}
@@ -19,9 +19,9 @@ close_amid o h s open_ after = record {
   each = pushed o h Close after.legal.each (after.legal.settled, open_);
   stands = stands_same o h Close s s.places s.paused true s.owed s.flags after.legal.each (after.legal.settled, open_)
       (same_work o h Close refl refl refl refl refl refl)
-      (rw (joins_same h Close refl) after.stands.places_are) (after.stands.paused_is ∙ sym (is_paused-push o h Close))
-      (sym (is_closed-push o h Close)) (λ c. refl) refl (rw (joins_same h Close refl) after.stands.owed_for_each)
-      (λ c. refl) (rw (joins_same h Close refl) after.stands.flags_for_each) after.stands;
+      (rw (joins-push h Close) after.stands.places_are) (after.stands.paused_is ∙ sym (is_paused-push o h Close))
+      (sym (is_closed-push o h Close)) (λ c. refl) refl (rw (joins-push h Close) after.stands.owed_for_each)
+      (λ c. refl) (rw (joins-push h Close) after.stands.flags_for_each) after.stands;
 }
 
 -- the state of the oldest request, if its result is open

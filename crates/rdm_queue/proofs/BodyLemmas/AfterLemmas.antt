@@ -14,7 +14,7 @@ use Rattle.rdm_queue.proofs.Common.{first_join_fault, first_fault, number_for, w
 use Rattle.rdm_queue.proofs.Common.{outstanding_asks, is_discovery, owed_to, joins_client, accepts_work}
 use Rattle.rdm_queue.proofs.Common.{collects_oldest, first_kind, kind_of_value, sent_for, IsPending}
 use Rattle.rdm_queue.proofs.Common.{Agrees, StandsAfter, empty, LogFacts, legal_facts, ClientFacts, client_facts}
-use Rattle.rdm_queue.proofs.Common.{AskFacts, ask_facts, joins_same, is_paused-push, is_closed-push, answers_passed}
+use Rattle.rdm_queue.proofs.Common.{AskFacts, ask_facts, joins-push, is_paused-push, is_closed-push, answers_passed}
 use Rattle.rdm_wire.specs.declared.request.ReqClass.{ReqClass}
 use Rattle.rdm_wire.specs.declared.request.ReqClass.TheVariants as requests
 use Rattle.rdm_wire.specs.Packet.{Fields, Packet}
@@ -32,7 +32,6 @@ use Rattle.rdm_log.specs.declared.work.Work.TheVariants.{Submit, Discover}
 use Rattle.rdm_log.specs.promises.Outcomes.{kind_of_answer}
 use Rattle.rdm_log.specs.promises.Blocks.{IsOldest, call_of, next_number}
 use Rattle.rdm_log.proofs.LogLemmas.ClientFacts.{outstanding_parts, outstanding_discovery_parts}
-use Rattle.rdm_log.proofs.LogLemmas.PushLemmas.{joins_more}
 use Rattle.rdm_log.proofs.LogLemmas.KeepsLegal.{join_keeps, refuse_keeps, collect_keeps, pause_keeps, resume_keeps}
 use Rattle.rdm_log.proofs.LogLemmas.KeepsLegal.{accept_keeps, ask_keeps}
 unfoldable use Rattle.rdm_log.specs.log.Broken.{after_entries}
@@ -73,7 +72,7 @@ first_after setup = record {
     next_ask_is = refl;
     next_run_is = refl;
     asked_are = refl;
-    run_is = record { none_open = refl; none_left = omega arith };
+    run_is = record { none_open = refl; none_left = omega arith; left = λ first. (refl, refl) };
     devices_are = refl;
     devices_run_is = refl;
     owed_for_each = refl;
@@ -100,7 +99,7 @@ join_after o h s c n passes client after = record {
       after.legal.each
       (after.legal.settled, passes, client ∙ ap length after.stands.places_are)
       (same_work o h e refl refl refl refl refl refl)
-      (rw (joins_more h e n refl, after.stands.places_are) (append_assoc o.places.items (joins h) (n ∷ [])))
+      (rw (joins-push h e, after.stands.places_are) (append_assoc o.places.items (joins h) (n ∷ [])))
       (after.stands.paused_is ∙ sym (is_paused-push o h e)) (after.stands.closed_is ∙ sym (is_closed-push o h e))
       (none_owed_more s.owed) (sum_more s.owed) (long s.owed after.stands.owed_for_each) (none_owed_more s.flags)
       (long s.flags after.stands.flags_for_each) after.stands;
@@ -118,7 +117,7 @@ join_after o h s c n passes client after = record {
 
     long : {X : Type 0} (lists : List (List X)) → length lists ≡ length (o.places.items ++ joins h)
         → length (lists ++ [] ∷ []) ≡ length (o.places.items ++ joins (h ++ e ∷ []))
-    long lists same = rw (joins_more h e n refl)
+    long lists same = rw (joins-push h e)
         (let one = length-append lists ([] ∷ []) in let two = length-append o.places.items (joins h ++ n ∷ []) in
         let three = length-append (joins h) (n ∷ []) in let four = length-append o.places.items (joins h) in
         omega arith)
@@ -143,7 +142,7 @@ refused_after o h s c call cause refused after =
     let e = Refuse c call (record { 0 = cause }) in
     refuse_after o h s e (after.legal.settled, refused)
     (refuse_keeps o h c call (record { 0 = cause }) after.legal refused)
-    (same_work o h e refl refl refl refl refl refl) (joins_same h e refl) (is_paused-push o h e)
+    (same_work o h e refl refl refl refl refl refl) (joins-push h e) (is_paused-push o h e)
     (is_closed-push o h e) after
 
 pub join_refused_after : (o : Opening) (h : List Entry) (s : QueueState) (n : ℕ) (fault : JoinFault)
@@ -245,14 +244,14 @@ pub pause_after : (o : Opening) (h : List Entry) (s : QueueState) → can_pause 
     → StandsAfter o (h ++ Pause ∷ []) (record s { paused = true })
 pause_after o h s can after =
     switch_after o h s Pause true (after.legal.settled, can) (pause_keeps o h after.legal can)
-    (same_work o h Pause refl refl refl refl refl refl) (joins_same h Pause refl) (is_paused-push o h Pause)
+    (same_work o h Pause refl refl refl refl refl refl) (joins-push h Pause) (is_paused-push o h Pause)
     (is_closed-push o h Pause) after
 
 pub resume_after : (o : Opening) (h : List Entry) (s : QueueState) → can_resume o h ≡ true → StandsAfter o h s
     → StandsAfter o (h ++ Resume ∷ []) (record s { paused = false })
 resume_after o h s can after =
     switch_after o h s Resume false (after.legal.settled, can) (resume_keeps o h after.legal can)
-    (same_work o h Resume refl refl refl refl refl refl) (joins_same h Resume refl) (is_paused-push o h Resume)
+    (same_work o h Resume refl refl refl refl refl refl) (joins-push h Resume) (is_paused-push o h Resume)
     (is_closed-push o h Resume) after
 
 -- a take

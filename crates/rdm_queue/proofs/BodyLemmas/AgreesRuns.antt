@@ -5,15 +5,15 @@ use Rattle.rdm_queue.proofs.Common.{arith, ◌⊎◌, ◌≢◌, ◌||◌, list_
 use Rattle.rdm_queue.proofs.Common.{length-drop, list_any-append, ArrayVec, EachAfter, LineEvent, Kind, Opening, Entry}
 use Rattle.rdm_queue.proofs.Common.{Send, Came, AskedDiscovery, Sending, asks, sends, cames, answers, is_request}
 use Rattle.rdm_queue.proofs.Common.{unanswered, last_run, MayFollow, QueueState, RunState, IsNotRunning, RunIs}
-use Rattle.rdm_queue.proofs.Common.{oldest_number, Agrees, joins_same, accepts_same, asks_same, answered_same}
-use Rattle.rdm_queue.proofs.Common.{sends_same, sends_more, cames_same, finishes_same, collectors_same, awaited-push}
+use Rattle.rdm_queue.proofs.Common.{oldest_number, Agrees, joins-push, accepts-push, asks-push, answers-push}
+use Rattle.rdm_queue.proofs.Common.{sends-push, cames-push, finishes-push, collectors-push, awaited-push}
 use Rattle.rdm_queue.proofs.Common.{is_paused-push, is_closed-push, unfinished_same, IsUnanswered, verdicts_same}
 use Rattle.rdm_queue.proofs.Common.{verdicts_sent, LogFacts, AskFacts, ClientFacts, last_run_same, last_run_sent}
 use Rattle.rdm_queue.proofs.Common.{outcomes_step, Device, asked_by, next_op, HasRunBy, AgentState, op_frame, End}
 use Rattle.rdm_queue.proofs.Common.{AgentFault, aborted_ends, Answer, has_begun, is_answered, run_exchanges, run_kind}
 use Rattle.rdm_queue.proofs.Common.{known_at_run, devices_run, run_devices, answer_devices, begun, hears_run, answer_of}
 use Rattle.rdm_queue.proofs.Common.{answer_value, answers_oldest, devices_after, devices_run_after, AwaitsRun}
-use Rattle.rdm_queue.proofs.Common.{IsRunning, IsPending, answered_more, unanswered_index, last_begun, served_stays}
+use Rattle.rdm_queue.proofs.Common.{IsRunning, IsPending, unanswered_index, last_begun, served_stays}
 use Rattle.rdm_queue.proofs.Common.{entries_before_run_stays, some_at, asked_stays, all_unserved}
 use Rattle.rdm_log.specs.declared.entry.Owner.TheVariants as owners
 use Rattle.rdm_queue.specs.declared.pending.Awaited.TheVariants as awaiting
@@ -39,8 +39,15 @@ use Rattle.rdm_queue.proofs.Common.{uncollected}
 use Rattle.rdm_log.specs.log.Broken.{Incomplete}
 use Rattle.rdm_log.proofs.LogLemmas.BrokenLemmas.{incomplete_same}
 use Rattle.rdm_log.proofs.PromiseLemmas.IncompleteLemmas.{flags_same}
-use Rattle.rdm_queue.proofs.BodyLemmas.AgreesWork.{unanswered_of, count_more, owed_more, flags_grow}
+use Rattle.rdm_queue.proofs.BodyLemmas.AgreesWork.{counted, unanswered_of, count_more, owed_more, flags_grow}
 use Rattle.rdm_log.proofs.LogLemmas.BegunLemmas.{before_begun, begins_now}
+use Rattle.rdm_queue.proofs.Common.{IsStanding, verdicts, owed_to, outcome_of, filter_map, finishes, collectors, map}
+use Rattle.rdm_log.specs.log.History.{places}
+use Rattle.rdm_queue.specs.body.State.{flags_to, uncollected as uncollected_by}
+use Rattle.rdm_log.specs.log.Broken.{broken_keys, may_be_incomplete}
+use Rattle.rdm_log.proofs.LogLemmas.PushLemmas.{pushes}
+use Rattle.rdm_log.proofs.LogLemmas.RunningLemmas.{run_pushes}
+use Rattle.std.proofs.lemmas.List.{length_push}
 
 -- an agent that asks for more wasn't stopped
 pub not_stopped : {search : Search} (kind : Kind) (known : List ℕ) (budget : ℕ) (aborted : Bool) (x : List Seen)
@@ -60,9 +67,6 @@ way_same n r ss frame =
     or_false : (b : Bool) → (b || false) ≡ b
     or_false true = refl
     or_false false = refl
-
-counted : (n m : ℕ) → ((n + m) % 256 + 1) % 256 ≡ (n + (m + 1)) % 256
-counted n m = omega arith
 
 -- the frame of the open run's next operation is sent
 pub stands_run_send : (o : Opening) (h : List Entry) (s : QueueState) (r : RunState) (frame : ArrayVec ℕ)
@@ -94,21 +98,21 @@ stands_run_send o h s r frame each may even is goes frame_is asks_is stands =
     line : AgreesOnLine o k new
     line = record {
       next_tn_is =
-          rw (sends_more h e x refl, length-append (sends h) (x ∷ []))
+          rw (sends-push h e, length-append (sends h) (x ∷ []))
           (rw stands.next_tn_is (counted o.next_tn (length (sends h))));
       awaited_is = record {
         run = r;
         run_is = is;
         frame = frame;
-        last = record { waits = awaited-push h e; earlier = sends h; sends_are = sends_more h e x refl };
+        last = record { waits = awaited-push h e; earlier = sends h; sends_are = sends-push h e };
         goes_on = goes;
         asks = asks_is;
         same = rw (← stands.source_is) frame_is;
       };
       under_way_is =
-          rw (sends_more h e x refl, finishes_same h e refl)
+          rw (sends-push h e, finishes-push h e)
           (stands.under_way_is ∙ sym (way_same (oldest_number o h) r.number (sends h) frame));
-      standing = rw (finishes_same h e refl, verdicts_sent h (owners.Run r.number) frame (oldest_number o h) even)
+      standing = rw (finishes-push h e, verdicts_sent h (owners.Run r.number) frame (oldest_number o h) even)
           stands.standing;
       next_run_is = rw (last_run_sent h (owners.Run r.number) frame) (stands.next_run_is ∙ rw before.last refl);
       run_is = subst (λ q. RunIs o k new q) (sym is) (record {
@@ -121,12 +125,12 @@ stands_run_send o h s r frame each may even is goes frame_is asks_is stands =
         )
             (not_stopped _ _ _ before.aborted _ s.agent before.has_run goes);
         stopped = λ no. absurd (false≢true no);
-        left = rw (last_run_sent h (owners.Run r.number) frame, answered_same h e refl)
+        left = rw (last_run_sent h (owners.Run r.number) frame, answers-push h e)
             (asked_stays h e (Some r.number) before.last ∙ (rw before.last at before.left));
         some = before.some;
-        earlier = rw (entries_before_run_stays r.number h (e ∷ []) started, answered_same h e refl) before.earlier;
-        ended = rw (answered_same h e refl) before.ended;
-        alike = rw (answered_same h e refl) before.alike;
+        earlier = rw (entries_before_run_stays r.number h (e ∷ []) started, answers-push h e) before.earlier;
+        ended = rw (answers-push h e) before.ended;
+        alike = rw (answers-push h e) before.alike;
         no_request = before.no_request;
       });
     }
@@ -158,7 +162,7 @@ stands_begin o h s frame each may run_facts ask_facts even none way some from st
     x : Sending
     x = record { owner = owners.Run s.next_run; frame = frame }
 
-    before : IsNotRunning o h
+    before : IsNotRunning o h s.agent
     before = rw none at stands.run_is
 
     unbegun : has_begun s.next_run h ≡ false
@@ -177,21 +181,21 @@ stands_begin o h s frame each may run_facts ask_facts even none way some from st
     line : AgreesOnLine o k new
     line = record {
       next_tn_is =
-          rw (sends_more h e x refl, length-append (sends h) (x ∷ []))
+          rw (sends-push h e, length-append (sends h) (x ∷ []))
           (rw stands.next_tn_is (counted o.next_tn (length (sends h))));
       awaited_is = record {
         run = r;
         run_is = refl;
         frame = frame;
-        last = record { waits = awaited-push h e; earlier = sends h; sends_are = sends_more h e x refl };
+        last = record { waits = awaited-push h e; earlier = sends h; sends_are = sends-push h e };
         goes_on = goes;
         asks = asks_is;
         same = rw (← stands.source_is) frame_is;
       };
       under_way_is =
-          rw (sends_more h e x refl, finishes_same h e refl)
+          rw (sends-push h e, finishes-push h e)
           (stands.under_way_is ∙ sym (way_same (oldest_number o h) r.number (sends h) frame));
-      standing = rw (finishes_same h e refl, verdicts_sent h (owners.Run r.number) frame (oldest_number o h) even)
+      standing = rw (finishes-push h e, verdicts_sent h (owners.Run r.number) frame (oldest_number o h) even)
           stands.standing;
       next_run_is = rw (last_run_sent h (owners.Run s.next_run) frame) refl;
       run_is = record {
@@ -212,16 +216,16 @@ stands_begin o h s frame each may run_facts ask_facts even none way some from st
         left = rw (
           last_run_sent h (owners.Run s.next_run) frame,
           before_begun s.next_run h frame unbegun,
-          answered_same h e refl,
+          answers-push h e,
           stands.asked_are,
         )
             (let long = length-drop (length (answers h)) (asks h) in let within = ask_facts.answered_within in
             omega arith);
         some = some;
-        earlier = rw (before_begun s.next_run h frame unbegun, answered_same h e refl) before.none_left;
-        ended = λ named. absurd (false≢true (sym unnamed ∙ rw (answered_same h e refl) at named));
+        earlier = rw (before_begun s.next_run h frame unbegun, answers-push h e) before.none_left;
+        ended = λ named. absurd (false≢true (sym unnamed ∙ rw (answers-push h e) at named));
         alike = λ i b at own. absurd (false≢true
-            (sym unnamed ∙ some_at s.next_run (answers h) i b (rw (answered_same h e refl) at at) own));
+            (sym unnamed ∙ some_at s.next_run (answers h) i b (rw (answers-push h e) at at) own));
         no_request = way;
       };
     }
@@ -265,13 +269,13 @@ stands_run_came o h s tn event each may facts was stands =
 
     line : AgreesOnLine o k new
     line = record {
-      next_tn_is = rw (sends_same h e refl) stands.next_tn_is;
+      next_tn_is = rw (sends-push h e) stands.next_tn_is;
       awaited_is = awaited-push h e;
-      under_way_is = rw (sends_same h e refl, finishes_same h e refl) stands.under_way_is;
-      standing = rw (finishes_same h e refl, verdicts_came_other h _ event (oldest_number o h) x refl) stands.standing;
-      next_run_is = rw (last_run_same h k (sends_same h e refl)) stands.next_run_is;
+      under_way_is = rw (sends-push h e, finishes-push h e) stands.under_way_is;
+      standing = rw (finishes-push h e, verdicts_came_other h _ event (oldest_number o h) x refl) stands.standing;
+      next_run_is = rw (last_run_same h k (sends-push h e)) stands.next_run_is;
       run_is = subst (λ q. RunIs o k new q) (sym w.run_is) (record {
-        last = last_run_same h k (sends_same h e refl) ∙ before.last;
+        last = last_run_same h k (sends-push h e) ∙ before.last;
         aborted = false;
         has_run = rw (
           run_exchanges_came_own h _ event w.run.number x (eq-eqb w.run.number w.run.number refl),
@@ -283,13 +287,13 @@ stands_run_came o h s tn event each may facts was stands =
             (fed s.agent (heard_in (op_frame (next_op s.agent) n tn) (bytes_heard event))))
             (sym stands.source_is) heard);
         stopped = λ no. absurd (false≢true no);
-        left = rw (last_run_same h k (sends_same h e refl), answered_same h e refl)
+        left = rw (last_run_same h k (sends-push h e), answers-push h e)
             (asked_stays h e (last_run h) refl ∙ before.left);
         some = before.some;
-        earlier = rw (entries_before_run_stays w.run.number h (e ∷ []) started, answered_same h e refl) before.earlier;
-        ended = λ named. absurd (w.goes_on (before.ended (rw (answered_same h e refl) at named)));
+        earlier = rw (entries_before_run_stays w.run.number h (e ∷ []) started, answers-push h e) before.earlier;
+        ended = λ named. absurd (w.goes_on (before.ended (rw (answers-push h e) at named)));
         alike = λ i b at own. absurd (w.goes_on
-            (before.ended (some_at w.run.number (answers h) i b (rw (answered_same h e refl) at at) own)));
+            (before.ended (some_at w.run.number (answers h) i b (rw (answers-push h e) at at) own)));
         no_request = before.no_request;
       });
     }
@@ -298,8 +302,8 @@ stands_run_came o h s tn event each may facts was stands =
 pub exchanges_answered : (h : List Entry) (n q : ℕ) (f : Option AgentFault) (r : ℕ)
     → run_exchanges r (h ++ Answer n q f ∷ []) ≡ run_exchanges r h
 exchanges_answered h n q f r =
-    run_exchanges_same h (h ++ Answer n q f ∷ []) r (sends_same h (Answer n q f) refl)
-    (cames_same h (Answer n q f) refl)
+    run_exchanges_same h (h ++ Answer n q f ∷ []) r (sends-push h (Answer n q f))
+    (cames-push h (Answer n q f))
 
 devices_same : (o : Opening) (h : List Entry) (n q : ℕ) (f : Option AgentFault) (last : Option ℕ)
     → devices_of o.devices last (h ++ Answer n q f ∷ []) ≡ devices_of o.devices last h
@@ -313,7 +317,7 @@ without_fault_after : (h : List Entry) (n q : ℕ) (f : Option AgentFault)
       fault = f;
     })
 without_fault_after h n q f =
-    rw (answered_more h (Answer n q f) _ refl) (fold_push if_without_fault None (answers h) (record {
+    rw (answers-push h (Answer n q f)) (fold_push if_without_fault None (answers h) (record {
       number = n;
       run = q;
       fault = f;
@@ -352,56 +356,57 @@ pub stands_answer : (o : Opening) (h : List Entry) (s : QueueState) (a : AskedDi
     → RunIs o (h ++ answer_of a q f ∷ []) (answers_with s a q f found run agent devices devices_from) run
     → Agrees o h s → Agrees o (h ++ answer_of a q f ∷ []) (answers_with s a q f found run agent devices devices_from)
 stands_answer o h s a q f found run agent devices devices_from each may asked_facts clients oldest is idle known from
-    runs stands = record {
-      source_is = stands.source_is;
-      greatest_is = stands.greatest_is;
-      budget_is = stands.budget_is;
-      search_is = stands.search_is;
-      places_are = rw (joins_same h e refl) stands.places_are;
-      paused_is = stands.paused_is ∙ sym (is_paused-push o h e);
-      closed_is = stands.closed_is ∙ sym (is_closed-push o h e);
-      next_request_is = rw (accepts_same h e refl) stands.next_request_is;
-      next_tn_is = rw (sends_same h e refl) stands.next_tn_is;
-      waiting_are = stands.waiting_are ∙ sym (unfinished_same h k (accepts_same h e refl) (finishes_same h e refl));
-      awaited_is = rw idle (awaited-push h e ∙ rw idle at stands.awaited_is);
-      under_way_is = rw (sends_same h e refl, finishes_same h e refl) stands.under_way_is;
-      standing = rw (
-        finishes_same h e refl,
-        verdicts_same h k (oldest_number o h) (sends_same h e refl) (cames_same h e refl),
-      ) stands.standing;
-      next_ask_is = rw (asks_same h e refl) stands.next_ask_is;
-      next_run_is = rw (last_run_same h k (sends_same h e refl)) stands.next_run_is;
-      asked_are = rw (unanswered_answer h e _ refl refl) (ap (drop 1) stands.asked_are);
-      run_is = runs;
-      devices_are = known;
-      devices_run_is = from;
-      owed_for_each = length-set s.owed a.client _ ∙ rw (joins_same h e refl) stands.owed_for_each;
-      outcomes_are =
-          owed_more o h k e s a.client (answer_value a q f found) within
-          (λ c own. answers_answer_own o c h a.number q f a.client client_is own)
-          (λ c other. answers_answer_other o c h a.number q f a.client client_is other) (collectors_same h e refl)
-          clients.collected_within
-          (rw (exchanges_answered h a.number q f q, is) refl)
-          (λ c. stands.outcomes_are c ∙ sym (outcomes_step o h e each may c));
-      all_outcomes =
-          rw (collectors_same h e refl, finishes_same h e refl, answered_more h e _ refl, length-append (answers h) _)
-          (let more = count_more s.owed a.client (answer_value a q f found) within in let all = stands.all_outcomes in
-          omega arith);
-      broken_is = stands.broken_is ∙ ap (λ (i : Incomplete). i.keys) (sym (incomplete_same o h e refl));
-      flags_for_each = length-set s.flags a.client _ ∙ rw (joins_same h e refl) stands.flags_for_each;
-      flags_are =
-          flags_grow o h k e s a.client false flags_within
-          (λ c own. answers_answer_own o c h a.number q f a.client client_is own)
-          (λ c other. answers_answer_other o c h a.number q f a.client client_is other) (collectors_same h e refl)
-          clients.collected_within refl (λ c. stands.flags_are c ∙ sym (flags_same o h e refl (uncollected o c h)));
-      first_run = stands.first_run;
-    }
+    runs stands =
+    let awaits : IsPending o k new s.awaited = rw idle (awaited-push h e ∙ rw idle at stands.awaited_is) in
+    let standing : IsStanding (verdicts (oldest_number o k) k) s.decided s.joiner =
+    rw (finishes-push h e, verdicts_same h k (oldest_number o h) (sends-push h e) (cames-push h e)) stands.standing in
+    let asked : drop 1 s.asked ≡ unanswered k =
+    rw (unanswered_answer h e _ refl refl) (ap (drop 1) stands.asked_are) in
+    let long : length new.owed ≡ length (places o k) =
+    length-set s.owed a.client _ ∙ simp pushes stands.owed_for_each in
+    let outcomes : (c : ℕ) → owed_to c new ≡ filter_map (outcome_of k) (uncollected o c k) =
+    owed_more o h k e s a.client (answer_value a q f found) within
+    (λ c own. answers_answer_own o c h a.number q f a.client client_is own)
+    (λ c other. answers_answer_other o c h a.number q f a.client client_is other) (collectors-push h e)
+    clients.collected_within (rw (exchanges_answered h a.number q f q, is) refl)
+    (λ c. stands.outcomes_are c ∙ sym (outcomes_step o h e each may c)) in
+    let all : uncollected_by new + length (collectors k) ≡ length (finishes k) + length (answers k) =
+    let more = count_more s.owed a.client (answer_value a q f found) within in let all = stands.all_outcomes in
+    simp (pushes, length_push) (omega arith) in
+    let broken : s.broken ≡ broken_keys o k =
+    stands.broken_is ∙ ap (λ (i : Incomplete). i.keys) (sym (incomplete_same o h e refl)) in
+    let flags_long : length new.flags ≡ length (places o k) =
+    length-set s.flags a.client _ ∙ simp pushes stands.flags_for_each in
+    let flags : (c : ℕ) → flags_to c new ≡ map (may_be_incomplete o k) (uncollected o c k) =
+    flags_grow o h k e s a.client false flags_within
+    (λ c own. answers_answer_own o c h a.number q f a.client client_is own)
+    (λ c other. answers_answer_other o c h a.number q f a.client client_is other) (collectors-push h e)
+    clients.collected_within refl (λ c. stands.flags_are c ∙ sym (flags_same o h e refl (uncollected o c h))) in
+    search (
+      run_pushes,
+      awaits,
+      standing,
+      asked,
+      runs,
+      known,
+      from,
+      long,
+      outcomes,
+      all,
+      broken,
+      flags_long,
+      flags,
+      stands,
+    )
   where
     e : Entry
     e = answer_of a q f
 
     k : List Entry
     k = h ++ e ∷ []
+
+    new : QueueState
+    new = answers_with s a q f found run agent devices devices_from
 
     within : a.client < length s.owed
     within = rw stands.owed_for_each (asked_facts.askers (length (answers h) + 0) a (unanswered_index h 0 a oldest))

@@ -4,7 +4,7 @@ use Rattle.rdm_queue.proofs.Common.{refl, sym, ap, ◌∙◌, inl, EachAfter, Op
 use Rattle.rdm_queue.proofs.Common.{asks, sends, cames, finishes, answers, collectors, verdicts, awaited, is_paused}
 use Rattle.rdm_queue.proofs.Common.{is_closed, next_tn, was_sent, answers_to, devices_run, MayFollow, OutcomeValue}
 use Rattle.rdm_queue.proofs.Common.{QueueState, owed_to, IsStanding, IsLast, IsPending, RunIs, oldest_number, Agrees}
-use Rattle.rdm_queue.proofs.Common.{asks_same, answered_same, sends_same, cames_same, finishes_same, collectors_same}
+use Rattle.rdm_queue.proofs.Common.{asks-push, answers-push, sends-push, cames-push, finishes-push, collectors-push}
 use Rattle.rdm_queue.proofs.Common.{awaited-push, verdicts_same, answers_same, outcomes_step, known_step, SameRunning}
 use Rattle.rdm_queue.proofs.Common.{same_running, filter_map, uncollected, outcome_of}
 use Rattle.rdm_queue.specs.declared.pending.Awaited.TheVariants as awaiting
@@ -34,9 +34,9 @@ pub same_work : (o : Opening) (h : List Entry) (e : Entry) → brings_work e ≡
     → SameWork o h (h ++ e ∷ [])
 same_work o h e brings ends send came collect waits = record {
   requests = same_after h e (no_accept e brings) (no_finish e ends) send came waits;
-  same_asks = asks_same h e (no_ask e brings);
+  same_asks = rw (no_ask e brings) at (asks-push h e);
   running = same_running o h e send came (no_reply e ends);
-  same_collectors = collectors_same h e collect;
+  same_collectors = rw collect at (collectors-push h e);
   same_answers_to = λ c. answers_same o c h e brings ends;
   same_incomplete = incomplete_same o h e (no_finish e ends);
 }
@@ -116,9 +116,9 @@ pub record SameLine (o : Opening) (h k : List Entry) : Type 0 where
 pub same_line : (o : Opening) (h : List Entry) (e : Entry) → sending_of e ≡ None → came_of e ≡ None
     → ends_work e ≡ false → awaits_after (awaited h) e ≡ awaited h → SameLine o h (h ++ e ∷ [])
 same_line o h e send came ends waits = record {
-  same_sends = sends_same h e send;
-  same_cames = cames_same h e came;
-  same_finishes = finishes_same h e (no_finish e ends);
+  same_sends = rw send at (sends-push h e);
+  same_cames = rw came at (cames-push h e);
+  same_finishes = rw (no_finish e ends) at (finishes-push h e);
   same_awaited = awaited-push h e ∙ waits;
   running = same_running o h e send came (no_reply e ends);
 }
@@ -148,29 +148,29 @@ pub traded : (o : Opening) (h : List Entry) (e : Entry) (s new : QueueState) →
     → Agrees o (h ++ e ∷ []) (with_line s new)
 traded o h (Send owner frame) s new each may is stands line =
     let e = Send owner frame in
-    let known = stands.devices_are ∙ sym (known_step o h e each may (answered_same h e refl)) in
+    let known = stands.devices_are ∙ sym (known_step o h e each may (answers-push h e)) in
     let outcomes : (c : ℕ) → owed_to c s ≡ filter_map (outcome_of (h ++ e ∷ [])) (uncollected o c (h ++ e ∷ [])) =
-    λ c. rw (answers_same o c h e refl refl, collectors_same h e refl)
+    λ c. rw (answers_same o c h e refl refl, collectors-push h e)
     (stands.outcomes_are c ∙ sym (outcomes_step o h e each may c)) in
     let broken : s.broken ≡ broken_keys o (h ++ e ∷ []) =
     stands.broken_is ∙ ap (λ i. i.keys) (sym (incomplete_same o h e refl)) in
     let flags : (c : ℕ) → flags_to c s ≡ map (may_be_incomplete o (h ++ e ∷ [])) (uncollected o c (h ++ e ∷ [])) =
     λ c. stands.flags_are c
     ∙ sym (flags_kept o h (h ++ e ∷ []) c (incomplete_same o h e refl) (answers_same o c h e refl refl)
-    (collectors_same h e refl)) in
+    (collectors-push h e)) in
     search (pushes, known, outcomes, broken, flags, line, stands)
 traded o h (Came event) s new each may is stands line =
     let e = Came event in
-    let known = stands.devices_are ∙ sym (known_step o h e each may (answered_same h e refl)) in
+    let known = stands.devices_are ∙ sym (known_step o h e each may (answers-push h e)) in
     let outcomes : (c : ℕ) → owed_to c s ≡ filter_map (outcome_of (h ++ e ∷ [])) (uncollected o c (h ++ e ∷ [])) =
-    λ c. rw (answers_same o c h e refl refl, collectors_same h e refl)
+    λ c. rw (answers_same o c h e refl refl, collectors-push h e)
     (stands.outcomes_are c ∙ sym (outcomes_step o h e each may c)) in
     let broken : s.broken ≡ broken_keys o (h ++ e ∷ []) =
     stands.broken_is ∙ ap (λ i. i.keys) (sym (incomplete_same o h e refl)) in
     let flags : (c : ℕ) → flags_to c s ≡ map (may_be_incomplete o (h ++ e ∷ [])) (uncollected o c (h ++ e ∷ [])) =
     λ c. stands.flags_are c
     ∙ sym (flags_kept o h (h ++ e ∷ []) c (incomplete_same o h e refl) (answers_same o c h e refl refl)
-    (collectors_same h e refl)) in
+    (collectors-push h e)) in
     search (pushes, known, outcomes, broken, flags, line, stands)
 traded o h _ s new each may is stands line = cc
 
@@ -190,40 +190,36 @@ pub stands_same : (o : Opening) (h : List Entry) (e : Entry) (s : QueueState) (p
       flags = flags;
     })
 stands_same o h e s ps paused closed owed flags each may work places_are paused_is closed_is owed_same count_same long
-    flags_same flags_long stands = record {
-      source_is = stands.source_is;
-      greatest_is = stands.greatest_is;
-      budget_is = stands.budget_is;
-      search_is = stands.search_is;
-      places_are = places_are;
-      paused_is = paused_is;
-      closed_is = closed_is;
-      next_request_is = rw work.requests.same_accepts stands.next_request_is;
-      next_tn_is = line.next_tn_is;
-      waiting_are = rw (work.requests.same_accepts, work.requests.same_finishes) stands.waiting_are;
-      awaited_is = line.awaited_is;
-      under_way_is = line.under_way_is;
-      standing = line.standing;
-      next_ask_is = rw work.same_asks stands.next_ask_is;
-      next_run_is = line.next_run_is;
-      asked_are = rw (work.same_asks, work.running.same_answers) stands.asked_are;
-      run_is = line.run_is;
-      devices_are = stands.devices_are ∙ sym (known_step o h e each may work.running.same_answers);
-      devices_run_is = devices_run_same o h k s.devices_run work.running.same_answers stands.devices_run_is;
-      owed_for_each = long;
-      outcomes_are =
-          λ c. rw (work.same_answers_to c, work.same_collectors)
-          (owed_same c ∙ (stands.outcomes_are c ∙ sym (outcomes_step o h e each may c)));
-      all_outcomes =
-          rw (work.same_collectors, work.requests.same_finishes, work.running.same_answers)
-          (ap (λ n. n + length (collectors h)) count_same ∙ stands.all_outcomes);
-      broken_is = stands.broken_is ∙ ap (λ i. i.keys) (sym work.same_incomplete);
-      flags_for_each = flags_long;
-      flags_are =
-          λ c. flags_same c ∙ (stands.flags_are c
-          ∙ sym (flags_kept o h k c work.same_incomplete (work.same_answers_to c) work.same_collectors));
-      first_run = stands.first_run;
-    }
+    flags_same flags_long stands =
+    let known = stands.devices_are ∙ sym (known_step o h e each may work.running.same_answers) in
+    let outcomes : (c : ℕ) → owed_to c new ≡ filter_map (outcome_of k) (uncollected o c k) =
+    λ c. rw (work.same_answers_to c, work.same_collectors)
+    (owed_same c ∙ (stands.outcomes_are c ∙ sym (outcomes_step o h e each may c))) in
+    let all : uncollected_by new + length (collectors k) ≡ length (finishes k) + length (answers k) =
+    rw (work.same_collectors, work.requests.same_finishes, work.running.same_answers)
+    (ap (λ n. n + length (collectors h)) count_same ∙ stands.all_outcomes) in
+    let broken : s.broken ≡ broken_keys o k = stands.broken_is ∙ ap (λ i. i.keys) (sym work.same_incomplete) in
+    let flags_are : (c : ℕ) → flags_to c new ≡ map (may_be_incomplete o k) (uncollected o c k) =
+    λ c. flags_same c ∙ (stands.flags_are c
+    ∙ sym (flags_kept o h k c work.same_incomplete (work.same_answers_to c) work.same_collectors)) in
+    search (
+      work.requests.same_accepts,
+      work.requests.same_finishes,
+      work.same_asks,
+      work.running.same_answers,
+      places_are,
+      paused_is,
+      closed_is,
+      known,
+      outcomes,
+      all,
+      broken,
+      long,
+      flags_long,
+      flags_are,
+      line,
+      stands,
+    )
   where
     k : List Entry
     k = h ++ e ∷ []

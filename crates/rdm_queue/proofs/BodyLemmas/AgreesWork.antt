@@ -11,8 +11,8 @@ use Rattle.rdm_queue.proofs.Common.{is_request, is_run, awaited, unfinished, ans
 use Rattle.rdm_queue.proofs.Common.{MayFollow, OutcomeValue, outcome_of, completion_of, QueueState, owed_for, owed_to}
 use Rattle.rdm_queue.proofs.Common.{owed_value, owes, accepts_request, asks_discovery, collects_oldest, finishes_oldest}
 use Rattle.rdm_queue.proofs.Common.{finish_of, IsStanding, sent_for, IsLast, AwaitsRequest, IsNotRunning, oldest_number}
-use Rattle.rdm_queue.proofs.Common.{Agrees, joins_same, accepts_same, asks_same, answered_same, sends_same, sends_more}
-use Rattle.rdm_queue.proofs.Common.{cames_same, finishes_same, collectors_same, awaited-push, is_paused-push}
+use Rattle.rdm_queue.proofs.Common.{Agrees, joins-push, accepts-push, asks-push, answers-push, sends-push}
+use Rattle.rdm_queue.proofs.Common.{cames-push, finishes-push, collectors-push, awaited-push, is_paused-push}
 use Rattle.rdm_queue.proofs.Common.{is_closed-push, index_within, IsUnanswered, verdicts_sent, verdicts_unsent}
 use Rattle.rdm_queue.proofs.Common.{LogFacts, unfinished_number, AskFacts, answers_same, ClientFacts, last_run_same}
 use Rattle.rdm_queue.proofs.Common.{last_run_sent, outcomes_step, known_step, answers_passed, same_running, asked_stays}
@@ -26,19 +26,20 @@ use Rattle.rdm_log.specs.log.Runs.{known_devices}
 use Rattle.rdm_log.specs.log.History.{next_request, next_ask, unanswered, places, awaits_after}
 use Rattle.rdm_log.specs.log.Entries.{sending_of, came_of, answers}
 use Rattle.rdm_queue.specs.body.State.{accepted_as, asked_as, uncollected as uncollected_by}
-use Rattle.rdm_log.proofs.LogLemmas.PushLemmas.{pushes, finishes_more, collectors_more, unfinished_finish}
+use Rattle.rdm_log.proofs.LogLemmas.PushLemmas.{pushes, unfinished_finish}
 use Rattle.rdm_log.proofs.LogLemmas.ExchangeLemmas.{verdicts_came_own, result_same}
 use Rattle.rdm_log.proofs.LogLemmas.LegalFacts.{unfinished_index}
 use Rattle.rdm_log.proofs.LogLemmas.ClientLemmas.{answers_accept, answers_ask, answers_finish_own, answers_finish_other}
 use Rattle.rdm_log.proofs.LogLemmas.ClientLemmas.{client_of_accepted, ends_work, no_reply}
-use Rattle.rdm_log.proofs.LogLemmas.RunLemmas.{SameRuns, same_runs_sent}
+use Rattle.rdm_log.proofs.LogLemmas.RunLemmas.{SameRuns, same_runs_sent, run_exchanges_sent}
 use Rattle.rdm_log.proofs.PromiseLemmas.OutcomeLemmas.{uncollected_more, outcomes_rest}
 use Rattle.rdm_queue.proofs.BodyLemmas.OutstandingLemmas.{in_all, in_all-cons, removed_at, put_at, owes-own, owes-other}
 use Rattle.rdm_log.proofs.LogLemmas.RunningLemmas.{same_running_came}
-use Rattle.rdm_queue.proofs.BodyLemmas.RunningLemmas.{run_same}
+use Rattle.rdm_queue.proofs.BodyLemmas.RunningLemmas.{run_same, left_pushed}
 use Rattle.rdm_queue.proofs.BodyLemmas.AgreesSame.{devices_run_same, AgreesOnLine, with_line, same_line, line_same}
 use Rattle.rdm_queue.proofs.BodyLemmas.AgreesSame.{traded, flags_kept}
-use Rattle.rdm_queue.proofs.Common.{map, map-append, option_and_then, Status, set}
+use Rattle.rdm_queue.proofs.Common.{map, map-append, option_and_then, Status, set, IsPending, RunIs, was_sent}
+use Rattle.rdm_log.proofs.LogLemmas.RunningLemmas.{run_pushes}
 use Rattle.std.proofs.lemmas.List.{drop-map}
 use Rattle.rdm_join.specs.declared.status.Status.TheVariants.{Completed}
 use Rattle.rdm_log.specs.declared.broken.AnswerKey.{AnswerKey}
@@ -63,7 +64,7 @@ kept : (o : Opening) (h : List Entry) (e : Entry) (s new : QueueState) → EachA
     → Agrees o h s → Kept o h (h ++ e ∷ []) s new
 kept o h e s new each may send came ends waits stands = record {
   line = line_same o h (h ++ e ∷ []) s new (same_line o h e send came ends waits) stands;
-  devices_are = stands.devices_are ∙ sym (known_step o h e each may (answered_same h e (no_reply e ends)));
+  devices_are = stands.devices_are ∙ sym (known_step o h e each may (rw (no_reply e ends) at (answers-push h e)));
   outcomes = outcomes_step o h e each may;
   same_incomplete = incomplete_same o h e (no_finish e ends);
   broken_is = stands.broken_is ∙ ap (λ i. i.keys) (sym (incomplete_same o h e (no_finish e ends)));
@@ -82,12 +83,12 @@ stands_accept o h s c n request each may facts ask_facts number stands =
     let waiting : s.waiting ++ accepted_as s c.0 request ∷ [] ≡ unfinished k =
     simp (pushes, drop-append-le, number) (ap (λ l. l ++ accepted_as s c.0 request ∷ []) stands.waiting_are) in
     let outcomes : (d : ℕ) → owed_to d s ≡ filter_map (outcome_of k) (uncollected o d k) =
-    λ d. rw (answers_accept o d h facts ask_facts c n request, collectors_same h (Accept c n request) refl)
+    λ d. rw (answers_accept o d h facts ask_facts c n request, collectors-push h (Accept c n request))
     (stands.outcomes_are d ∙ sym (rest.outcomes d)) in
     let flags : (d : ℕ) → flags_to d s ≡ map (may_be_incomplete o k) (uncollected o d k) =
     λ d. stands.flags_are d
     ∙ sym (flags_kept o h k d rest.same_incomplete (answers_accept o d h facts ask_facts c n request)
-    (collectors_same h (Accept c n request) refl)) in
+    (collectors-push h (Accept c n request))) in
     search (pushes, next, waiting, outcomes, flags, rest.line, rest, stands)
 
 -- a discovery is asked
@@ -102,15 +103,18 @@ stands_ask o h s c n kind each may facts ask_facts number stands =
     let asked : s.asked ++ asked_as s c.0 kind ∷ [] ≡ unanswered k =
     simp (pushes, drop-append-le, number) (ap (λ l. l ++ asked_as s c.0 kind ∷ []) stands.asked_are) in
     let outcomes : (d : ℕ) → owed_to d s ≡ filter_map (outcome_of k) (uncollected o d k) =
-    λ d. rw (answers_ask o d h facts ask_facts c n kind, collectors_same h (Ask c n kind) refl)
+    λ d. rw (answers_ask o d h facts ask_facts c n kind, collectors-push h (Ask c n kind))
     (stands.outcomes_are d ∙ sym (rest.outcomes d)) in
     let flags : (d : ℕ) → flags_to d s ≡ map (may_be_incomplete o k) (uncollected o d k) =
     λ d. stands.flags_are d
     ∙ sym (flags_kept o h k d rest.same_incomplete (answers_ask o d h facts ask_facts c n kind)
-    (collectors_same h (Ask c n kind) refl)) in
+    (collectors-push h (Ask c n kind))) in
     search (pushes, next, asked, outcomes, flags, rest.line, rest, stands)
 
 -- a request's frame is sent
+pub counted : (n m : ℕ) → ((n + m) % 256 + 1) % 256 ≡ (n + (m + 1)) % 256
+counted n m = omega arith
+
 pub was_sent_own : (n : ℕ) (ss : List Sending) (frame : ArrayVec ℕ)
     → list_any (λ (x : Sending). is_request n x.owner) (ss ++ record { owner = owners.Request n; frame = frame } ∷ [])
     ≡ true
@@ -141,32 +145,29 @@ stands_send o h s a frame each may even number sent none stands =
     x : Sending
     x = record { owner = owners.Request a.number; frame = frame }
 
-    before : IsNotRunning o h
+    before : IsNotRunning o h s.agent
     before = rw none at stands.run_is
 
     runs : SameRuns h k
     runs = same_runs_sent h a.number frame even
 
-    counted : (n m : ℕ) → ((n + m) % 256 + 1) % 256 ≡ (n + (m + 1)) % 256
-    counted n m = omega arith
-
     line : AgreesOnLine o k new
     line = record {
       next_tn_is =
-          rw (sends_more h e x refl, length-append (sends h) (x ∷ []))
+          rw (sends-push h e, length-append (sends h) (x ∷ []))
           (rw stands.next_tn_is (counted o.next_tn (length (sends h))));
       awaited_is = record {
         frame = frame;
         last = record {
           waits = awaited-push h e;
           earlier = sends h;
-          sends_are = rw (finishes_same h e refl, ← number) (sends_more h e x refl);
+          sends_are = rw (finishes-push h e, ← number) (sends-push h e);
         };
         same = sent;
       };
       under_way_is =
-          rw (sends_more h e x refl, finishes_same h e refl, ← number) (sym (was_sent_own a.number (sends h) frame));
-      standing = rw (finishes_same h e refl, verdicts_sent h (owners.Request a.number) frame (oldest_number o h) even)
+          rw (sends-push h e, finishes-push h e, ← number) (sym (was_sent_own a.number (sends h) frame));
+      standing = rw (finishes-push h e, verdicts_sent h (owners.Request a.number) frame (oldest_number o h) even)
           stands.standing;
       next_run_is = rw (last_run_sent h (owners.Request a.number) frame) stands.next_run_is;
       run_is = rw none (record {
@@ -174,8 +175,11 @@ stands_send o h s a frame each may even number sent none stands =
         none_left = rw (
           last_run_sent h (owners.Request a.number) frame,
           asked_stays h e (last_run h) refl,
-          answered_same h e refl,
+          answers-push h e,
         ) before.none_left;
+        left = rw (last_run_sent h (owners.Request a.number) frame)
+            (left_pushed o h e s.agent (last_run h) refl
+            (λ r. run_exchanges_sent h (owners.Request a.number) frame r even) before.left);
       });
     }
 
@@ -226,11 +230,11 @@ stands_came o h s sent event decided joiner each may facts was standing stands =
 
     line : AgreesOnLine o k new
     line = record {
-      next_tn_is = rw (sends_same h e refl) stands.next_tn_is;
+      next_tn_is = rw (sends-push h e) stands.next_tn_is;
       awaited_is = awaited-push h e;
-      under_way_is = rw (sends_same h e refl, finishes_same h e refl) stands.under_way_is;
-      standing = rw (finishes_same h e refl) (rw (came_verdicts o h sent event facts w x) standing);
-      next_run_is = rw (last_run_same h k (sends_same h e refl)) stands.next_run_is;
+      under_way_is = rw (sends-push h e, finishes-push h e) stands.under_way_is;
+      standing = rw (finishes-push h e) (rw (came_verdicts o h sent event facts w x) standing);
+      next_run_is = rw (last_run_same h k (sends-push h e)) stands.next_run_is;
       run_is =
           run_same o h k s new s.run (same_running_came o h (oldest_number o h) w.frame event x) refl (inl refl)
           stands.run_is;
@@ -289,7 +293,7 @@ stands_collect o h s c d each may first stands =
 
     collects : (client : ℕ) → collects_by client k ≡ collects_by client h ++ filter (λ b. client == b) (c.0 ∷ [])
     collects client =
-        ap (λ l. filter (λ b. client == b) l) (collectors_more h e c.0 refl)
+        ap (λ l. filter (λ b. client == b) l) (collectors-push h e)
         ∙ filter-append (λ b. client == b) (collectors h) (c.0 ∷ [])
 
     outcomes : (client : ℕ)
@@ -439,49 +443,54 @@ pub stands_finish : (o : Opening) (h : List Entry) (s : QueueState) (a : Accepte
     → ClientFacts o h → unfinished h ≡ a ∷ rest → done ≡ completion_of done.status (result a.number h)
     → s.awaited ≡ None → s.run ≡ None → Agrees o h s
     → Agrees o (h ++ finish_of (owed_for done a) ∷ []) (finishes_oldest s (owed_for done a))
-stands_finish o h s a rest done each may facts clients oldest completes idle none stands = record {
-  source_is = stands.source_is;
-  greatest_is = stands.greatest_is;
-  budget_is = stands.budget_is;
-  search_is = stands.search_is;
-  places_are = rw (joins_same h e refl) stands.places_are;
-  paused_is = stands.paused_is ∙ sym (is_paused-push o h e);
-  closed_is = stands.closed_is ∙ sym (is_closed-push o h e);
-  next_request_is = rw (accepts_same h e refl) stands.next_request_is;
-  next_tn_is = rw (sends_same h e refl) stands.next_tn_is;
-  waiting_are = rw (unfinished_finish h a.number done.status (length done.data_)) (ap (drop 1) stands.waiting_are);
-  awaited_is = rw idle (awaited-push h e ∙ rw idle at stands.awaited_is);
-  under_way_is = sym (none_sent (oldest_number o k) (sends k) unsent);
-  standing = rw (verdicts_unsent k (oldest_number o k) unsent) (refl, refl);
-  next_ask_is = rw (asks_same h e refl) stands.next_ask_is;
-  next_run_is = rw (last_run_same h k (sends_same h e refl)) stands.next_run_is;
-  asked_are = rw (asks_same h e refl, answered_same h e refl) stands.asked_are;
-  run_is = run_same o h k s new s.run (same_running o h e refl refl refl) refl (inr refl) stands.run_is;
-  devices_are = stands.devices_are ∙ sym (known_step o h e each may (answered_same h e refl));
-  devices_run_is = devices_run_same o h k s.devices_run (answered_same h e refl) stands.devices_run_is;
-  owed_for_each = length-set s.owed a.client _ ∙ rw (joins_same h e refl) stands.owed_for_each;
-  outcomes_are =
-      owed_more o h k e s a.client (owed_value (owed_for done a)) within
-      (λ c own. answers_finish_own o c h a.number done.status (length done.data_) a.client client_is own)
-      (λ c other. answers_finish_other o c h a.number done.status (length done.data_) a.client client_is other)
-      (collectors_same h e refl) clients.collected_within
-      (ap (λ (j : Joined). Some (owed_value (owed_for j a)))
-      (ap (λ q. completion_of done.status q) (result_same h k a.number (sends_same h e refl) (cames_same h e refl))
-      ∙ sym completes)) (λ c. stands.outcomes_are c ∙ sym (outcomes_step o h e each may c));
-  all_outcomes =
-      rw (collectors_same h e refl, finishes_more h e _ refl, answered_same h e refl, length-append (finishes h) _)
-      (let more = count_more s.owed a.client (owed_value (owed_for done a)) within in
-      let all = stands.all_outcomes in omega arith);
-  broken_is = broken_so;
-  flags_for_each = length-set s.flags a.client _ ∙ rw (joins_same h e refl) stands.flags_for_each;
-  flags_are =
-      flags_grow o h k e s a.client (flag_at_end s done) flags_within
-      (λ c own. answers_finish_own o c h a.number done.status (length done.data_) a.client client_is own)
-      (λ c other. answers_finish_other o c h a.number done.status (length done.data_) a.client client_is other)
-      (collectors_same h e refl) clients.collected_within flag_so
-      (λ c. stands.flags_are c ∙ sym (flags_finish o h a.number done.status (length done.data_) each may c));
-  first_run = stands.first_run;
-}
+stands_finish o h s a rest done each may facts clients oldest completes idle none stands =
+    let waiting : drop 1 s.waiting ≡ unfinished k =
+    rw (unfinished_finish h a.number done.status (length done.data_)) (ap (drop 1) stands.waiting_are) in
+    let awaits : IsPending o k new s.awaited = rw idle (awaited-push h e ∙ rw idle at stands.awaited_is) in
+    let way : false ≡ was_sent (oldest_number o k) k = sym (none_sent (oldest_number o k) (sends k) unsent) in
+    let standing : IsStanding (verdicts (oldest_number o k) k) new.decided new.joiner =
+    rw (verdicts_unsent k (oldest_number o k) unsent) (refl, refl) in
+    let runs : RunIs o k new s.run =
+    run_same o h k s new s.run (same_running o h e refl refl refl) refl (inr refl) stands.run_is in
+    let known : s.devices ≡ known_devices o k =
+    stands.devices_are ∙ sym (known_step o h e each may (answers-push h e)) in
+    let long : length new.owed ≡ length (places o k) =
+    length-set s.owed a.client _ ∙ simp pushes stands.owed_for_each in
+    let outcomes : (c : ℕ) → owed_to c new ≡ filter_map (outcome_of k) (uncollected o c k) =
+    owed_more o h k e s a.client (owed_value (owed_for done a)) within
+    (λ c own. answers_finish_own o c h a.number done.status (length done.data_) a.client client_is own)
+    (λ c other. answers_finish_other o c h a.number done.status (length done.data_) a.client client_is other)
+    (collectors-push h e) clients.collected_within
+    (ap (λ (j : Joined). Some (owed_value (owed_for j a)))
+    (ap (λ q. completion_of done.status q) (result_same h k a.number (sends-push h e) (cames-push h e))
+    ∙ sym completes)) (λ c. stands.outcomes_are c ∙ sym (outcomes_step o h e each may c)) in
+    let all : uncollected_by new + length (collectors k) ≡ length (finishes k) + length (answers k) =
+    let more = count_more s.owed a.client (owed_value (owed_for done a)) within in
+    let all = stands.all_outcomes in simp (pushes, length_push) (omega arith) in
+    let flags_long : length new.flags ≡ length (places o k) =
+    length-set s.flags a.client _ ∙ simp pushes stands.flags_for_each in
+    let flags : (c : ℕ) → flags_to c new ≡ map (may_be_incomplete o k) (uncollected o c k) =
+    flags_grow o h k e s a.client (flag_at_end s done) flags_within
+    (λ c own. answers_finish_own o c h a.number done.status (length done.data_) a.client client_is own)
+    (λ c other. answers_finish_other o c h a.number done.status (length done.data_) a.client client_is other)
+    (collectors-push h e) clients.collected_within flag_so
+    (λ c. stands.flags_are c ∙ sym (flags_finish o h a.number done.status (length done.data_) each may c)) in
+    search (
+      run_pushes,
+      waiting,
+      awaits,
+      way,
+      standing,
+      runs,
+      known,
+      long,
+      outcomes,
+      all,
+      broken_so,
+      flags_long,
+      flags,
+      stands,
+    )
   where
     e : Entry
     e = finish_of (owed_for done a)
@@ -508,8 +517,8 @@ stands_finish o h s a rest done each may facts clients oldest completes idle non
             → is_request (oldest_number o k) x.owner ≡ false
         by_test (inr other) = other
         by_test (inl own) =
-            absurd (past (facts.sent_oldest i x (rw (sends_same h e refl) at at) (oldest_number o k) own)
-            (ap length (finishes_more h e _ refl) ∙ length-append (finishes h) _))
+            absurd (past (facts.sent_oldest i x (rw (sends-push h e) at at) (oldest_number o k) own)
+            (ap length (finishes-push h e) ∙ length-append (finishes h) _))
           where
             past : {n : ℕ} → o.next_request + n ≤ oldest_number o h → n ≡ length (finishes h) + 1 → ⊥
             past p q = omega arith

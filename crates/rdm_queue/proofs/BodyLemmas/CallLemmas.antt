@@ -27,7 +27,7 @@ use Rattle.rdm_queue.specs.body.State.{kind_of_value}
 use Rattle.rdm_queue.proofs.BodyLemmas.EndLemmas.{ends_amid, ends_in_bound_amid, settled_after}
 use Rattle.rdm_queue.specs.body.Agrees.{ForEachBlock, Ends, FinishesAll}
 use Rattle.rdm_queue.specs.promises.EachLog.{ForEachLog, StandsWith, AddsToEach}
-use Rattle.rdm_queue.proofs.BodyLemmas.RingLemmas.{all_push}
+use Rattle.rdm_agent.proofs.Pushes.{All-push}
 use Rattle.rdm_queue.proofs.BodyLemmas.TakeLemmas.{take_after, none_after}
 use Rattle.rdm_queue.proofs.BodyLemmas.AfterLemmas.{join_fault_is, join_after, join_refused_after, first_fault_is}
 use Rattle.rdm_queue.proofs.BodyLemmas.AfterLemmas.{number_is, work_after, work_refused_after, oldest_after}
@@ -233,7 +233,7 @@ one_more_ended k None s new some ends so_far = absurd (false≢true some)
 one_more_ended k (Some entry) s new some ends so_far =
     let here = ends.each (grown k so_far.0) so_far.3 in (
       so_far.0 ++ entry ∷ [],
-      all_push (λ r. is_result r ≡ true) so_far.0 entry so_far.1 ends.is,
+      All-push (λ r. is_result r ≡ true) so_far.0 entry so_far.1 ends.is,
       block_more k so_far.0 entry so_far.2 here.0,
       rw (← append_assoc k.entries so_far.0 (entry ∷ [])) here.1,
     )

@@ -11,7 +11,7 @@ use Rattle.rdm_queue.proofs.Common.{asked_before, run_kind, known_at_run, run_ex
 use Rattle.rdm_queue.proofs.Common.{QueueState, RunState, due, end_of_oldest, owed_next, owed_for, is_closing}
 use Rattle.rdm_queue.proofs.Common.{stopped_at, agent_at_end, answer_of, HasNothingDue, IsEnded, ByRun, ByResult}
 use Rattle.rdm_queue.proofs.Common.{ByClose, IsRunning, IsNotRunning, RunIs, RunGoesOn, oldest_number, Agrees}
-use Rattle.rdm_queue.proofs.Common.{StandsAfter, StandsAmid, pushed, all_from_indices, answered_more, sends_same}
+use Rattle.rdm_queue.proofs.Common.{StandsAfter, StandsAmid, pushed, all_from_indices, answers-push, sends-push}
 use Rattle.rdm_queue.proofs.Common.{LogFacts, legal_facts, later_unsent, unfinished_number, ask_facts, client_facts}
 use Rattle.rdm_queue.proofs.Common.{last_run_same, agent_goes_on, some_at, asked_stays, asked_fewer, all_unserved}
 use Rattle.rdm_agent.specs.declared.op.Op.TheVariants as ops
@@ -26,10 +26,13 @@ use Rattle.rdm_queue.specs.body.Ending.{AnswersUnserved, NothingToEnd}
 use Rattle.rdm_log.proofs.LogLemmas.ExchangeLemmas.{result_unsent}
 use Rattle.rdm_queue.proofs.BodyLemmas.AfterLemmas.{pending_flag}
 use Rattle.rdm_queue.proofs.BodyLemmas.AgreesRuns.{not_stopped, answers_with, stands_answer, known_kept, run_after}
+use Rattle.rdm_queue.proofs.BodyLemmas.AgreesRuns.{exchanges_answered}
+use Rattle.rdm_queue.proofs.BodyLemmas.RunningLemmas.{left_pushed}
 use Rattle.rdm_queue.proofs.BodyLemmas.TakeLemmas.{not_running, running, run_opened}
 use Rattle.rdm_queue.proofs.BodyLemmas.EndRequests.{undecided, finish_amid}
 use Rattle.rdm_queue.proofs.BodyLemmas.EndRuns.{at_end, ended_same, answer_amid, and_left, and_right}
 use Rattle.rdm_log.proofs.LogLemmas.BegunLemmas.{in_order, all_answered, none_begun}
+use Rattle.rdm_log.proofs.LogLemmas.KeyLemmas.{from_not}
 
 -- a close that finds no request to finish finds none
 closing_end : (decided : Option Joined) (closing : Bool) → closing ≡ true
@@ -51,15 +54,11 @@ none_waits s closing none = by_end (none_due (end_of_oldest s) s.waiting none)
     by_end (inl empty) = empty
     by_end (inr end) = absurd (closing_end s.decided (is_closing s) closing end)
 
-flag_idle : (b : Bool) → not b ≡ true → b ≡ false
-flag_idle true is = absurd (false≢true is)
-flag_idle false is = refl
-
 closed_of : (o : Opening) (h : List Entry) (s : QueueState) → is_closing s ≡ true → Agrees o h s → is_closed o h ≡ true
 closed_of o h s closing stands = sym stands.closed_is ∙ and_left s.closed (not (is_some s.awaited)) closing
 
 idle_of : (s : QueueState) → is_closing s ≡ true → is_some s.awaited ≡ false
-idle_of s closing = flag_idle (is_some s.awaited) (and_right s.closed (not (is_some s.awaited)) closing)
+idle_of s closing = from_not (is_some s.awaited) (and_right s.closed (not (is_some s.awaited)) closing)
 
 -- the oldest discovery, which no run serves, is answered at a close
 pub unserved_amid : (o : Opening) (h : List Entry) (s new : QueueState) (entry : Entry) → s.run ≡ None → due s ≡ None
@@ -82,7 +81,7 @@ unserved_amid o h s new entry none none_left answers_ amid = rw (answers_.entry_
     k : List Entry
     k = h ++ e ∷ []
 
-    before : IsNotRunning o h
+    before : IsNotRunning o h s.agent
     before = not_running o h s none amid.stands
 
     oldest : slice_get (unanswered h) 0 ≡ Some a
@@ -110,7 +109,7 @@ unserved_amid o h s new entry none none_left answers_ amid = rw (answers_.entry_
     }
 
     same_last : last_run k ≡ last_run h
-    same_last = last_run_same h k (sends_same h e refl)
+    same_last = last_run_same h k (sends-push h e)
 
     still_none : (last : Option ℕ) → unless_answered last h ≡ None → unless_answered last k ≡ None
     still_none None is = refl
@@ -118,7 +117,7 @@ unserved_amid o h s new entry none none_left answers_ amid = rw (answers_.entry_
       where
         by_named : (is_answered r h ≡ true) ⊎ (is_answered r h ≡ false) → unless_answered (Some r) k ≡ None
         by_named (inl named) =
-            rw (answered_more h e _ refl, list_any-append (λ (b : Answered). b.run == r) (answers h) _, named) refl
+            rw (answers-push h e, list_any-append (λ (b : Answered). b.run == r) (answers h) _, named) refl
         by_named (inr not) = absurd (none-some r (sym (rw not at is)))
 
     next : QueueState
@@ -130,7 +129,10 @@ unserved_amid o h s new entry none none_left answers_ amid = rw (answers_.entry_
           none_open = rw same_last (still_none (last_run h) before.none_open);
           none_left = rw (same_last, asked_stays h e (last_run h) refl)
               (let old = before.none_left in
-              let grown = ap (λ l. length l) (answered_more h e _ refl) ∙ length-append (answers h) _ in omega arith);
+              let grown = ap (λ l. length l) (answers-push h e) ∙ length-append (answers h) _ in omega arith);
+          left = rw same_last
+              (left_pushed o h e s.agent (last_run h) refl (exchanges_answered h a.number 0 (Some Aborted))
+              before.left);
         })
 
 -- whatever is ended
@@ -228,7 +230,7 @@ settled_idle o h s none none_left asked amid = record {
     facts : LogFacts o h
     facts = legal_facts o h amid.each
 
-    before : IsNotRunning o h
+    before : IsNotRunning o h s.agent
     before = not_running o h s none amid.stands
 
     by_end : (s.waiting ≡ []) ⊎ (end_of_oldest s ≡ None) → (i : ℕ) (a : Accepted) → slice_get (unfinished h) i ≡ Some a

@@ -10,7 +10,7 @@ use Rattle.rdm_queue.proofs.Common.{run_devices, run_kind, known_at_run, answer_
 use Rattle.rdm_queue.proofs.Common.{RunState, is_closing, stopped_at, agent_at_end, answer_of, one_less, devices_after}
 use Rattle.rdm_queue.proofs.Common.{devices_run_after, AwaitsRequest, AwaitsRun, IsPending, IsRunning, RunIs}
 use Rattle.rdm_queue.proofs.Common.{oldest_number, Agrees, StandsAmid, pushed, all_from_indices, slice_get-drop}
-use Rattle.rdm_queue.proofs.Common.{answered_more, sends_same, is_closed-push, awaited-push, ask_facts}
+use Rattle.rdm_queue.proofs.Common.{answers-push, sends-push, is_closed-push, awaited-push, ask_facts}
 use Rattle.rdm_queue.proofs.Common.{unanswered_index, client_facts, run_facts, last_begun, last_run_same, served_stays}
 use Rattle.rdm_queue.proofs.Common.{entries_before_run_stays, some_at, asked_stays}
 use Rattle.std.proofs.lemmas.Map.Keys.{any_passes_from_place}
@@ -255,16 +255,16 @@ answer_amid o h s r a is end first amid = record {
         (λ none. absurd (omega (arith, none, ((run_facts o h amid.each).begun_below r.number begun).0)))) found_run
 
     same_last : last_run k ≡ last_run h
-    same_last = last_run_same h k (sends_same h e refl)
+    same_last = last_run_same h k (sends-push h e)
 
     asked_same : asked_before (last_run k) k ≡ length (answers h) + r.left
     asked_same = rw same_last (asked_stays h e (last_run h) refl ∙ run.left)
 
     more : length (answers k) ≡ length (answers h) + 1
-    more = ap (λ l. length l) (answered_more h e _ refl) ∙ length-append (answers h) _
+    more = ap (λ l. length l) (answers-push h e) ∙ length-append (answers h) _
 
     named : is_answered r.number k ≡ true
-    named = rw (answered_more h e _ refl)
+    named = rw (answers-push h e)
         (list_any-append (λ (b : Answered). b.run == r.number) (answers h) _
         ∙ rw (eq-eqb r.number r.number refl) (or_true (list_any (λ (b : Answered). b.run == r.number) (answers h))))
       where
@@ -278,12 +278,20 @@ answer_amid o h s r a is end first amid = record {
         (devices_after f (agent_at_end s).found s.devices) (devices_run_after f r.number s.devices_run)
 
     alike : (i : ℕ) (b : Answered) → slice_get (answers k) i ≡ Some b → b.run ≡ r.number → b.fault ≡ f
-    alike i b at own = by_index (slice_get-push (answers h) _ i b (rw (answered_more h e _ refl) at at))
+    alike i b at own = by_index (slice_get-push (answers h) _ i b (rw (answers-push h e) at at))
       where
         by_index : (slice_get (answers h) i ≡ Some b)
             ⊎ IsPushed (answers h) (record { number = a.number; run = r.number; fault = f }) i b → b.fault ≡ f
         by_index (inl before) = alike_at_end o h s r run i b before own
         by_index (inr pushed_) = ap (λ (x : Answered). x.fault) pushed_.is
+
+    ran : HasRunBy o.search (run_kind r.number k) (known_at_run o r.number k) o.budget ends.aborted
+        (run_exchanges r.number k) (agent_at_end s)
+    ran = rw (
+      served_stays r.number h (e ∷ []) begun,
+      entries_before_run_stays r.number h (e ∷ []) begun,
+      exchanges_answered h a.number r.number f r.number,
+    ) ends.has_run
 
     left_over : RunIs o k (new (one_less r)) (one_less r)
     left_over = by_left (nat_lt 1 r.left) refl
@@ -294,11 +302,7 @@ answer_amid o h s r a is end first amid = record {
         by_left true t = record {
           last = same_last ∙ run.last;
           aborted = ends.aborted;
-          has_run = rw (
-            served_stays r.number h (e ∷ []) begun,
-            entries_before_run_stays r.number h (e ∷ []) begun,
-            exchanges_answered h a.number r.number f r.number,
-          ) ends.has_run;
+          has_run = ran;
           stopped = λ no. (
             is_closed-push o h e ∙ ends.closed no,
             awaited-push h e
@@ -316,4 +320,5 @@ answer_amid o h s r a is end first amid = record {
         by_left false t = record {
           none_open = rw (same_last, run.last, named) refl;
           none_left = let last = ltb-false 1 r.left t in let grown = more in let asked = asked_same in omega arith;
+          left = rw (same_last, run.last) (record { aborted = ends.aborted; has_run = ran });
         }

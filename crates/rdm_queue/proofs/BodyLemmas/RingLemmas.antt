@@ -147,11 +147,6 @@ all_set P [] i x all one = tt
 all_set P (y ∷ xs) zero x all one = (one, all.1)
 all_set P (y ∷ xs) (suc i) x all one = (all.0, all_set P xs i x all.1 one)
 
-pub all_push : {X : Type 0} (P : X → Type 0) (xs : List X) (x : X) → AllByRecursion P xs → P x
-    → AllByRecursion P (xs ++ x ∷ [])
-all_push P [] x all one = (one, tt)
-all_push P (y ∷ xs) x all one = (all.0, all_push P xs x all.1 one)
-
 pub places_stayed : (clients : List Client) (i : ℕ) (k l : Client) → slice_get clients i ≡ Some k → l.places ≡ k.places
     → places_of (set clients i l) ≡ places_of clients
 places_stayed [] i k l at same = refl

@@ -24,7 +24,8 @@ use Rattle.rdm_queue.proofs.BodyLemmas.OutstandingLemmas.{both_kinds, fours}
 use Rattle.rdm_queue.proofs.BodyLemmas.ValueLemmas.{length-values, discoveries-values, values-request, values-discovery}
 use Rattle.rdm_queue.proofs.BodyLemmas.ValueLemmas.{sets-finish, sets-answer, few_discoveries, kind_first}
 use Rattle.rdm_queue.proofs.BodyLemmas.RingLemmas.{ring_of, ring_within, ring_changed, ring_stayed, shares_more}
-use Rattle.rdm_queue.proofs.BodyLemmas.RingLemmas.{shares_push, shares_rest, same_sizes, all_set, all_push}
+use Rattle.rdm_queue.proofs.BodyLemmas.RingLemmas.{shares_push, shares_rest, same_sizes, all_set}
+use Rattle.rdm_agent.proofs.Pushes.{All-push}
 
 -- a client joins
 pub rings-join : (s : QueueState) (clients : List Client) (k : Client) (places : ℕ) → RingsInvariant s clients
@@ -32,8 +33,8 @@ pub rings-join : (s : QueueState) (clients : List Client) (k : Client) (places :
 rings-join s clients k places rings fresh = record {
   waiting = shares_more (λ a. a.client) waiting_ring clients k s.waiting
       (λ i. ap (λ l. map (accepted_is i) l) fresh.none_waiting) rings.waiting;
-  sizes = all_push HasRings clients k rings.sizes fresh.rings;
-  sets = all_push HasSets clients k rings.sets (rw (fresh.none_owed, fresh.no_sets) refl);
+  sizes = All-push HasRings clients k rings.sizes fresh.rings;
+  sets = All-push HasSets clients k rings.sets (rw (fresh.none_owed, fresh.no_sets) refl);
 }
 
 -- a client's request is accepted

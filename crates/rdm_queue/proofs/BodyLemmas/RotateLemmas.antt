@@ -20,6 +20,7 @@ use Rattle.rdm_queue.proofs.BodyLemmas.AfterLemmas.{none_owed_after}
 use Rattle.rdm_queue.specs.body.State.{opening_of, uncollected}
 use Rattle.rdm_queue.proofs.BodyLemmas.OutstandingLemmas.{in_all, in_all-cons}
 use Rattle.rdm_queue.proofs.BodyLemmas.AgreesWork.{none_sent}
+use Rattle.rdm_queue.proofs.BodyLemmas.RunningLemmas.{none_before}
 
 -- nothing is left
 pub record IsAtRest (h : List Entry) : Type 0 where
@@ -130,7 +131,11 @@ rotated o h s idle after = record {
     next_ask_is = omega (arith, stands.next_ask_is);
     next_run_is = stands.next_run_is;
     asked_are = stands.asked_are ∙ rest.answered;
-    run_is = rw none (record { none_open = refl; none_left = omega arith });
+    run_is = rw none (record {
+      none_open = refl;
+      none_left = omega arith;
+      left = none_before o h s (run_facts o h after.legal.each) stands;
+    });
     devices_are = stands.devices_are;
     devices_run_is = stands.devices_run_is;
     owed_for_each = rw append-nil stands.owed_for_each;

@@ -18,6 +18,7 @@ use Rattle.rdm_queue.specs.body.SessionInvariant.{HasRoom, FinishesDue}
 use Rattle.rdm_log.proofs.BoundLemmas.{after_growth}
 use Rattle.rdm_log.proofs.PromiseLemmas.LogInBoundLemmas.{in_bound_grows}
 use Rattle.rdm_log.proofs.LogLemmas.RoomLemmas.{added, added_by, used_block}
+use Rattle.rdm_log.proofs.PromiseLemmas.ExplainsLemmas.{grown_twice}
 
 -- a block within the free entries
 room_grown : (k : LogState) (block : List Entry) → HasRoom k → EachAfter (MayFollow k.opening) (k.entries ++ block)
@@ -105,9 +106,6 @@ work_in_bound k c n (Discover kind) = (tt, tt)
 -- a log that grew by nothing
 pub grown_none : (k : LogState) → k ≡ grown k []
 grown_none k = ap (λ (l : List Entry). record k { entries = l }) (sym (append-nil k.entries))
-
-pub grown_twice : (k : LogState) (a b : List Entry) → grown (grown k a) b ≡ grown k (a ++ b)
-grown_twice k a b = ap (λ (l : List Entry). record k { entries = l }) (append_assoc k.entries a b)
 
 pub all_results_more : (block : List Entry) (e : Entry) → AllResults block → is_result e ≡ true
     → AllResults (block ++ e ∷ [])

@@ -86,7 +86,8 @@ frame_in_order (ops.Branch range) s tn before frame is ordered goes = record {
 frame_in_order ops.End s tn before frame is ordered goes = absurd (goes refl)
 
 -- no run is open, and none has an answer left to give
-pub not_running : (o : Opening) (h : List Entry) (s : QueueState) → s.run ≡ None → Agrees o h s → IsNotRunning o h
+pub not_running : (o : Opening) (h : List Entry) (s : QueueState) → s.run ≡ None → Agrees o h s
+    → IsNotRunning o h s.agent
 not_running o h s none stands = subst (λ q. RunIs o h s q) none stands.run_is
 
 pub running : (o : Opening) (h : List Entry) (s : QueueState) (r : RunState) → s.run ≡ Some r → Agrees o h s
@@ -196,7 +197,7 @@ begins o h s owner frame new gives after = record {
   from_one = from (last_run h) refl;
 }
   where
-    none : IsNotRunning o h
+    none : IsNotRunning o h s.agent
     none = not_running o h s gives.no_run after.stands
 
     turn : (s.under_way ≡ false) × ((length s.asked == 0) ≡ false)

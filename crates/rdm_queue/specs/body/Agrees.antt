@@ -83,13 +83,24 @@ pub record IsRunning (o : Opening) (h : List Entry) (s : QueueState) (r : RunSta
   -- no request is between two parts
   pub no_request : s.under_way ≡ false
 
+-- a run has made its exchanges with this agent, which a close may have stopped
+pub record HasLeft (o : Opening) (h : List Entry) (r : ℕ) (agent : AgentState) : Type 0 where
+  pub aborted : Bool
+  pub has_run : HasRunBy o.search (run_kind r h) (known_at_run o r h) o.budget aborted (run_exchanges r h) agent
+
+-- the last run has left this agent; before the first run of all it has set no UID apart
+abbrev pub LastLeft : Opening → List Entry → AgentState → Option ℕ → Type 0
+LastLeft o h agent None = o.next_run ≡ 1 → (agent.apart ≡ []) × (agent.more ≡ false)
+LastLeft o h agent (Some r) = HasLeft o h r agent
+
 -- each run that has begun has given all its answers
-pub record IsNotRunning (o : Opening) (h : List Entry) : Type 0 where
+pub record IsNotRunning (o : Opening) (h : List Entry) (agent : AgentState) : Type 0 where
   pub none_open : open_run h ≡ None
   pub none_left : asked_before (last_run h) h ≤ length (answers h)
+  pub left : LastLeft o h agent (last_run h)
 
 abbrev pub RunIs : Opening → List Entry → QueueState → Option RunState → Type 0
-RunIs o h s None = IsNotRunning o h
+RunIs o h s None = IsNotRunning o h s.agent
 RunIs o h s (Some r) = IsRunning o h s r
 
 -- what a queue holds is what the log says

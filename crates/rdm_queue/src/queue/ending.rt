@@ -10,7 +10,6 @@ use crate::queue::Queue;
 use rdm_agent::{AgentFault, Op};
 use rdm_join::{Joiner, LineEvent, Sent, Status, Step, judge};
 use rdm_log::{AnswerKey, Completion, Entry};
-use rdm_wire::DeviceSet;
 use std::alloc::Global;
 
 impl Queue {
@@ -169,12 +168,7 @@ impl Queue {
             return None;
         }
         let asked = self.asked.remove(0);
-        self.clients[usize::from(asked.client.0)].answer(
-            asked.number,
-            0,
-            Some(AgentFault::Aborted),
-            &DeviceSet::new(),
-        );
+        self.clients[usize::from(asked.client.0)].answer_aborted(asked.number);
         Some(Entry::Answer {
             number: asked.number,
             run: 0,

@@ -16,8 +16,8 @@ use rdm_reports::Outcomes;
 use std::alloc::Global;
 use std::sync::Wait;
 use std::sync::atomic::{AtomicBool, Ordering};
+use std::thread;
 use std::thread::{Threads, join_mut};
-use std::{mem, thread};
 
 type Client<'a, L> = LockedClient<'a, L, RequestTicket, AskTicket>;
 
@@ -254,7 +254,7 @@ impl<'p, 'c, L: Ledger> Caller<'p, 'c, L> {
     fn call<R: Wait>(&mut self, rt: &R, alloc: Global, stop: &AtomicBool)
         ensures in_turns { (self.new.outcomes.turns ≤ self.old.turns) ⊎ (self.new.outcomes ≡ self.old.outcomes) }
     {
-        let Some(mut client) = mem::replace(&mut self.client, None) else {
+        let Some(mut client) = self.client.take() else {
             return;
         };
         let watch = Asleep { rt, stop };

@@ -20,7 +20,7 @@ pub fn check_eq<T: PartialEq + Debug + Drop>(rt: &impl Abort, got: T, expected: 
 
 /// The bytes that a text gives in hexadecimal.
 pub fn bytes_of(rt: &impl Abort, alloc: Global, text: &str) -> Vec<u8> {
-    hex::decode(alloc, text).ok().expect(rt, "hexadecimal")
+    hex::decode(alloc, text).expect(rt, "hexadecimal")
 }
 
 /// Those bytes as a frame.

@@ -93,7 +93,10 @@ fn runs_requests(rt: &impl Abort, alloc: Global, times: usize) -> bool {
         rt,
         answers.len() == times.saturating_mul(4).saturating_add(1),
     );
-    let is_joined = !matches!(answers.get(0), Some(Answer::Join(Err(JoinFault::NoMemory))));
+    let is_joined = !matches!(
+        answers.first(),
+        Some(Answer::Join(Err(JoinFault::NoMemory)))
+    );
     let wanted = if is_joined {
         times.saturating_mul(2)
     } else {

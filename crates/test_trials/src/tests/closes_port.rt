@@ -50,7 +50,7 @@ fn act(index: usize) -> Act {
         2 => Act::Client(0, Step::Discover(Kind::Full, 0)),
         3 => Act::Client(0, Step::Discover(Kind::Incremental, 1)),
         5 => Act::Resume,
-        17 | 18 | 19 => Act::Client(0, Step::Collect),
+        17..=19 => Act::Client(0, Step::Collect),
         _ => Act::Work(1),
     }
 }
@@ -59,8 +59,8 @@ fn act(index: usize) -> Act {
 fn wanted(index: usize, closing: Closing) -> Heard {
     match index {
         0 | 5 => Heard::Done,
-        1 | 2 | 3 => call(index, index >= closing.before),
-        17 | 18 | 19 => due(closing.exchanges, closing.accepted)[index % 17 % 3],
+        1..=3 => call(index, index >= closing.before),
+        17..=19 => due(closing.exchanges, closing.accepted)[index % 17 % 3],
         _ => Heard::Worked(Stop::Turns),
     }
 }

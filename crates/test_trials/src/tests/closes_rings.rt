@@ -43,7 +43,7 @@ fn exchanges_before(index: usize) -> usize {
 fn accepted_before(index: usize) -> usize {
     match index {
         0 => 1,
-        1 | 2 | 3 | 4 | 5 => 2,
+        1..=5 => 2,
         _ => 3,
     }
 }

@@ -18,7 +18,7 @@ fn act(index: usize) -> Act {
         2 => Act::Client(0, Step::Discover(Kind::Full, 0)),
         3 => Act::Client(0, Step::Discover(Kind::Incremental, 1)),
         5 => Act::Resume,
-        28 | 29 | 30 => Act::Client(0, Step::Collect),
+        28..=30 => Act::Client(0, Step::Collect),
         _ if index % 2 == 0 => Act::Take,
         _ => Act::Deliver,
     }
@@ -33,8 +33,8 @@ fn frames_before(index: usize) -> usize {
 fn wanted(index: usize, close_at: usize) -> Heard {
     match index {
         0 | 5 => Heard::Done,
-        1 | 2 | 3 => call(index, index >= close_at),
-        28 | 29 | 30 => {
+        1..=3 => call(index, index >= close_at),
+        28..=30 => {
             let due = due(frames_before(close_at), accepted_before(close_at));
             due[index % 28 % 3]
         }

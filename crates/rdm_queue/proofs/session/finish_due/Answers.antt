@@ -1,6 +1,7 @@
 use Rattle.rdm_queue.proofs.Common.{◌++◌, ◌∷◌, [], ap, ◌∙◌, grown, FaultNeedsClose, block_more}
-use Rattle.rdm_queue.proofs.BodyLemmas.SessionLemmas.{amid_grown, result_added, grown_twice, all_results_more}
+use Rattle.rdm_queue.proofs.BodyLemmas.SessionLemmas.{amid_grown, result_added, all_results_more}
 use Rattle.rdm_queue.proofs.session.finish_due.Goals as goal
+use Rattle.rdm_log.proofs.PromiseLemmas.ExplainsLemmas.{grown_twice}
 
 pub loop-entry-preserved : goal.loop-entry-preserved
 loop-entry-preserved c =

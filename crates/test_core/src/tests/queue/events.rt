@@ -61,7 +61,7 @@ fn is_right(index: usize, answer: &Answer) -> bool {
 fn each_event_has_the_answer_of_its_call(rt: HostRuntime) {
     let mut session = session_without_clients(&rt, rt.alloc(), 1, 100);
     let made = session.run(rt.alloc(), &events(&rt, rt.alloc()));
-    let answers = made.ok().expect(&rt, "the memory of the answers");
+    let answers = made.expect(&rt, "the memory of the answers");
     check_eq(&rt, answers.len(), 9);
     for (index, answer) in answers.iter().enumerate() {
         check(&rt, is_right(index, answer));

@@ -34,13 +34,13 @@ pub fn log(rt: &impl Abort, alloc: Global, free: usize) -> Log
     ensures { result.entries ≡ [] }
 {
     let made = Log::new(alloc, free.min(1_000_000));
-    made.ok().expect(rt, "the memory of a log")
+    made.expect(rt, "the memory of a log")
 }
 
 /// A session of that controller, whose log has this many free entries.
 pub fn session_without_clients(rt: &impl Abort, alloc: Global, places: u8, free: usize) -> Session {
     let made = Session::new(alloc, quick(u16::from(places)), log(rt, alloc, free));
-    made.ok().expect(rt, "the memory of a session")
+    made.expect(rt, "the memory of a session")
 }
 
 /// Such a session, with a client that has the whole capacity.

@@ -54,7 +54,7 @@ fn turn<J: ViewHistory, R: Wait>(
 ) -> Result<Page, Fail> {
     let mut line = TapeLine::new(Vec::new(alloc));
     if worker.work(alloc, &mut line, 1) != WorkerEnd::Turns {
-        return Err("another end")?;
+        return Err(Fail::from("another end"));
     }
     match worker.drain(Vec::with_capacity(alloc, 20)?) {
         Ok(page) => Ok(page),
@@ -68,7 +68,7 @@ fn pages<J: ViewHistory, R: Wait>(
     worker: &mut ViewWorker<J, Shown<J>, &R>,
 ) -> Result<[Page; 2], Fail> {
     if worker.drain(Vec::new(alloc)).is_ok() {
-        return Err("no memory was needed")?;
+        return Err(Fail::from("no memory was needed"));
     }
     Ok([turn(alloc, worker)?, turn(alloc, worker)?])
 }

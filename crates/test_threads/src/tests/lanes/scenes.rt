@@ -112,7 +112,7 @@ fn views<R: Threads + Wait + Sync>(rt: &R, alloc: Global, line: SimLine) -> Resu
     player_heard(viewer, 1, &[before, Heard::Done, BOTH, Heard::Done])?;
     let is_read = over.left.iter().all(|left| left.run == 1);
     if !is_read || over.published != 2 || over.state.counts.frames != (23, 0) {
-        return Err("another view or frame")?;
+        return Err(Fail::from("another view or frame"));
     }
     Ok(before)
 }

@@ -11,8 +11,8 @@ use std::alloc::Global;
 use std::marker::Brand;
 use std::sync::Wait;
 use std::test::Fail;
+use std::thread;
 use std::thread::{Threads, join_mut};
-use std::{mem, thread};
 use test_rig::{Heard, NOTHING_KEPT, Note, cancels, config, log, request, silent, told};
 use test_stage::{PortClient, TRIES};
 
@@ -66,7 +66,7 @@ struct Seat<'a, L: Ledger> {
 
 // Takes the client out of the seat, and lets it ask and leave.
 fn sits<L: Ledger, R: Wait>(rt: &R, alloc: Global, seat: &mut Seat<'_, L>) {
-    let Some(mut client) = mem::replace(&mut seat.client, None) else {
+    let Some(mut client) = seat.client.take() else {
         return;
     };
     seat.right = asks(rt, &mut client);

@@ -7,6 +7,8 @@ returns-in-Some c = record {
   phase = search rules;
   search = refl;
   found = refl;
+  apart = refl;
+  more = refl;
   consistent = rw c.fresh_search.ensures (
     (omega arith, omega arith, omega arith, IsStack-pop c.requires.0 _ _ (rw c.in-Some.ensures at c.requires.1)),
     tt,

@@ -12,6 +12,8 @@ returns-in-Some c =
       phase = search rules;
       search = refl;
       found = refl;
+      apart = refl;
+      more = refl;
       consistent = rw c.fresh_search.ensures
           ((omega arith, omega arith, omega arith, rw c.push.ensures halves.0), tt);
     }

@@ -1,5 +1,9 @@
 use Rattle.rdm_agent.proofs.Common.{◌≡◌, ◌+◌, length, refl, ap, ◌∙◌, Device, Phase, AgentState, to_found, counted}
-use Rattle.rdm_agent.proofs.Common.{sweep_on, believed_found, device_from, state_of, seen_phase, rules}
+use Rattle.rdm_agent.proofs.Common.{sweep_on, device_from, state_of, seen_phase, rules}
+use Rattle.rdm_agent.proofs.Common.{eq-eqb, Silent, TRIES}
+use Rattle.rdm_agent.proofs.Moved.{moved-goes_on}
+use Rattle.rdm_agent.specs.Machine.{found_belief}
+use Rattle.rdm_agent.specs.declared.phase.Phase.TheVariants.{MutingSwept}
 use Rattle.rdm_agent.proofs.run_state.RunState.swept_muted.Goals as goal
 
 pub returns-in-Some-clause-goes_on : goal.returns-in-Some-clause-goes_on
@@ -15,11 +19,20 @@ returns-in-Some-clause-goes_on c = record {
   where
     onward : seen_phase c.sweep_on-onward.result c.args.self.now
         ≡ sweep_on (counted c.args.sweep) 0 0 (length c.args.self.now.found + 1)
-        (believed_found c.args.sweep.question.part c.args.sweep.question.range c.args.sweep.belief)
+        (found_belief c.args.sweep.question.part c.args.uid c.args.self.now.apart c.args.sweep)
     onward = rw (
       c.requires.1,
       c.sweep_on-onward.ensures.phase c.args.self.now.known,
       c.counted-counted.ensures,
-      c.found-belief.ensures.value,
-      c.len-found.ensures.value,
+      c.found_belief-belief.ensures.value,
+      c.len.ensures.value,
     ) refl
+
+pub returns-in-5-clause-goes_on : goal.returns-in-5-clause-goes_on
+returns-in-5-clause-goes_on c = rw c.in_default.is
+    (moved-goes_on Silent (MutingSwept c.args.uid c.args.tries c.args.spare c.args.sweep) _ _ _ _ c.sweep_apart.ensures
+    (λ budget frames. rw (
+      c.suspecting.ensures.value,
+      c.counted-counted.ensures,
+      eq-eqb (c.args.tries + 1) TRIES c.in-5.is,
+    ) refl))

@@ -4,7 +4,7 @@ use Rattle.rdm_queue.proofs.BodyLemmas.FieldLemmas.{written}
 use Rattle.rdm_queue.proofs.BodyLemmas.RingFields.{AreClientsOf, own_clients}
 use Rattle.rdm_queue.proofs.BodyLemmas.AnswerLemmas.{nonempty, oldest_asked, asked_rest, asked_within, CanAnswer}
 use Rattle.rdm_queue.proofs.BodyLemmas.AnswerLemmas.{can_answer, serves_none, clients-answer}
-use Rattle.rdm_queue.proofs.queue.Queue.answer_unserved.Goals.{After-new}
+use Rattle.rdm_queue.proofs.queue.Queue.answer_unserved.Goals.{After-index-deref_mut-from}
 use Rattle.rdm_queue.proofs.queue.Queue.answer_unserved.Goals as goal
 
 pub bounds-deref_mut-from : goal.bounds-deref_mut-from
@@ -18,13 +18,13 @@ bounds-deref_mut-from c =
     omega arith
 
 -- the oldest discovery, its client, and the capacity for its answer
-abbrev asked : After-new → AskedDiscovery
+abbrev asked : After-index-deref_mut-from → AskedDiscovery
 asked c = asked_is c.remove-asked.result
 
-abbrev client : After-new → Client
+abbrev client : After-index-deref_mut-from → Client
 client c = get_or c.deref_mut.result.now c.from.result c.index-deref_mut-from.result
 
-can : (c : After-new)
+can : (c : After-index-deref_mut-from)
     → CanAnswer (state_of c.self.inside) c.self.inside.clients.items (asked c) (client c)
 can c =
     let some = nonempty c.self.inside.asked.items (sym c.is_empty.ensures ∙ c.if-is_empty.false) in
@@ -33,14 +33,17 @@ can c =
     (oldest_asked c.self.inside c.remove-asked.result some c.remove-asked.ensures.value)
     c.from.ensures c.deref_mut.ensures.value
 
-pub answer-requires-clause-sets : goal.answer-requires-clause-sets
-answer-requires-clause-sets c = (can (goal.at.answer-requires-clause-sets c).After-new).sets
+pub answer_aborted-requires-clause-sets : goal.answer_aborted-requires-clause-sets
+answer_aborted-requires-clause-sets c =
+    (can (goal.at.answer_aborted-requires-clause-sets c).After-index-deref_mut-from).sets
 
-pub answer-requires-clause-room : goal.answer-requires-clause-room
-answer-requires-clause-room c = (can (goal.at.answer-requires-clause-room c).After-new).room
+pub answer_aborted-requires-clause-room : goal.answer_aborted-requires-clause-room
+answer_aborted-requires-clause-room c =
+    (can (goal.at.answer_aborted-requires-clause-room c).After-index-deref_mut-from).room
 
-pub answer-requires-clause-set_room : goal.answer-requires-clause-set_room
-answer-requires-clause-set_room c = (can (goal.at.answer-requires-clause-set_room c).After-new).set_room
+pub answer_aborted-requires-clause-set_room : goal.answer_aborted-requires-clause-set_room
+answer_aborted-requires-clause-set_room c =
+    (can (goal.at.answer_aborted-requires-clause-set_room c).After-index-deref_mut-from).set_room
 
 -- the queue and its clients after the answer
 abbrev next : goal.After-self-1 → QueueState
@@ -50,14 +53,14 @@ next c =
     }
 
 answered : (c : goal.After-self-1)
-    → AreClientsOf (next c) (set c.self.inside.clients.items c.from.result c.answer.new.self)
+    → AreClientsOf (next c) (set c.self.inside.clients.items c.from.result c.answer_aborted.new.self)
 answered c =
-    let before = can (goal.at.invariant_of-self c).After-new in
-    clients-answer (state_of c.self.inside) c.self.inside.clients.items c.from.result _ c.answer.new.self
+    let before = can (goal.at.invariant_of-self c).After-index-deref_mut-from in
+    clients-answer (state_of c.self.inside) c.self.inside.clients.items c.from.result _ c.answer_aborted.new.self
     (asked_is c.remove-asked.result) 0 (Some Aborted) [] None (own_clients c.self.inside c.self.invariant) before
     (serves_none (state_of c.self.inside) (asked_is c.remove-asked.result) (rw (← c.self.view_is) at c.requires)
     before.oldest)
-    c.from.ensures (rw c.new.ensures at c.answer.ensures)
+    c.from.ensures c.answer_aborted.ensures
 
 pub invariant_of-self : goal.invariant_of-self
 invariant_of-self c =
@@ -65,7 +68,7 @@ invariant_of-self c =
     let are = answered c in
     let none : (state_of c.self.inside).run ≡ None = rw (← c.self.view_is) at c.requires in
     rw (
-      written clients c.deref_mut.result.now c.from.result c.answer.new.self c.deref_mut.ensures.value,
+      written clients c.deref_mut.result.now c.from.result c.answer_aborted.new.self c.deref_mut.ensures.value,
       are.places,
       are.waiting,
       are.owed,
@@ -82,11 +85,11 @@ returns-clause-ended c =
     record {
       closing = sym c.is_closing.ensures ∙ c.if-not-is_closing.false;
       asked = asked_is c.remove-asked.result;
-      oldest = rw (← c.self.view_is) (can (goal.at.returns-clause-ended c).After-new).oldest;
+      oldest = rw (← c.self.view_is) (can (goal.at.returns-clause-ended c).After-index-deref_mut-from).oldest;
       entry_is = refl;
       new_is = rw (← c.self.view_is)
           (rw (
-            written clients c.deref_mut.result.now c.from.result c.answer.new.self c.deref_mut.ensures.value,
+            written clients c.deref_mut.result.now c.from.result c.answer_aborted.new.self c.deref_mut.ensures.value,
             are.places,
             are.waiting,
             are.owed,
