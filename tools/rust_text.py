@@ -27,7 +27,7 @@ PASSED_OVER = ("space", "comment")
 # Calls and macros that take an allocator or the runtime, whose names are taken in Rust: the words that name one, how
 # many of them are replaced, the crate that has it, and its name in the module for that crate.
 RENAMED = {
-    "Box": [(("::", "new", "("), 3, "std", "boxed::new"), (("::", "into_inner", "("), 3, "std", "boxed::into_inner")],
+    "Box": [(("::", "new", "("), 3, "std", "boxed::new")],
     "Value": [(("::", "from_slice", "("), 3, "serde_json", "from_slice")],
     "Formatter": [(("<", "W", ">"), 4, "", "Formatter<'_>")],
     # The allocator of a collection's type: there is one.
@@ -202,7 +202,7 @@ class Eraser:
         rule = self.rules.get(word) if kind in ("word", "mark") else None
         if kind == "comment":
             self.comment(word)
-        elif kind in ("word", "mark") and (self.call() or self.path(word)):
+        elif kind in ("word", "mark") and (self.call() or self.path(word)) or kind == "life" and self.label():
             return
         elif rule is None or not rule():
             self.copy()
@@ -230,6 +230,21 @@ class Eraser:
             return False
         self.skip()
         self.write(self.paths[word])
+        return True
+
+    def label(self) -> bool:
+        """Deletes a loop's label that nothing in the loop names: it is for the proof."""
+        label = self.tokens[self.at]
+        if self.peek(1) != ":" or self.peek(2) not in ("for", "while", "loop"):
+            return False
+        depth = 0
+        for kind, word in self.tokens[self.at + 1:]:
+            if (kind, word) == label:
+                return False
+            depth += (kind == "mark") * ((word == "{") - (word == "}"))
+            if word == "}" and not depth:
+                break
+        self.skip(2)
         return True
 
     def clause(self) -> bool:

@@ -159,6 +159,23 @@ class Builds(unittest.TestCase):
         self.assertEqual(self.waiting(errors), 1)
         self.assertEqual(sum(" run " in call for call in self.clone.rt_calls()), 1)
 
+    def test_a_change_that_keeps_size_and_time_is_built(self) -> None:
+        """What the contents sum up to is kept, once the last change is some seconds ago."""
+        source = self.clone.root / "crates/rdm_wire/src/lib.rt"
+        self.assertEqual(self.builds(), 1)
+        wait_for(lambda: self.builds() == 1 and (self.clone.root / "out/sources").exists())
+        before = source.stat()
+        source.write_text(source.read_text().replace("one", "two"))
+        os.utime(source, ns=(before.st_atime_ns, before.st_mtime_ns))
+        self.assertEqual([self.builds(), self.builds()], [2, 2])
+        source.with_name("other.rt").touch()
+        self.assertEqual([self.builds(), self.builds()], [3, 3])
+
+    def builds(self) -> int:
+        """How often the program was built, after another call."""
+        self.assertEqual(self.clone.run("./wurstlinen", "decode", "00").returncode, 0)
+        return sum(" run " in call for call in self.clone.rt_calls())
+
     def waiting(self, errors: List[Path]) -> int:
         """How many calls said that they wait for another one."""
         return sum("waiting for another call" in path.read_text() for path in errors)

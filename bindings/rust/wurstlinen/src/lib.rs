@@ -32,7 +32,7 @@ pub mod join;
 pub mod lanes;
 #[cfg(feature = "threads")]
 #[doc(hidden)]
-#[allow(unsafe_code, unused_variables)]
+#[allow(unsafe_code)]
 pub mod ledger;
 #[cfg(feature = "std")]
 pub mod line;

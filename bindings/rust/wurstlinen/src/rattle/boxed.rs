@@ -21,8 +21,3 @@ pub fn new<T>(_: Global, value: T) -> Result<Box<T>, AllocFailed<T>> {
         Ok(Box::from_raw(place))
     }
 }
-
-/// The value of a box.
-pub fn into_inner<T>(one: Box<T>) -> T {
-    *one
-}

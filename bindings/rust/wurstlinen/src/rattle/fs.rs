@@ -55,7 +55,6 @@ impl Write for File {
 
 impl OpenOptions {
     /// Nothing is allowed yet.
-    #[allow(clippy::new_without_default)]
     pub fn new() -> OpenOptions {
         OpenOptions(fs::OpenOptions::new())
     }

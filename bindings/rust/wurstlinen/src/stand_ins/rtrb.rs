@@ -2,7 +2,6 @@
 
 use crate::rattle::alloc::{AllocError, Global};
 use std::collections::VecDeque;
-use std::marker::PhantomData;
 use std::sync::{Arc, Mutex, MutexGuard};
 
 type Shared<T> = Arc<Mutex<Items<T>>>;
@@ -23,9 +22,11 @@ fn locked<T>(shared: &Shared<T>) -> MutexGuard<'_, Items<T>> {
     shared.lock().unwrap_or_else(|poisoned| poisoned.into_inner())
 }
 
-pub struct RingBuffer<T>(PhantomData<T>);
+/// A ring is made by its producer's type.
+pub type RingBuffer<T> = Producer<T>;
 
-impl<T> RingBuffer<T> {
+impl<T> Producer<T> {
+    /// Both ends of a ring.
     pub fn new(_: Global, capacity: usize) -> Result<(Producer<T>, Consumer<T>), AllocError> {
         let mut items = VecDeque::new();
         if items.try_reserve_exact(capacity).is_err() {
