@@ -45,6 +45,7 @@ extern "C" {
 #define WURST_MOST_PARAMETER_BYTES 231   /* of a packet's parameter data */
 #define WURST_MOST_JOINED_BYTES 65535    /* of a request's data, all parts together */
 #define WURST_MOST_DEVICES 1024          /* that a discovery finds */
+#define WURST_MOST_BAD_UIDS 16           /* that a discovery sets apart */
 #define WURST_MOST_CLIENTS 16            /* of a controller */
 #define WURST_MOST_PLACES 4080           /* of all clients together */
 #define WURST_MOST_DISCOVERIES 4         /* that a client has outstanding */
@@ -361,16 +362,19 @@ uint32_t wurst_controller_devices(struct wurst_controller *handle, struct wurst_
 /* Writes the number of the run that found them; 0 before the first. */
 uint32_t wurst_controller_devices_run(struct wurst_controller *handle, uint64_t *run);
 
-/* Writes whether the queue is idle: nothing waits, is under way or is uncollected. */
+/* Writes the bad UIDs of the run that began last, open or ended: those that it has set apart, the newest first, because
+ * each was answered badly when it was asked alone. Writes how many there are, 0 before the first run, and whether the
+ * run gave up more. WURST_BUFFER_TOO_SMALL: only the count is written. WURST_MOST_BAD_UIDS are enough. The second call
+ * writes the number of that run; 0 before the first. */
+uint32_t wurst_controller_bad_uids(struct wurst_controller *handle, uint64_t *uids, size_t room, size_t *count,
+                                   bool *more);
+uint32_t wurst_controller_bad_uids_run(struct wurst_controller *handle, uint64_t *run);
+
+/* Each writes an answer: whether the queue is idle, since nothing waits, is under way or is uncollected; whether
+ * sending is paused; whether the queue is closed; whether a reply is awaited. */
 uint32_t wurst_controller_is_idle(struct wurst_controller *handle, bool *answer);
-
-/* Writes whether sending is paused. */
 uint32_t wurst_controller_is_paused(struct wurst_controller *handle, bool *answer);
-
-/* Writes whether the queue is closed. */
 uint32_t wurst_controller_is_closed(struct wurst_controller *handle, bool *answer);
-
-/* Writes whether a reply is awaited. */
 uint32_t wurst_controller_awaits(struct wurst_controller *handle, bool *answer);
 
 /* ---- Sessions: a controller with a log of all that it does.
@@ -404,17 +408,15 @@ uint32_t wurst_session_submit(struct wurst_session *handle, uint8_t client, cons
  * an entry. */
 uint32_t wurst_session_discover(struct wurst_session *handle, uint8_t client, uint32_t kind, uint64_t *number);
 
-/* As wurst_controller_pause. WURST_LOG_FULL, even if the call would have no effect. */
+/* As wurst_controller_pause and _resume. WURST_LOG_FULL, even if the call would have no effect. */
 uint32_t wurst_session_pause(struct wurst_session *handle);
-
-/* As wurst_controller_resume. WURST_LOG_FULL, even if the call would have no effect. */
 uint32_t wurst_session_resume(struct wurst_session *handle);
 
 /* As wurst_controller_take. After WURST_BUFFER_TOO_SMALL comes WURST_LOG_FULL, even if there is nothing to send. */
 uint32_t wurst_session_take(struct wurst_session *handle, uint8_t *frame, size_t room, size_t *len);
 
 /* As wurst_controller_deliver, _fail, _close, _oldest, _next_completion, _next_discovery, _devices, _devices_run,
- * _is_idle, _is_paused, _is_closed and _awaits. */
+ * _bad_uids, _bad_uids_run, _is_idle, _is_paused, _is_closed and _awaits. */
 uint32_t wurst_session_deliver(struct wurst_session *handle, const uint8_t *reply, size_t len);
 uint32_t wurst_session_fail(struct wurst_session *handle);
 uint32_t wurst_session_close(struct wurst_session *handle);
@@ -426,15 +428,15 @@ uint32_t wurst_session_next_discovery(struct wurst_session *handle, uint8_t clie
 uint32_t wurst_session_devices(struct wurst_session *handle, struct wurst_device *devices, size_t room,
                                size_t *count);
 uint32_t wurst_session_devices_run(struct wurst_session *handle, uint64_t *run);
+uint32_t wurst_session_bad_uids(struct wurst_session *handle, uint64_t *uids, size_t room, size_t *count, bool *more);
+uint32_t wurst_session_bad_uids_run(struct wurst_session *handle, uint64_t *run);
 uint32_t wurst_session_is_idle(struct wurst_session *handle, bool *answer);
 uint32_t wurst_session_is_paused(struct wurst_session *handle, bool *answer);
 uint32_t wurst_session_is_closed(struct wurst_session *handle, bool *answer);
 uint32_t wurst_session_awaits(struct wurst_session *handle, bool *answer);
 
-/* Writes how many entries of the log are free: neither taken nor reserved. */
+/* Each writes a count: of the log's free entries, neither taken nor reserved; and of the entries that it stores. */
 uint32_t wurst_session_free_entries(struct wurst_session *handle, size_t *count);
-
-/* Writes how many entries the log stores. */
 uint32_t wurst_session_entry_count(struct wurst_session *handle, size_t *count);
 
 /* Writes the stored entry of this index, counted from 0, oldest first, and its bytes into the buffer.
@@ -459,10 +461,8 @@ uint32_t wurst_session_drain(struct wurst_session *handle, size_t entries, struc
 /* Frees the log that a handle holds, and closes the handle. Without effect on any other handle. */
 void wurst_log_dispose(struct wurst_log *handle);
 
-/* As wurst_session_entry_count. */
+/* As wurst_session_entry_count and wurst_session_entry. */
 uint32_t wurst_log_entry_count(struct wurst_log *handle, size_t *count);
-
-/* As wurst_session_entry. */
 uint32_t wurst_log_entry(struct wurst_log *handle, size_t index, struct wurst_entry *entry, uint8_t *buffer,
                          size_t room);
 
@@ -551,18 +551,17 @@ void wurst_agent_dispose(struct wurst_agent *handle);
  * WURST_MOST_FRAME_BYTES. */
 uint32_t wurst_agent_next(struct wurst_agent *handle, uint32_t *operation, uint8_t *frame, size_t room, size_t *len);
 
-/* Takes the line's reply; len 0 is silence. The next frame has the next transaction number. WURST_HAS_ENDED. */
+/* Takes the line's reply; len 0 is silence. Or reports that the line failed, which ends the run. The next frame has the
+ * next transaction number. WURST_HAS_ENDED. */
 uint32_t wurst_agent_hear(struct wurst_agent *handle, const uint8_t *reply, size_t len);
-
-/* Reports that the line failed, which ends the run. WURST_HAS_ENDED. */
 uint32_t wurst_agent_fail(struct wurst_agent *handle);
 
 /* Ends the run with WURST_ABORTED. Without effect if it has ended. */
 uint32_t wurst_agent_stop(struct wurst_agent *handle);
 
-/* Writes the devices found so far, ascending by UID, and how many there are.
- * WURST_BUFFER_TOO_SMALL: only the count is written. */
+/* Each writes what there is so far, as wurst_controller_devices and wurst_controller_bad_uids do. */
 uint32_t wurst_agent_devices(struct wurst_agent *handle, struct wurst_device *devices, size_t room, size_t *count);
+uint32_t wurst_agent_bad_uids(struct wurst_agent *handle, uint64_t *uids, size_t room, size_t *count, bool *more);
 
 /* Writes why the run ended early (enum wurst_fault), and the UID of WURST_CORRUPT, else 0. WURST_NOT_ENDED. */
 uint32_t wurst_agent_fault(struct wurst_agent *handle, uint32_t *fault, uint64_t *corrupt);

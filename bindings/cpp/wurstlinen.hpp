@@ -149,6 +149,12 @@ struct Discovery {
     wurst_fault fault() const { return static_cast<wurst_fault>(end.fault); }
 };
 
+// The bad UIDs of a run: those that it has set apart, the newest first, because each, asked alone, was answered badly.
+struct BadUids {
+    std::vector<Uid> uids;
+    bool has_more = false; // it gave up more
+};
+
 // A view of devices that a call wrote into the caller's memory. It makes a Device for each access.
 class Devices {
 public:
@@ -247,6 +253,18 @@ inline std::vector<Device> copied(Devices devices) {
     return std::vector<Device>(devices.begin(), devices.end());
 }
 
+template <typename Form>
+BadUids bad_uids(Form *form, std::uint32_t (*call)(Form *, std::uint64_t *, std::size_t, std::size_t *, bool *)) {
+    std::array<std::uint64_t, WURST_MOST_BAD_UIDS> numbers{};
+    std::size_t count = 0;
+    BadUids bad;
+    check(call(form, numbers.data(), numbers.size(), &count, &bad.has_more));
+    for (std::size_t i = 0; i < count; i++) {
+        bad.uids.push_back(*Uid::from_number(numbers[i]));
+    }
+    return bad;
+}
+
 struct ControllerCalls {
     using Form = wurst_controller;
     static constexpr auto dispose = wurst_controller_dispose;
@@ -264,6 +282,8 @@ struct ControllerCalls {
     static constexpr auto next_discovery = wurst_controller_next_discovery;
     static constexpr auto devices = wurst_controller_devices;
     static constexpr auto devices_run = wurst_controller_devices_run;
+    static constexpr auto bad_uids = wurst_controller_bad_uids;
+    static constexpr auto bad_uids_run = wurst_controller_bad_uids_run;
     static constexpr auto is_idle = wurst_controller_is_idle;
     static constexpr auto is_paused = wurst_controller_is_paused;
     static constexpr auto is_closed = wurst_controller_is_closed;
@@ -287,6 +307,8 @@ struct SessionCalls {
     static constexpr auto next_discovery = wurst_session_next_discovery;
     static constexpr auto devices = wurst_session_devices;
     static constexpr auto devices_run = wurst_session_devices_run;
+    static constexpr auto bad_uids = wurst_session_bad_uids;
+    static constexpr auto bad_uids_run = wurst_session_bad_uids_run;
     static constexpr auto is_idle = wurst_session_is_idle;
     static constexpr auto is_paused = wurst_session_is_paused;
     static constexpr auto is_closed = wurst_session_is_closed;
@@ -414,16 +436,16 @@ public:
         return Devices(forms, count);
     }
 
-    std::uint64_t devices_run() {
-        std::uint64_t run = 0;
-        check(Calls::devices_run(handle_.get(), &run));
-        return run;
-    }
+    std::uint64_t devices_run() { return asked<std::uint64_t>(Calls::devices_run); }
 
-    bool is_idle() { return asked(Calls::is_idle); }
-    bool is_paused() { return asked(Calls::is_paused); }
-    bool is_closed() { return asked(Calls::is_closed); }
-    bool awaits() { return asked(Calls::awaits); }
+    // Those of the run that began last, open or ended, and the number of that run, 0 before the first.
+    BadUids bad_uids() { return detail::bad_uids(handle_.get(), Calls::bad_uids); }
+    std::uint64_t bad_uids_run() { return asked<std::uint64_t>(Calls::bad_uids_run); }
+
+    bool is_idle() { return asked<bool>(Calls::is_idle); }
+    bool is_paused() { return asked<bool>(Calls::is_paused); }
+    bool is_closed() { return asked<bool>(Calls::is_closed); }
+    bool awaits() { return asked<bool>(Calls::awaits); }
 
     // Sends frames until there is none. `exchange` gets a Frame and returns a std::optional of the bytes that came
     // (nullopt: the line failed). Returns how many exchanges were made. If `exchange` throws, or returns more than
@@ -462,8 +484,8 @@ private:
         }
     }
 
-    bool asked(std::uint32_t (*call)(typename Calls::Form *, bool *)) {
-        bool answer = false;
+    template <typename Answer> Answer asked(std::uint32_t (*call)(typename Calls::Form *, Answer *)) {
+        Answer answer{};
         check(call(handle_.get(), &answer));
         return answer;
     }

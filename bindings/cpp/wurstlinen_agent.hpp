@@ -51,6 +51,9 @@ public:
         return Devices(forms, count);
     }
 
+    // The bad UIDs so far.
+    BadUids bad_uids() { return detail::bad_uids(handle_.get(), wurst_agent_bad_uids); }
+
     // Why it ended early. Throws WURST_NOT_ENDED before the end.
     wurst_fault fault() { return static_cast<wurst_fault>(fault_and_uid().first); }
 

@@ -188,6 +188,23 @@ Heard hear(const RDMReply &reply, const wurst_command &sent) {
     return heard;
 }
 
+std::string text_of(const wurst_end &end) {
+    static const char *const faults[] = {
+        "no fault", " alone answered its branch, but isn't a new device", "more than 1,024 devices answered",
+        "the run has used up its budget of frames", "the line failed", "it was aborted"};
+    return (end.fault == WURST_CORRUPT ? wurst::Uid::from_number(end.corrupt)->text() : "") + faults[end.fault];
+}
+
+std::string text_of(const wurst::BadUids &bad, const wurst_end &end) {
+    std::string others;
+    for (const wurst::Uid &uid : bad.uids) {
+        if (end.fault != WURST_CORRUPT || uid.number() != end.corrupt) {
+            others += (others.empty() ? "; answered badly: " : ", ") + uid.text();
+        }
+    }
+    return others + (bad.has_more ? " and more" : "");
+}
+
 RDMStatusCode status_of(std::uint32_t status) { return STATUSES.at(status); }
 
 RDMStatusCode status_of(const wurst::CompletionView &done, RDMStatusCode below, unsigned int replies) {

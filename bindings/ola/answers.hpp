@@ -4,6 +4,7 @@
 #include <ola/rdm/RDMReply.h>
 #include <chrono>
 #include <memory>
+#include <string>
 #include <vector>
 
 namespace stand_in {
@@ -36,6 +37,12 @@ std::unique_ptr<ola::rdm::RDMRequest> repeated(const ola::rdm::RDMRequest &reque
 // What a reply means for the frame that was sent. `sent` is the frame as the core wrote it. The layer below has sent
 // its own source UID and transaction number instead, and has compared them only if its status is RDM_COMPLETED_OK.
 Heard hear(const ola::rdm::RDMReply &reply, const wurst_command &sent);
+
+// Why a discovery ended early.
+std::string text_of(const wurst_end &end);
+
+// Which other bad UIDs its run had; empty if there are none.
+std::string text_of(const wurst::BadUids &bad, const wurst_end &end);
 
 // What a reply says without its bytes.
 Heard hear_status(const ola::rdm::RDMReply &reply);

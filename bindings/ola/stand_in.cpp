@@ -26,13 +26,6 @@ template <typename Devices> std::shared_ptr<const UIDSet> set_of(const Devices &
     return set;
 }
 
-static std::string text_of(const wurst_end &end) {
-    static const char *const faults[] = {
-        "no fault", " alone answered its branch, but isn't a new device", "more than 1,024 devices answered",
-        "the run has used up its budget of frames", "the line failed", "it was aborted"};
-    return (end.fault == WURST_CORRUPT ? wurst::Uid::from_number(end.corrupt)->text() : "") + faults[end.fault];
-}
-
 StandIn::StandIn(RDMControllerInterface *lower, unsigned int places)
     : Below(lower), controller_(++controllers_), places_asked_(places),
       places_(std::clamp<unsigned int>(places, 1, UINT8_MAX)),
@@ -468,10 +461,12 @@ StandIn::Devices StandIn::devices_to_give(const wurst::DiscoveryView &done) {
 
 void StandIn::tell_fault(const wurst::DiscoveryView &done, const UIDSet &devices) noexcept {
     try {
+        // Another run may have begun since.
+        const auto bad = core_.bad_uids_run() == done.end.run ? core_.bad_uids() : wurst::BadUids();
         const std::string why = done.fault() == WURST_LINE_FAILED ? failure_ : text_of(done.end);
-        tell(name(), Level::Warn, "discovery failed: ", why, "; it found ", done.end.count,
+        tell(name(), Level::Warn, "discovery failed: ", why, text_of(bad, done.end), "; it found ", done.end.count,
              " devices until then, and OLA is given ", devices.Size());
-    } catch (const std::bad_alloc &) {
+    } catch (const std::exception &) {
         // OLA gets the devices all the same.
     }
 }

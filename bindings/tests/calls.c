@@ -22,7 +22,7 @@ static struct wurst_device devices[WURST_MOST_DEVICES];
 static struct wurst_completion done;
 static struct wurst_end end;
 static size_t len;
-static uint64_t number;
+static uint64_t number, uids[WURST_MOST_BAD_UIDS];
 static uint32_t kind;
 static bool answered;
 
@@ -48,6 +48,12 @@ static size_t one_device(uint8_t *to_reply) {
         }
     }
     return 0;
+}
+
+/* The same, but the device neither acknowledges a mute nor obeys it. */
+static size_t one_bad_device(uint8_t *to_reply) {
+    const bool is_mute = frame[21] == 0 && frame[22] == 2;
+    return is_mute ? 0 : one_device(to_reply);
 }
 
 /* The calls that both kinds of queue have. */
@@ -192,6 +198,7 @@ static void runs_an_agent(void) {
     CHECK(wurst_agent_fault(&agent, &fault, &corrupt) == WURST_NOT_OPEN);
     CHECK(wurst_agent_frames(&agent, &number) == WURST_NOT_OPEN);
     CHECK(wurst_agent_devices(&agent, devices, 1, &len) == WURST_NOT_OPEN);
+    CHECK(wurst_agent_bad_uids(&agent, uids, WURST_MOST_BAD_UIDS, &len, &answered) == WURST_NOT_OPEN);
     CHECK(wurst_agent_start(&agent, &start, known, 2) == WURST_BROADCAST_UID);
     start.kind = 2;
     CHECK(wurst_agent_start(&agent, &start, known, 0) == WURST_BAD_KIND);
@@ -212,6 +219,8 @@ static void runs_an_agent(void) {
     CHECK(wurst_agent_fault(&agent, &fault, &corrupt) == WURST_DONE && fault == WURST_NO_FAULT && corrupt == 0);
     CHECK(wurst_agent_devices(&agent, devices, 0, &len) == WURST_BUFFER_TOO_SMALL && len == 1);
     CHECK(wurst_agent_devices(&agent, devices, 1, &len) == WURST_DONE && devices[0].uid == device_info.target);
+    answered = true;
+    CHECK(wurst_agent_bad_uids(&agent, uids, 0, &len, &answered) == WURST_DONE && len == 0 && !answered);
     /* Three unmutes, the mute of the known device, and five silences. */
     CHECK(wurst_agent_frames(&agent, &number) == WURST_DONE && number == 9);
     wurst_agent_dispose(&agent);
@@ -224,6 +233,19 @@ static void runs_an_agent(void) {
     wurst_agent_dispose(&agent);
     CHECK(wurst_agent_start(&agent, &start, known, 0) == WURST_DONE && wurst_agent_fail(&agent) == WURST_DONE);
     CHECK(wurst_agent_fault(&agent, &fault, &corrupt) == WURST_DONE && fault == WURST_LINE_FAILED);
+    wurst_agent_dispose(&agent);
+    start.search = WURST_QUICK;
+    CHECK(wurst_agent_start(&agent, &start, known, 0) == WURST_DONE);
+    while (wurst_agent_next(&agent, &operation, frame, 257, &len) == WURST_DONE) {
+        CHECK(wurst_agent_hear(&agent, reply, one_bad_device(reply)) == WURST_DONE);
+    }
+    CHECK(wurst_agent_fault(&agent, &fault, &corrupt) == WURST_DONE && fault == WURST_CORRUPT);
+    uids[0] = 0;
+    answered = true;
+    CHECK(wurst_agent_bad_uids(&agent, uids, 0, &len, &answered) == WURST_BUFFER_TOO_SMALL);
+    CHECK(len == 1 && uids[0] == 0 && answered);
+    CHECK(wurst_agent_bad_uids(&agent, uids, 1, &len, &answered) == WURST_DONE && len == 1 && !answered);
+    CHECK(uids[0] == device_info.target && corrupt == device_info.target);
     wurst_agent_dispose(&agent);
 }
 

@@ -67,6 +67,7 @@ static void views() {
     CHECK(ended && ended->fault() == WURST_NO_FAULT && ended->end.run == 1 && ended->devices.empty());
     CHECK(!queue.next_discovery(client, forms, 0));
     CHECK(queue.devices(forms, 0).empty() && queue.devices_run() == 1);
+    CHECK(queue.bad_uids().uids.empty() && !queue.bad_uids().has_more && queue.bad_uids_run() == 1);
 }
 
 // A device that is a part of another one says so when it is muted, to an agent and to a queue.
@@ -128,6 +129,7 @@ static void corrupt_ranges() {
         agent.hear(*garbled(asked->second));
     }
     CHECK(agent.fault() == WURST_CORRUPT && agent.corrupt() == device);
+    CHECK(agent.bad_uids().uids == std::vector<wurst::Uid>{device} && !agent.bad_uids().has_more);
 
     wurst::Controller queue(source);
     const auto client = queue.join(1);
@@ -135,6 +137,7 @@ static void corrupt_ranges() {
     queue.run(garbled);
     const auto ended = queue.next_discovery(client);
     CHECK(ended && ended->fault() == WURST_CORRUPT && ended->end.corrupt == device.number());
+    CHECK(queue.bad_uids().uids == std::vector<wurst::Uid>{device} && queue.bad_uids_run() == 1);
 
     wurst::Agent stopped(source);
     stopped.stop();
@@ -223,6 +226,7 @@ int main() {
     CHECK(queue.next_completion(client)->status() == WURST_FAILED_TO_SEND);
     CHECK(queue.is_idle() && !queue.is_paused() && !queue.is_closed() && !queue.awaits());
     CHECK(queue.devices().empty() && queue.devices_run() == 0);
+    CHECK(queue.bad_uids().uids.empty() && queue.bad_uids_run() == 0);
     queue.close();
     CHECK(queue.is_closed());
     queue = wurst::Controller(source);

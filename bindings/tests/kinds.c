@@ -20,7 +20,7 @@ static struct {
     uint8_t client, buffer[257];
     bool answer;
     uint32_t kind, operation;
-    uint64_t number, corrupt;
+    uint64_t number, corrupt, uids[WURST_MOST_BAD_UIDS];
     size_t len;
     struct wurst_completion completion;
     struct wurst_end end;
@@ -49,10 +49,12 @@ static struct wurst_log closed_log;
     case 11: return wurst_##name##_next_discovery(h, 0, &out.end, out.devices, 2); \
     case 12: return wurst_##name##_devices(h, out.devices, 2, &out.len); \
     case 13: return wurst_##name##_devices_run(h, &out.number); \
-    case 14: return wurst_##name##_is_idle(h, &out.answer); \
-    case 15: return wurst_##name##_is_paused(h, &out.answer); \
-    case 16: return wurst_##name##_is_closed(h, &out.answer); \
-    case 17: return wurst_##name##_awaits(h, &out.answer); \
+    case 14: return wurst_##name##_bad_uids(h, out.uids, WURST_MOST_BAD_UIDS, &out.len, &out.answer); \
+    case 15: return wurst_##name##_bad_uids_run(h, &out.number); \
+    case 16: return wurst_##name##_is_idle(h, &out.answer); \
+    case 17: return wurst_##name##_is_paused(h, &out.answer); \
+    case 18: return wurst_##name##_is_closed(h, &out.answer); \
+    case 19: return wurst_##name##_awaits(h, &out.answer); \
     default: break; \
     }
 
@@ -64,11 +66,11 @@ static uint32_t call_controller(struct wurst_controller *h, int call) {
 static uint32_t call_session(struct wurst_session *h, int call) {
     QUEUE_CALLS(session)
     switch (call) {
-    case 18: return wurst_session_free_entries(h, &out.len);
-    case 19: return wurst_session_entry_count(h, &out.len);
-    case 20: return wurst_session_entry(h, 0, &out.entry, out.buffer, sizeof out.buffer);
-    case 21: return wurst_session_rotate(h, 50, &closed_log);
-    case 22: return wurst_session_drain(h, 50, &closed_log, &out.number);
+    case 20: return wurst_session_free_entries(h, &out.len);
+    case 21: return wurst_session_entry_count(h, &out.len);
+    case 22: return wurst_session_entry(h, 0, &out.entry, out.buffer, sizeof out.buffer);
+    case 23: return wurst_session_rotate(h, 50, &closed_log);
+    case 24: return wurst_session_drain(h, 50, &closed_log, &out.number);
     default: return WURST_DONE;
     }
 }
@@ -90,11 +92,12 @@ static uint32_t call_agent(struct wurst_agent *h, int call) {
     case 4: return wurst_agent_devices(h, out.devices, 2, &out.len);
     case 5: return wurst_agent_fault(h, &out.kind, &out.corrupt);
     case 6: return wurst_agent_frames(h, &out.number);
+    case 7: return wurst_agent_bad_uids(h, out.uids, WURST_MOST_BAD_UIDS, &out.len, &out.answer);
     default: return WURST_DONE;
     }
 }
 
-static const int calls_of[] = {0, 18, 23, 2, 7};
+static const int calls_of[] = {0, 20, 25, 2, 8};
 
 static uint32_t call_as(enum kind kind, void *handle, int call) {
     switch (kind) {

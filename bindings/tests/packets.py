@@ -29,6 +29,10 @@ class Fixtures:
         self.muted = {uid: False for uid in uids}
         self.failing = False
 
+    def spelled(self, uid: Uid) -> bytes:
+        """What a device replies to a branch."""
+        return branch_reply(uid)
+
     def exchange(self, frame: bytes) -> bytes:
         if self.failing:
             raise LineFailed()
@@ -36,7 +40,7 @@ class Fixtures:
         source, tn = Uid.from_number(int.from_bytes(frame[9:15], "big")), frame[15]
         if pid == 1:
             lo, hi = (int.from_bytes(frame[at:at + 6], "big") for at in (24, 30))
-            replies = [branch_reply(uid) for uid, muted in self.muted.items() if not muted and lo <= uid.number <= hi]
+            replies = [self.spelled(uid) for uid, muted in self.muted.items() if not muted and lo <= uid.number <= hi]
             return replies[0] if len(replies) == 1 else b"\x55" * (20 if replies else 0)
         if pid == 3:
             self.muted = {uid: False for uid in self.muted}

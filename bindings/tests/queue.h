@@ -48,6 +48,8 @@ static void TEST(is_closed_handle)(void) {
     CHECK(CALL(next_discovery)(&queue, 0, &end, devices, WURST_MOST_DEVICES) == WURST_NOT_OPEN);
     CHECK(CALL(devices)(&queue, devices, WURST_MOST_DEVICES, &len) == WURST_NOT_OPEN);
     CHECK(CALL(devices_run)(&queue, &number) == WURST_NOT_OPEN);
+    CHECK(CALL(bad_uids)(&queue, uids, WURST_MOST_BAD_UIDS, &len, &answered) == WURST_NOT_OPEN);
+    CHECK(CALL(bad_uids_run)(&queue, &number) == WURST_NOT_OPEN);
     CHECK(CALL(is_idle)(&queue, &answered) == WURST_NOT_OPEN);
     CHECK(CALL(is_paused)(&queue, &answered) == WURST_NOT_OPEN);
     CHECK(CALL(is_closed)(&queue, &answered) == WURST_NOT_OPEN);
@@ -242,6 +244,34 @@ static void TEST(discovers)(void) {
     CHECK(CALL(devices)(&queue, devices, 1, &len) == WURST_DONE && len == 1);
     CHECK(devices[0].uid == device_info.target);
     CHECK(CALL(devices_run)(&queue, &number) == WURST_DONE && number == 1);
+    answered = true;
+    CHECK(CALL(bad_uids)(&queue, uids, 0, &len, &answered) == WURST_DONE && len == 0 && !answered);
+    CHECK(CALL(bad_uids_run)(&queue, &number) == WURST_DONE && number == 1);
+    CALL(dispose)(&queue);
+}
+
+static void TEST(lists_bad_uids)(void) {
+    HANDLE queue = {0};
+    struct wurst_setup quick = setup;
+    uint8_t client = 0;
+    quick.search = WURST_QUICK;
+    CHECK(OPEN(&queue, &quick) == WURST_DONE);
+    CHECK(CALL(bad_uids)(&queue, uids, 0, &len, &answered) == WURST_DONE && len == 0 && !answered);
+    CHECK(CALL(bad_uids_run)(&queue, &number) == WURST_DONE && number == 0);
+    CHECK(CALL(join)(&queue, 0, &client) == WURST_DONE);
+    CHECK(CALL(discover)(&queue, client, WURST_FULL_DISCOVERY, &number) == WURST_DONE);
+    while (CALL(take)(&queue, frame, sizeof frame, &len) == WURST_DONE) {
+        CHECK(CALL(deliver)(&queue, reply, one_bad_device(reply)) == WURST_DONE);
+    }
+    CHECK(CALL(next_discovery)(&queue, client, &end, devices, 0) == WURST_DONE && end.count == 0);
+    CHECK(end.fault == WURST_CORRUPT && end.corrupt == device_info.target);
+    uids[0] = 0;
+    answered = true;
+    CHECK(CALL(bad_uids)(&queue, uids, 0, &len, &answered) == WURST_BUFFER_TOO_SMALL);
+    CHECK(len == 1 && uids[0] == 0 && answered);
+    CHECK(CALL(bad_uids)(&queue, uids, 1, &len, &answered) == WURST_DONE && len == 1 && !answered);
+    CHECK(uids[0] == device_info.target);
+    CHECK(CALL(bad_uids_run)(&queue, &number) == WURST_DONE && number == end.run);
     CALL(dispose)(&queue);
 }
 
@@ -255,6 +285,7 @@ static void TEST(all)(void) {
     TEST(refuses)();
     TEST(pauses_and_closes)();
     TEST(discovers)();
+    TEST(lists_bad_uids)();
 }
 
 #undef PASTED

@@ -1,9 +1,10 @@
-"""Counts how discoveries end on simulated lines: `python3 searches.py frames|noise|scenes SIZE ROUNDS`.
+"""Counts how discoveries end on simulated lines: `python3 searches.py SUBJECT SIZE ROUNDS`.
 
 `frames` searches honest lines with SIZE devices, 1 to 1024, and each run has to find all of them. `noise` searches
-lines with bit errors and noise, and SIZE devices, 1 to 1000. `scenes` does so on lines that aren't honest. A row counts
-ROUNDS runs, 1 to 1000, and their frames. The number of a run is the seed of its devices and of what is wrong with its
-line, so the rows are the same each time. If a run ends as none may, it is named, and the status is 1.
+lines with bit errors and noise, and SIZE devices, 1 to 1000. `scenes` does so on lines that aren't honest. With `lies`
+one of a rig's SIZE fixtures lies, and with `pairs` two do. A row counts ROUNDS runs, 1 to 1000, and their frames. The
+number of a run is the seed of its devices and of what is wrong with its line, so the rows are the same each time. If a
+run ends as none may, it is named, and the status is 1.
 WURSTLINEN_LIBRARY names the shared library.
 """
 from __future__ import annotations
@@ -14,15 +15,17 @@ import os
 import sys
 from bisect import bisect_left, bisect_right
 from dataclasses import asdict, dataclass, field
-from typing import Any, Dict, FrozenSet, Iterator, List, Set, Tuple
+from typing import Any, Dict, FrozenSet, Iterator, List, Sequence, Set, Tuple
 
 ROOT = os.path.dirname(os.path.dirname(os.path.dirname(os.path.abspath(__file__))))
 sys.path.insert(0, os.path.join(ROOT, "bindings", "python"))
 
 from wurstlinen import DiscoveryAgent, RunFaultKind, Search, Uid  # noqa: E402
+from wurstlinen.lines import Rig  # noqa: E402
 from wurstlinen.lines.numbers import Pid, ResponseType  # noqa: E402
 from wurstlinen.lines.packets import Packet, decode_packet, encode_branch_reply, is_branch_frame  # noqa: E402
-from wurstlinen.lines.uids import is_broadcast  # noqa: E402
+from wurstlinen.lines.scene import Lie, parse_scene  # noqa: E402
+from wurstlinen.lines.uids import is_broadcast, uid_text  # noqa: E402
 
 SOURCE = Uid(0x7A70, 0x100)
 WORD = (1 << 64) - 1
@@ -42,12 +45,18 @@ ODD: List[Wrong] = [("Odd", breach, uid) for uid in (0, 0x7FFF_FFFF_FFFE, 0xFFFF
 # One reply in so many is lost, one lone reply has bit errors, and one silence brings noise. 0: none.
 NOISY: List[Wrong] = [("Disturbed", 0, 10, 0), ("Disturbed", 0, 0, 100), ("Disturbed", 0, 0, 10),
                       ("Disturbed", 20, 20, 20), ("Disturbed", 10, 10, 10)]
+# What one fixture of a rig lies about, or two. They have the first UIDs, some in the middle, or the last.
+LIES: List[Wrong] = [("Lying", lie.value) for lie in Lie]
+PAIRS: List[Wrong] = [("Lying", one.value, other.value)
+                      for one, other in itertools.combinations_with_replacement(Lie, 2)]
 # For each subject: the most devices, and its rows, each with the spread of the devices and what is wrong.
 SUBJECTS: Dict[str, Tuple[int, List[Tuple[str, Wrong]]]] = {
     "frames": (1024, list(itertools.product(SPREADS, HONEST))),
     "noise": (1000, list(itertools.product(["Block", "Random"], NOISY))),
     "scenes": (1000, [*itertools.product(["Random"], DISHONEST),
                       *((spread, wrong) for wrong in ODD for spread in ("Random", "Close"))]),
+    "lies": (1000, list(itertools.product(["Random", "Close"], LIES))),
+    "pairs": (1000, list(itertools.product(["Random", "Close"], PAIRS))),
 }
 
 
@@ -190,6 +199,25 @@ class OddLine(SimulatedLine):
         return acknowledge(command)
 
 
+class LyingLine(SimulatedLine):
+    """A rig's line, on which these fixtures lie."""
+
+    def __init__(self, devices: FrozenSet[int], lies: Dict[int, str]) -> None:
+        super().__init__(devices - lies.keys(), odd=frozenset(lies))
+        self.rig = Rig(parse_scene({"source": str(SOURCE), "devices": [
+            {"uid": uid_text(uid), "rig": {"lies": [lies[uid]] if uid in lies else []}} for uid in sorted(devices)]}))
+
+    def exchange(self, frame: bytes) -> bytes:
+        return self.rig.exchange(frame)
+
+
+def liars_of(devices: FrozenSet[int], seed: int, lies: Sequence[str]) -> Dict[int, str]:
+    """The UIDs of the fixtures that lie, and their lies."""
+    honest = max(len(devices) - len(lies), 0)
+    first = (0, honest // 2, honest)[seed % 3]
+    return dict(zip(sorted(devices)[first:], lies))
+
+
 def acknowledge(command: Packet) -> bytes:
     """E1.20, discovery mute: the reply of the device that the mute is for. Its control field is 0."""
     return command.answer(command.destination, ResponseType.ACK, b"\0\0").encode()
@@ -239,6 +267,8 @@ def line_of(devices: FrozenSet[int], seed: int, kind: str, *details: Any) -> Sim
         return SimulatedLine(devices, silences=noises(Random(seed), *details))
     if kind == "Disturbed":
         return DisturbedLine(devices, Random(seed), *details)
+    if kind == "Lying":
+        return LyingLine(devices, liars_of(devices, seed, details))
     return OddLine(devices, *details) if kind == "Odd" else SimulatedLine(devices)
 
 

@@ -141,6 +141,18 @@ def check_fault(checks: Checks, files: Tuple[Path, Path]) -> None:
         checks.check(wanted in daemon.messages, f"the fault isn't reported: {daemon.messages}")
 
 
+def check_bad_uids(checks: Checks, files: Tuple[Path, Path]) -> None:
+    """Beside fixtures that can't be read or muted: the others are found, and all of the bad ones are named."""
+    lies = {"1234:00000001": "ignores mutes", "1234:00000009": "wrong sum", "1234:0000000b": "cuts short"}
+    scene = parse_scene({"source": "7ff0:00000001", "devices": [
+        {"uid": "1234:00000007"}, *({"uid": uid, "rig": {"lies": [lie]}} for uid, lie in lies.items())]})
+    with Daemon(scene, files[1], files[0]) as daemon:
+        found = daemon.discover(True)
+        checks.check(found == ["1234:00000007"], f"beside three that lie: {found}")
+        named = next((line for line in daemon.messages.splitlines() if "discovery failed" in line), "")
+        checks.check(all(uid in named for uid in lies), f"not all are named: {named}")
+
+
 def check_own_discovery(checks: Checks, files: Tuple[Path, Path]) -> None:
     """The adapter's own discovery, behind the queue."""
     scene = random_scene(5, seed=11)
@@ -158,7 +170,8 @@ def main(arguments: Sequence[str]) -> int:
     checks = Checks()
     for count, firmware, loss in itertools.product(COUNTS, FIRMWARES, LOSSES):
         check_line(checks, files, count, firmware, loss)
-    for check in (check_parts, check_rests, check_fault, check_settings, check_search, check_own_discovery):
+    for check in (check_parts, check_rests, check_fault, check_bad_uids, check_settings, check_search,
+                  check_own_discovery):
         check(checks, files)
     print(f"{checks.passed} passed, {checks.failed} failed")
     return 1 if checks.failed else 0

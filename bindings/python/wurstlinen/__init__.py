@@ -21,9 +21,9 @@ from ._faults import (
     TooManyEntries, TooManyPlaces, TooShort, UidDigit, UidFault, UidLength, UidSeparator, UnknownClient,
     WrongChecksum, WrongStart, WrongSubStart)
 from ._types import (
-    DEFAULT_BUDGET, MOST_CLIENTS, MOST_DEVICES, MOST_ENTRIES, MOST_FRAME_BYTES, MOST_JOINED_BYTES,
-    MOST_PARAMETER_BYTES, MOST_PLACES, AckType, Completion, Device, Discovery, Kind, OutcomeKind, ReplyHead, Request,
-    RequestClass, ResponseClass, RunFault, RunFaultKind, Search, Status, Uid)
+    DEFAULT_BUDGET, MOST_BAD_UIDS, MOST_CLIENTS, MOST_DEVICES, MOST_ENTRIES, MOST_FRAME_BYTES, MOST_JOINED_BYTES,
+    MOST_PARAMETER_BYTES, MOST_PLACES, AckType, BadUids, Completion, Device, Discovery, Kind, OutcomeKind, ReplyHead,
+    Request, RequestClass, ResponseClass, RunFault, RunFaultKind, Search, Status, Uid)
 from .line import Line, LineBusy, LineFailed
 
 if _TYPE_CHECKING:
@@ -60,19 +60,20 @@ _MODULE_OF = {name: module for module, names in _MODULES.items() for name in nam
 
 __all__ = [
     "AckType", "AlreadyOpen", "Answer", "Asker", "BadClass", "BadKind", "BadPreamble", "BadRange", "BadResponseType",
-    "BadSearch", "BadUid", "BranchReply", "BranchReplyKind", "BroadcastUid", "BufferTooSmall", "Client", "Closed",
-    "Command", "CommandKind", "Completion", "Controller", "DEFAULT_BUDGET", "DataTooLong", "Device", "Discovery",
-    "DiscoveryAgent", "Fault", "Full", "HasEnded", "Incomplete", "InvalidClass", "InvalidResponseType", "Kind",
-    "LengthMismatch", "LibraryNotFound", "Line", "LineBusy", "LineFailed", "Log", "LogFull", "MOST_CLIENTS",
-    "MOST_DEVICES", "MOST_ENTRIES", "MOST_FRAME_BYTES", "MOST_JOINED_BYTES", "MOST_PARAMETER_BYTES", "MOST_PLACES",
-    "MuteAck", "NoBudget", "NoEntry", "NoPlaces", "NotAsked", "NotEnded", "NotIdle", "NotOpen", "NotServed", "NotText",
-    "Operation", "OtherOutcome", "OutOfMemory", "OutcomeKind", "PacketFault", "Page", "ParamLengthMismatch",
-    "ReplyHead", "ReplyTooLong", "Request", "RequestClass", "Response", "ResponseClass", "RunFault", "RunFaultKind",
-    "Search", "Session", "SharedClient", "Status", "TooManyClients", "TooManyDevices", "TooManyEntries",
-    "TooManyPlaces", "TooShort", "Uid", "UidDigit", "UidFault", "UidLength", "UidSeparator", "Unanswered",
-    "UnknownClient", "Unserved", "VersionDiffers", "WrongChecksum", "WrongStart", "WrongSubStart", "connect",
-    "decode_response", "encode_branch", "encode_mute", "encode_mute_ack", "encode_request", "encode_response",
-    "encode_unmute", "entries", "line", "read_branch_reply", "read_command", "read_mute_ack", "write_branch_reply",
+    "BadSearch", "BadUid", "BadUids", "BranchReply", "BranchReplyKind", "BroadcastUid", "BufferTooSmall", "Client",
+    "Closed", "Command", "CommandKind", "Completion", "Controller", "DEFAULT_BUDGET", "DataTooLong", "Device",
+    "Discovery", "DiscoveryAgent", "Fault", "Full", "HasEnded", "Incomplete", "InvalidClass", "InvalidResponseType",
+    "Kind", "LengthMismatch", "LibraryNotFound", "Line", "LineBusy", "LineFailed", "Log", "LogFull", "MOST_BAD_UIDS",
+    "MOST_CLIENTS", "MOST_DEVICES", "MOST_ENTRIES", "MOST_FRAME_BYTES", "MOST_JOINED_BYTES", "MOST_PARAMETER_BYTES",
+    "MOST_PLACES", "MuteAck", "NoBudget", "NoEntry", "NoPlaces", "NotAsked", "NotEnded", "NotIdle", "NotOpen",
+    "NotServed", "NotText", "Operation", "OtherOutcome", "OutOfMemory", "OutcomeKind", "PacketFault", "Page",
+    "ParamLengthMismatch", "ReplyHead", "ReplyTooLong", "Request", "RequestClass", "Response", "ResponseClass",
+    "RunFault", "RunFaultKind", "Search", "Session", "SharedClient", "Status", "TooManyClients", "TooManyDevices",
+    "TooManyEntries", "TooManyPlaces", "TooShort", "Uid", "UidDigit", "UidFault", "UidLength", "UidSeparator",
+    "Unanswered", "UnknownClient", "Unserved", "VersionDiffers", "WrongChecksum", "WrongStart", "WrongSubStart",
+    "connect", "decode_response", "encode_branch", "encode_mute", "encode_mute_ack", "encode_request",
+    "encode_response", "encode_unmute", "entries", "line", "read_branch_reply", "read_command", "read_mute_ack",
+    "write_branch_reply",
 ]
 
 

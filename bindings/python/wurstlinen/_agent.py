@@ -5,10 +5,11 @@ import enum
 from typing import Iterable, Optional, Tuple, Union
 
 from ._faults import check, given
-from ._forms import devices_of, run_fault
+from ._forms import bad_uids_of, devices_of, run_fault
 from ._held import Held
 from ._library import Calls, DeviceForm, StartForm, buffer_of, room_for
-from ._types import DEFAULT_BUDGET, MOST_DEVICES, MOST_FRAME_BYTES, Device, Kind, RunFault, Search, Uid, uid_of, whole
+from ._types import (
+    DEFAULT_BUDGET, MOST_DEVICES, MOST_FRAME_BYTES, BadUids, Device, Kind, RunFault, Search, Uid, uid_of, whole)
 from .line import Line, LineFailed
 
 
@@ -61,6 +62,10 @@ class DiscoveryAgent(Held):
         forms, count = (DeviceForm * MOST_DEVICES)(), ctypes.c_size_t()
         check(self._made(self._calls.devices, forms, MOST_DEVICES, count))
         return devices_of(forms, count.value)
+
+    def bad_uids(self) -> BadUids:
+        """The bad UIDs so far."""
+        return bad_uids_of(self)
 
     def fault(self) -> Optional[RunFault]:
         """Why the run ended early; None if it didn't. Raises NotEnded before the end."""

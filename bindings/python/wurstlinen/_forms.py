@@ -4,8 +4,9 @@ import ctypes
 from typing import Optional, Tuple
 
 from ._faults import check
+from ._held import Held
 from ._library import LIBRARY, DeviceForm, RequestForm, buffer_of
-from ._types import Device, Request, RunFault, RunFaultKind, Uid, whole
+from ._types import MOST_BAD_UIDS, BadUids, Device, Request, RunFault, RunFaultKind, Uid, whole
 
 
 def read_uid(text: str) -> int:
@@ -31,6 +32,13 @@ def devices_of(forms: "ctypes.Array[DeviceForm]", count: int) -> Tuple[Device, .
         Device(Uid.from_number(form.uid), form.control, uid_if(form.has_binding, form.binding))
         for form in forms[:count]
     )
+
+
+def bad_uids_of(held: Held) -> BadUids:
+    """The bad UIDs of a queue's last run, or of a single run."""
+    numbers, count, more = (ctypes.c_uint64 * MOST_BAD_UIDS)(), ctypes.c_size_t(), ctypes.c_bool()
+    check(held._made(held._calls.bad_uids, numbers, MOST_BAD_UIDS, count, more))
+    return BadUids(tuple(Uid.from_number(number) for number in numbers[:count.value]), more.value)
 
 
 def form_of_device(device: Device) -> DeviceForm:

@@ -97,6 +97,8 @@ _QUEUE = {
     "next_discovery": [_HANDLE, c_uint8, POINTER(EndForm), POINTER(DeviceForm), c_size_t],
     "devices": [_HANDLE, POINTER(DeviceForm), c_size_t, _LENGTH],
     "devices_run": [_HANDLE, POINTER(c_uint64)],
+    "bad_uids": [_HANDLE, POINTER(c_uint64), c_size_t, _LENGTH, POINTER(c_bool)],
+    "bad_uids_run": [_HANDLE, POINTER(c_uint64)],
     "is_idle": [_HANDLE, POINTER(c_bool)],
     "is_paused": [_HANDLE, POINTER(c_bool)],
     "is_closed": [_HANDLE, POINTER(c_bool)],
@@ -139,6 +141,7 @@ CALLS = {
     "wurst_agent_fail": [_HANDLE],
     "wurst_agent_stop": [_HANDLE],
     "wurst_agent_devices": [_HANDLE, POINTER(DeviceForm), c_size_t, _LENGTH],
+    "wurst_agent_bad_uids": [_HANDLE, POINTER(c_uint64), c_size_t, _LENGTH, POINTER(c_bool)],
     "wurst_agent_fault": [_HANDLE, POINTER(c_uint32), POINTER(c_uint64)],
     "wurst_agent_frames": [_HANDLE, POINTER(c_uint64)],
 }

@@ -8,12 +8,12 @@ from typing import Callable, DefaultDict, List, Optional, Tuple, Union, cast
 from ._ask import DEFAULT_WAIT, Answer, Asker, Kept
 from ._collecting import NO_NUMBER, Collecting, CollectingDiscovery, CollectingRequest
 from ._faults import Closed, OtherOutcome, check, given
-from ._forms import devices_of, form_of_request
+from ._forms import bad_uids_of, devices_of, form_of_request
 from ._held import Held, Unreturned
 from ._library import Call, Calls, DeviceForm, Setup, buffer_of, room_for
 from ._types import (
-    DEFAULT_BUDGET, MOST_DEVICES, MOST_FRAME_BYTES, MOST_PLACES, Completion, Device, Discovery, Kind, Outcome,
-    OutcomeKind, Request, RequestClass, Search, Uid, data_of, kind_of, pid_of, uid_of, whole)
+    DEFAULT_BUDGET, MOST_DEVICES, MOST_FRAME_BYTES, MOST_PLACES, BadUids, Completion, Device, Discovery, Kind,
+    Outcome, OutcomeKind, Request, RequestClass, Search, Uid, data_of, kind_of, pid_of, uid_of, whole)
 from .line import Line, LineFailed
 
 NO_CLIENT = 255
@@ -165,9 +165,20 @@ class Queue(Held):
 
     def devices_run(self) -> int:
         """The number of the run that found them; 0 before the first."""
+        return self._number_of_run(self._calls.devices_run)
+
+    def _number_of_run(self, call: Call) -> int:
         run = ctypes.c_uint64()
-        check(self._made(self._calls.devices_run, run))
+        check(self._made(call, run))
         return run.value
+
+    def bad_uids(self) -> BadUids:
+        """The bad UIDs of the run that began last, open or ended; none before the first run."""
+        return bad_uids_of(self)
+
+    def bad_uids_run(self) -> int:
+        """The number of that run; 0 before the first."""
+        return self._number_of_run(self._calls.bad_uids_run)
 
     def _asks(self, call: Call) -> bool:
         answer = ctypes.c_bool()

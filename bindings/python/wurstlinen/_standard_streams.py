@@ -1,6 +1,7 @@
 """The standard streams of a command, whatever the caller has made of them."""
 from __future__ import annotations
 
+import contextlib
 import gc
 import io
 import os
@@ -28,6 +29,12 @@ def mend() -> None:
         stream = getattr(sys, name)
         if isinstance(stream, io.TextIOWrapper) and stream.errors == "strict":
             stream.reconfigure(errors="backslashreplace")
+
+
+def warn(text: str) -> None:
+    """Says what goes wrong while a program goes on, which it does even if nobody can hear that."""
+    with contextlib.suppress(OSError, ValueError):
+        print(f"wurstlinen: {text}", file=sys.stderr, flush=True)
 
 
 def finish(status: int) -> int:

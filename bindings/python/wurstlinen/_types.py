@@ -10,6 +10,7 @@ MOST_FRAME_BYTES = 257
 MOST_PARAMETER_BYTES = 231
 MOST_JOINED_BYTES = 65535
 MOST_DEVICES = 1024
+MOST_BAD_UIDS = 16
 MOST_CLIENTS = 16
 MOST_PLACES = 4080
 MOST_ENTRIES = 1_000_000
@@ -219,6 +220,17 @@ class Device(NamedTuple):
     uid: Uid
     control: int = 0
     binding: Optional[Uid] = None
+
+
+class BadUids(NamedTuple):
+    """The bad UIDs of a run: those that it has set apart, the newest first, at most 16.
+
+    Each was answered badly when it was asked alone: it couldn't be read, or what was read couldn't be muted.
+    """
+
+    uids: Tuple[Uid, ...] = ()
+    # Whether the run gave up more.
+    has_more: bool = False
 
 
 class RunFault(NamedTuple):

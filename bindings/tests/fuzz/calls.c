@@ -160,8 +160,13 @@ static size_t reply_to(const uint8_t *frame, size_t len, uint8_t *reply) {
         case 1: return wurst_##KIND##_next_completion(handle, byte() % 3, &completion, memory(size), size);            \
         case 2: return wurst_##KIND##_next_discovery(handle, byte() % 3, &end,                                         \
                                                      memory(forms * sizeof(struct wurst_device)), forms);              \
-        case 3: return wurst_##KIND##_devices(handle, memory(forms * sizeof(struct wurst_device)), forms, &count);     \
-        case 4: return wurst_##KIND##_devices_run(handle, numbers);                                                    \
+        case 3:                                                                                                        \
+            /* The inputs that were found have no other number for these calls. */                                     \
+            if (forms % 2 == 1) {                                                                                      \
+                return wurst_##KIND##_bad_uids(handle, memory(forms * sizeof *numbers), forms, &count, &flag);         \
+            }                                                                                                          \
+            return wurst_##KIND##_devices(handle, memory(forms * sizeof(struct wurst_device)), forms, &count);         \
+        case 4: return (forms % 2 == 1 ? wurst_##KIND##_bad_uids_run : wurst_##KIND##_devices_run)(handle, numbers);   \
         case 5: return wurst_##KIND##_is_idle(handle, &flag);                                                          \
         case 6: return wurst_##KIND##_is_paused(handle, &flag);                                                        \
         case 7: return wurst_##KIND##_is_closed(handle, &flag);                                                        \
@@ -238,7 +243,11 @@ static uint32_t agent_call(uint8_t call) {
     case 1: return wurst_agent_next(agent, words, memory(size), size, &count);
     case 2: return wurst_agent_fail(agent);
     case 3: return wurst_agent_stop(agent);
-    case 4: return wurst_agent_devices(agent, memory(forms * sizeof(struct wurst_device)), forms, &count);
+    case 4:
+        if (forms % 2 == 1) {
+            return wurst_agent_bad_uids(agent, memory(forms * sizeof *numbers), forms, &count, &flag);
+        }
+        return wurst_agent_devices(agent, memory(forms * sizeof(struct wurst_device)), forms, &count);
     case 5: return wurst_agent_fault(agent, words, numbers);
     case 6: return wurst_agent_frames(agent, numbers);
     case 7: wurst_agent_dispose(agent); return WURST_DONE;

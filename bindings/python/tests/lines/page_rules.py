@@ -50,9 +50,10 @@ RULES = {
     "keys come in the order of the page": rule(
         "return seen('[tabindex]').filter((each) => each.tabIndex > 0).map(said);"),
     "a finger or a mouse hits it": rule("""const least = innerWidth < 700 ? 40 : 24;
-        return seen("button:not(.piece), input, select, nav a, .more, summary").filter((each) => {
-        const box = each.getBoundingClientRect();
-        return box.height < (each.matches("summary") ? 24 : least) || box.width < 24; }).map(said);"""),
+        return seen("button, input, select, nav a, .more, summary").filter((each) => {
+        const box = each.getBoundingClientRect(), isPiece = each.matches(".piece");
+        return box.height < (each.matches("summary") ? 24 : isPiece ? 32 : least) || (box.width < 24 && !isPiece);
+        }).map(said);"""),
     "nothing is wider than the screen": rule(
         "return document.documentElement.scrollWidth > innerWidth ? [document.documentElement.scrollWidth] : [];"),
     "changes are said to who doesn't see them": rule(

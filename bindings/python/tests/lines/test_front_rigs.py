@@ -123,6 +123,14 @@ class Fixtures(OneRig):
         for other in ("1234:00000009", "1234:00000002"):
             self.scene({"uid": LEFT, "rig": {"spells": other}}, {"uid": "1234:00000002", "rig": {"address": 9}})
             self.assertEqual(self.rows(), {"1234:00000002": "", LEFT: wrong}, other)
+        liars = {LEFT: "ignores mutes", "1234:00000003": "wrong sum", "1234:00000005": "cuts short"}
+        self.scene({"uid": "1234:00000002", "rig": {"address": 100}},
+                   *({"uid": uid, "rig": {"address": 10 * at, "lies": [lie]}}
+                     for at, (uid, lie) in enumerate(liars.items(), 1)))
+        other = "gave wrong answers in the discovery"
+        self.assertEqual(self.rows(), {"1234:00000002": "", LEFT: wrong, "1234:00000003": other,
+                                       "1234:00000005": other})
+        self.assertEqual((self.status, self.end["fixtures"]), (1, 4))
         # Nobody has the UID of the last branch, but its replies spell one.
         self.scene({"uid": LEFT, "rig": {"lies": ["answers all"], "spells": "1234:00000009"}})
         self.assertEqual((self.rows(), self.status), ({}, 1))

@@ -186,7 +186,8 @@ class Calls(LongTestCase):
 
     def test_reads(self) -> None:
         for read in (lambda scene: scene.client.oldest(), lambda scene: scene.session.devices(),
-                     lambda scene: scene.session.devices_run(), lambda scene: scene.session.is_idle(),
+                     lambda scene: scene.session.devices_run(), lambda scene: scene.session.bad_uids(),
+                     lambda scene: scene.session.is_idle(),
                      lambda scene: scene.session.is_paused(), lambda scene: scene.session.is_closed(),
                      lambda scene: scene.session.awaits(), lambda scene: scene.session.free_entries(),
                      lambda scene: scene.session.entry_count(), lambda scene: scene.session.entry(0),

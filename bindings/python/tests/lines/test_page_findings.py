@@ -43,6 +43,11 @@ class Findings(TestCase):
             finding("complete", said), finding("found", "a label; its certificate is complete")]}]))
         self.assertEqual([each.explained for each in found.all], [explained, "a label; its certificate is complete"])
         self.assertEqual(next(found.lines()), said)
+        for judgement, end in (("incomplete", "is incomplete"), ("undecided", "is complete but for its known devices")):
+            found = page_findings.findings_in(document([{**self.run_with(judgement), "findings": [
+                finding(judgement, f"discovery: quick; its certificate {end}")]}]))
+            self.assertEqual(found.all[0].explained,
+                             f"discovery: quick; the proof that nothing else is on this line {end}")
 
     def test_the_headline_is_that_of_the_worst_run(self) -> None:
         complete, incomplete, cut = map(self.run_with, ("complete", "incomplete", "undecided"))

@@ -158,10 +158,10 @@ class Shown(TestCase):
         self.page.open(file)
         texts = self.page.value("[...document.querySelectorAll('#findings li')].map((each) => each.textContent)")
         self.assertEqual(texts[1:3], [f"Front left: {SENTENCES[1]}", f"\u25bc{SENTENCES[2]}"])
-        y = self.page.value("topOfRow(0) - view.scrollTop")
-        self.assertGreater(self.colours(112, y, 80, 16).get(INK, 0), 20)
-        y = self.page.value("topOfRow(1) - view.scrollTop")
-        self.assertEqual(self.colours(112, y, 80, 16).get(INK, 0), 0)
+        # A browser smooths letters, so few pixels have the colour of ink.
+        for row, has_label in ((0, True), (1, False)):
+            found = self.colours(112, self.page.value(f"topOfRow({row}) - view.scrollTop"), 80, 16)
+            self.assertEqual(len(found) > 10, has_label, found)
 
     def test_a_dark_scheme(self) -> None:
         self.page.call("Emulation.setEmulatedMedia", features=[{"name": "prefers-color-scheme", "value": "dark"}])

@@ -11,11 +11,11 @@ from typing import Any, List
 from unittest import mock
 
 from common import ROOT, TestCase, needs_library, scene
-from moments import FAULTS, Trace, elsewhere
+from moments import FAULTS, Trace, elsewhere, raising
 from servers import HELLO, SECONDS, SOURCE, Program, here
 from wurstlinen import (
-    AckType, Completion, Device, Discovery, Full, Kind, LineFailed, NotServed, OtherOutcome, OutcomeKind, ReplyHead,
-    ResponseClass, SharedClient, Status, Uid, connect,
+    AckType, BadUids, Completion, Device, Discovery, Full, Kind, LineFailed, NotServed, OtherOutcome, OutcomeKind,
+    ReplyHead, ResponseClass, SharedClient, Status, Uid, connect,
 )
 from wurstlinen.lines import OpenLine, Rig
 from wurstlinen.lines.numbers import CommandClass, Pid
@@ -121,7 +121,17 @@ class Protocol(TestCase):
         with here(lambda: Rig(liar)) as made, Program(made.place.path) as program:
             program.ask({"do": "discover"})
             # FORMATS, the report of a discovery: 1 is Corrupt.
-            self.assertEqual(program.read(), {"discovery": 0, "run": 1, "fault": 1, "uid": LEFT, "devices": []})
+            self.assertEqual(program.read(), {"discovery": 0, "run": 1, "fault": 1, "uid": LEFT, "devices": [],
+                                              "bad": [LEFT]})
+
+    def test_all_bad_uids_of_a_discovery(self) -> None:
+        bad = [f"1234:{number:08x}" for number in range(17, 0, -1)]
+        for count, keys in ((3, {"bad": bad[-3:]}), (17, {"bad": bad[-16:], "more_bad": True})):
+            liars = scene(devices=[{"uid": uid, "rig": {"lies": ["wrong sum"]}} for uid in bad[-count:]])
+            with here(lambda: Rig(liars)) as made, Program(made.place.path) as program:
+                program.ask({"do": "discover"})
+                self.assertEqual(program.read(), {"discovery": 0, "run": 1, "fault": 1, "uid": LEFT, "devices": [],
+                                                  **keys})
 
     def test_a_pause(self) -> None:
         with here(five) as made, Program(made.place.path) as operator, Program(made.place.path) as program:
@@ -277,6 +287,15 @@ class Clients(TestCase):
             self.assertEqual(client.queue.devices(), found.devices)
             self.assertEqual(client.queue.devices_run(), client.next_discovery().run)
 
+    def test_bad_uids(self) -> None:
+        liar = scene(devices=[{"uid": LEFT, "rig": {"lies": ["ignores mutes"]}}])
+        with here(lambda: Rig(liar)) as made, connect(made.name) as client:
+            queue = client.queue
+            self.assertEqual((queue.bad_uids(), queue.bad_uids_run()), (BadUids(), 0))
+            client.discover()
+            queue.run()
+            self.assertEqual((queue.bad_uids(), queue.bad_uids_run()), (BadUids((Uid.parse(LEFT),)), 1))
+
     def test_an_answer_that_takes_time(self) -> None:
         with here(five) as made, connect(made.name) as client:
             self.assertEqual(client.ask("9abc:00000002", "device_label").values, {"label": "House lights"})
@@ -380,6 +399,20 @@ class Worst(TestCase):
                         Trace(moment, fault).run(lambda: client.ask(LEFT, 0x82))
                     self.check(client, str(moment))
             self.assertEqual(made.server._status()["outstanding"], 0)
+
+    def test_who_is_told_of_a_failure_and_raises_loses_no_outcome(self) -> None:
+        class Unplugged(Rig):
+            def exchange(self, frame: bytes) -> bytes:
+                raise LineFailed("unplugged")
+
+        for fault in (LineFailed("wrong"), Full(), ZeroDivisionError(), KeyboardInterrupt()):
+            with here(lambda: Unplugged(FIVE)) as made, connect(made.name) as client:
+                client.queue.on_failure = raising(lambda reason: None, 0, fault)
+                number = client.get(LEFT, 0x82)
+                self.assertRaises(type(fault), client.queue.run)
+                self.assertEqual(client.queue.outstanding, set())
+                done = client.next_completion()
+                self.assertEqual((done.number, done.status), (number, Status.FAILED_TO_SEND))
 
     def check(self, client: SharedClient, moment: str) -> None:
         """The client goes on with the right answers, or its connection has ended."""

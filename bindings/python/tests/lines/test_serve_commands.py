@@ -257,8 +257,10 @@ class Adapters(LongTestCase):
         with folder() as made, self.adapter(made) as (line, _):
             for serves in (False, True):
                 with serve(made, "--line", line) if serves else contextlib.nullcontext():
-                    running = [subprocess.Popen([*TOOL, "fixtures", "--line", line], env=environment(made),
-                                                stdout=subprocess.PIPE, stderr=subprocess.PIPE, text=True)
+                    # On a busy machine the first one takes longer than the usual wait.
+                    words = ["fixtures", "--line", line, "--wait-line", str(SECONDS)]
+                    running = [subprocess.Popen([*TOOL, *words], env=environment(made), stdout=subprocess.PIPE,
+                                                stderr=subprocess.PIPE, text=True)
                                for _ in range(2)]
                     for each in running:
                         out, errors = each.communicate(timeout=SECONDS)

@@ -1,15 +1,17 @@
 """The log of a server: whole lines of a session's log, in a file that doesn't grow for ever."""
 from __future__ import annotations
 
+import errno
 import json
 import os
 import resource
 import threading
 import time
-from typing import List
+from typing import Any, List
 from unittest import mock
 
-from common import LongTestCase, folder, needs_library
+from common import LongTestCase, TestCase, folder, needs_library
+from moments import Trial
 from servers import SECONDS, Program, command, serve
 from test_serve import FIVE, GET
 from wurstlinen.shared.log_file import LogFile, LogWriter
@@ -45,6 +47,28 @@ class Logs(LongTestCase):
             with serve(made, "--line", LINE, "--log", "/dev/full") as server:
                 pass
             self.assertRegex(server.said, "^wurstlinen: /dev/full: .*; the log goes on when it can be written again\n$")
+
+    def test_a_log_goes_on_though_nobody_hears_of_a_full_disk(self) -> None:
+        """Standard error is a pipe whose reader has gone."""
+        with folder() as made:
+            log = made / "log"
+            with serve(made, "--line", LINE, "--log", str(log)) as server, Program(server.socket) as program:
+                assert server.stderr is not None
+                server.stderr.close()
+                program.ask(GET)
+                program.next("data")
+                log.unlink()
+                log.symlink_to("/dev/full")
+                program.ask(GET)
+                program.next("data")
+                # Now it has been tried.
+                time.sleep(0.5)
+                log.unlink()
+                until = time.monotonic() + SECONDS
+                while not log.exists() or not log.stat().st_size:
+                    self.assertLess(time.monotonic(), until, "the log doesn't go on")
+                    program.ask(GET)
+                    program.next("data")
 
     def test_it_does_not_grow_for_ever(self) -> None:
         with folder() as made:
@@ -148,3 +172,64 @@ class Logs(LongTestCase):
             self.assertEqual((made / "log").read_bytes(), b"first\n123456789\nlast\n")
             self.assertEqual(said, [f"{made / 'log'}: the disk hangs; the log goes on when it can be written again",
                                     f"{made / 'log'}: the log goes on after 2 lost lines"])
+
+
+class Worst(TestCase):
+    """What the thread that writes meets, which nobody would start again."""
+
+    def test_an_exception_at_each_line_of_a_write(self) -> None:
+        with folder() as made:
+            def make() -> LogFile:
+                (made / "log").unlink(missing_ok=True)
+                log = LogFile(str(made / "log"), lambda text: None)
+                log.add([b"first\n"])
+                return log
+
+            def check(log: LogFile, returned: List[Any]) -> None:
+                log.add([b"last\n"])
+                log.close()
+                self.assertIn((made / "log").read_bytes(), (b"first\nlast\n", b"first\nsecond\nlast\n"))
+
+            self.assertGreater(Trial(make, lambda log: log.add([b"second\n"]), check).run(), 10)
+
+    def test_whatever_a_write_raises_the_next_lines_are_written(self) -> None:
+        with folder() as made:
+            said: List[str] = []
+            file = LogFile(str(made / "log"), said.append)
+            with mock.patch.object(file, "_write", side_effect=ZeroDivisionError("wrong")):
+                log = LogWriter(file)
+                log.add([b"lost\n"])
+                while log._waiting:
+                    time.sleep(0.01)
+            log.add([b"next\n"])
+            log.end(SECONDS)
+            self.assertEqual((made / "log").read_bytes(), b"next\n")
+            self.assertEqual(said, [
+                f"{made / 'log'}: ZeroDivisionError('wrong'); the log goes on when it can be written again",
+                f"{made / 'log'}: the log goes on after 1 lost lines"])
+
+    def test_a_disk_that_fails_when_the_file_is_closed(self) -> None:
+        with folder() as made:
+            said: List[str] = []
+            log = LogFile(str(made / "log"), said.append)
+
+            class Failing:
+                """A file of a server that is away."""
+
+                def fileno(self) -> int:
+                    raise OSError(errno.EIO, "away")
+
+                def close(self) -> None:
+                    raise OSError(errno.EIO, "away")
+
+            for _ in range(2):
+                log._file = Failing()  # type: ignore[assignment]
+                log.add([b"lost\n"])
+            log.add([b"next\n"])
+            log._file.close()  # type: ignore[union-attr]
+            log._file = Failing()  # type: ignore[assignment]
+            log.end()
+            self.assertEqual((made / "log").read_bytes(), b"next\n")
+            self.assertEqual([text.partition(": ")[2] for text in said], [
+                "away; the log goes on when it can be written again", "the log goes on after 2 lost lines",
+                "away; the end of the log may be lost"])

@@ -55,7 +55,7 @@ class Strangers(TestCase):
     def test_a_greeting(self) -> None:
         wrong = [{**GREETING, key: value} for key, value in (
             ("line", None), ("source", 5), ("source", "7ff0"), ("process", "1"), ("depth", None), ("paused", 0),
-            ("there", "yes"), ("clients", []))]
+            ("there", "yes"), ("clients", []), ("client", "x"), ("client", None))]
         lacking = [{key: value for key, value in GREETING.items() if key != name}
                    for name in ("line", "source", "process", "depth", "paused", "there", "clients")]
         for said in (*wrong, *lacking, [1], b"[" * 100_000, b"\xff", b"1" * 5_000, b"\"" * 300_000):

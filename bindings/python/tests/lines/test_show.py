@@ -39,7 +39,7 @@ sensors
   0 Head  41 °C (range -20 to 120, normal 0 to 80, lowest 41, highest 41, recorded 0)
 control
   identify device  no
-others, to be set or read by a number
+other parameters
   record_sensors
 """
 
@@ -95,7 +95,7 @@ class Show(OneRig):
         self.assertEqual(found["dimmer"], ["curve 2 of 2", "1 Square", "2 Square, in use"])
         self.assertEqual((found["settings"], found["lamp and hours"]), (["lock state unlocked of 1"],
                                                                         ["lamp hours 256 h"]))
-        self.assertEqual(found["others, to be set or read by a number"], ["slot_description"])
+        self.assertEqual(found["other parameters"], ["slot_description"])
         # What takes messages away, or tells a secret, isn't asked for.
         asked = {decode_packet(frame).pid for frame in self.frames}  # type: ignore[union-attr]
         self.assertEqual(asked & {0x0020, 0x0030, 0x0640, 0x0121}, set())

@@ -8,14 +8,15 @@ import json
 import os
 import subprocess
 import sys
+import time
 import unittest
 from pathlib import Path
 from typing import Any, Dict, List, Tuple
 from unittest import mock
 
-from common import ROOT, ListLine, TestCase, folder, needs_library
+from common import ROOT, ListLine, LongTestCase, TestCase, folder, needs_library
 from fronts import FIVE, LEFT, OneRig, called
-from servers import Program, environment, serve
+from servers import SECONDS, Program, environment, serve
 from stand_in import program_in
 from wurstlinen import tool
 from wurstlinen._times import now
@@ -51,6 +52,60 @@ def of_tool(*words: str, **environment: str) -> Tuple[int, str, str]:
     return status, out.getvalue(), errors.getvalue()
 
 
+class Readers(LongTestCase):
+    """Who reads what a command prints, and goes."""
+
+    def test_of_a_program_that_prints_much(self) -> None:
+        """The program mustn't wait for anybody then, nor the command for the program."""
+        with folder() as place:
+            program = place / "program"
+            program.write_text("#!/bin/sh\ni=0\nwhile [ $i -lt 20000 ] && echo \"client 0 request $i: 0 00 -\"; do\n"
+                               "    i=$((i + 1))\ndone\n")
+            program.chmod(0o755)
+            variables = {**environment(place), "WURSTLINEN_PROGRAM": str(program)}
+            with subprocess.Popen([sys.executable, "-m", "wurstlinen.tool", "run", "--json", "file"], env=variables,
+                                  stdout=subprocess.PIPE, stderr=subprocess.PIPE) as command:
+                assert command.stdout is not None
+                self.assertEqual(json.loads(command.stdout.readline())["request"], 0)
+                command.stdout.close()
+                try:
+                    self.assertEqual(command.wait(SECONDS), 1)
+                finally:
+                    command.kill()
+
+
+    def test_a_command_that_is_ended_ends_its_program(self) -> None:
+        with folder() as place:
+            program, number = place / "program", place / "number"
+            program.write_text(f"#!/bin/sh\necho $$ > {number}.new\nmv {number}.new {number}\nexec sleep 100\n")
+            program.chmod(0o755)
+            variables = {**environment(place), "WURSTLINEN_PROGRAM": str(program)}
+            with subprocess.Popen([sys.executable, "-m", "wurstlinen.tool", "run", "--json", "file"],
+                                  env=variables) as command:
+                while not number.exists():
+                    time.sleep(0.01)
+                # Until it reads what the program prints.
+                time.sleep(0.5)
+                command.terminate()
+                self.assertNotEqual(command.wait(SECONDS), 0)
+            with self.assertRaises(ProcessLookupError):
+                os.kill(int(number.read_text()), 0)
+
+    def test_of_what_is_wrong(self) -> None:
+        """A status doesn't depend on whether anybody reads why."""
+        with folder() as place:
+            program, log = place / "program", place / "log"
+            program.write_text("#!/bin/sh\necho wrong >&2\nexit 2\n")
+            program.chmod(0o755)
+            log.write_text('{"entry":"opening"}\n{"number":0,"microseconds":5}\n')
+            reading, writing = os.pipe()
+            os.close(reading)
+            done = subprocess.run([sys.executable, "-m", "wurstlinen.tool", "explain", str(log)], stderr=writing,
+                                  env={**environment(place), "WURSTLINEN_PROGRAM": str(program)}, check=False)
+            os.close(writing)
+            self.assertEqual(done.returncode, 2)
+
+
 class Joined(TestCase):
     """Answers in parts."""
 
@@ -72,9 +127,9 @@ class Joined(TestCase):
         more, last = answer(ResponseType.ACK_OVERFLOW, b"Lam"), answer(ResponseType.ACK, b" 1")
         self.assertEqual(self.traced((GET, more), (other, answer(ResponseType.ACK, b"x", other)), (GET, last))[1:],
                          ["ACK device_label x", "ACK device_label  1"])
-        # What is lost or damaged between them is asked for again.
+        # A GET ends with a reply that is lost or damaged. What comes then is the answer to another one.
         self.assertEqual(self.traced((GET, more), (GET, b""), (GET, b"\1"), (GET, last))[3],
-                         "ACK device_label Lam 1 (2 parts)")
+                         "ACK device_label  1")
         self.assertEqual(self.traced((GET, more), (GET, answer(ResponseType.NACK_REASON, b"\0\0")), (GET, last))[2],
                          "ACK device_label  1")
 
@@ -90,6 +145,15 @@ class Joined(TestCase):
         parts = Parts()
         parts.joined(GET.encode(), answer(ResponseType.ACK_OVERFLOW, b"Lam"))
         self.assertIsNone(parts.joined(branch.encode(), answer(ResponseType.ACK, b"")).response)
+
+    def test_an_answer_that_broke_off_is_in_no_other(self) -> None:
+        for came in (b"", None, answer(ResponseType.ACK, b"p 1")[:-1]):
+            parts = Parts()
+            parts.joined(GET.encode(), answer(ResponseType.ACK_OVERFLOW, b"Lam"))
+            parts.joined(GET.encode(), came)
+            parts.joined(GET.encode(), answer(ResponseType.ACK_OVERFLOW, b"Lam"))
+            found = parts.joined(GET.encode(), answer(ResponseType.ACK, b"p 1"))
+            self.assertEqual((found.response and found.response.data, found.parts), (b"Lamp 1", 2))
 
 
 class Bytes(TestCase):

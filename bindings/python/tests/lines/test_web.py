@@ -45,10 +45,25 @@ class Fixtures(LongTestCase):
             seen.until(f"document.querySelector(\"{row(LEFT)} .slots\").textContent === '20–26'")
             self.assertEqual(seen.value(f"{row(LEFT)} .label"), BAD)
             self.assertEqual(seen.page.value("[window.bad ?? 0, document.images.length]"), [0, 0])
+            # What is taken back is said before. At 1 it would overlap again.
             seen.button("Undo (2)")
-            seen.until("document.querySelector('.message')?.innerText.includes('address 1 -> 20')")
+            self.assertEqual(seen.texts(".message p"), [f"Undo: address of {BAD}, 20 → 1?"])
+            self.assertEqual(seen.page.value("document.activeElement.textContent"), "Cancel")
+            seen.button("Undo")
+            seen.until("document.querySelector('.message')?.innerText.includes('1–7 overlaps 9abc:00000002')")
+            seen.button("Do it anyway")
+            seen.until(f"document.querySelector('.message p')?.innerText === "
+                       f"'Undone: the address of {BAD} is 1 again (was 20).'")
             seen.button("Undo (1)")
+            self.assertEqual(seen.texts(".message p"), [f"Undo: label, {BAD} → Front left?"])
+            seen.button("Undo")
             events.until(lambda parts: parts[f"fixture/{LEFT}"]["label"] == "Front left")
+            seen.until(f"document.querySelector('.message p')?.innerText === "
+                       f"'Undone: the label is Front left again (was {BAD}).'")
+            # It is of no use elsewhere.
+            seen.button("Slots")
+            seen.until("!document.querySelector('.message') && document.querySelector('.universe')")
+            seen.button("Fixtures")
             seen.until(f"document.querySelector(\"{row(LEFT)} .label\").value === 'Front left'")
 
     @at_each_size
@@ -59,9 +74,9 @@ class Fixtures(LongTestCase):
             seen.type("99")
             seen.key("Enter")
             seen.until("document.querySelector('.message')")
-            self.assertIn("99-105 overlaps 454e:0a000017 Back truss 100", seen.texts(".message p")[0])
+            self.assertIn("99–105 overlaps 454e:0a000017 Back truss 100", seen.texts(".message p")[0])
             # The question is where keys are, and then they are where they were.
-            self.assertEqual(seen.page.value("document.activeElement.textContent"), "Leave it")
+            self.assertEqual(seen.page.value("document.activeElement.textContent"), "Cancel")
             seen.key("Enter")
             seen.until(f"document.querySelector(\"{row(RIGHT)} .address\").value === '8'")
             self.assertEqual(seen.page.value("document.activeElement.className"), "address")
@@ -122,6 +137,13 @@ class Fixtures(LongTestCase):
             seen.click(f"{row(BACK)} .identify")
             events.until(lambda parts: parts[f"fixture/{BACK}"]["identifies"])
             seen.until(f"document.querySelector(\"{row(BACK)} .identify\").getAttribute('aria-checked') === 'true'")
+            # All of them stop at once, from any view.
+            seen.click(f"{row(LEFT)} .identify")
+            seen.button("Slots")
+            seen.button("2 identify · Stop")
+            events.until(lambda parts: not any(value and value.get("identifies") for name, value in parts.items()
+                                               if name.startswith("fixture/")))
+            seen.until("!document.querySelector('#stop')")
 
     def test_the_walk_of_a_long_truss_with_a_phone(self) -> None:
         """The button is under the thumb, and the fixture that shows itself is seen."""
@@ -143,10 +165,12 @@ class Fixtures(LongTestCase):
     def test_filter_and_order(self, size: Tuple[int, int]) -> None:
         with opened(size) as (seen, _, _rig):
             seen.until("document.querySelectorAll('.rig tbody tr').length === 5")
+            seen.until(f"document.querySelector(\"{row(SECOND)} .label\").placeholder === "
+                       f"'{SECOND} Dimmer, second half'")
             seen.click("input[type=search]")
             seen.type("wash front")
             seen.until("document.querySelectorAll('.rig tbody tr').length === 2")
-            self.assertEqual(seen.texts(".count"), ["2 of 5 fixtures"])
+            self.assertEqual(seen.texts(".count"), ["5 fixtures, 2 shown"])
             seen.type("")
             seen.page.value("document.activeElement.value = ''; "
                             "document.activeElement.dispatchEvent(new Event('input'))")
@@ -159,7 +183,7 @@ class Fixtures(LongTestCase):
 
     @at_each_size
     def test_a_file(self, size: Tuple[int, int]) -> None:
-        with folder() as place, opened(size) as (seen, web, _), web.follow() as events:
+        with folder() as place, opened(size, "file") as (seen, web, _), web.follow() as events:
             folder_of_downloads(seen.page, place)
             seen.button("Save as CSV")
             saved = place / "rig.csv"
@@ -176,9 +200,21 @@ class Fixtures(LongTestCase):
             seen.until("document.querySelectorAll('.differences li').length === 5")
             shown = " ".join(seen.texts(".differences li"))
             self.assertIn("missing: Lost (4444:00000004)", shown)
-            self.assertIn("address 20 -> 1", shown)
-            seen.button("Make the fixtures so …")
-            seen.button("Make them")
+            self.assertIn(f"moved: Front left ({LEFT}), at 1, file says 20", shown)
+            self.assertIn(f"relabelled: Front left ({LEFT}), label Front left, file says Wash 1", shown)
+            self.assertIn("1–7 overlaps 9abc:00000002", shown)
+            bad = [each.split(":")[0] for each in seen.texts(".differences .bad")]
+            self.assertEqual(bad, ["missing", "overlap", "overlap"])
+            # The table says so, too, and leads there.
+            seen.button("Fixtures")
+            seen.button("rig.csv: 3 differences, 2 overlaps")
+            self.assertEqual(seen.texts("#chooser"), [])
+            seen.button("Apply rig.csv …")
+            seen.until("document.querySelector('.message')")
+            self.assertEqual(seen.texts(".message p"), [
+                f"2 changes: Front left ({LEFT}): address 1 → 20; Front left ({LEFT}): label Front left → Wash 1."])
+            self.assertEqual(seen.page.value("document.activeElement.textContent"), "Cancel")
+            seen.button("Make 2 changes")
             events.until(lambda parts: parts.get(f"fixture/{LEFT}", {}).get("label") == "Wash 1"
                          and parts[f"fixture/{LEFT}"]["address"] == 20)
             seen.until("document.querySelectorAll('.differences li').length === 1")
@@ -213,6 +249,12 @@ class OtherViews(LongTestCase):
             seen.until("document.querySelector('.name')?.textContent === 'Front right'")
             events.until(lambda parts: parts[f"fixture/{RIGHT}"]["identifies"]
                          and not parts[f"fixture/{BACK}"]["identifies"])
+            seen.button("Identify next ›")
+            seen.until("document.querySelector('.name')?.textContent === 'Back truss'")
+            events.until(lambda parts: parts[f"fixture/{BACK}"]["identifies"])
+            seen.button("1 identifies · Stop")
+            events.until(lambda parts: not parts[f"fixture/{BACK}"]["identifies"])
+            seen.button("Next ›")
 
     @at_each_size
     def test_any_parameter(self, size: Tuple[int, int]) -> None:
@@ -310,6 +352,11 @@ class OtherViews(LongTestCase):
             seen.until("document.querySelector('.result').textContent.startsWith('4 fixtures found with')")
             seen.until("[...document.querySelectorAll('li')].some((each) => "
                        "each.textContent.includes('Back truss (454e:0a000017)'))")
+            seen.button("Fixtures")
+            seen.until("document.querySelector('.count')?.textContent === '4 found, 1 missing'")
+            seen.button("Remove from the list")
+            seen.until("document.querySelector('.count').textContent === '4 fixtures'")
+            seen.button("Discovery")
             if program() is not None:
                 seen.until("document.querySelector('iframe')?.src.includes('/picture/')")
 
@@ -334,14 +381,27 @@ class OtherViews(LongTestCase):
                 servers.Program(servers.place.path_of(servers.place.own_folder(), "rig:/it"),
                                 {**servers.HELLO, "name": "console"}) as program:
             seen.until("document.querySelector('main').textContent.includes('console')")
+            # Another program waits for it, too.
             seen.button("Pause all")
-            seen.until("document.querySelector('#status').textContent.includes('paused')")
+            self.assertEqual(seen.texts(".message p"), ["This pauses console, too."])
+            seen.button("Pause them, too")
+            seen.until("document.querySelector('#status').textContent.endsWith(' · paused: no RDM request is sent')")
             program.say({"do": "get", "uid": LEFT, "pid": "0081"})
-            seen.until("document.querySelector('main').textContent.includes('Paused; 1 wait')")
+            seen.until("document.querySelector('main').textContent.includes('Paused: 1 request waits. It ends when')")
             seen.button("Go on")
             program.next("status")
             seen.until("document.querySelector('tr .command')?.textContent === 'GET 1234:00000001 manufacturer_label'")
             self.assertEqual(seen.texts("tr .answer")[0], "ACK manufacturer_label Wurstlinen")
+            program.say({"do": "get", "uid": LEFT, "pid": "0020", "data": "04"})
+            seen.until("document.querySelector('tr .command')?.textContent === "
+                       "'GET 1234:00000001 queued_message (status type error)'")
+            # Only who has paused can go on.
+            program.say({"do": "pause"})
+            seen.until("[...document.querySelectorAll('main button:disabled')].some((each) => "
+                       "each.textContent === 'paused by console')")
+            program.say({"do": "resume"})
+            seen.button("Pause all")
+            seen.button("Cancel")
 
 
 if __name__ == "__main__":

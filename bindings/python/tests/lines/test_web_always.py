@@ -131,19 +131,29 @@ class Always(LongTestCase):
             seen.until(f"document.querySelector(\"{row(LEFT)} .note\").textContent.includes('no answer')")
             self.assertEqual(seen.value(f"{row(LEFT)} .label"), "Front left")
             rig.is_plugged_in = False
-            seen.until("document.querySelector('#status').textContent.startsWith(\"The adapter isn't there\")")
+            seen.until("document.querySelector('#status').textContent === "
+                       "'rig:/it: adapter unplugged, waiting for it; what you see is old'")
+            for view in ("fixtures", "slots", "file", f"fixture/{BACK}", "discovery"):
+                seen.page.value(f"location.hash = location.hash.split('/')[0] + '/{view}'")
+                seen.until("document.querySelector('main').children.length")
+                able = seen.page.value("""[...document.querySelectorAll(':is(header, main) :is(button, input, select)')]
+                    .filter((each) => each.checkVisibility() && !each.disabled && !each.dataset.uid
+                    && !each.closest('th') && each.type !== 'search' && !each.matches('.narrow'))
+                    .map((each) => each.innerText)""")
+                free = {"file": ["Save as CSV", "Compare with a saved file …"]}
+                self.assertEqual(able, free.get(view, ["‹ Previous", "Next ›"] if "/" in view else []), view)
 
     def test_only_looking(self) -> None:
         with opened(DESK, looking=True) as (seen, _, rig):
             seen.until(f"document.querySelector(\"{row(LEFT)} .label\")?.value === 'Front left'")
-            self.assertIn("only for looking", seen.texts("#status")[0])
+            self.assertIn("view only", seen.texts("#status")[0])
             before = rig.exchanges
-            for view in ("fixtures", "slots", f"fixture/{LEFT}", "discovery", "line"):
+            for view in ("fixtures", "slots", "file", f"fixture/{LEFT}", "discovery", "line"):
                 seen.page.value(f"location.hash = location.hash.split('/')[0] + '/{view}'")
                 seen.until("document.querySelector('main').children.length")
                 able = seen.page.value("""[...document.querySelectorAll('main :is(button, input, select)')].filter(
                     (each) => each.checkVisibility() && !each.disabled && !each.dataset.uid
-                    && !each.closest('th, .file') && each.type !== 'search').map((each) => each.innerText)""")
+                    && !each.closest('th') && each.type !== 'search').map((each) => each.innerText)""")
                 self.assertEqual(able, [] if "/" not in view else ["‹ Previous", "Next ›"], view)
             self.assertEqual(rig.exchanges, before)
 
@@ -156,7 +166,7 @@ class Always(LongTestCase):
             seen.until("document.querySelector('#status')?.textContent.includes('no valid token')")
 
     def test_keys_alone_reach_everything(self) -> None:
-        for view in ("fixtures", "slots", f"fixture/{BACK}", "discovery", "line"):
+        for view in ("fixtures", "slots", "file", f"fixture/{BACK}", "discovery", "line"):
             with self.subTest(view=view), opened(DESK, view) as (seen, _, _rig):
                 seen.until("document.querySelector('main').children.length")
                 time.sleep(1.0)
@@ -178,7 +188,8 @@ class Always(LongTestCase):
     def test_rules_for_all_eyes_and_hands(self, size: Tuple[int, int]) -> None:
         with opened(size) as (seen, web, _):
             web.call("identify", uid=RIGHT, on=True)
-            for view in ("fixtures", "slots", f"fixture/{BACK}", "discovery", "line"):
+            web.call("load", name="rig.csv", text=f"uid,label,address\n{LEFT},Wash 1,1\n1234:00000099,Lost,9\n")
+            for view in ("fixtures", "slots", "file", f"fixture/{BACK}", "discovery", "line"):
                 seen.page.value(f"location.hash = location.hash.split('/')[0] + '/{view}'")
                 time.sleep(1.0)
                 for scheme in ("light", "dark"):

@@ -1,10 +1,13 @@
 """The page's program without a browser: what it answers, fixtures that are slow, refuse or vanish, its server's end."""
 from __future__ import annotations
 
+import contextlib
+import io
 import json
 import os
 import signal
 import subprocess
+import sys
 import threading
 import time
 import unittest
@@ -14,9 +17,18 @@ from unittest import mock
 from urllib.request import urlopen
 
 import servers
-from common import LongTestCase, TestCase, folder, needs_library
-from web_pages import BACK, FIVE, HOUSE, LEFT, RIGHT, SECOND, Events, five
+from common import LongTestCase, TestCase, folder, needs_library, scene
+from web_pages import BACK, FIVE, HOUSE, LEFT, RIGHT, SECOND, Events, Moody, five, web_on
+from wurstlinen import LineFailed, connect
+from wurstlinen.front.output import Failure
+from wurstlinen.lines.numbers import Pid
+from wurstlinen.lines.packets import decode_packet
 from wurstlinen.web import running
+from wurstlinen.web.board import Board
+from wurstlinen.web.hands import Hands
+from wurstlinen.web.plans import Plans
+from wurstlinen.web.rig import Rig
+from wurstlinen.web.watcher import LOOK_SECONDS
 
 ALL = [LEFT, RIGHT, BACK, HOUSE, SECOND]
 
@@ -37,20 +49,20 @@ class Changes(TestCase):
             answer = web.call("change", uid=RIGHT, column="address", value="97")
             self.assertEqual(answer["made"], 0)
             self.assertEqual(answer["problems"],
-                             [f"after this, {RIGHT} Front right 97-103 overlaps {BACK} Back truss 100"])
+                             [f"after this, {RIGHT} Front right 97–103 overlaps {BACK} Back truss 100"])
             answer = web.call("change", uid=RIGHT, column="address", value="97", force=True)
             self.assertEqual(answer["made"], 1)
             parts = events.until(lambda parts: any(each["uid"] == RIGHT for each in parts.get("problems", [])))
             self.assertEqual(parts[f"fixture/{RIGHT}"]["last"], 103)
             self.assertEqual(web.call("change", uid=RIGHT, column="address", value="510")["problems"],
-                             [f"after this, {RIGHT} Front right 510-516 ends after 512"])
+                             [f"after this, {RIGHT} Front right 510–516 ends after 512"])
 
     def test_a_personality_changes_slots(self) -> None:
         with five() as (web, _), web.follow() as events:
             events.until(lambda parts: len(parts.get(f"fixture/{LEFT}", {}).get("personalities", [])) == 2)
             # Front right begins at 8.
             answer = web.call("change", uid=LEFT, column="personality", value="2")
-            self.assertIn(f"after this, {LEFT} Front left 1-14 overlaps {RIGHT} Front right 8-14", answer["problems"])
+            self.assertIn(f"after this, {LEFT} Front left 1–14 overlaps {RIGHT} Front right 8–14", answer["problems"])
             web.call("change", uid=LEFT, column="personality", value="2", force=True)
             parts = events.until(lambda parts: parts[f"fixture/{LEFT}"]["slots"] == 14)
             self.assertEqual(parts[f"fixture/{LEFT}"]["personality_name"], "Extended")
@@ -60,12 +72,27 @@ class Changes(TestCase):
             web.call("change", uid=BACK, column="address", value="200")
             web.call("change", uid=BACK, column="label", value="")
             events.until(lambda parts: parts.get("undo", {}).get("count") == 2)
+            answer = web.call("undo", text=f"{BACK}  address  100 -> 200")
+            self.assertIn("another change is the last one by now", answer["error"])
             self.assertEqual(web.call("undo")["made"], 1)
-            self.assertEqual(web.call("undo")["made"], 1)
+            self.assertEqual(web.call("undo", text=f"{BACK}  address  100 -> 200")["made"], 1)
             parts = events.until(lambda parts: parts.get("undo") is None)
             back = parts[f"fixture/{BACK}"]
             self.assertEqual((back["label"], back["address"]), ("Back truss", 100))
             self.assertEqual(web.call("undo"), {"error": "there is no change to take back"})
+
+    def test_undo_asks_if_somebody_else_has_the_slots_by_now(self) -> None:
+        with five() as (web, _), web.follow() as events:
+            web.call("change", uid=BACK, column="address", value="200")
+            with servers.Program(servers.place.path_of(servers.place.own_folder(), "rig:/it")) as program:
+                program.say({"do": "set", "uid": RIGHT, "pid": "00f0", "data": "0064"})
+                program.next("status")
+            events.until(lambda parts: parts.get(f"fixture/{RIGHT}", {}).get("address") == 100)
+            answer = web.call("undo")
+            self.assertEqual((answer["made"], answer["problems"]),
+                             (0, [f"after this, {RIGHT} Front right 100–106 overlaps {BACK} Back truss 100"]))
+            self.assertEqual(web.call("undo", force=True)["made"], 1)
+            events.until(lambda parts: parts[f"fixture/{BACK}"]["address"] == 100 and parts.get("undo") is None)
 
     def test_undo_of_what_somebody_else_has_changed_since(self) -> None:
         with five() as (web, _), web.follow() as events:
@@ -126,7 +153,8 @@ class Changes(TestCase):
             self.assertEqual(found, [("missing", "1234:00000099"), ("new", RIGHT), ("new", HOUSE), ("new", SECOND),
                                      ("moved", LEFT), ("relabelled", LEFT), ("overlap", LEFT), ("overlap", LEFT)])
             plan = web.call("apply", dry=True)
-            self.assertEqual(plan["changes"], [f"{LEFT}  address  1 -> 20", f"{LEFT}  label  Front left -> Wash 1"])
+            self.assertEqual(plan["changes"], [f"Front left ({LEFT}): address 1 → 20",
+                                               f"Front left ({LEFT}): label Front left → Wash 1"])
             self.assertEqual(web.call("apply")["made"], 2)
             events.until(lambda parts: not [each for each in parts["file"]["differences"] if each["uid"] == LEFT])
             saved = web.call("save")["text"]
@@ -167,6 +195,11 @@ class Worse(TestCase):
             self.assertEqual(parts[f"fixture/{BACK}"]["label"], "Back truss")
             if web_has_program():
                 events.until(lambda parts: "was never heard" in parts[f"fixture/{BACK}"]["missing"])
+                # Whatever the line's server says of that run later.
+                time.sleep(2 * LOOK_SECONDS)
+                with web.follow() as later:
+                    missing = later.until(lambda parts: f"fixture/{BACK}" in parts)[f"fixture/{BACK}"]["missing"]
+                self.assertIn("was never heard", missing)
             rig.gone.clear()
             web.call("discover")
             events.until(lambda parts: parts[f"fixture/{BACK}"]["missing"] == ""
@@ -222,6 +255,90 @@ class Worse(TestCase):
                 name.startswith("request/") and value["command"] == f"GET {LEFT} device_label"
                 and value["answer"] == "ACK device_label Front left" and value["is_good"]
                 for name, value in parts.items() if value))
+
+
+@needs_library
+class Worst(LongTestCase):
+    """What goes wrong at a bad moment leaves nobody waiting, and no thread that has ended."""
+
+    def test_a_fault_of_which_nobody_hears(self) -> None:
+        """Standard error is a pipe whose reader has gone."""
+        reading, writing = os.pipe()
+        os.close(reading)
+        with servers.here(lambda: Moody(scene(devices=FIVE["devices"]))) as made, \
+                open(writing, "w", 1, encoding="ascii") as errors, mock.patch.object(sys, "stderr", errors):
+            hands = Hands(lambda: connect(made.name))
+            for _ in range(5):
+                with self.assertRaisesRegex(Failure, "ZeroDivisionError"):
+                    hands.do("key", lambda work: 1 // 0).result(servers.SECONDS)
+            self.assertEqual(hands.do("key", lambda work: 1).result(servers.SECONDS), 1)
+            hands.end()
+            with contextlib.suppress(OSError):
+                errors.close()
+
+    def test_a_line_that_fails_once(self) -> None:
+        """For a GET of a fixture, and for one of those whose answers all fixtures of its model share."""
+        for failing_data in (b"", b"\x02"):
+            rig, failed = Moody(scene(devices=FIVE["devices"])), threading.Event()
+
+            def failing(frame: bytes, rig: Moody = rig, failed: threading.Event = failed) -> bytes:
+                command = decode_packet(frame)
+                is_asked = command is not None and command.pid == (
+                    Pid.DMX_PERSONALITY_DESCRIPTION if failing_data else Pid.DEVICE_LABEL)
+                if command is not None and is_asked and command.data == failing_data and not failed.is_set():
+                    failed.set()
+                    raise LineFailed("a bad contact")
+                return Moody.exchange(rig, frame)
+
+            rig.exchange = failing  # type: ignore[method-assign]
+            with mock.patch("wurstlinen.web.rig.AGAIN_SECONDS", 0.1), web_on(rig) as web, web.follow() as events:
+                events.until(lambda parts: all(parts.get(f"fixture/{uid}", {}).get("is_read") for uid in ALL)
+                             and all(len(parts[f"fixture/{uid}"]["personalities"]) == 2 for uid in (LEFT, RIGHT)))
+                self.assertTrue(failed.is_set())
+
+    def test_a_fault_while_a_fixture_is_asked(self) -> None:
+        with mock.patch("wurstlinen.web.rig.look_at", side_effect=ZeroDivisionError("wrong")), \
+                mock.patch.object(sys, "stderr", io.StringIO()), web_on(Moody(scene(devices=FIVE["devices"]))) as web, \
+                web.follow() as events:
+            parts = events.until(lambda parts: all(parts.get(f"fixture/{uid}", {}).get("is_read") for uid in ALL))
+            self.assertEqual(parts[f"fixture/{LEFT}"]["notes"], ["the page has a fault: ZeroDivisionError('wrong')"])
+
+    def test_a_fault_in_a_call(self) -> None:
+        def failing(rig: Rig) -> None:
+            raise ValueError("wrong")
+
+        with mock.patch.object(Rig, "undo", failing), \
+                mock.patch.object(sys, "stderr", io.StringIO()), web_on(Moody(scene(devices=[]))) as web:
+            self.assertEqual(web.call("undo"), {"error": "the page has a fault: ValueError('wrong')"})
+
+    def test_a_comparison_that_fails(self) -> None:
+        board, compared = Board(), threading.Semaphore(0)
+        plans = Plans(board, Rig(board, mock.Mock()))
+
+        def failing() -> None:
+            compared.release()
+            raise ZeroDivisionError
+
+        with mock.patch.object(plans, "_compare", failing), mock.patch.object(sys, "stderr", io.StringIO()):
+            following = threading.Thread(target=plans.follow)
+            following.start()
+            for number in range(3):
+                board.put(f"fixture/{LEFT}", number)
+                self.assertTrue(compared.acquire(timeout=servers.SECONDS))
+            board.end()
+            following.join(servers.SECONDS)
+
+    def test_a_signal_before_the_page_is_served(self) -> None:
+        """And then its address can't be printed."""
+        text = ("import os, signal, sys\nfrom wurstlinen import tool\nfrom wurstlinen.web import running\n"
+                "def tell(*words):\n    os.kill(os.getpid(), signal.SIGTERM)\n    raise BrokenPipeError\n"
+                "running.tell = tell\nsys.exit(tool.run())\n")
+        with servers.runtime() as place:
+            rig = place / "rig.json"
+            rig.write_text(json.dumps(FIVE), encoding="utf-8")
+            done = subprocess.run([sys.executable, "-c", text, "web", "--port", "0", "--line", f"rig:{rig}"],
+                                  env=servers.environment(place), timeout=servers.SECONDS, check=False)
+            self.assertNotEqual(done.returncode, 0)
 
 
 def web_has_program() -> bool:

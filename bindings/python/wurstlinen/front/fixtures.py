@@ -86,7 +86,7 @@ def look_at_all(work: Work, devices: Sequence[Device]) -> Tuple[List[Fixture], O
         for number, device in enumerate(devices, 1):
             work.output.progress(f"asking {number} of {len(devices)}")
             found.append(look_at(work, device))
-        note_unmuted(work, found)
+        note_bad(work, found)
     except Failure as failure:
         failed = failure
     for fixture in found:
@@ -95,19 +95,31 @@ def look_at_all(work: Work, devices: Sequence[Device]) -> Tuple[List[Fixture], O
     return found, failed
 
 
-def note_unmuted(work: Work, found: List[Fixture]) -> None:
+def note_bad(work: Work, found: List[Fixture]) -> None:
+    """Notes which devices answered wrongly in the discovery: the one that ended it, and each other one."""
+    noted = note_unmuted(work, found)
+    for uid in work.bad.uids:
+        fixture = found_or_asked(work, found, uid)
+        if fixture is not None and fixture is not noted:
+            fixture.notes.insert(0, "gave wrong answers in the discovery")
+    if work.bad.has_more:
+        work.output.note(f"more than {len(work.bad.uids)} UIDs were answered wrongly in the discovery")
+
+
+def note_unmuted(work: Work, found: List[Fixture]) -> Optional[Fixture]:
     """Notes which device ended the discovery, if there is one.
 
     That is the one whose branch was answered again and again, or else the one whose UID these answers had.
     """
     if work.unmuted is None:
-        return
+        return None
     spelled = None if work.line.spelled is None else Uid.from_number(work.line.spelled)
     for uid in (work.unmuted, spelled):
         fixture = None if uid is None or uid.is_broadcast else found_or_asked(work, found, uid)
         if fixture is not None:
             fixture.notes.insert(0, "ended the discovery by wrong answers")
-            return
+            return fixture
+    return None
 
 
 def found_or_asked(work: Work, found: List[Fixture], uid: Uid) -> Optional[Fixture]:

@@ -38,13 +38,17 @@ class Parts:
         self._count = 0
 
     def joined(self, frame: bytes, reply: Optional[bytes]) -> Reply:
-        """What came after a frame. The last part of an answer has the data of all, if they followed each other."""
+        """What came after a frame. The last part of an answer has the data of all, if they followed each other.
+
+        After a reply that was lost or damaged, the answer broke off: whatever comes next begins another one.
+        """
         response = None if is_branch_frame(frame) else decode_packet(reply or b"")
+        last, data, count = self._of, self._data, self._count
+        self._of, self._data, self._count = (), b"", 0
         if response is None:
             return Reply(reply, None)
         of = response.source, response.pid, response.sub_device, response.command_class
-        before, count = (self._data, self._count) if of == self._of else (b"", 0)
-        self._of, self._data, self._count = (), b"", 0
+        before, count = (data, count) if of == last else (b"", 0)
         if response.port_or_type == ResponseType.ACK_OVERFLOW:
             self._of, self._data, self._count = of, before + response.data, count + 1
         elif response.port_or_type == ResponseType.ACK and count:

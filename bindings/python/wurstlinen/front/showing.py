@@ -20,7 +20,7 @@ SECTIONS = (("identity", 0x00DF), (PATCH, 0x01FF), (SENSORS, 0x02FF), ("dimmer",
             ("lamp and hours", 0x04FF), ("settings", 0x06FF), ("network", 0x0FFF), ("control", 0x7FFF),
             ("manufacturer's own", 0xFFDF))
 # What can only be set, or is read by a number that the device doesn't list.
-OTHERS = "others, to be set or read by a number"
+OTHERS = "other parameters"
 # A GET of these takes a message away, tells a secret, or returns what is shown anyway.
 NOT_ASKED = {Pid.QUEUED_MESSAGE, Pid.STATUS_MESSAGES, STANDARD.named("lock_pin").number, Pid.SUPPORTED_PARAMETERS,
              Pid.DMX_START_ADDRESS, Pid.SENSOR_DEFINITION, Pid.SENSOR_VALUE}

@@ -9,10 +9,11 @@ from functools import partial
 from typing import TYPE_CHECKING, Iterator, Optional, Set, Tuple, Union, cast
 
 from .. import (
-    AckType, Completion, Device, Discovery, Fault, Kind, Request, RequestClass, ResponseClass, RunFaultKind, Search,
-    Status, Uid, commands,
+    AckType, BadUids, Completion, Device, Discovery, Fault, Kind, Request, RequestClass, ResponseClass, RunFaultKind,
+    Search, Status, Uid, commands,
 )
 from .._ask import Asker, Incomplete, Unserved
+from .._bad_uids import bad_uids_of_run
 from ..commands import RUN_FAULTS, source_of
 from ..line import LineFailed
 from ..lines import OpenLine, open_line
@@ -46,6 +47,8 @@ class Work:
         self.slow: Set[Uid] = set()
         # The UID whose branch was answered again and again, so that the last discovery ended early.
         self.unmuted: Optional[Uid] = None
+        # The bad UIDs of the last discovery.
+        self.bad = BadUids()
         # Whether the last discovery went on as far as it could, beside a device that breaks the rules or over 1,024.
         self.has_searched = False
         self._source = source
@@ -138,6 +141,7 @@ class Work:
         """The devices on the line, and why the run ended early; None if it didn't. A sink gets the run's log."""
         found = self.search(sink)
         self.unmuted = None if found.fault is None else found.fault.uid
+        self.bad = bad_uids_of_run(self._client.queue, found.run)
         self.has_searched = found.fault is None or found.fault.kind in (RunFaultKind.CORRUPT, RunFaultKind.TOO_MANY)
         if found.fault is None:
             return found.devices, None

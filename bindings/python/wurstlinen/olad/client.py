@@ -11,7 +11,7 @@ from types import TracebackType
 from typing import Callable, Deque, List, Optional, Tuple, Type, Union, cast
 
 from .._types import (
-    AckType, Completion, Device, Discovery, Kind, Outcome, OutcomeKind, ReplyHead, Request, RequestClass,
+    AckType, BadUids, Completion, Device, Discovery, Kind, Outcome, OutcomeKind, ReplyHead, Request, RequestClass,
     ResponseClass, RunFault, RunFaultKind, Status, Uid, kind_of,
 )
 from .._turns import Turns
@@ -118,6 +118,14 @@ class OlaQueue:
 
     def _sleep(self, seconds: float) -> None:
         time.sleep(seconds)
+
+    def bad_uids(self) -> BadUids:
+        """None: olad writes them to its log."""
+        return BadUids()
+
+    def bad_uids_run(self) -> int:
+        """The number of their run: olad's aren't known."""
+        return 0
 
 
 def completion_of(number: int, reply: Fields) -> Completion:

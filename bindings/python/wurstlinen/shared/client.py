@@ -2,6 +2,7 @@
 from __future__ import annotations
 
 import time
+import weakref
 from collections import deque
 from types import TracebackType
 from typing import Callable, Deque, Iterable, List, Optional, Set, Tuple, Type, Union, cast
@@ -9,13 +10,13 @@ from typing import Callable, Deque, Iterable, List, Optional, Set, Tuple, Type, 
 from .._ask import DEFAULT_WAIT, Answer, Asker, Kept
 from .._faults import OtherOutcome
 from .._types import (
-    Completion, Device, Discovery, Kind, Outcome, OutcomeKind, Request, RequestClass, Uid, data_of, kind_of, pid_of,
-    uid_of,
+    BadUids, Completion, Device, Discovery, Kind, Outcome, OutcomeKind, Request, RequestClass, Uid, data_of, kind_of,
+    pid_of, uid_of,
 )
 from ..line import Line, LineFailed
 from .connection import Connection, NotServed, dict_of
 from .words import (
-    MOST_NUMBER, Keys, completion_of, devices_of, discovery_of, keys_of_request, number_in, uid_in)
+    MOST_NUMBER, Keys, bad_uids_in, completion_of, devices_of, discovery_of, keys_of_request, number_in, uid_in)
 
 KIND_WORDS = {Kind.FULL: "full", Kind.INCREMENTAL: "incremental"}
 SLICE_SECONDS = 0.1
@@ -34,13 +35,22 @@ class SharedQueue:
 
     def __init__(self, line: str) -> None:
         self.connection = Connection(line)
-        self.connection.on_object = self._take
-        hello = self.connection.hello
+        try:
+            with self.connection.protocol():
+                self._begin(self.connection.hello)
+        except BaseException:
+            self.connection.close()
+            raise
+
+    def _begin(self, hello: Keys) -> None:
+        """Takes what the server says of itself."""
+        # So that it isn't kept by this alone: who drops a client without closing it drops its connection too.
+        own = weakref.ref(self)
+        self.connection.on_object = lambda keys: taken_by(own(), keys)
         self.line = ServersLine()
         # What the server calls its line, the controller's UID, and how many requests may be outstanding.
         self.name = str(hello["line"])
-        with self.connection.protocol():
-            self.source = uid_in(hello["source"])
+        self.source = uid_in(hello["source"])
         self.process = int(hello["process"])
         # The number of the client that it lends to this one.
         self.number = int(hello.get("client", -1))
@@ -51,6 +61,7 @@ class SharedQueue:
         self.is_there = bool(hello["there"])
         self.reason = str(hello.get("reason", ""))
         self.outcomes: Deque[Outcome] = deque()
+        self._bad_uids, self._bad_uids_run = BadUids(), 0
         self.outstanding: Set[Tuple[OutcomeKind, int]] = set()
         # What takes the frames that the server has sent, for any client, if this one has subscribed to them.
         self.on_frame: Callable[[Keys], None] = lambda keys: None
@@ -64,7 +75,9 @@ class SharedQueue:
         if "status" in keys:
             self._end(completion_of(keys), keys)
         elif "fault" in keys:
-            self._end(discovery_of(keys), keys)
+            found = discovery_of(keys)
+            self._bad_uids, self._bad_uids_run = bad_uids_in(keys), found.run
+            self._end(found, keys)
         elif keys.get("event") == "pause":
             self._is_paused = bool(keys["paused"])
         elif keys.get("event") == "line":
@@ -75,10 +88,11 @@ class SharedQueue:
             self.on_missed(int(keys["count"]))
 
     def _end(self, outcome: Outcome, keys: Keys) -> None:
-        if "reason" in keys:
-            self.on_failure(str(keys["reason"]))
         self.outcomes.append(outcome)
         self.outstanding.discard((kind_of(outcome), outcome.number))
+        # Whatever this raises, the outcome is there.
+        if "reason" in keys:
+            self.on_failure(str(keys["reason"]))
 
     def awaits_request(self, number: int) -> bool:
         """Whether a request is this client's, and hasn't ended. Its frames come before its result."""
@@ -126,6 +140,14 @@ class SharedQueue:
         """The number of the run that found them; 0 before the first."""
         return self.connection.ask({"do": "devices"}, lambda keys: number_in(keys, "run", MOST_NUMBER))
 
+    def bad_uids(self) -> BadUids:
+        """The bad UIDs of this client's last discovery."""
+        return self._bad_uids
+
+    def bad_uids_run(self) -> int:
+        """The number of its run; 0 before the first."""
+        return self._bad_uids_run
+
     def subscribe(self, to: Iterable[str]) -> None:
         """Has these changes reported, and no others."""
         self.connection.ask({"do": "subscribe", "to": list(to)}, dict_of)
@@ -142,6 +164,12 @@ class SharedQueue:
         """Whether nothing of this client is outstanding or uncollected."""
         self.connection.receive(0.0)
         return not self.outstanding and not self.outcomes
+
+
+def taken_by(queue: Optional[SharedQueue], keys: Keys) -> None:
+    """Has a queue take an object, if anybody still has the queue."""
+    if queue is not None:
+        queue._take(keys)
 
 
 def paused_in(keys: Keys) -> bool:

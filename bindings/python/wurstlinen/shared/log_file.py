@@ -1,6 +1,7 @@
 """A log's file, which gets whole lines and doesn't grow for ever."""
 from __future__ import annotations
 
+import contextlib
 import io
 import os
 import threading
@@ -37,15 +38,21 @@ class LogFile:
             return
         try:
             self._write(b"".join(lines))
-        except OSError as fault:
-            self.close()
-            if not self.lost:
-                self.warn(str(fault.strerror))
-            self.lost += len(lines)
+        except (OSError, MemoryError) as fault:
+            # The disk may fail again.
+            with contextlib.suppress(OSError):
+                self.close()
+            self.lose(lines, fault)
             return
         if self.lost:
             self._report(f"{self._name}: the log goes on after {self.lost} lost lines")
             self.lost = 0
+
+    def lose(self, lines: Sequence[bytes], fault: BaseException) -> None:
+        """Reports why lines are lost, unless those before them were."""
+        lost, self.lost = self.lost, self.lost + len(lines)
+        if not lost:
+            self.warn(str(getattr(fault, "strerror", None) or repr(fault)))
 
     def warn(self, reason: str) -> None:
         """Reports why lines are lost from now on."""
@@ -60,7 +67,7 @@ class LogFile:
         try:
             while left:
                 left = left[self._file.write(left) or 0:]
-        except OSError:
+        except BaseException:
             # Half a line would make the rest unreadable.
             os.ftruncate(self._file.fileno(), before)
             raise
@@ -84,10 +91,17 @@ class LogFile:
         self.open()
 
     def close(self) -> None:
-        """Closes it."""
-        if self._file is not None:
-            self._file.close()
-            self._file = None
+        """Closes it. Raises OSError if the disk hasn't taken all that it was given; it is closed then, too."""
+        file, self._file = self._file, None
+        if file is not None:
+            file.close()
+
+    def end(self) -> None:
+        """Closes it, and reports what is lost by that."""
+        try:
+            self.close()
+        except OSError as fault:
+            self._report(f"{self._name}: {fault.strerror}; the end of the log may be lost")
 
 
 class LogWriter:
@@ -131,8 +145,11 @@ class LogWriter:
                 self._changed.wait_for(lambda: self._lines or self._is_over)
                 lines, self._lines = self._lines, []
             if not lines:
-                return self._file.close()
-            self._file.add(lines)
+                return self._file.end()
+            try:
+                self._file.add(lines)
+            except Exception as fault:  # Whatever it is, it mustn't cost the lines that come later.
+                self._file.lose(lines, fault)
             with self._changed:
                 self._waiting -= sum(map(len, lines))
                 self._file.lost += self._missed

@@ -10,7 +10,8 @@ import time
 from dataclasses import dataclass
 from typing import Callable, Dict, FrozenSet, Iterable, List, Optional, Tuple, Union
 
-from .. import MOST_CLIENTS, Closed, Fault, Kind, LogFull, Request, RunFaultKind, Session, Status
+from .. import MOST_CLIENTS, Closed, Discovery, Fault, Kind, LogFull, Request, RunFaultKind, Session, Status
+from .._bad_uids import bad_uids_of_run
 from .._types import Outcome
 from .backlog import DEPTH, Backlog
 from .lane import PLACES, Lane
@@ -18,8 +19,8 @@ from .listening import Passed, Place
 from .peer import READ_BYTES, Peer, id_of
 from .place import user_of
 from .words import (
-    DEVICES, FRAMES, KINDS, MOST_ID, MOST_NAME, VERSION, BadRequest, Keys, check_keys, choice_in, keys_of_device,
-    number_in, object_of, outcome_keys, request_in, shortened,
+    DEVICES, FRAMES, KINDS, MOST_ID, MOST_NAME, VERSION, BadRequest, Keys, check_keys, choice_in,
+    keys_of_bad_uids, keys_of_device, number_in, object_of, outcome_keys, request_in, shortened,
 )
 from .worker import Worker
 
@@ -338,6 +339,8 @@ class Server:
     def _result(self, outcome: Outcome) -> Keys:
         """How a call ended; with the reason if the line failed."""
         keys = outcome_keys(outcome)
+        if isinstance(outcome, Discovery):
+            keys.update(keys_of_bad_uids(bad_uids_of_run(self._session, outcome.run)))
         if keys.get("status") == Status.FAILED_TO_SEND or keys.get("fault") == RunFaultKind.LINE_FAILED:
             is_end = self._is_ending or self.worker.fault is not None
             keys["reason"] = self._end_reason if is_end else self.worker.reason

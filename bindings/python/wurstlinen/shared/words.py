@@ -9,7 +9,7 @@ import re
 from typing import Any, Dict, Iterable, List, Mapping, Optional, Tuple, Union
 
 from .. import (
-    MOST_PARAMETER_BYTES, AckType, Completion, Device, Discovery, Kind, ReplyHead, Request, RequestClass,
+    MOST_PARAMETER_BYTES, AckType, BadUids, Completion, Device, Discovery, Kind, ReplyHead, Request, RequestClass,
     ResponseClass, RunFault, RunFaultKind, Status, Uid,
 )
 from ..lines.uids import UID_TEXT, parse_uid
@@ -172,6 +172,17 @@ def discovery_of(keys: Keys) -> Discovery:
         fault = RunFault(RunFaultKind(keys["fault"]), None if uid is None else uid_in(uid))
     return Discovery(number_in(keys, "discovery", MOST_NUMBER), number_in(keys, "run", MOST_NUMBER), fault,
                      devices_of(keys))
+
+
+def keys_of_bad_uids(bad: BadUids) -> Keys:
+    """The bad UIDs of its run, if there are any."""
+    keys: Keys = {"bad": list(map(str, bad.uids))} if bad.uids else {}
+    return {**keys, "more_bad": True} if bad.has_more else keys
+
+
+def bad_uids_in(keys: Keys) -> BadUids:
+    """The same, read by a client."""
+    return BadUids(tuple(map(uid_in, keys.get("bad", []))), bool(keys.get("more_bad", False)))
 
 
 def devices_of(keys: Keys) -> Tuple[Device, ...]:

@@ -4,6 +4,7 @@ The program's output, its errors and its status are the command's. The page has 
 """
 from __future__ import annotations
 
+import contextlib
 import json
 import os
 import subprocess
@@ -18,8 +19,8 @@ from ..front.output import BAD_ARGUMENTS, FAILED, Failure, Output
 from ..front.page import page_of
 from ..front.page_findings import Findings, NoFindings, findings_in
 from ..front.page_log import NoLog, OtherLog
-from . import serving
 from .places import NO_PROGRAM
+from .reporting import end
 
 FOLLOWED = 0
 BROKEN = 3
@@ -112,7 +113,9 @@ def called_without_times(program: str, words: Sequence[str], name: str) -> Tuple
         finally:
             said.seek(0)
             text = said.read().decode(errors="replace").replace(json.dumps(copy.name), json.dumps(name))
-            print(text, end="", file=sys.stderr, flush=True)
+            # Its status doesn't depend on who reads that.
+            with contextlib.suppress(OSError):
+                print(text, end="", file=sys.stderr, flush=True)
 
 
 def called(program: str, words: Sequence[str], errors: Optional[IO[bytes]] = None) -> Tuple[int, bytes]:
@@ -128,7 +131,7 @@ def called(program: str, words: Sequence[str], errors: Optional[IO[bytes]] = Non
             printed = output.read()
         status = child.wait()
     finally:
-        serving.end(child)
+        end(child)
     if status < 0:
         Output(False).note(f"the program was ended by signal {-status}")
         raise NoPage(128 - status)

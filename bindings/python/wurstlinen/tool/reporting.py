@@ -29,7 +29,9 @@ DISCOVERY = re.compile("client ([0-9]+) discovery ([0-9]+): (ok|fault [1-5])((?:
 # E1.20, discovery mute: the control field of its acknowledgement.
 FLAGS = {0x0001: "a proxy of others", 0x0002: "has sub-devices", 0x0004: "waits for new firmware",
          0x0008: "behind a proxy"}
-SECONDS_TO_END = 10.0
+# How long all that was printed may take to be read, and how long a program may take to end.
+SECONDS_TO_READ = 10.0
+SECONDS_TO_END = 1.0
 # What the program reports every two seconds. A terminal shows more than that all the time.
 PROGRESS = re.compile(r"wurstlinen: \d+ exchanges after \d+ seconds")
 
@@ -155,27 +157,41 @@ def streams() -> Dict[str, int]:
     return {"stdout": subprocess.PIPE, "stderr": subprocess.STDOUT if is_one else subprocess.PIPE}
 
 
-def relay(child: "subprocess.Popen[str]", report: Optional[Report], stack: ExitStack) -> Callable[[], None]:
+def relay(child: "subprocess.Popen[str]", report: Optional[Report]) -> Callable[[], None]:
     """Gives a report what the program prints, in threads. Returns what waits for their ends."""
     threads = []
     for stream, is_result in ((child.stdout, True), (child.stderr, False)):
         if stream is not None and report is not None:
-            threads.append(Thread(target=_read, args=(stack.enter_context(stream), report, is_result), daemon=True))
+            threads.append(Thread(target=_read, args=(stream, report, is_result), daemon=True))
             threads[-1].start()
 
     def wait() -> None:
         """Waits until all is read."""
         for thread in threads:
-            thread.join(SECONDS_TO_END)
+            thread.join(SECONDS_TO_READ)
     return wait
 
 
 def _read(stream: IO[str], report: Report, is_result: bool) -> None:
+    # If it isn't read to its end, the program mustn't wait for a reader. Nobody else closes it: a close would wait
+    # until something is read.
+    with stream:
+        try:
+            for line in stream:
+                report.take(line, is_result)
+        except OSError as fault:
+            report.fault = fault
+
+
+def end(child: "subprocess.Popen[Any]") -> None:
+    """Ends the program if it still runs, after a second by force."""
+    if child.poll() is None:
+        child.terminate()
     try:
-        for line in stream:
-            report.take(line, is_result)
-    except OSError as fault:
-        report.fault = fault
+        child.wait(SECONDS_TO_END)
+    except subprocess.TimeoutExpired:
+        child.kill()
+        child.wait()
 
 
 def translated(program: str, words: Sequence[str], output: Output) -> int:
@@ -185,7 +201,8 @@ def translated(program: str, words: Sequence[str], output: Output) -> int:
         shown = streams()
         child = subprocess.Popen(["wurstlinen", *words], executable=program, encoding="utf-8",
                                  errors="backslashreplace", stdout=shown["stdout"], stderr=shown["stderr"])
-        wait = relay(child, report, stack)
+        stack.callback(end, child)
+        wait = relay(child, report)
         status = child.wait()
         wait()
     report.end(status, Watched.ending)

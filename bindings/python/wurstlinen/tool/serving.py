@@ -5,8 +5,9 @@ import os
 import subprocess
 import sys
 from contextlib import ExitStack, suppress
-from typing import Any, BinaryIO, Dict, List, Optional, Sequence, Tuple
+from typing import BinaryIO, Dict, List, Optional, Sequence, Tuple
 
+from .._standard_streams import warn
 from .._times import now
 from ..commands import SOURCE
 from ..front.files import file_of
@@ -15,10 +16,9 @@ from ..front.output import Output
 from ..front.watched import WatchedLine
 from ..lines import OpenLine, open_line, serve_text
 from ..lines.uids import uid_text
-from .reporting import Report, relay, streams
+from .reporting import Report, end, relay, streams
 
 KINDS = ("enttec", "text", "exec", "rig")
-SECONDS_TO_END = 1.0
 
 
 class TimedLine(WatchedLine):
@@ -48,8 +48,8 @@ def serve(program: str, words: Sequence[str], text: str, frames: Optional[str], 
         watched = TimedLine(line, output, frames)
         watched.found = set() if shows_progress else None
         child, theirs, ours = begun(program, words, stack, {} if report is None else streams())
-        wait = relay(child, report, stack)
         stack.callback(end, child)
+        wait = relay(child, report)
         stack.callback(output.end_progress)
         serve_text(watched, theirs, ours)
         output.end_progress()
@@ -61,7 +61,7 @@ def serve(program: str, words: Sequence[str], text: str, frames: Optional[str], 
     if report is not None:
         report.end(status, watched.ending, watched.failure)
     elif watched.failure is not None:
-        print(f"wurstlinen: {watched.failure}", file=sys.stderr)
+        warn(str(watched.failure))
     return status
 
 
@@ -104,13 +104,3 @@ def source_words(words: Sequence[str], line: OpenLine) -> List[str]:
         return []
     return ["--source", uid_text(SOURCE if line.source is None else line.source)]
 
-
-def end(child: "subprocess.Popen[Any]") -> None:
-    """Ends the program if it still runs, after a second by force."""
-    if child.poll() is None:
-        child.terminate()
-    try:
-        child.wait(SECONDS_TO_END)
-    except subprocess.TimeoutExpired:
-        child.kill()
-        child.wait()

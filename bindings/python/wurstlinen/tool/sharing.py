@@ -4,11 +4,11 @@ from __future__ import annotations
 import argparse
 import contextlib
 import signal
-import sys
 from typing import Iterator, Union
 
 from .. import Search, Session, Uid
 from .._endings import end_by
+from .._standard_streams import warn
 from ..commands import source_of
 from ..front.opening import opened
 from ..front.output import DONE, FAILED, Failure, Output
@@ -101,8 +101,3 @@ def logged(name: str, source: Uid) -> LogWriter:
     writer = LogWriter(log)
     writer.add([entry_line(opening_keys(source, SEARCH))])
     return writer
-
-
-def warn(text: str) -> None:
-    """Says what goes wrong while the server goes on, with --json too."""
-    print(f"wurstlinen: {text}", file=sys.stderr, flush=True)

@@ -1,23 +1,22 @@
 // The frame of the page: its views, how things are, and messages.
 
 import { button, classes, make, show } from "/dom.js";
-import { call, follow, lost, mayUse, parts, token } from "/server.js";
+import { call, fixtureOf, follow, lost, maySend, parts, partsOf, token } from "/server.js";
 import * as discovery from "/discovery.js";
+import * as file from "/file.js";
 import * as fixture from "/fixture.js";
 import * as fixtures from "/fixtures.js";
 import * as line from "/line.js";
 import * as slots from "/slots.js";
 
-const views = { fixtures, slots, discovery, line, fixture };
-const TITLES = { fixtures: "Fixtures", slots: "Slots", discovery: "Discovery", line: "Line" };
+const views = { fixtures, slots, file, discovery, line, fixture };
+const TITLES = { fixtures: "Fixtures", slots: "Slots", file: "File", discovery: "Discovery", line: "Line" };
 const MESSAGE_TIME = 6_000;
 // What is under way, by names.
 export const busy = new Set();
 let message = null, place = "";
 
-export function addressOf(view, rest = "") {
-    return `#${token}/${view}${rest ? `/${rest}` : ""}`;
-}
+export const addressOf = (view, rest = "") => `#${token}/${view}${rest ? `/${rest}` : ""}`;
 
 // Says what happened. What went wrong stays until somebody has read it.
 export function say(text, { isBad = false, action = null } = {}) {
@@ -87,18 +86,34 @@ function statusText() {
         return [`Not connected: ${lost || "no line so far"}. What you see is old.`, true];
     }
     if (!now.there) {
-        return [now.served ? `The adapter isn't there: ${now.reason}` : `No line: ${now.reason}`, true];
+        return [now.served ? `${now.name}: adapter unplugged, waiting for it; what you see is old`
+            : `No line: ${now.reason}`, true];
     }
-    const mode = parts.get("role") === "looks" ? " · only for looking" : "";
-    return [now.paused ? `${now.name} · paused: nothing is sent` : `${now.name}${mode}`, now.paused];
+    const mode = parts.get("role") === "looks" ? " · view only" : "";
+    return [`${now.name}${now.paused ? " · paused: no RDM request is sent" : mode}`, now.paused];
+}
+
+// Takes the last change back, once that is wanted.
+function undo({ uid, column, before, after, text }) {
+    const what = column === "label" ? column : `${column} of ${fixtures.nameOf(fixtureOf(uid)) || uid}`;
+    const [old, now] = [before, after].map((each) => each || "empty");
+    say(`Undo: ${what}, ${now} → ${old}?`, { action: { text: "Undo", act: () => act("undo", { text },
+        `Undone: the ${what} is ${old} again (was ${now}).`) } });
+}
+
+// Which fixtures show themselves, and how all of them stop.
+function stop() {
+    const all = partsOf("fixture/").filter((found) => found.identifies && !found.missing);
+    return all.length > 0 && button(`${all.length} ${all.length > 1 ? "identify" : "identifies"} · Stop`, () =>
+        all.forEach(({ uid }) => act("identify", { uid, on: false })), { id: "stop", disabled: !maySend() });
 }
 
 function header(name) {
     const [text, isBad] = statusText(), last = parts.get("undo");
     return make("header", {}, make("h1", {}, "Wurstlinen"),
         make("p", { id: "status", role: "status", class: classes(isBad && "bad") }, text),
-        button(last ? `Undo (${last.count})` : "Undo", () => act("undo", {}, `Taken back: ${last.text}.`),
-            { id: "undo", title: last ? last.text : "nothing was changed", disabled: !mayUse() || !last }),
+        stop(), button(last ? `Undo (${last.count})` : "Undo", () => undo(last),
+            { id: "undo", title: last ? "" : "nothing was changed", disabled: !maySend() || !last }),
         make("nav", { "aria-label": "Views" }, Object.entries(TITLES).map(([each, title]) => make("a",
             { href: addressOf(each), "aria-current": each === name ? "page" : null }, title))));
 }
@@ -107,7 +122,7 @@ function messages() {
     const { isBad, action, text } = message ?? {};
     return make("div", { id: "messages", role: "alert" }, message && make("div", { class: classes("message",
         isBad && "bad") }, make("p", {}, text), action && button(action.text, () => (close(), action.act())),
-    button(action ? "Leave it" : "Close", close)));
+    button(action ? "Cancel" : "Close", close)));
 }
 
 export function draw() {
@@ -115,8 +130,8 @@ export function draw() {
     const name = views[asked] ? asked : "fixtures", uid = decodeURIComponent(rest);
     place = `${name}/${uid}`;
     if (place !== before) {
-        // Who goes elsewhere leaves what was asked.
-        message = message?.action ? null : message;
+        // Who goes elsewhere leaves what was asked, and has read what was done.
+        message = message?.isBad && !message.action ? message : null;
         document.title = `${TITLES[name] ?? uid} · Wurstlinen`;
     }
     show(document.body, [header(name), make("main", { id: "view", key: place, class: name, tabindex: "-1" },

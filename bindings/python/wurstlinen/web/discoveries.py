@@ -42,14 +42,21 @@ class Discoveries:
         """Begins one. Raises Failure if one runs."""
         if not self._running.acquire(blocking=False):
             raise Failure(BAD_ARGUMENTS, "a discovery is under way", reason="discovery")
-        self._board.put(KEY, {"runs": True})
-        self._rig.hands.do(KEY, self._run).add_done_callback(self._end)
+        try:
+            self._board.put(KEY, {"runs": True})
+            end = self._rig.hands.do(KEY, self._run)
+        except BaseException:
+            self._running.release()
+            raise
+        end.add_done_callback(self._end)
 
     def _end(self, future: Any) -> None:
         """If it has failed, that is what is shown."""
-        if future.exception() is not None:
-            self._show(fault=str(future.exception()))
-        self._running.release()
+        try:
+            if future.exception() is not None:
+                self._show(fault=str(future.exception()))
+        finally:
+            self._running.release()
 
     def take(self, devices: Optional[Sequence[Device]]) -> None:
         """A run of any program has found these; None: no run has been made, so that one is made."""

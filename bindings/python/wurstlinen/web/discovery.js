@@ -1,9 +1,9 @@
 // Discovery: how far it is, what it found, who broke the rules, what is missing and why, and its picture.
 
-import { act, addressOf } from "/app.js";
+import { act } from "/app.js";
 import { button, classes, make, plural } from "/dom.js";
-import { nameOf } from "/fixtures.js";
-import { fixtureOf, mayUse, parts, partsOf } from "/server.js";
+import { linked, nameOf } from "/fixtures.js";
+import { fixtureOf, maySend, parts, partsOf } from "/server.js";
 
 function resultText(last) {
     if (!last || last.runs) {
@@ -27,10 +27,9 @@ function progressText(now, last) {
 // What is said of devices, or without a UID of the line.
 function section(title, items) {
     const labelOf = (uid) => parts.get("file")?.differences.find((each) => each.uid === uid)?.label;
-    const named = (uid) => (nameOf(fixtureOf(uid)) ? [make("a", { href: addressOf("fixture", uid) },
-        nameOf(fixtureOf(uid))), ` (${uid})`] : [labelOf(uid) ? `${labelOf(uid)} (${uid})` : uid]);
     return items.length > 0 && make("section", {}, make("h3", {}, title), make("ul", {},
-        items.map(({ uid = "", text }) => make("li", {}, named(uid), ` ${text}`))));
+        items.map(({ uid = "", text }) => make("li", {}, ...(uid ? linked(uid, labelOf(uid)) : []),
+            `${uid && text.startsWith("exchange") ? ":" : ""} ${text}`))));
 }
 
 export function view() {
@@ -41,7 +40,7 @@ export function view() {
     const address = last?.picture && `/picture/${last.picture}`;
     return [make("h2", { class: "hidden" }, "Discovery"),
         make("div", { class: "tools" }, button(last?.runs ? "Discovering …" : "Discover", () => act("discover", {}),
-            { class: "main", disabled: !mayUse() || Boolean(last?.runs) })),
+            { class: "main", disabled: !maySend() || Boolean(last?.runs) })),
         make("p", { role: "status" }, progressText(parts.get("progress"), last)),
         make("p", { class: classes("result", last?.fault && "bad") }, resultText(last)),
         section("Fixtures that did something wrong", said.filter((each) => each.is_broken)),

@@ -2,22 +2,15 @@
 
 // An element that is wanted. With a `key` it is the same one in whichever place; `shown` is what an input shows while
 // nobody types in it. null, false and "" are no children.
-export function make(kind, attributes = {}, ...children) {
-    return { kind, attributes, children: children.flat() };
-}
+export const make = (kind, attributes = {}, ...children) => ({ kind, attributes, children: children.flat() });
 
-export function button(text, onclick, attributes = {}) {
-    return make("button", { type: "button", onclick, ...attributes }, text);
-}
+export const button = (text, onclick, attributes = {}) => make("button", { type: "button", onclick, ...attributes },
+    text);
 
-export function plural(count, what) {
-    return count === 1 ? `1 ${what}` : `${count} ${what}s`;
-}
+export const plural = (count, what) => (count === 1 ? `1 ${what}` : `${count} ${what}s`);
 
 // The names of an element's classes, without those that are false or empty.
-export function classes(...names) {
-    return names.filter(Boolean).join(" ");
-}
+export const classes = (...names) => names.filter(Boolean).join(" ");
 
 function set(element, name, value) {
     if (name.startsWith("on")) {

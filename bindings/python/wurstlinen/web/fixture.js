@@ -3,7 +3,7 @@
 import { act, addressOf, busily, busy, redraw } from "/app.js";
 import { button, classes, make } from "/dom.js";
 import { editor, identifier, nameOf, notesOf, ordered, remarksOf, slotsOf, walk } from "/fixtures.js";
-import { fixtureOf, mayUse, parts } from "/server.js";
+import { fixtureOf, maySend, mayUse, parts } from "/server.js";
 
 // The fixture that was asked for all by this page, and what would be done at once if it is wanted once more.
 let asked = "", sure = "";
@@ -11,7 +11,7 @@ let asked = "", sure = "";
 // Goes to a fixture beside this one, which shows itself if this one did.
 async function go(uid, by) {
     const all = ordered().map((found) => found.uid);
-    const next = fixtureOf(uid)?.identifies && mayUse() ? await walk(uid, by) : all[all.indexOf(uid) + by];
+    const next = fixtureOf(uid)?.identifies && maySend() ? await walk(uid, by) : all[all.indexOf(uid) + by];
     if (next) {
         location.hash = addressOf("fixture", next);
     }
@@ -38,7 +38,8 @@ function formOf(uid, { parameter, about, acts, fields }) {
         }
     };
     return make("details", { class: "form" }, make("summary", {}, `Change ${title}`), make("p", {}, about),
-        fields.map(fieldOf), button(!acts ? "Set" : isSure ? "Really?" : `Do it: ${title}`, send));
+        fields.map(fieldOf), button(!acts ? "Set" : isSure ? "Really?" : `Do it: ${title}`, send,
+            { disabled: !maySend() }));
 }
 
 // A section stays, with what somebody types in its forms, until it has other values.
@@ -57,7 +58,7 @@ function readAll(uid) {
 function nudge(found, text, by, where) {
     const { uid, address, missing } = found;
     return button(text, () => act("change", { uid, column: "address", value: String(address + by) }),
-        { class: "nudge", "aria-label": `Address one ${where}`, disabled: !mayUse() || !address || Boolean(missing) });
+        { class: "nudge", "aria-label": `Address one ${where}`, disabled: !maySend() || !address || Boolean(missing) });
 }
 
 export function view(uid) {
@@ -67,7 +68,7 @@ export function view(uid) {
         return [make("article", {}, back, make("h2", { class: "name" }, uid), make("p", { class: "notes" },
             "It isn't among the fixtures."))];
     }
-    if (mayUse() && asked !== uid && !isOver) {
+    if (maySend() && asked !== uid && !isOver) {
         readAll(uid);
     }
     const isReading = busy.has(`${uid}/show`) || isOver === false, notes = notesOf(found);
@@ -79,13 +80,14 @@ export function view(uid) {
         make("p", { class: "whole" }, about.join(" · ")),
         make("p", { class: classes("notes", notes.length && "bad") }, [...notes, ...remarksOf(found)].join("; ")),
         identifier(found, "big"),
-        make("div", { class: "steps" }, [["‹ Previous", -1], ["Next ›", 1]].map(([text, by]) => button(text,
-            () => go(uid, by), { class: "main" }))),
+        make("div", { class: "steps" }, [["‹ Previous", -1], [found.identifies && maySend() ? "Identify next ›"
+            : "Next ›", 1]].map(([text, by]) => button(text, () => go(uid, by), { class: "main" }))),
         field("Label", "label"),
         make("div", { class: "place" }, field("Address", "address"), nudge(found, "−", -1, "lower"),
             nudge(found, "+", 1, "higher")),
         field("Personality", "personality"), make("p", { class: "sensors" }, measured),
-        mayUse() && button(isReading ? "Reading …" : "Read all again", () => readAll(uid), { disabled: isReading }),
+        mayUse() && button(isReading ? "Reading …" : "Read all again", () => readAll(uid),
+            { disabled: isReading || !maySend() }),
         make("div", { class: "sections", "aria-busy": String(isReading) },
             Object.entries(sections).map(([title, rows]) => sectionOf(uid, title, rows, forms))))];
 }

@@ -1,8 +1,8 @@
-// The table of fixtures, in which values are edited in place; the walk along the truss; and a saved file.
+// The table of fixtures, in which values are edited in place; and the walk along the truss.
 
-import { act, addressOf, asked, busily, busy, busyAs, redraw, say } from "/app.js";
+import { act, addressOf, busily, busy, busyAs, redraw, say } from "/app.js";
 import { button, classes, make, plural } from "/dom.js";
-import { fixtureOf, mayUse, parts, partsOf } from "/server.js";
+import { fixtureOf, maySend, mayUse, parts, partsOf } from "/server.js";
 
 const COLUMNS = { label: "Label", address: "Address", slots: "Slots", personality: "Personality", model: "Model",
     uid: "UID" };
@@ -11,8 +11,12 @@ const chosen = { filter: "", column: "address", isDown: false };
 // The fixture to which this page's walk has come, which the page's program may not have shown so far.
 let walked = null;
 
-export function nameOf(found) {
-    return found?.label || found?.model || found?.uid || "";
+export const nameOf = (found) => found?.label || found?.model || found?.uid || "";
+
+// The name of a fixture, which leads to it; or else its label.
+export function linked(uid, label = "") {
+    const found = fixtureOf(uid), name = nameOf(found) || label || uid;
+    return [found ? make("a", { href: addressOf("fixture", uid) }, name) : name, name === uid ? "" : ` (${uid})`];
 }
 
 // What is wrong with the slots of one of two fixtures, or of the only one.
@@ -81,8 +85,8 @@ export function editor(found, column) {
     return make(isChoice ? "select" : "input", { ...busyAs(name, column), shown: busy.has(name) ? null : known(),
         onkeydown, onchange: send, onblur: redraw, autocomplete: "off", spellcheck: "false",
         "aria-label": `${COLUMNS[column]} of ${nameOf(found)}`, inputmode: column === "address" ? "numeric" : null,
-        maxlength: isLabel ? 128 : null, placeholder: isLabel && found.is_read ? "no label" : null,
-        disabled: !mayUse() || Boolean(found.missing) || !found.is_read
+        maxlength: isLabel ? 128 : null, placeholder: isLabel && found.is_read ? `${uid} ${found.model ?? ""}` : null,
+        disabled: !maySend() || Boolean(found.missing) || !found.is_read
             || (isChoice && found.personalities.length < 2) }, isChoice ? personalitiesOf(found) : []);
 }
 
@@ -93,7 +97,7 @@ export function identifier(found, size = "") {
         walked = on ? uid : null;
         busily(name, () => act("identify", { uid, on }));
     }, { ...busyAs(name, "identify", size), role: "switch", "aria-checked": String(Boolean(identifies)),
-        "aria-label": `Identify ${nameOf(found)}`, disabled: !mayUse() || Boolean(missing) });
+        "aria-label": `Identify ${nameOf(found)}`, disabled: !maySend() || Boolean(missing) });
 }
 
 // The walk: the next fixture shows itself, and the one before stops.
@@ -122,7 +126,7 @@ function rowOf(found) {
         "of-address": editor(found, "address"), slots: slotsOf(found), "of-personality": editor(found, "personality"),
         model: [found.manufacturer, found.model].filter(Boolean).join(" "), uid,
         note: [make("span", {}, note), " ", make("small", {}, remarksOf(found).join("; ")),
-            missing && mayUse() && button("Forget it", () => act("forget", { uid }), { class: "forget" })],
+            missing && mayUse() && button("Remove from the list", () => act("forget", { uid }), { class: "forget" })],
         "of-more": make("a", { href: addressOf("fixture", uid), class: "more",
             "aria-label": `All about ${nameOf(found)}` }, "›") };
     return make("tr", { key: uid, id: uid, class: classes(missing && "missing", identifies && "identifies") },
@@ -134,71 +138,27 @@ function choose(wanted) {
     redraw();
 }
 
-function sortBy(column) {
-    choose({ column, isDown: chosen.column === column && !chosen.isDown });
+const sortBy = (column) => choose({ column, isDown: chosen.column === column && !chosen.isDown });
+
+// How many differences from a file there are, and overlaps that it doesn't have.
+export function differencesOf({ differences }) {
+    const overlaps = differences.filter(({ kind }) => kind === "overlap").length;
+    return plural(differences.length - overlaps, "difference") + (overlaps ? `, ${plural(overlaps, "overlap")}` : "");
 }
 
 function tools(all, shown) {
-    const missing = all.filter((found) => found.missing).length;
+    const missing = all.filter((found) => found.missing).length, file = parts.get("file");
     return make("div", { class: "tools" },
-        button("Identify next", walkInTable, { class: "main", disabled: !mayUse() || !all.length }),
+        button("Identify next", walkInTable, { class: "main", disabled: !maySend() || !all.length }),
         make("input", { type: "search", placeholder: "label, UID, model …", "aria-label": "Show only",
             shown: chosen.filter, oninput: ({ target }) => choose({ filter: target.value }) }),
         make("select", { class: "narrow", "aria-label": "Sort by", shown: chosen.column,
             onchange: ({ target }) => sortBy(target.value) },
-        Object.entries(COLUMNS).map(([value, title]) => make("option", { value }, `by ${title}`))),
-        make("p", { class: "count", role: "status" }, `${shown.length === all.length ? "" : `${shown.length} of `}`
-            + `${plural(all.length, "fixture")}${missing ? `, ${missing} missing` : ""}`));
-}
-
-async function save() {
-    const answer = await asked("save");
-    if (answer) {
-        const link = document.createElement("a");
-        link.href = URL.createObjectURL(new Blob([answer.text], { type: "text/csv" }));
-        link.download = parts.get("file")?.name ?? "rig.csv";
-        link.click();
-        URL.revokeObjectURL(link.href);
-    }
-}
-
-async function load({ target }) {
-    const file = target.files[0];
-    if (file) {
-        await act("load", { name: file.name, text: await file.text() });
-        target.value = "";
-    }
-}
-
-async function look() {
-    const plan = await asked("apply", { dry: true });
-    if (plan && !plan.changes.length) {
-        say("The fixtures that are here are as the file says.");
-    } else if (plan) {
-        const isBad = plan.problems.length > 0, count = plural(plan.changes.length, "change");
-        const problems = isBad ? ` But ${plan.problems.join("; ")}.` : "";
-        const action = { text: isBad ? "Make them anyway" : "Make them",
-            act: () => act("apply", { force: isBad }, `${count} made, and read back.`) };
-        say(`${count}: ${plan.changes.join("; ")}.${problems}`, { isBad, action });
-    }
-}
-
-function differences({ name, rows, note, differences: found }) {
-    return [make("p", {}, `${name} has ${plural(rows, "fixture")}${found.length ? ". What differs:"
-        : ", and nothing differs."}`), make("p", {}, note),
-    make("ul", { class: "differences" }, found.map(({ kind, uid, label, text }) =>
-        make("li", {}, `${kind}: ${label ? `${label} (${uid})` : uid}, ${text}`)))];
-}
-
-function filePanel() {
-    const file = parts.get("file"), disabled = !mayUse();
-    return make("section", { class: "file", "aria-labelledby": "file-title" }, make("h2", { id: "file-title" }, "File"),
-        make("div", { class: "tools" }, button("Save as CSV", save, { disabled }),
-            make("label", { for: "chooser" }, "Compare with a saved file: "),
-            make("input", { type: "file", accept: ".csv,.txt,.tsv,text/csv", id: "chooser", onchange: load, disabled }),
-            file && button("Make the fixtures so …", look, { disabled }),
-            file && button("Close the file", () => act("unload", {}), { disabled })),
-        file ? differences(file) : []);
+        Object.entries(COLUMNS).map(([value, title]) => make("option", { value },
+            `sort: ${value === "uid" ? title : value}`))),
+        make("p", { class: "count", role: "status" }, (missing ? `${all.length - missing} found, ${missing} missing`
+            : plural(all.length, "fixture")) + (shown.length === all.length ? "" : `, ${shown.length} shown`)),
+        file && make("a", { href: addressOf("file") }, `${file.name}: ${differencesOf(file)}`));
 }
 
 export function view() {
@@ -209,5 +169,5 @@ export function view() {
         orderOf(column)));
     return [make("h2", { class: "hidden" }, "Fixtures"), tools(all, shown),
         make("table", { class: "rig" }, make("thead", {}, make("tr", {}, head("Identify"), heads, head("Note"),
-            head("More"))), make("tbody", {}, shown.map(rowOf))), filePanel()];
+            head("More"))), make("tbody", {}, shown.map(rowOf)))];
 }

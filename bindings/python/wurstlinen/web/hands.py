@@ -2,12 +2,12 @@
 from __future__ import annotations
 
 import os
-import sys
 import threading
 from concurrent.futures import Future
 from typing import Any, Callable, List, NamedTuple, Optional, Set, TypeVar
 
 from .. import Fault
+from .._standard_streams import warn
 from ..front.output import FAILED, LINE_FAILED, Failure, Output
 from ..front.work import Work, shared_work
 from ..line import LineFailed
@@ -132,5 +132,6 @@ def failure_of(fault: Exception) -> Failure:
     """What pages say of a fault. One of their program's own goes to standard error, too."""
     if isinstance(fault, (Fault, LineFailed)):
         return Failure(FAILED, str(fault), reason=LINE_FAILED)
-    print(f"wurstlinen: the page has a fault: {fault!r}", file=sys.stderr, flush=True)
-    return Failure(FAILED, f"the page has a fault: {fault!r}", reason="fault")
+    text = f"the page has a fault: {fault!r}"
+    warn(text)
+    return Failure(FAILED, text, reason="fault")

@@ -1,7 +1,7 @@
 // The line: which programs use it, what waits, the last requests with their results, and an operator's pause.
 
-import { act } from "/app.js";
-import { button, make } from "/dom.js";
+import { act, say } from "/app.js";
+import { button, make, plural } from "/dom.js";
 import { mayUse, parts, partsOf } from "/server.js";
 
 const names = new Map();
@@ -31,9 +31,22 @@ function programsOf(clients) {
     return [...one, ...clients.filter((each) => !each.is_page)];
 }
 
+const waits = (count) => (count ? `${plural(count, "request")} wait${count > 1 ? "" : "s"}` : "nothing waits");
+
 function waitingText(isPaused, count) {
-    return isPaused ? `Paused; ${count} wait. The pause ends when all who paused have gone on, or have gone.`
-        : count ? `${count} wait.` : "Nothing waits.";
+    return isPaused ? `Paused: ${waits(count)}. It ends when each program that paused goes on or ends; closing this `
+        + "page isn't enough." : count ? `${waits(count)}.` : "Nothing waits.";
+}
+
+// The pause, which is asked for once more if it is one for other programs, too; or who has paused.
+function pauser(isPaused, clients, disabled) {
+    const namesOf = (some) => some.map((each) => nameOf(each.client)).join(", ");
+    const others = clients.filter((each) => !each.is_page), paused = clients.filter((each) => each.paused);
+    const change = () => act("pause", { on: !isPaused });
+    const ask = () => say(`This pauses ${namesOf(others)}, too.`, { action: { text: "Pause them, too", act: change } });
+    return isPaused && paused.length && !paused[0].is_page
+        ? button(`paused by ${namesOf(paused)}`, null, { disabled: true })
+        : button(isPaused ? "Go on" : "Pause all", !isPaused && others.length ? ask : change, { disabled });
 }
 
 export function view() {
@@ -43,12 +56,13 @@ export function view() {
     return [make("h2", { class: "hidden" }, "Line"),
         make("p", {}, now?.served ? `${now.name} is served by process ${now.process}, as ${now.source}.`
             : "No server runs."),
-        make("div", { class: "tools" }, button(paused ? "Go on" : "Pause all", () => act("pause", { on: !paused }),
-            { disabled: !mayUse() || !now?.served }), make("p", { role: "status" }, waitingText(paused, count))),
+        make("div", { class: "tools" }, pauser(paused, clients, !mayUse() || !now?.served),
+            make("p", { role: "status" }, waitingText(paused, count))),
         table("Programs", { Program: "name", Process: "process", Waiting: "waits", Pause: "paused" },
             clients.map((each) => ({ key: each.client, texts: [nameOf(each.client), String(each.process ?? "gone"),
-                each.outstanding ? `${each.outstanding} wait` : "nothing waits", each.paused ? "has paused" : ""] }))),
+                waits(each.outstanding), each.paused ? "has paused" : ""] }))),
         table("The last hundred requests", { Program: "name", Request: "command", Result: "answer" },
-            last.map((each) => ({ key: each.at, isBad: !each.is_good, texts: [nameOf(each.client), each.command,
-                each.frames > 1 ? `${each.answer} · ${each.frames} frames` : each.answer] })))];
+            last.map((each) => ({ key: each.at, isBad: !each.is_good, texts: [nameOf(each.client),
+                each.command.replace(/(queued_message|status_messages) (\w+)$/, "$1 (status type $2)"), each.frames > 1
+                    ? `${each.answer} · ${each.frames} frames` : each.answer] })))];
 }

@@ -14,12 +14,12 @@ from urllib.parse import urlsplit
 
 from .. import Fault, Uid
 from ..front.output import Failure
-from ..line import LineFailed
 from ..shared.words import BadRequest, Keys, object_of
 from .board import Board
 from .details import Details
 from .discoveries import Discoveries
 from .door import MOST_STREAMS, Door, Handler, Refusal
+from .hands import failure_of
 from .plans import Plans
 from .rig import Rig
 from .tokens import LOOKS, Tokens
@@ -29,7 +29,7 @@ JSON = "application/json"
 SCRIPT, STYLE, PAGE = "text/javascript; charset=utf-8", "text/css; charset=utf-8", "text/html; charset=utf-8"
 FILES = {"/": ("page.html", PAGE), "/page.css": ("page.css", STYLE),
          **{f"/{name}.js": (f"{name}.js", SCRIPT)
-            for name in ("app", "server", "dom", "fixtures", "fixture", "slots", "discovery", "line")}}
+            for name in ("app", "server", "dom", "fixtures", "fixture", "slots", "file", "discovery", "line")}}
 API, PICTURE, EVENTS = "/api/", "/picture/", "/api/events"
 BEARER = "Bearer "
 # The page that explains a discovery runs its own scripts, as if it came from nowhere.
@@ -85,13 +85,15 @@ class Pages:
         if handler.command != "POST" or call is None:
             raise Refusal(404, "there is nothing here")
         if role == LOOKS:
-            raise Refusal(403, "this address is only for looking")
+            raise Refusal(403, "this address is view only")
         try:
             answer = call(**arguments_of(call, object_of(body))) or {}
         except BadRequest as fault:
             raise Refusal(400, str(fault)) from None
-        except (Failure, Fault, LineFailed) as fault:
-            answer = {"error": str(fault)}
+        except Failure as failure:
+            answer = {"error": str(failure)}
+        except Exception as fault:  # Whatever it is, who asks hears of it.
+            answer = {"error": str(failure_of(fault))}
         handler.reply(200, json.dumps(answer, default=vars).encode(), JSON)
 
     def _events(self, handler: Handler, role: str) -> None:

@@ -6,15 +6,15 @@ from io import StringIO
 from itertools import chain
 from typing import Any, Dict, Optional
 
-from ..front.checking import MISSING, changed, crowded, missing
+from ..front.checking import KINDS, MISSING, Difference, changed, crowded, missing
 from ..front.csv_files import COLUMNS, LABEL, MODEL, SLOTS, UID, RigFile, merged, rig_file, written
 from ..front.fixtures import FOOTPRINT_FIELD, Fixture
-from ..front.guarding import problems_of
+from ..front.guarding import ADDRESS, problems_of
 from ..front.output import BAD_ARGUMENTS, Failure, Output
 from ..front.sheets import Sheet
 from .board import Board
-from .hands import SILENT
-from .rig import PREFIX, Plan, Rig, value_in
+from .hands import SILENT, failure_of
+from .rig import PREFIX, Plan, Rig, typeset, value_in
 
 MOST_NAME = 100
 
@@ -63,7 +63,10 @@ class Plans:
         """Compares whenever fixtures have changed, until the board's end."""
         for parts in self._board.follow():
             if any(name.startswith(PREFIX) for name in parts):
-                self._compare()
+                try:
+                    self._compare()
+                except Exception as fault:  # Whatever it is, the next change is compared.
+                    failure_of(fault)
 
     def _compare(self) -> None:
         """Shows which slots overlap, and what differs from the file."""
@@ -80,13 +83,22 @@ class Plans:
             self._board.put("file", {**self._about, "differences": [
                 {"kind": each.kind, "uid": str(each.uid), "label": each.label,
                  # Of a device that is missing, what the last discovery shows.
-                 "text": self._rig.reasons.get(each.uid, each.text) if each.kind == MISSING else each.text}
+                 "text": self._rig.reasons.get(each.uid, each.text) if each.kind == MISSING else text_of(each)}
                 for each in differences]})
+
+
+def text_of(found: Difference) -> str:
+    """What differs: what there is, and then what the file says."""
+    keys = found.keys
+    if found.kind not in KINDS.values():
+        return typeset(found.text)
+    name = "at" if keys["column"] == ADDRESS else keys["column"]
+    return f"{name} {keys['after'] or 'empty'}, file says {keys['before'] or 'empty'}"
 
 
 def row_of(fixture: Fixture) -> Dict[str, str]:
     """A fixture as `save` writes it. What isn't known stays empty."""
-    values = {column: value_in(fixture, column) or "" for column in COLUMNS}
-    slots = fixture.number(FOOTPRINT_FIELD)
-    return {UID: str(fixture.uid), **values, LABEL: written(fixture.label) if fixture.label is not None else "",
-            MODEL: written(fixture.model) if fixture.model else "", SLOTS: "" if slots is None else str(slots)}
+    values = {**{column: value_in(fixture, column) for column in COLUMNS}, MODEL: fixture.model or None,
+              SLOTS: fixture.number(FOOTPRINT_FIELD)}
+    return {UID: str(fixture.uid), **{column: "" if value is None else written(str(value))
+                                      for column, value in values.items()}}

@@ -1,7 +1,10 @@
 """The fixtures as the page knows them: what they have said, what the last discovery said, and changes with undo."""
 from __future__ import annotations
 
+import re
 import threading
+import time
+from concurrent.futures import Future
 from dataclasses import dataclass, field, replace
 from functools import partial
 from typing import Any, Callable, Dict, List, Mapping, Optional, Sequence, Tuple
@@ -21,12 +24,16 @@ from .board import Board
 from .hands import Hands
 
 MOST_UNDOS = 100
+# How long after the line has failed a device is asked again.
+AGAIN_SECONDS = 5.0
 # What the parts begin with that show a device.
 PREFIX = "fixture/"
 # What reading a device is called among tasks.
 READ = "read"
 # The page says this in another place, for all that overlap.
 END_NOTE = "its slots end after"
+# The slots of a device in texts for terminals.
+SLOTS = re.compile("([0-9]+)-([0-9]+)(?= overlaps | ends |$)")
 # A model: its maker, its number, and its software's.
 Model = Tuple[int, object, object]
 
@@ -39,6 +46,8 @@ class Entry:
     fixture: Fixture
     # Whether it has been asked so far.
     is_read: bool = False
+    # When it was asked in vain, since the line failed.
+    failed_at: Optional[float] = None
     identifies: Optional[bool] = None
     # Why it isn't there; nothing if the last discovery found it.
     missing: str = ""
@@ -120,7 +129,8 @@ class Rig:
         found = {device.uid for device in devices}
         why = "the last discovery didn't find it" if fault is None else f"the last discovery ended early: {fault}"
         with self.lock:
-            self.reasons = {}
+            # What other programs' runs show isn't known.
+            self.reasons = {} if reads_all else {uid: text for uid, text in self.reasons.items() if uid not in found}
             gone = [entry for uid, entry in self.entries.items() if uid not in found]
             known = {uid for uid, entry in self.entries.items() if not entry.missing and not entry.fixture.is_gone}
         for entry in gone:
@@ -135,9 +145,25 @@ class Rig:
         with self.lock:
             new = Entry(device, Fixture(device.uid, root=device.binding or device.uid))
             entry = self.entries.setdefault(device.uid, new)
-            entry.device, entry.missing = device, ""
+            entry.device, entry.missing, entry.failed_at = device, "", None
         self.show(entry)
-        self.hands.do(str(device.uid), partial(self._read, entry), is_urgent, READ)
+        self.hands.do(str(device.uid), partial(self._read, entry), is_urgent, READ).add_done_callback(
+            partial(self._end_read, entry))
+
+    def _end_read(self, entry: Entry, end: Future[None]) -> None:
+        """A device was asked, perhaps in vain."""
+        fault = end.exception()
+        if is_of_line(fault):
+            entry.failed_at = time.monotonic()
+        elif fault is not None:
+            with self.lock:
+                entry.fixture, entry.is_read = replace(entry.fixture, notes=[str(fault)]), True
+            self.show(entry)
+
+    def read_again(self) -> None:
+        """Has devices asked again that were asked in vain a while ago."""
+        before = time.monotonic() - AGAIN_SECONDS
+        self.read_those(lambda entry: entry.failed_at is not None and entry.failed_at < before)
 
     def read_those(self, is_wanted: Callable[[Entry], bool], is_urgent: bool = False) -> None:
         """Has devices asked again."""
@@ -170,23 +196,33 @@ class Rig:
         self.show(entry)
         if lacks:
             asking = partial(self._read_personalities, fixture.uid, entry.model, count)
-            self.hands.do(str(fixture.uid), asking, is_urgent=False)
+            self.hands.do(str(fixture.uid), asking, is_urgent=False).add_done_callback(
+                partial(self._end_personalities, entry, entry.model))
 
     def _read_personalities(self, uid: Uid, model: Model, count: int, work: Work) -> None:
         """Asks a device for what all of its model have."""
         asked = Fixture(uid)
         numbers = range(1, count + 1)
         answers = [values_of(work, asked, "dmx_personality_description", bytes([number])) for number in numbers]
+        if asked.is_gone:
+            raise Failure(FAILED, f"{uid} doesn't answer any more", reason="timeout")
         with self.lock:
-            if asked.is_gone:
-                del self._personalities[model]
-                return
             self._personalities[model] = [
                 {"number": number, "name": str(values["description"]), "slots": values["slots_required"]}
                 for number, values in zip(numbers, answers) if values is not None]
             alike = [each for each in self.entries.values() if each.model == model]
         for each in alike:
             self.show(each)
+
+    def _end_personalities(self, entry: Entry, model: Model, end: Future[None]) -> None:
+        """If a device didn't say all, the next one of its model is asked, or the same if the line has failed."""
+        fault = end.exception()
+        if fault is None:
+            return
+        with self.lock:
+            self._personalities.pop(model, None)
+        if is_of_line(fault):
+            entry.failed_at = time.monotonic()
 
     def identify(self, uid: Uid, on: bool = False, only: bool = False) -> None:
         """Has a device show itself, or not; if only that one, the others stop. Raises Failure."""
@@ -230,7 +266,7 @@ class Rig:
         """Makes changes, those of a device in their order, unless slots would overlap or end after the last one."""
         # As `apply` sees it.
         problems = problems_after(self.fixtures(), moved_by(changes), partial(self._changed, changes))
-        plan = Plan([change.text for change in changes], [each.text_after for each in problems])
+        plan = Plan([self._text(change) for change in changes], [typeset(each.text_after) for each in problems])
         if is_dry or (plan.problems and not is_forced):
             return plan
         for change, end in [(each, self.hands.do(str(each.uid), partial(self._make, each, is_undo)))
@@ -265,6 +301,12 @@ class Rig:
             with self.lock:
                 self._set_undos([*self._undos, change])
 
+    def _text(self, change: Change) -> str:
+        """A change, for a page."""
+        fixture = self.entry(change.uid).fixture
+        before, after = (text or "empty" for text in (change.before, change.after))
+        return f"{fixture.label or fixture.model or ''} ({change.uid}): {change.column} {before} → {after}".lstrip()
+
     def _changed(self, changes: Sequence[Change], fixture: Fixture) -> Fixture:
         """A device as it will be. With a personality that isn't known it has no slots."""
         values = {change.column: change.after for change in changes if change.uid == fixture.uid}
@@ -276,27 +318,40 @@ class Rig:
     def _set_undos(self, undos: List[Change]) -> None:
         """These changes can be taken back, the last one first."""
         self._undos = undos[-MOST_UNDOS:]
-        self._board.put("undo", {"text": undos[-1].text, "count": len(self._undos)} if undos else None)
+        self._board.put("undo", {**vars(undos[-1]), "uid": str(undos[-1].uid), "text": undos[-1].text,
+                                 "count": len(self._undos)} if undos else None)
 
-    def undo(self) -> Plan:
-        """Takes the last change back, to what was there before, whatever overlaps then.
+    def undo(self, text: str = "", force: bool = False) -> Plan:
+        """Takes the last change back, to what was there before, unless slots would overlap or end after the last one.
 
-        Raises Failure if somebody has changed it since.
+        Raises Failure if that isn't the change with this text, or if somebody has changed it since.
         """
         with self.lock:
             if not self._undos:
                 raise Failure(BAD_ARGUMENTS, "there is no change to take back", reason="undo")
             last = self._undos[-1]
+            if text not in ("", last.text):
+                raise Failure(FAILED, "another change is the last one by now, so nothing is taken back", reason="undo")
             now = value_in(self.entry(last.uid).fixture, last.column)
             if now is not None and differs(last.column, now, last.after):
                 self._set_undos(self._undos[:-1])
                 raise Failure(FAILED, f"{last.uid} has {last.column} {now} by now, so it isn't taken back",
                               reason="undo")
-        plan = self.change([Change(last.uid, last.column, last.after, last.before)], is_forced=True, is_undo=True)
+        plan = self.change([Change(last.uid, last.column, last.after, last.before)], force, is_undo=True)
         if plan.made:
             with self.lock:
                 self._set_undos([each for each in self._undos if each is not last])
         return plan
+
+
+def typeset(text: str) -> str:
+    """What is wrong with slots, as pages show slots."""
+    return SLOTS.sub("\\1–\\2", text)
+
+
+def is_of_line(fault: Optional[BaseException]) -> bool:
+    """Whether a task has failed since the line has."""
+    return isinstance(fault, Failure) and fault.is_of_line
 
 
 def identifies_of(work: Work, uid: Uid) -> Optional[bool]:

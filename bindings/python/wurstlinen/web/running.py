@@ -110,7 +110,7 @@ def run_web(chosen: argparse.Namespace, output: Output) -> int:
         first = when_free(lambda: server.connect_or_start(patience=0.0), chosen.wait_line, output.note)
     with first, opened(chosen) as door:
         # The signal's handler runs in the thread that serves, which can't wait for itself.
-        end_by(lambda number, frame: threading.Thread(target=door.shutdown).start(),
+        end_by(lambda number, frame: threading.Thread(target=door.shutdown, daemon=True).start(),
                signal.SIGINT, signal.SIGTERM, signal.SIGHUP)
         tell(line, door, tokens, chosen, output)
         serve(door, server, tokens, first)
@@ -149,7 +149,7 @@ def tell(line: str, door: Door, tokens: Tokens, chosen: argparse.Namespace, outp
     hosts = addresses() if chosen.allow_network else [LOOPBACK]
     using, looking = ([f"http://{host}:{door.server_address[1]}/#{token}" for host in hosts]
                       for token in (tokens.using, tokens.looking))
-    output.result([f"{line} is at", *(f"  {each}" for each in using), "only for looking at",
+    output.result([f"{line} is at", *(f"  {each}" for each in using), "view only at",
                    *(f"  {each}" for each in looking)], line=line, addresses=using, looking=looking)
     if chosen.allow_network and not output.is_json and sys.stdout.isatty():
         show_code(using[0])

@@ -12,17 +12,13 @@ export let lost = "connecting ...";
 
 const headers = { Authorization: `Bearer ${token}` };
 
-export function partsOf(prefix) {
-    return [...parts].filter(([name]) => name.startsWith(prefix)).map(([, value]) => value);
-}
+export const partsOf = (prefix) => [...parts].filter(([name]) => name.startsWith(prefix)).map(([, value]) => value);
 
-export function fixtureOf(uid) {
-    return parts.get(`fixture/${uid}`);
-}
+export const fixtureOf = (uid) => parts.get(`fixture/${uid}`);
 
-export function mayUse() {
-    return parts.get("role") === "uses" && !lost;
-}
+export const mayUse = () => parts.get("role") === "uses" && !lost;
+
+export const maySend = () => mayUse() && Boolean(parts.get("line")?.there);
 
 export async function call(name, keys = {}) {
     try {

@@ -3,7 +3,7 @@
 import { act, addressOf, draw, redraw } from "/app.js";
 import { classes, make } from "/dom.js";
 import { nameOf, problemOf, slotsOf } from "/fixtures.js";
-import { fixtureOf, mayUse, parts, partsOf } from "/server.js";
+import { fixtureOf, maySend, parts, partsOf } from "/server.js";
 
 const LAST = 512;
 const HELP = matchMedia("(pointer: coarse)").matches ? "Tap a fixture to select it, and then drag it."
@@ -64,7 +64,7 @@ function keyed(event) {
     const { uid } = event.target.dataset, now = moving?.uid === uid ? moving.first : fixtureOf(uid)?.first;
     const steps = { ArrowLeft: now - 1, ArrowRight: now + 1, ArrowUp: now - width(), ArrowDown: now + width(), Home: 1,
         End: LAST };
-    if (event.key in steps && mayUse()) {
+    if (event.key in steps && maySend()) {
         event.preventDefault();
         move(uid, steps[event.key]);
     } else if (moving && ["Enter", "Escape"].includes(event.key)) {
@@ -80,7 +80,7 @@ function slotAt({ clientX, clientY }) {
 function dragged(event) {
     const { uid } = event.target.dataset;
     // On a phone a finger scrolls, unless the fixture was selected before.
-    if (!uid || !mayUse() || (event.pointerType === "touch" && document.activeElement?.dataset.uid !== uid)) {
+    if (!uid || !maySend() || (event.pointerType === "touch" && document.activeElement?.dataset.uid !== uid)) {
         return;
     }
     const within = slotAt(event) - fixtureOf(uid).first, over = new AbortController(), { signal } = over;
@@ -107,7 +107,7 @@ function piecesOf(found, owners) {
             style: `${areaOf(from, to)} --lane: ${lane}` };
         pieces.push(isFirst ? make("button", { ...attributes, type: "button", onblur: redraw, "aria-label":
             `${nameOf(found)}, slots ${first} to ${last}${isCrowded ? ", overlaps another" : ""}` }, nameOf(found))
-            : make("div", { ...attributes, "aria-hidden": "true" }));
+            : make("div", { ...attributes, "aria-hidden": "true" }, `… ${nameOf(found)}`));
     }
     return pieces;
 }

@@ -60,16 +60,19 @@ class Watcher(threading.Thread):
     def end(self) -> None:
         """Ends the connection."""
         self._has_ended.set()
-        if self._client is not None:
-            self._client.close()
+        # Its own thread may have another one at any time.
+        client = self._client
+        if client is not None:
+            client.close()
         self.join(END_SECONDS)
 
     def pause(self, on: bool = False) -> Keys:
         """Pauses the queue for all programs, or has it go on. Raises LineFailed."""
-        if self._client is None:
+        client = self._client
+        if client is None:
             raise LineFailed("the server of the line has ended")
-        (self._client.queue.pause if on else self._client.queue.resume)()
-        return {"paused": self._client.queue.is_paused()}
+        (client.queue.pause if on else client.queue.resume)()
+        return {"paused": client.queue.is_paused()}
 
     def run(self) -> None:
         """Watches until the end."""
@@ -114,11 +117,13 @@ class Watcher(threading.Thread):
                                  "paused": queue.is_paused(), "source": str(queue.source), "process": queue.process})
 
     def _look(self, client: SharedClient) -> None:
-        """Asks which devices are known, and who is connected."""
+        """Asks which devices are known, and who is connected; and devices again that were asked in vain."""
         run = client.queue.devices_run()
         if run != self._told_run:
             self._told_run = run
             self._discoveries.take(client.queue.devices() if run else None)
+        if client.queue.is_there:
+            self._rig.read_again()
         own = {*self._rig.hands.numbers, client.queue.number}
         self._board.put("clients", [{**each, "is_page": each["client"] in own} for each in client.queue.clients()])
 

@@ -1,0 +1,61 @@
+// A saved file: what differs from it, and what makes the fixtures as it says.
+
+import { act, asked, say } from "/app.js";
+import { button, classes, make, plural } from "/dom.js";
+import { differencesOf, linked } from "/fixtures.js";
+import { maySend, mayUse, parts } from "/server.js";
+
+// Where something is wrong, and not only otherwise.
+const BAD = ["missing", "overlap", "end"];
+
+async function save() {
+    const answer = await asked("save");
+    if (answer) {
+        const href = URL.createObjectURL(new Blob([answer.text], { type: "text/csv" }));
+        Object.assign(document.createElement("a"), { href, download: parts.get("file")?.name ?? "rig.csv" }).click();
+        URL.revokeObjectURL(href);
+    }
+}
+
+async function load({ target }) {
+    const file = target.files[0];
+    if (file) {
+        await act("load", { name: file.name, text: await file.text() });
+        target.value = "";
+    }
+}
+
+async function look() {
+    const plan = await asked("apply", { dry: true });
+    if (plan && !plan.changes.length) {
+        say("The fixtures that are here are as the file says.");
+    } else if (plan) {
+        const isBad = plan.problems.length > 0, count = plural(plan.changes.length, "change");
+        const problems = isBad ? ` But ${plan.problems.join("; ")}.` : "";
+        const action = { text: `Make ${count}${isBad ? " anyway" : ""}`, act: () => act("apply", { force: isBad },
+            `${count} made, and read back.`) };
+        say(`${count}: ${plan.changes.join("; ")}.${problems}`, { isBad, action });
+    }
+}
+
+function differences(file) {
+    const { name, rows, note, differences: found } = file;
+    return [make("p", {}, `${name} has ${plural(rows, "fixture")}; ${found.length ? `${differencesOf(file)}:`
+        : "nothing differs."}`), make("p", {}, note),
+    make("ul", { class: "differences" }, found.map(({ kind, uid, label, text }) =>
+        make("li", { class: classes(BAD.includes(kind) && "bad") }, make("b", {}, `${kind}: `), linked(uid, label),
+            `, ${text}`)))];
+}
+
+export function view() {
+    const file = parts.get("file"), disabled = !mayUse();
+    return [make("h2", { class: "hidden" }, "File"),
+        make("div", { class: "tools" }, button("Save as CSV", save, { disabled }),
+            button(`Compare with ${file ? "another" : "a saved"} file …`, ({ target }) => target.nextSibling.click(),
+                { disabled }),
+            make("input", { type: "file", accept: ".csv,.txt,.tsv,text/csv", id: "chooser", hidden: true,
+                onchange: load }),
+            file && button(`Apply ${file.name} …`, look, { disabled: !maySend() }),
+            file && button("Close the file", () => act("unload", {}), { disabled })),
+        ...(file ? differences(file) : [])];
+}
