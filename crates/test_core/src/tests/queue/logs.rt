@@ -129,3 +129,14 @@ fn memory_that_was_handed_out_is_used_again(rt: HostRuntime) {
     }
     check_eq(&rt, session.log().len_in_all(), 9);
 }
+
+#[test]
+fn a_page_is_searched_as_its_log(rt: HostRuntime) {
+    let mut session = session(&rt, rt.alloc(), 1, 4);
+    let mut page = log(&rt, rt.alloc(), 4);
+    check_eq(&rt, page.opening().search, Search::Steady);
+    check_eq(&rt, session.drain_into(&mut page), Ok(()));
+    check_eq(&rt, page.opening().search, Search::Quick);
+    check_eq(&rt, page.opening().source, Uid::default());
+    check_eq(&rt, page.entries().len(), 1);
+}
