@@ -6,7 +6,6 @@ use Rattle.rdm_agent.proofs.Common.{Ended, Search, Steady, Quick, Checking, Muti
 use Rattle.std.specs.Prelude.{◌≡◌, ℕ, ◌+◌, ◌*◌, ◌^◌, ◌<◌, ◌≤◌, Bool, true, false, ◌&&◌, not, List, [], ◌∷◌, length}
 use Rattle.std.specs.Prelude.{None, Option, ◌==◌}
 use Rattle.rdm_agent.specs.Beliefs.{is_suspect}
-use Rattle.rdm_agent.specs.Machine.{sweep_limit}
 
 -- the present devices that aren't found, and those of them in a range
 abbrev pub unfound : List ℕ → List ℕ → List ℕ
@@ -117,12 +116,16 @@ pub record CostsRead (present : List ℕ) (line : Watched) (found : List ℕ)
 abbrev pub IsVain : List ℕ → Option ℕ → Type 0
 IsVain present suspect = (u : ℕ) → is_suspect suspect u ≡ true → has present u ≡ false
 
+-- a sweep's limit at most, if so many UIDs are set apart
+abbrev pub paid_limit : ℕ → ℕ → ℕ
+paid_limit found aside = 100 * (found + 2) + 60 * aside
+
 -- What a sweep costs, without the exchanges that it made; it is below its limit. If one UID is asked alone, each of its
 -- bad answers was a disturbed branch. The first three are saved: the fourth sets it apart, which raises the limit
 pub record CostsSweeping (present : List ℕ) (row aside : ℕ) (found : List ℕ) (sweep : Sweep) (cost : ℕ) : Type 0 where
   pub credit : ℕ
   pub few : sweep.silences ≤ 4
-  pub below : sweep.made < sweep_limit (length found) aside
+  pub below : sweep.made < paid_limit (length found) aside
   pub enough : sweep_cost present found + 120 * aside + credit ≤ cost + 2 * sweep.made
   pub saved : sweep.bads ≤ 3 → 30 * sweep.bads ≤ credit
   pub alone : sweep.question.range.lo ≡ sweep.question.range.hi → sweep.bads ≤ row
@@ -134,7 +137,7 @@ pub record CostsSwept (present : List ℕ) (line : Watched) (found : List ℕ) (
     (cost : ℕ) : Type 0 where
   pub more : ℕ
   pub few : tries ≤ 4
-  pub below : sweep.made ≤ sweep_limit (length found) line.aside + tries + more
+  pub below : sweep.made ≤ paid_limit (length found) line.aside + tries + more
   pub enough : sweep_cost present found + 120 * line.aside + 2 * more ≤ cost + 2 * sweep.made
   pub new : has found u ≡ false
   pub lost : has present u ≡ true → tries ≤ line.state.lost_mutes
@@ -146,7 +149,7 @@ pub record CostsChecking (present : List ℕ) (aside : ℕ) (found : List ℕ) (
     : Type 0 where
   pub new : has found u ≡ false
   pub few : silences ≤ 1
-  pub below : sweep.made ≤ sweep_limit (length found) aside + silences
+  pub below : sweep.made ≤ paid_limit (length found) aside + silences
   pub enough : sweep_cost present found + 120 * aside ≤ cost + 2 * sweep.made
   pub vain : IsVain present sweep.belief.suspect
 
@@ -156,7 +159,7 @@ pub record CostsStray (present : List ℕ) (line : Watched) (found : List ℕ) (
   pub more : ℕ
   pub extra : ℕ
   pub few : tries ≤ 4
-  pub below : sweep.made ≤ sweep_limit (length found) line.aside + 2 + tries + more
+  pub below : sweep.made ≤ paid_limit (length found) line.aside + 2 + tries + more
   pub enough : sweep_cost present found + 120 * line.aside + 2 * (more + extra) ≤ cost + 2 * sweep.made
   pub new : has found u ≡ false
   pub why : (has present u ≡ true) ⊎ (2 ≤ extra)

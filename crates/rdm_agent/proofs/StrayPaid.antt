@@ -13,7 +13,7 @@ use Rattle.rdm_agent.proofs.Members.{member}
 use Rattle.rdm_agent.proofs.LeftLemmas.{first_passes, left-halves}
 use Rattle.rdm_agent.proofs.CoverLemmas.{one_uid}
 use Rattle.rdm_agent.proofs.SuspectLemmas.{stray-vain}
-use Rattle.rdm_agent.proofs.SweepPaid.{on-costs, split-costs, many, limit_room, goes_on, one-lost, all-lost, lost-vain}
+use Rattle.rdm_agent.proofs.SweepPaid.{on-costs, limit-paid, split-costs, many, limit_room, goes_on, one-lost, all-lost, lost-vain}
 use Rattle.rdm_agent.proofs.PaidLemmas.{Cheaper, CountsOneMore, SpellsNew, mute-keeps, acked-mute}
 use Rattle.rdm_agent.proofs.PaidLemmas.{Finds-keeps, answered, to_found-affords}
 use Rattle.rdm_agent.proofs.Potential.{Watched}
@@ -270,7 +270,9 @@ module _ (present : List ℕ) (set : IsDeviceSet present) (few : length present 
           let counts = many present set few total base bonus s new a within kept room in
           on-costs a.search present new more (base + bonus) (counted sweep) sweep.question.range 0 0
           0 (sweep_limit (length a.found + 1) (length a.apart)) (stray_found sweep.belief) (omega arith) (omega arith)
-          (λ none. omega arith) (omega (arith, counts, longer)) (stray-vain present sweep.belief costs.vain)
+          (λ none. omega arith)
+          (let paid = limit-paid (length a.found + 1) (length a.apart) in omega (arith, counts, longer, room, paid))
+          (stray-vain present sweep.belief costs.vain)
           (record { more = costs.more; below = omega arith; enough = omega arith })
   stray-affords u tries spare sweep Failed sound paid f step costs = absurd (sound refl)
   stray-affords u tries spare sweep Silent sound paid f step costs =

@@ -24,16 +24,21 @@ use Rattle.rdm_agent.proofs.SuspectLemmas.{found_belief-vain}
 use Rattle.rdm_agent.proofs.Choices.{IsChosen, chosen}
 use Rattle.rdm_agent.proofs.CorruptLemmas.{is_new-device}
 use Rattle.rdm_agent.proofs.Potential.{unfound, is_left, left_in, sweep_cost, CostsSweeping, CostsSwept, Finds, Affords}
-use Rattle.rdm_agent.proofs.Potential.{Watched, with_aside, IsVain}
+use Rattle.rdm_agent.proofs.Potential.{Watched, with_aside, IsVain, paid_limit}
+use Rattle.std.proofs.Math.Nat.{min-le_left}
 use Rattle.rdm_agent.proofs.LeftLemmas.{no_more, no_more_than}
 use Rattle.rdm_agent.proofs.CoverLemmas.{one_uid}
 use Rattle.rdm_agent.proofs.PaidLemmas.{Cheaper, CountsOneMore, mute-keeps, acked-mute, lost-mute, alone-present}
 use Rattle.rdm_agent.proofs.PaidLemmas.{Finds-keeps, to_phase-affords, to_found-affords, answered}
 
+-- no more than was paid for
+pub limit-paid : (found apart : ℕ) → sweep_limit found apart ≤ paid_limit found apart
+limit-paid found apart = let least = min-le_left apart (found + 2) in omega (arith, least)
+
 -- what is still needed after an exchange
 pub record Pays (present found : List ℕ) (aside credit made cost : ℕ) : Type 0 where
   pub more : ℕ
-  pub below : made ≤ sweep_limit (length found) aside + 5 + more
+  pub below : made ≤ paid_limit (length found) aside + 5 + more
   pub enough : sweep_cost present found + 120 * aside + 2 + 2 * more + credit ≤ cost + 2 * made
 
 -- the same after so many bad answers in a row of one UID alone, which saved this
@@ -87,7 +92,7 @@ module _ (search : Search) (present : List ℕ) (line : Watched) (found : List �
           (λ u left. (and_parts _ (not (has found u)) left).1)
 
   asks-costs : (made silences bads credit : ℕ) (last : Span) (c : Sweep)
-      → made < sweep_limit (length found) line.aside → bads ≤ line.row → (bads ≤ 3 → 30 * bads ≤ credit)
+      → made < paid_limit (length found) line.aside → bads ≤ line.row → (bads ≤ 3 → 30 * bads ≤ credit)
       → Pays present found line.aside credit made cost → IsChosen made silences bads last c
       → IsVain present c.belief.suspect → Cheaper search present line found cost (Sweeping c)
   asks-costs made silences bads credit last c under in_row saved pays is vain =
@@ -114,7 +119,7 @@ module _ (search : Search) (present : List ℕ) (line : Watched) (found : List �
       }
 
   pub on-costs : (sweep : Sweep) (last : Span) (silences bads credit limit : ℕ) (b : Belief) → silences ≤ 4
-      → bads ≤ line.row → (bads ≤ 3 → 30 * bads ≤ credit) → limit ≤ sweep_limit (length found) line.aside
+      → bads ≤ line.row → (bads ≤ 3 → 30 * bads ≤ credit) → limit ≤ paid_limit (length found) line.aside
       → IsVain present b.suspect → Pays present found line.aside credit sweep.made cost
       → Cheaper search present line found cost (sweep_on_after sweep last silences bads limit b)
   on-costs sweep last silences bads credit limit b few in_row saved most vain pays =
@@ -130,7 +135,7 @@ module _ (search : Search) (present : List ℕ) (line : Watched) (found : List �
 
   -- what was asked collided, and then a range was silent so often
   pub split-costs : (sweep : Sweep) (last : Span) (silences limit : ℕ) → silences ≤ 4
-      → limit ≤ sweep_limit (length found) line.aside
+      → limit ≤ paid_limit (length found) line.aside
       → IsVain present sweep.belief.suspect → Pays present found line.aside 0 sweep.made cost
       → Cheaper search present line found cost (sweep_split sweep last silences limit)
   split-costs sweep last silences limit few most vain pays =
@@ -155,8 +160,8 @@ module _ (present : List ℕ) (set : IsDeviceSet present) (few : length present 
   pub many : length a.found ≡ length (found_uids a)
   many = sym (length-map a.found (λ d. d.uid))
 
-  pub limit_room : limit_of a ≤ sweep_limit (length (found_uids a)) new.aside
-  limit_room = omega (arith, many, room)
+  pub limit_room : limit_of a ≤ paid_limit (length (found_uids a)) new.aside
+  limit_room = let paid = limit-paid (length a.found) (length a.apart) in omega (arith, many, room, paid)
 
   pub goes_on : (phase : Phase) → Finds present new.state (found_uids a)
       → Cheaper a.search present new (found_uids a) (base + bonus) phase → After (to_phase a phase)
@@ -216,7 +221,9 @@ module _ (present : List ℕ) (set : IsDeviceSet present) (few : length present 
             sweep.question.range 0 0 0
             (sweep_limit (length a.found) (length (without sweep.question.range.hi a.apart)))
             (ask_turn (without sweep.question.range.hi a.apart) sweep.belief.turn sweep.belief)
-            (omega arith) (omega arith) (λ none. omega arith) (omega (arith, many, fewer))
+            (omega arith) (omega arith) (λ none. omega arith)
+            (let paid = limit-paid (length a.found) (length (without sweep.question.range.hi a.apart)) in
+            omega (arith, many, fewer, paid))
             (ask_turn-vain present (without sweep.question.range.hi a.apart) sweep.belief.turn sweep.belief) pays)
         of_part parts.Fresh = above
         of_part parts.Lower = above
@@ -243,7 +250,8 @@ module _ (present : List ℕ) (set : IsDeviceSet present) (few : length present 
           (on-costs a.search present (with_aside (new.aside + 1) new) (found_uids a) (base + bonus) sweep
           sweep.question.range 0 bads_aside 0 (sweep_limit (length a.found) (length (u ∷ a.apart)))
           (set_apart u (u ∷ a.apart) sweep.belief) (omega arith) in_row (λ fewer. absurd (omega (arith, fewer)))
-          (omega (arith, many)) (set_apart-vain present u (u ∷ a.apart) sweep.belief) paid))
+          (let most = limit-paid (length a.found) (length (u ∷ a.apart)) in omega (arith, many, room, most))
+          (set_apart-vain present u (u ∷ a.apart) sweep.belief) paid))
           (λ full. goes_on-apart a.apart true new.aside _ room f
           (on-costs a.search present (with_aside new.aside new) (found_uids a) (base + bonus) sweep
           sweep.question.range 0 bads_aside 0 (limit_of a) (give_up u sweep.belief) (omega arith) in_row
@@ -517,7 +525,7 @@ module _ (present : List ℕ) (set : IsDeviceSet present) (few : length present 
           let enough = costs.enough in
           on-costs a.search present new more (base + bonus) (counted sweep) sweep.question.range 0 0 0
           (sweep_limit (length a.found + 1) (length a.apart)) after (omega arith) (omega arith) (λ none. omega arith)
-          (omega (arith, many, longer, room))
+          (let paid = limit-paid (length a.found + 1) (length a.apart) in omega (arith, many, longer, room, paid))
           (found_belief-vain present sweep.question.part u a.apart sweep costs.vain)
           (record { more = costs.more; below = omega arith; enough = omega arith })
   swept-affords u tries spare sweep Failed sound paid f step costs = absurd (sound refl)

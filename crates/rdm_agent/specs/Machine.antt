@@ -213,11 +213,12 @@ counted_spelt u sweep = record sweep { made = sweep.made + 1; belief = hearing u
 abbrev pub sweep_suspecting : ℕ → Sweep → Sweep
 sweep_suspecting u sweep = record sweep { belief = suspecting u sweep.belief }
 
--- LIMIT. A sweep goes on while it has made fewer exchanges than these: 100 for each device found, 200 more, and 60 for
--- each UID that is set apart. Those cost a noisy run nothing. Before a UID is set apart it has four disturbed branches
--- in a row, of which each is allowed 15 exchanges. On an honest line none is set apart
+-- LIMIT. A sweep goes on while it has made fewer exchanges than these: 100 for each device found, and 200 more. Each UID
+-- that is set apart adds 60, up to two more of them than were found, so that noise alone doesn't go on. That costs the
+-- bound nothing. A UID is set apart after four disturbed branches in a row, and each of those is allowed 15 exchanges.
+-- On an honest line none is set apart
 abbrev pub sweep_limit : ℕ → ℕ → ℕ
-sweep_limit found apart = 100 * (found + 2) + 60 * apart
+sweep_limit found apart = 100 * (found + 2) + 60 * min apart (found + 2)
 
 -- this agent's
 abbrev pub limit_of : AgentState → ℕ

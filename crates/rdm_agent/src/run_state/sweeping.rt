@@ -289,7 +289,7 @@ pub(super) fn sweep_limit(found: usize, apart: usize) -> usize
     ensures value { result ≡ sweep_limit found apart }
     ensures small { result ≤ 2 ^ 20 }
 {
-    SWEEP_FRAMES * (found + 2) + LIAR_FRAMES * apart
+    SWEEP_FRAMES * (found + 2) + LIAR_FRAMES * apart.min(found + 2)
 }
 
 // A sweep goes on with this belief, after this many silences or bad answers in a row of the range `last`. At its limit
