@@ -147,7 +147,8 @@ runs-afford present set few total kind known budget (e ∷ x) s row a b sound (i
     x step.0 (disturbed_row present s row e.asked e.heard) (fed a e.heard) b sound.1 step.2 in_row.1 onward run.1
     (fed-affords present set few total (bonus_of (is_disturbed present s e.asked e.heard))
     (record { state = s; row = row; aside = 0 })
-    (record { state = step.0; row = disturbed_row present s row e.asked e.heard; aside = 0 }) a e.asked e.heard sound.0 quick
+    (record { state = step.0; row = disturbed_row present s row e.asked e.heard; aside = 0 }) a e.asked e.heard sound.0
+    quick
     (wanted_next kind known budget a e.asked run.0).1 step.1
     (record {
       pays = (unfolding_bonus (is_disturbed present s e.asked e.heard)).0;
@@ -225,7 +226,8 @@ search_cost Steady present = 10 + length present * 740
 search_cost Quick present = 420 + length present * 740
 
 start-affords : (search : Search) (present : List ℕ) (muted : ℕ → Bool) (kind : Kind) (known : List ℕ) (budget : ℕ)
-    → Affords present (2 * enough_by search present kind known) (record { state = before_run muted; row = 0; aside = 0 })
+    → Affords present (2 * enough_by search present kind known)
+    (record { state = before_run muted; row = 0; aside = 0 })
     (start_by search kind known budget)
 start-affords search present muted kind known budget = record {
   aside = 0;

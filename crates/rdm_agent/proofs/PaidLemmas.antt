@@ -429,7 +429,8 @@ module _ (present : List ℕ) (set : IsDeviceSet present) (few : length present 
 
   -- a mute of a known UID that is lost
   known_lost-affords : (u tries spare : ℕ) (known : List ℕ) (h : Heard) → Finds present s.state (found_uids a)
-      → NoisyStep present s.state (Mute u) h new.state → CostsKnown a.search present (found_uids a) s.aside tries known base
+      → NoisyStep present s.state (Mute u) h new.state
+      → CostsKnown a.search present (found_uids a) s.aside tries known base
       → Affords present (total + bonus) new (to_phase a (known_lost a.search u tries spare known))
   known_lost-affords u tries spare known h f step costs =
       let few = costs.few in let is = costs.cost_is in
@@ -472,7 +473,8 @@ module _ (present : List ℕ) (set : IsDeviceSet present) (few : length present 
   -- a mute of a known UID
   pub known-affords : (u tries spare : ℕ) (known : List ℕ) (h : Heard) → h ≢ Failed
       → ((has_bytes h && not (is_acked h)) ≡ true → 30 ≤ bonus) → Finds present s.state (found_uids a)
-      → NoisyStep present s.state (Mute u) h new.state → CostsKnown a.search present (found_uids a) s.aside tries known base
+      → NoisyStep present s.state (Mute u) h new.state
+      → CostsKnown a.search present (found_uids a) s.aside tries known base
       → Affords present (total + bonus) new (known_heard a u tries spare known h)
   known-affords u tries spare known (Acked ack) sound paid f step costs =
       let acked = acked-mute present s.state new.state u ack step in let few = costs.few in let is = costs.cost_is in

@@ -191,8 +191,8 @@ pub record Finds (present : List ℕ) (line : LineState) (found : List ℕ) : Ty
   pub muted : (u : ℕ) → has found u ≡ true → line.muted u ≡ true
   pub counted : length found + length (unfound present found) ≤ length present
 
--- The exchanges so far and what is still to come make no more than total half exchanges. No more UIDs are set apart than
--- were paid for
+-- The exchanges so far and what is still to come make no more than total half exchanges. No more UIDs are set apart
+-- than were paid for
 pub record Affords (present : List ℕ) (total : ℕ) (line : Watched) (a : AgentState) : Type 0 where
   pub aside : ℕ
   pub room : length a.apart ≤ aside

@@ -473,7 +473,8 @@ module _ (present : List ℕ) (set : IsDeviceSet present) (few : length present 
       → Affords present (total + bonus) new (mute_heard a u tries spare bads top below h)
   read-affords u tries spare bads top below (Acked ack) sound paid f step costs =
       let acked = acked-mute present s.state new.state u ack step in let tried = costs.few in let is = costs.cost_is in
-      to_found-affords present set few total base bonus s new a within kept room u ack (Searching 0 0 0 top below) acked.0 acked.1
+      to_found-affords present set few total base bonus s new a within kept room u ack (Searching 0 0 0 top below)
+      acked.0 acked.1
       (mute-keeps present s.state new.state u (Acked ack) step) f
       (λ more grows now one_more.
       let pays = Covers-device present (found_uids a) more grows u top below costs.ranges acked.0

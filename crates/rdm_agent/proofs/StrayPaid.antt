@@ -13,7 +13,8 @@ use Rattle.rdm_agent.proofs.Members.{member}
 use Rattle.rdm_agent.proofs.LeftLemmas.{first_passes, left-halves}
 use Rattle.rdm_agent.proofs.CoverLemmas.{one_uid}
 use Rattle.rdm_agent.proofs.SuspectLemmas.{stray-vain}
-use Rattle.rdm_agent.proofs.SweepPaid.{on-costs, limit-paid, split-costs, many, limit_room, goes_on, one-lost, all-lost, lost-vain}
+use Rattle.rdm_agent.proofs.SweepPaid.{on-costs, limit-paid, split-costs, many, limit_room, goes_on}
+use Rattle.rdm_agent.proofs.SweepPaid.{one-lost, all-lost, lost-vain}
 use Rattle.rdm_agent.proofs.PaidLemmas.{Cheaper, CountsOneMore, SpellsNew, mute-keeps, acked-mute}
 use Rattle.rdm_agent.proofs.PaidLemmas.{Finds-keeps, answered, to_found-affords}
 use Rattle.rdm_agent.proofs.Potential.{Watched}
@@ -85,7 +86,8 @@ module _ (present : List ℕ) (set : IsDeviceSet present) (few : length present 
       again is =
           let none : silences ≡ 0 = eqb-true silences 0 (and_parts (silences == 0) _ is).0 in
           let under = costs.below in let enough = costs.enough in
-          goes_on present set few total base bonus s new a within kept room (Checking u (silences + 1) (counted_silent sweep)) f
+          goes_on present set few total base bonus s new a within kept room
+          (Checking u (silences + 1) (counted_silent sweep)) f
           (record {
             left = base - 2;
             saves = omega arith;
@@ -115,7 +117,8 @@ module _ (present : List ℕ) (set : IsDeviceSet present) (few : length present 
       muted is (inl one) =
           let at : one.uid ≡ u = sym (same one.uid one.heard) ∙ eqb-true v u is in
           let under = costs.below in let enough = costs.enough in let once = costs.few in
-          goes_on present set few total base bonus s new a within kept room (MutingStray u 0 garbled_mutes (counted sweep)) f
+          goes_on present set few total base bonus s new a within kept room
+          (MutingStray u 0 garbled_mutes (counted sweep)) f
           (record {
             left = base - 2;
             saves = omega arith;
@@ -133,7 +136,8 @@ module _ (present : List ℕ) (set : IsDeviceSet present) (few : length present 
           })
       muted is (inr paid) =
           let under = costs.below in let enough = costs.enough in let once = costs.few in
-          goes_on present set few total base bonus s new a within kept room (MutingStray u 0 garbled_mutes (counted sweep)) f
+          goes_on present set few total base bonus s new a within kept room
+          (MutingStray u 0 garbled_mutes (counted sweep)) f
           (record {
             left = base + 2;
             saves = omega (arith, paid);
@@ -228,7 +232,8 @@ module _ (present : List ℕ) (set : IsDeviceSet present) (few : length present 
   garbled-affords u tries spare sweep h lost paid f step costs =
       cond_both (nat_lt 0 spare) _ _ (λ p. Affords present (total + bonus) new (to_phase a p))
       (λ spares. let under = costs.below in let enough = costs.enough in
-      goes_on present set few total base bonus s new a within kept room (MutingStray u tries (spare - 1) (counted sweep))
+      goes_on present set few total base bonus s new a within kept room
+      (MutingStray u tries (spare - 1) (counted sweep))
       (Finds-keeps present (found_uids a) s.state new.state (mute-keeps present s.state new.state u h step) f)
       (record {
         left = base;

@@ -6,7 +6,8 @@ use Rattle.rdm_agent.proofs.Common.{Branch, Mute, Failed, Silent, One, Acked, No
 use Rattle.rdm_agent.proofs.Common.{found_uids, is_new, is_one, is_whole, is_wanted, is_last, counted, sweep_suspecting}
 use Rattle.rdm_agent.proofs.Common.{choose, to_phase, sweep_on, sweep_silent, sweep_apart, sweep_heard, swept_heard}
 use Rattle.rdm_agent.proofs.Common.{believed_silent, believed_apart, Sweeping, MutingSwept, Search, Ended, None, Some}
-use Rattle.rdm_agent.proofs.Common.{TRIES, Belief, Sweep, sweep_on_after, sweep_split, sweep_spelt, counted_spelt, sweep_limit, limit_of}
+use Rattle.rdm_agent.proofs.Common.{TRIES, Belief, Sweep, sweep_on_after, sweep_split, sweep_spelt, counted_spelt}
+use Rattle.rdm_agent.proofs.Common.{sweep_limit, limit_of}
 use Rattle.rdm_agent.proofs.Common.{counted_silent, hearing, is_stray, Checking, search_whole, bads_aside}
 use Rattle.rdm_agent.proofs.Common.{swept_lost, is_in_vain, BAD_ANSWERS, cases_Bool, eqb-true, subst}
 use Rattle.rdm_agent.proofs.Common.{NoisyStep, has_bytes, is_acked, due_in, give_up, is_broadcast, Bool}
@@ -143,7 +144,8 @@ module _ (search : Search) (present : List ℕ) (line : Watched) (found : List �
       (Cheaper search present line found cost)
       (λ found_nothing. begins-costs sweep.made 0 0 (omega arith) pays)
       (λ goes. on-costs sweep last silences 0 0 limit
-      (believed_apart sweep.question.part sweep.question.range sweep.silences sweep.belief) few (omega arith) (λ none. omega arith) most
+      (believed_apart sweep.question.part sweep.question.range sweep.silences sweep.belief) few (omega arith)
+      (λ none. omega arith) most
       (apart-vain present sweep.question.part sweep.question.range sweep.silences sweep.belief vain) pays)
 
 module _ (present : List ℕ) (set : IsDeviceSet present) (few : length present ≤ MOST_DEVICES) (total base bonus : ℕ)

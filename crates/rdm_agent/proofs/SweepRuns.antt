@@ -266,7 +266,8 @@ module _ (kind : Kind) (known : List ℕ) (budget : ℕ) (x : List Seen) (a : Ag
           few_bads = p.few_bads;
           answers = answers;
         }))
-        (λ refused. cond_both (is_stray (found_uids a) a.apart (counted_spelt u sweep) u) _ _ (After (branched (One u)) refl)
+        (λ refused. cond_both (is_stray (found_uids a) a.apart (counted_spelt u sweep) u) _ _
+        (After (branched (One u)) refl)
         (λ stray. let is = stray-is (found_uids a) a.apart (counted_spelt u sweep) u stray in
         stands (branched (One u)) refl (Checking u 0 (counted_spelt u sweep)) (record {
           quick = p.quick;

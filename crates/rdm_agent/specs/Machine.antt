@@ -224,8 +224,8 @@ sweep_limit found apart = 100 * (found + 2) + 60 * min apart (found + 2)
 abbrev pub limit_of : AgentState → ℕ
 limit_of a = sweep_limit (length a.found) (length a.apart)
 
--- A sweep goes on below this limit. Then the steady search begins, in which the last silences of the whole range count.
--- The silences and bad answers are those of the last range
+-- A sweep goes on below this limit. Then the steady search begins, in which the last silences of the whole range
+-- count. The silences and bad answers are those of the last range
 abbrev pub sweep_on_after : Sweep → Span → ℕ → ℕ → ℕ → Belief → Phase
 sweep_on_after sweep last silences bads limit b =
     if nat_lt sweep.made limit then Sweeping (choose sweep.made silences bads last b)

@@ -261,8 +261,8 @@ impl RunState {
             && (sweep.belief.suspect != Some(uid) || is_last_answer(sweep))
     }
 
-    // Whether a UID that a sweep's branch spelt is checked: it isn't in the range that was asked, wasn't found, given up
-    // or set apart, and is due. If one UID was asked alone, another one is a bad answer.
+    // Whether a UID that a sweep's branch spelt is checked: it isn't in the range that was asked, wasn't found, given
+    // up or set apart, and is due. If one UID was asked alone, another one is a bad answer.
     fn is_stray(&self, uid: Uid, sweep: &Sweep) -> bool
         ensures { result ≡ is_stray (uids_of self.now.found) self.now.apart sweep.now uid }
     {

@@ -16,7 +16,8 @@ returns-in-Some-clause-goes_on c = record {
   where
     onward : seen_phase c.sweep_on-onward.result c.args.self.now
         ≡ sweep_on (counted c.args.sweep) 0 0
-        (sweep_limit (length c.args.self.now.found + 1) (length c.args.self.now.apart)) (stray_found c.args.sweep.belief)
+        (sweep_limit (length c.args.self.now.found + 1) (length c.args.self.now.apart))
+        (stray_found c.args.sweep.belief)
     onward = rw (
       c.requires.1,
       c.sweep_on-onward.ensures.phase c.args.self.now.known,

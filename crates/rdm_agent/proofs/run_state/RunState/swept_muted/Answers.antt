@@ -18,7 +18,8 @@ returns-in-Some-clause-goes_on c = record {
 }
   where
     onward : seen_phase c.sweep_on-onward.result c.args.self.now
-        ≡ sweep_on (counted c.args.sweep) 0 0 (sweep_limit (length c.args.self.now.found + 1) (length c.args.self.now.apart))
+        ≡ sweep_on (counted c.args.sweep) 0 0
+        (sweep_limit (length c.args.self.now.found + 1) (length c.args.self.now.apart))
         (found_belief c.args.sweep.question.part c.args.uid c.args.self.now.apart c.args.sweep)
     onward = rw (
       c.requires.1,
