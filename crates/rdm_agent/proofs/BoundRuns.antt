@@ -18,7 +18,7 @@ use Rattle.rdm_agent.proofs.SweepPaid.{sweeping-affords, swept-affords}
 use Rattle.rdm_agent.proofs.StrayPaid.{checking-affords, stray-affords}
 use Rattle.rdm_agent.proofs.Runs.{stands_by, wanted_next}
 use Rattle.rdm_agent.proofs.KeptSearch.{fed-search}
-use Rattle.rdm_agent.proofs.Potential.{Watched}
+use Rattle.rdm_agent.proofs.Potential.{Watched, with_aside}
 use Rattle.rdm_agent.proofs.Common.{NoisyStep, Unmute, Branch, Mute, Other, cond, false, ◌∙◌}
 use Rattle.rdm_agent.specs.Bound.{disturbed_row, FewDisturbed, IsNoisy, EndsInNoisyBound}
 use Rattle.rdm_wire.specs.Noisy.{NoisyTraceWith, is_disturbed, disturbed_in}
@@ -38,44 +38,67 @@ module _ (present : List ℕ) (set : IsDeviceSet present) (few : length present 
       → IsPaid present s new bonus asked h → Affords present total s a → Affords present (total + bonus) new (fed a h)
   fed-affords s new a asked h sound quick asks step paid affords = of_heard h sound step paid
     where
+      was : Watched
+      was = with_aside affords.aside s
+
+      now : Watched
+      now = with_aside affords.aside new
+
       After : Heard → Phase → Option Asked → Type 0
       After h phase o =
           MatchOption o (Unit {0}) (λ q. NoisyStep present s.state q h new.state → IsPaid present s new bonus q h
-          → Affords present (total + bonus) new (heard_by_phase a phase h))
+          → Affords present (total + bonus) now (heard_by_phase a phase h))
 
-      by_phase : (phase : Phase) (h : Heard) → h ≢ Failed → Costs a.search present s (found_uids a) phase affords.cost
+      by_phase : (phase : Phase) (h : Heard) → h ≢ Failed → Costs a.search present was (found_uids a) phase affords.cost
           → After h phase (wanted phase)
       by_phase (Unmuting more known) h sound costs =
-          λ step paid. unmuting-affords present set few total affords.cost bonus s new a affords.within more known h
+          λ step paid. unmuting-affords present set few total affords.cost bonus was now a affords.within refl
+          affords.room more known h
           affords.finds costs
       by_phase (MutingKnown u tries spare known) h sound costs =
-          λ step paid. known-affords present set few total affords.cost bonus s new a affords.within u tries spare known
+          λ step paid. known-affords present set few total affords.cost bonus was now a affords.within refl
+          affords.room u tries spare known
           h sound paid.pays affords.finds step costs
       by_phase (Searching silences bads spent top below) h sound costs =
-          λ step paid. searching-affords present set few total affords.cost bonus s new a affords.within silences bads
+          λ step paid. searching-affords present set few total affords.cost bonus was now a affords.within refl
+          affords.room silences bads
           spent top below h sound quick
           (λ is. (paid.pays is, sym (paid.row_is ∙ ap (λ (b : Bool). cond b (s.row + 1) 0) is), paid.row)) paid.only
           affords.finds step costs
       by_phase (MutingRead u tries spare bads top below) h sound costs =
-          λ step paid. read-affords present set few total affords.cost bonus s new a affords.within u tries spare bads
+          λ step paid. read-affords present set few total affords.cost bonus was now a affords.within refl
+          affords.room u tries spare bads
           top below h sound paid.pays affords.finds step costs
       by_phase (Sweeping sweep) h sound costs =
-          λ step paid. sweeping-affords present set few total affords.cost bonus s new a affords.within sweep h sound
-          (λ is. (sym (paid.row_is ∙ ap (λ (b : Bool). cond b (s.row + 1) 0) is), paid.row)) affords.finds step costs
+          λ step paid. sweeping-affords present set few total affords.cost bonus was now a affords.within refl
+          affords.room sweep h sound
+          (λ is. (sym (paid.row_is ∙ ap (λ (b : Bool). cond b (s.row + 1) 0) is), paid.row, paid.pays is))
+          affords.finds step costs
       by_phase (MutingSwept u tries spare sweep) h sound costs =
-          λ step paid. swept-affords present set few total affords.cost bonus s new a affords.within u tries spare sweep
+          λ step paid. swept-affords present set few total affords.cost bonus was now a affords.within refl
+          affords.room u tries spare sweep
           h sound paid.pays affords.finds step costs
       by_phase (Checking u silences sweep) h sound costs =
-          λ step paid. checking-affords present set few total affords.cost bonus s new a affords.within u silences sweep
+          λ step paid. checking-affords present set few total affords.cost bonus was now a affords.within refl
+          affords.room u silences sweep
           h sound paid.pays affords.finds step costs
       by_phase (MutingStray u tries spare sweep) h sound costs =
-          λ step paid. stray-affords present set few total affords.cost bonus s new a affords.within u tries spare sweep
+          λ step paid. stray-affords present set few total affords.cost bonus was now a affords.within refl
+          affords.room u tries spare sweep
           h sound paid.pays affords.finds step costs
       by_phase (Ended fault) h sound costs = tt
 
       at_phase : (h : Heard) → h ≢ Failed → NoisyStep present s.state asked h new.state
           → IsPaid present s new bonus asked h → Affords present (total + bonus) new (heard_by_phase a a.phase h)
-      at_phase h sound step paid = subst (After h a.phase) asks (by_phase a.phase h sound affords.costs) step paid
+      at_phase h sound step paid =
+          let after = subst (After h a.phase) asks (by_phase a.phase h sound affords.costs) step paid in record {
+            aside = after.aside;
+            room = after.room;
+            cost = after.cost;
+            costs = after.costs;
+            within = after.within;
+            finds = after.finds;
+          }
 
       of_heard : (h : Heard) → h ≢ Failed → NoisyStep present s.state asked h new.state
           → IsPaid present s new bonus asked h → Affords present (total + bonus) new (fed a h)
@@ -108,13 +131,13 @@ runs-afford : (present : List ℕ) → IsDeviceSet present → length present �
     → (total : ℕ) (kind : Kind) (known : List ℕ) (budget : ℕ) (x : List Seen) (s : LineState) (row : ℕ)
     (a b : AgentState) → AllByRecursion NotFailed x → (chain : Chain (NoisyStep present) s x)
     → FewDisturbed present s row x chain → (a.search ≡ Quick) ⊎ (disturbed_in present s x chain ≡ 0) → Runs a x b
-    → Affords present total (record { state = s; row = row }) a
+    → Affords present total (record { state = s; row = row; aside = 0 }) a
     → (t : Watched) × Affords present (total + 30 * disturbed_in present s x chain) t b
 runs-afford present set few total kind known budget [] s row a b sound chain in_row ok run affords = (
-  record { state = s; row = row },
-  subst (λ n. Affords present n (record { state = s; row = row }) b)
+  record { state = s; row = row; aside = 0 },
+  subst (λ n. Affords present n (record { state = s; row = row; aside = 0 }) b)
       (let same : total ≡ total + 30 * 0 = omega arith in same)
-      (subst (Affords present total (record { state = s; row = row })) (sym run) affords),
+      (subst (Affords present total (record { state = s; row = row; aside = 0 })) (sym run) affords),
 )
 runs-afford present set few total kind known budget (e ∷ x) s row a b sound (inl failed) in_row ok run affords =
     absurd (sound.0 failed)
@@ -123,8 +146,9 @@ runs-afford present set few total kind known budget (e ∷ x) s row a b sound (i
     runs-afford present set few (total + bonus_of (is_disturbed present s e.asked e.heard)) kind known budget
     x step.0 (disturbed_row present s row e.asked e.heard) (fed a e.heard) b sound.1 step.2 in_row.1 onward run.1
     (fed-affords present set few total (bonus_of (is_disturbed present s e.asked e.heard))
-    (record { state = s; row = row })
-    (record { state = step.0; row = disturbed_row present s row e.asked e.heard }) a e.asked e.heard sound.0 quick
+    (record { state = s; row = row; aside = 0 })
+    (record { state = step.0; row = disturbed_row present s row e.asked e.heard; aside = 0 }) a e.asked e.heard sound.0
+    quick
     (wanted_next kind known budget a e.asked run.0).1 step.1
     (record {
       pays = (unfolding_bonus (is_disturbed present s e.asked e.heard)).0;
@@ -177,7 +201,8 @@ ended_or_pays search present s found (Ended fault) cost c = inl (ap Ended c)
 ends_within : (present : List ℕ) (s : Watched) (b : AgentState) (most : ℕ) → most ≤ b.budget
     → Affords present (2 * most) s b → EndsWithin most b
 ends_within present s b most enough affords =
-    by_phase (ended_or_pays b.search present s (found_uids b) b.phase affords.cost affords.costs)
+    by_phase (ended_or_pays b.search present (with_aside affords.aside s) (found_uids b) b.phase affords.cost
+    affords.costs)
   where
     within : 2 * b.frames + affords.cost ≤ 2 * most
     within = affords.within
@@ -201,12 +226,16 @@ search_cost Steady present = 10 + length present * 740
 search_cost Quick present = 420 + length present * 740
 
 start-affords : (search : Search) (present : List ℕ) (muted : ℕ → Bool) (kind : Kind) (known : List ℕ) (budget : ℕ)
-    → Affords present (2 * enough_by search present kind known) (record { state = before_run muted; row = 0 })
+    → Affords present (2 * enough_by search present kind known)
+    (record { state = before_run muted; row = 0; aside = 0 })
     (start_by search kind known budget)
 start-affords search present muted kind known budget = record {
+  aside = 0;
+  room = omega arith;
   cost = 6 + 10 * length (known_of kind known) + search_cost search present;
   costs = record {
     ranges = search_cost search present;
+    none_aside = refl;
     some = omega arith;
     none_found = refl;
     ahead = ahead search;

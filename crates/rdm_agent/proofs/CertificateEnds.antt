@@ -20,7 +20,7 @@ use Rattle.rdm_agent.proofs.Stacks.{IsStack-pop, IsStack-ends}
 use Rattle.rdm_agent.specs.declared.belief.Part.{Part}
 use Rattle.rdm_agent.specs.declared.belief.Part.TheVariants as parts
 use Rattle.rdm_agent.specs.Machine.{fifth_silence, is_apart}
-use Rattle.rdm_agent.proofs.Common.{sweep_on, to_phase, eqb-true}
+use Rattle.rdm_agent.proofs.Common.{sweep_on, to_phase, eqb-true, limit_of}
 use Rattle.rdm_agent.specs.Apart.{next_gap}
 use Rattle.rdm_agent.proofs.Choices.{IsChosen, IsOut, Asks, chosen}
 use Rattle.rdm_agent.proofs.Invariant.{EndsWith, InPhase}
@@ -269,7 +269,7 @@ module _ (phase : Phase) (range : Span) (silences : ℕ) (x : List Seen) (fewer 
   goes_below : range.hi < greatest → (sweep : Sweep) (now n : ℕ) (b : Belief)
       → IsUncleared (sweep_on_after sweep range now 0 n b) (x ++ swept_again ∷ [])
   goes_below low sweep now n b =
-      cond_both (nat_lt sweep.made (100 * (n + 2))) _ _ (λ p. IsUncleared p (x ++ swept_again ∷ []))
+      cond_both (nat_lt sweep.made n) _ _ (λ p. IsUncleared p (x ++ swept_again ∷ []))
       (λ goes. record {
         cleared_last = λ lo hi far five. absurd (no_five lo hi far five);
         few = λ far m ends. let none = none_far _ far m ends in omega (arith, none);
@@ -318,7 +318,7 @@ module _ (phase : Phase) (range : Span) (silences : ℕ) (x : List Seen) (fewer 
     goes_to : (sweep : Sweep) (n : ℕ) (b : Belief)
         → IsUncleared (sweep_on_after sweep range (silences + 1) 0 n b) (x ++ swept_again ∷ [])
     goes_to sweep n b =
-        cond_both (nat_lt sweep.made (100 * (n + 2))) _ _ (λ p. IsUncleared p (x ++ swept_again ∷ []))
+        cond_both (nat_lt sweep.made n) _ _ (λ p. IsUncleared p (x ++ swept_again ∷ []))
         (λ goes. next (choose sweep.made (silences + 1) 0 range b)
         (chosen sweep.made (silences + 1) 0 range b (omega (arith, fewer, not_five_less))))
         (λ out. cond_both (is_whole range) (silences + 1) 0
@@ -346,7 +346,7 @@ swept_silent : (a : AgentState) (sweep : Sweep) (x : List Seen) → Asks sweep �
 swept_silent a sweep x asks k = cond_both ((sweep.silences + 1) == TRIES) _ _ After
     (λ five. fifth (asks.last (eqb-true (sweep.silences + 1) TRIES five)) sweep.question.part asks.apart)
     (λ other. goes_to (Sweeping sweep) sweep.question.range sweep.silences x asks.few (λ p. cc) k k.few
-    (eqb-false (sweep.silences + 1) TRIES other) (counted_silent sweep) (length a.found)
+    (eqb-false (sweep.silences + 1) TRIES other) (counted_silent sweep) (limit_of a)
     (believed_silent sweep.question.part sweep.question.range (hushing sweep.belief)))
   where
     e : Seen
@@ -355,24 +355,24 @@ swept_silent a sweep x asks k = cond_both ((sweep.silences + 1) == TRIES) _ _ Af
     After : AgentState → Type 0
     After b = IsUncleared b.phase (x ++ e ∷ [])
 
-    below : sweep.question.range.hi < greatest → (b : Belief)
-        → IsUncleared (sweep_on (counted_silent sweep) 0 0 (length a.found) b) (x ++ e ∷ [])
-    below low b = goes_below (Sweeping sweep) sweep.question.range sweep.silences x asks.few (λ p. cc) k k.few low
-        (counted_silent sweep) 0 (length a.found) b
+    below : sweep.question.range.hi < greatest → (limit : ℕ) (b : Belief)
+        → IsUncleared (sweep_on (counted_silent sweep) 0 0 limit b) (x ++ e ∷ [])
+    below low limit b = goes_below (Sweeping sweep) sweep.question.range sweep.silences x asks.few (λ p. cc) k k.few low
+        (counted_silent sweep) 0 limit b
 
     gap : IsOut sweep.question.range → After (cond (is_whole sweep.question.range) (to_phase a (Ended None))
-        (to_phase a (sweep_on (counted_silent sweep) 0 0 (length a.found)
+        (to_phase a (sweep_on (counted_silent sweep) 0 0 (limit_of a)
         (next_gap (sweep.belief.top + 1) a.apart (hushing sweep.belief)))))
     gap out = cond_both (is_whole sweep.question.range) _ _ After
         (λ all. record { cleared_last = λ lo hi far s. refl; few = tt })
         (λ other. elim out [
           | inl all ↦ absurd (true≢false (sym (subst (λ (r : Span). is_whole r ≡ true) (sym all) refl) ∙ other))
-          | inr low ↦ below low _
+          | inr low ↦ below low _ _
         ])
 
     fifth : IsOut sweep.question.range → (part : Part) → (is_apart part ≡ true → sweep.question.range.hi < greatest)
         → After (fifth_silence part a (counted_silent sweep))
-    fifth out parts.Apart low = below (low refl) _
+    fifth out parts.Apart low = below (low refl) _ _
     fifth out parts.Fresh low = gap out
     fifth out parts.Lower low = gap out
     fifth out parts.Rest low = gap out
@@ -464,7 +464,7 @@ module _ (kind : Kind) (known : List ℕ) (budget : ℕ) where
     by_phase (Sweeping sweep) Failed sound p k = absurd (sound refl)
     by_phase (MutingSwept u tries spare sweep) h sound p k =
         other_exchange (MutingSwept u tries spare sweep) _ x _ (λ e. cc) (loud (Mute u) h (λ lo hi e s. cc)) k
-    by_phase (Checking u silences sweep) Silent sound p k = checked_silent u silences sweep (length a.found) x p.few k
+    by_phase (Checking u silences sweep) Silent sound p k = checked_silent u silences sweep (limit_of a) x p.few k
     by_phase (Checking u silences sweep) (One v) sound p k =
         other_exchange (Checking u silences sweep) _ x _ (λ e. cc)
         (loud (Branch unassigned.lo unassigned.hi) (One v) (λ lo hi e s. cc)) k

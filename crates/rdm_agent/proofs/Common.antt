@@ -49,7 +49,7 @@ pub use Rattle.rdm_agent.specs.Beliefs.{hushing, hearing}
 pub use Rattle.rdm_agent.specs.Machine.{check_silent, check_heard, stray_heard, search_whole, asks_again, is_soon}
 pub use Rattle.rdm_agent.specs.Machine.{spare_at, spare_of, spent_more, search_apart, search_silent, search_read}
 pub use Rattle.rdm_agent.specs.Machine.{known_lost, mute_lost, swept_lost, stray_lost, bads_aside}
-pub use Rattle.rdm_agent.specs.Machine.{garbled_mutes}
+pub use Rattle.rdm_agent.specs.Machine.{garbled_mutes, sweep_limit, limit_of}
 pub use Rattle.rdm_agent.specs.Beliefs.{is_checked_again, stray_found, give_up, is_in_vain}
 unfoldable pub use Rattle.rdm_agent.specs.Machine.{choose}
 pub use Rattle.rdm_agent.specs.Machine.Phase.{Searching, Ended, MutingKnown, MutingRead, MutingSwept, Sweeping}

@@ -59,7 +59,7 @@ apart-keeps a sweep = cond_both (is_one sweep.question.range) _ _ (Keeps a)
 
 spelt-keeps : (a : AgentState) (sweep : Sweep) (u : ℕ) → Keeps a (sweep_spelt a sweep u)
 spelt-keeps a sweep u = cond_both (is_wanted (found_uids a) sweep u) _ _ (Keeps a) (λ wanted. refl)
-    (λ refused. cond_both (is_stray (found_uids a) sweep u) _ _ (Keeps a) (λ stray. refl)
+    (λ refused. cond_both (is_stray (found_uids a) a.apart sweep u) _ _ (Keeps a) (λ stray. refl)
     (λ bad. apart-keeps a sweep))
 
 lost-keeps : (a : AgentState) (u tries spare : ℕ) (sweep : Sweep) → Keeps a (swept_lost a u tries spare sweep)

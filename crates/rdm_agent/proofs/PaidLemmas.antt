@@ -14,7 +14,7 @@ use Rattle.rdm_agent.proofs.Potential.{Ahead, sweep_cost, unfound, is_left, left
 use Rattle.rdm_agent.proofs.Potential.{Finds, Affords}
 use Rattle.rdm_agent.proofs.Members.{member}
 use Rattle.rdm_agent.proofs.Sets.{has-with_uid, length-with_uid}
-use Rattle.rdm_agent.proofs.LeftLemmas.{no_more, one_fewer, first_passes}
+use Rattle.rdm_agent.proofs.LeftLemmas.{no_more, no_more_than, one_fewer, first_passes}
 use Rattle.rdm_agent.proofs.CoverLemmas.{Covers-found, Covers-split, Covers-halves}
 use Rattle.rdm_agent.proofs.Common.{known_lost, Searching, MutingKnown}
 use Rattle.rdm_agent.proofs.Potential.{Watched}
@@ -32,9 +32,9 @@ pub record Cheaper (search : Search) (present : List ℕ) (line : Watched) (foun
 
 -- the known UIDs that are left are muted, and then the search begins
 pub search_from-costs : (search : Search) (present found : List ℕ) (line : Watched) (cost : ℕ) (known : List ℕ)
-    (n : ℕ) → 10 * length known + n + 2 ≤ cost → Ahead search present found n
+    (n : ℕ) → 10 * length known + n + 2 ≤ cost → Ahead search present found n → line.aside ≡ 0
     → Cheaper search present line found cost (search_from search known)
-search_from-costs Steady present found line cost [] n enough ahead =
+search_from-costs Steady present found line cost [] n enough ahead none =
     record {
       left = n;
       saves = omega arith;
@@ -49,23 +49,25 @@ search_from-costs Steady present found line cost [] n enough ahead =
         cost_is = omega arith;
       };
     }
-search_from-costs Quick present found line cost [] n enough ahead =
+search_from-costs Quick present found line cost [] n enough ahead none =
     record {
       left = n;
       saves = omega arith;
       costs = record {
+        credit = 0;
         few = omega arith;
         below = omega arith;
-        enough = omega (arith, ahead);
+        enough = omega (arith, ahead, none);
+        saved = λ fewer. omega arith;
         alone = λ one. omega arith;
         vain = λ u is. absurd (true≢false (sym is));
       };
     }
-search_from-costs search present found line cost (u ∷ known) n enough ahead =
+search_from-costs search present found line cost (u ∷ known) n enough ahead none =
     record {
       left = 10 + 10 * length known + n;
       saves = omega arith;
-      costs = record { ranges = n; few = omega arith; ahead = ahead; cost_is = omega arith };
+      costs = record { ranges = n; none_aside = none; few = omega arith; ahead = ahead; cost_is = omega arith };
     }
 
 -- the next range is searched, or none is left
@@ -318,14 +320,22 @@ module _ (present found : List ℕ) (u : ℕ) (here : has present u ≡ true) (a
       ]
 
 module _ (present : List ℕ) (set : IsDeviceSet present) (few : length present ≤ MOST_DEVICES) (total base bonus : ℕ)
-    (s new : Watched) (a : AgentState) (within : 2 * a.frames + base ≤ total) where
+    (s new : Watched) (a : AgentState) (within : 2 * a.frames + base ≤ total) (kept : new.aside ≡ s.aside)
+    (room : length a.apart ≤ new.aside) where
   -- the phase goes on
   pub to_phase-affords : (phase : Phase) → Finds present new.state (found_uids a)
       → Cheaper a.search present new (found_uids a) (base + bonus) phase
       → Affords present (total + bonus) new (to_phase a phase)
   to_phase-affords phase f cheaper =
       let saves = cheaper.saves in
-      record { cost = cheaper.left; costs = cheaper.costs; within = omega arith; finds = f }
+      record {
+        aside = new.aside;
+        room = room;
+        cost = cheaper.left;
+        costs = cheaper.costs;
+        within = omega arith;
+        finds = f;
+      }
 
   -- a device is found
   pub to_found-affords : (u : ℕ) (ack : MuteAck) (phase : Phase) → has present u ≡ true → new.state.muted u ≡ true
@@ -358,12 +368,15 @@ module _ (present : List ℕ) (set : IsDeviceSet present) (few : length present 
             more = a.more;
             phase = phase;
           })
-      at_new absent room =
+      at_new absent space =
           let cheaper = onward (with_uid u (found_uids a))
           (λ v there. has-with_uid u (found_uids a) v ∙ or_right (v == u) (has (found_uids a) v) there)
           (has-with_uid u (found_uids a) u ∙ or_left (u == u) (has (found_uids a) u) (eq-eqb u u refl))
           (inr (length-with_uid u (found_uids a) absent, unfound-fewer present (found_uids a) u here absent)) in
-          let saves = cheaper.saves in record {
+          let saves = cheaper.saves in
+          let fewer : length (without u a.apart) ≤ length a.apart = no_more_than (λ v. not (v == u)) a.apart in record {
+            aside = new.aside;
+            room = omega (arith, fewer, room);
             cost = cheaper.left;
             costs = subst (λ us. Costs a.search present new us phase cheaper.left) (sym grown) cheaper.costs;
             within = omega arith;
@@ -400,6 +413,7 @@ module _ (present : List ℕ) (set : IsDeviceSet present) (few : length present 
             saves = omega arith;
             costs = record {
               ranges = costs.ranges;
+              none_aside = let none = costs.none_aside in omega (arith, none, kept);
               some = omega arith;
               none_found = costs.none_found;
               ahead = costs.ahead;
@@ -411,11 +425,12 @@ module _ (present : List ℕ) (set : IsDeviceSet present) (few : length present 
           → Cheaper a.search present new (found_uids a) (base + bonus) (search_from a.search known)
       ends one = let some = costs.some in let is = costs.cost_is in
           search_from-costs a.search present (found_uids a) new (base + bonus) known costs.ranges (omega arith)
-          costs.ahead
+          costs.ahead (let none = costs.none_aside in omega (arith, none, kept))
 
   -- a mute of a known UID that is lost
   known_lost-affords : (u tries spare : ℕ) (known : List ℕ) (h : Heard) → Finds present s.state (found_uids a)
-      → NoisyStep present s.state (Mute u) h new.state → CostsKnown a.search present (found_uids a) tries known base
+      → NoisyStep present s.state (Mute u) h new.state
+      → CostsKnown a.search present (found_uids a) s.aside tries known base
       → Affords present (total + bonus) new (to_phase a (known_lost a.search u tries spare known))
   known_lost-affords u tries spare known h f step costs =
       let few = costs.few in let is = costs.cost_is in
@@ -423,39 +438,51 @@ module _ (present : List ℕ) (set : IsDeviceSet present) (few : length present 
       (Finds-keeps present (found_uids a) s.state new.state (mute-keeps present s.state new.state u h step) f)
       (cond_both ((tries + 1) == TRIES) _ _ (Cheaper a.search present new (found_uids a) (base + bonus))
       (λ five. search_from-costs a.search present (found_uids a) new (base + bonus) known costs.ranges (omega arith)
-      costs.ahead)
+      costs.ahead (let none = costs.none_aside in omega (arith, none, kept)))
       (λ fewer. let other : tries + 1 ≡ TRIES → ⊥ = eqb-false (tries + 1) TRIES fewer in
       let less : tries + 1 ≤ 4 = grind (arith, other, few) in
       record {
         left = base - 2;
         saves = omega arith;
-        costs = record { ranges = costs.ranges; few = less; ahead = costs.ahead; cost_is = omega arith };
+        costs = record {
+          ranges = costs.ranges;
+          none_aside = let none = costs.none_aside in omega (arith, none, kept);
+          few = less;
+          ahead = costs.ahead;
+          cost_is = omega arith;
+        };
       }))
 
   -- its reply is garbled
   known_garbled-affords : (u tries spare : ℕ) (known : List ℕ) (h : Heard) → 30 ≤ bonus
       → Finds present s.state (found_uids a) → NoisyStep present s.state (Mute u) h new.state
-      → CostsKnown a.search present (found_uids a) tries known base
+      → CostsKnown a.search present (found_uids a) s.aside tries known base
       → Affords present (total + bonus) new (to_phase a (cond (nat_lt 0 spare) (MutingKnown u tries (spare - 1) known)
       (known_lost a.search u tries spare known)))
   known_garbled-affords u tries spare known h paid f step costs =
       cond_both (nat_lt 0 spare) _ _ (λ p. Affords present (total + bonus) new (to_phase a p))
       (λ spares. to_phase-affords (MutingKnown u tries (spare - 1) known)
       (Finds-keeps present (found_uids a) s.state new.state (mute-keeps present s.state new.state u h step) f)
-      (record { left = base; saves = omega (arith, paid); costs = costs }))
+      (record {
+        left = base;
+        saves = omega (arith, paid);
+        costs = subst (λ n. CostsKnown a.search present (found_uids a) n tries known base) (sym kept) costs;
+      }))
       (λ counts. known_lost-affords u tries spare known h f step costs)
 
   -- a mute of a known UID
   pub known-affords : (u tries spare : ℕ) (known : List ℕ) (h : Heard) → h ≢ Failed
       → ((has_bytes h && not (is_acked h)) ≡ true → 30 ≤ bonus) → Finds present s.state (found_uids a)
-      → NoisyStep present s.state (Mute u) h new.state → CostsKnown a.search present (found_uids a) tries known base
+      → NoisyStep present s.state (Mute u) h new.state
+      → CostsKnown a.search present (found_uids a) s.aside tries known base
       → Affords present (total + bonus) new (known_heard a u tries spare known h)
   known-affords u tries spare known (Acked ack) sound paid f step costs =
       let acked = acked-mute present s.state new.state u ack step in let few = costs.few in let is = costs.cost_is in
       to_found-affords u ack (search_from a.search known) acked.0 acked.1
       (mute-keeps present s.state new.state u (Acked ack) step) f
       (λ more grows now one_more. search_from-costs a.search present more new (base + bonus) known costs.ranges
-      (omega arith) (Ahead-found a.search present (found_uids a) more u grows one_more costs.ranges costs.ahead))
+      (omega arith) (Ahead-found a.search present (found_uids a) more u grows one_more costs.ranges costs.ahead)
+      (let none = costs.none_aside in omega (arith, none, kept)))
   known-affords u tries spare known Failed sound paid f step costs = absurd (sound refl)
   known-affords u tries spare known Silent sound paid f step costs =
       known_lost-affords u tries spare known Silent f step costs

@@ -39,26 +39,35 @@ abbrev pub Ahead : Search → List ℕ → List ℕ → ℕ → Type 0
 Ahead Steady present found n = Covers present found (whole ∷ []) n
 Ahead Quick present found n = sweep_cost present found ≤ n
 
--- two half exchanges for each unmute, ten for each known UID, and what covers all UIDs
-pub record CostsUnmuting (search : Search) (present found : List ℕ) (more : ℕ) (known : List ℕ) (cost : ℕ) : Type 0
+-- two half exchanges for each unmute, ten for each known UID, and what covers all UIDs; none is set apart
+pub record CostsUnmuting (search : Search) (present found : List ℕ) (aside more : ℕ) (known : List ℕ) (cost : ℕ)
+    : Type 0
   where
     pub ranges : ℕ
+    pub none_aside : aside ≡ 0
     pub some : 1 ≤ more
     pub none_found : found ≡ []
     pub ahead : Ahead search present found ranges
     pub cost_is : cost ≡ 2 * more + 10 * length known + ranges
 
 -- ten for each known UID without the tries made, and what covers all UIDs
-pub record CostsKnown (search : Search) (present found : List ℕ) (tries : ℕ) (known : List ℕ) (cost : ℕ) : Type 0 where
+pub record CostsKnown (search : Search) (present found : List ℕ) (aside tries : ℕ) (known : List ℕ) (cost : ℕ)
+    : Type 0 where
   pub ranges : ℕ
+  pub none_aside : aside ≡ 0
   pub few : tries ≤ 4
   pub ahead : Ahead search present found ranges
   pub cost_is : cost + 2 * tries ≡ 10 + 10 * length known + ranges
 
--- A line, and how many branches in a row were disturbed.
+-- A line, how many branches in a row were disturbed, and how many UIDs may be set apart.
 pub record Watched : Type 0 where
   pub state : LineState
   pub row : ℕ
+  pub aside : ℕ
+
+-- the same if so many may be
+abbrev pub with_aside : ℕ → Watched → Watched
+with_aside aside line = record { state = line.state; row = line.row; aside = aside }
 
 -- a range was only silent so far, or one UID alone was asked again after a bad answer; so many of its branches aren't
 -- paid for yet
@@ -107,12 +116,18 @@ pub record CostsRead (present : List ℕ) (line : Watched) (found : List ℕ)
 abbrev pub IsVain : List ℕ → Option ℕ → Type 0
 IsVain present suspect = (u : ℕ) → is_suspect suspect u ≡ true → has present u ≡ false
 
+-- a sweep's limit at most, if so many UIDs are set apart
+abbrev pub paid_limit : ℕ → ℕ → ℕ
+paid_limit found aside = 100 * (found + 2) + 60 * aside
+
 -- What a sweep costs, without the exchanges that it made; it is below its limit. If one UID is asked alone, each of its
--- bad answers was a disturbed branch
-pub record CostsSweeping (present : List ℕ) (row : ℕ) (found : List ℕ) (sweep : Sweep) (cost : ℕ) : Type 0 where
+-- bad answers was a disturbed branch. The first three are saved: the fourth sets it apart, which raises the limit
+pub record CostsSweeping (present : List ℕ) (row aside : ℕ) (found : List ℕ) (sweep : Sweep) (cost : ℕ) : Type 0 where
+  pub credit : ℕ
   pub few : sweep.silences ≤ 4
-  pub below : sweep.made < 100 * (length found + 2)
-  pub enough : sweep_cost present found ≤ cost + 2 * sweep.made
+  pub below : sweep.made < paid_limit (length found) aside
+  pub enough : sweep_cost present found + 120 * aside + credit ≤ cost + 2 * sweep.made
+  pub saved : sweep.bads ≤ 3 → 30 * sweep.bads ≤ credit
   pub alone : sweep.question.range.lo ≡ sweep.question.range.hi → sweep.bads ≤ row
   pub vain : IsVain present sweep.belief.suspect
 
@@ -122,19 +137,20 @@ pub record CostsSwept (present : List ℕ) (line : Watched) (found : List ℕ) (
     (cost : ℕ) : Type 0 where
   pub more : ℕ
   pub few : tries ≤ 4
-  pub below : sweep.made ≤ 100 * (length found + 2) + tries + more
-  pub enough : sweep_cost present found + 2 * more ≤ cost + 2 * sweep.made
+  pub below : sweep.made ≤ paid_limit (length found) line.aside + tries + more
+  pub enough : sweep_cost present found + 120 * line.aside + 2 * more ≤ cost + 2 * sweep.made
   pub new : has found u ≡ false
   pub lost : has present u ≡ true → tries ≤ line.state.lost_mutes
   pub alone : sweep.question.range.lo ≡ sweep.question.range.hi → has present u ≡ true
   pub vain : IsVain present sweep.belief.suspect
 
 -- the same while a check is silent: at most twice
-pub record CostsChecking (present found : List ℕ) (u silences : ℕ) (sweep : Sweep) (cost : ℕ) : Type 0 where
+pub record CostsChecking (present : List ℕ) (aside : ℕ) (found : List ℕ) (u silences : ℕ) (sweep : Sweep) (cost : ℕ)
+    : Type 0 where
   pub new : has found u ≡ false
   pub few : silences ≤ 1
-  pub below : sweep.made ≤ 100 * (length found + 2) + silences
-  pub enough : sweep_cost present found ≤ cost + 2 * sweep.made
+  pub below : sweep.made ≤ paid_limit (length found) aside + silences
+  pub enough : sweep_cost present found + 120 * aside ≤ cost + 2 * sweep.made
   pub vain : IsVain present sweep.belief.suspect
 
 -- the same in the midst of a series of mutes after a check, which a device answers, or noise did
@@ -143,8 +159,8 @@ pub record CostsStray (present : List ℕ) (line : Watched) (found : List ℕ) (
   pub more : ℕ
   pub extra : ℕ
   pub few : tries ≤ 4
-  pub below : sweep.made ≤ 100 * (length found + 2) + 2 + tries + more
-  pub enough : sweep_cost present found + 2 * (more + extra) ≤ cost + 2 * sweep.made
+  pub below : sweep.made ≤ paid_limit (length found) line.aside + 2 + tries + more
+  pub enough : sweep_cost present found + 120 * line.aside + 2 * (more + extra) ≤ cost + 2 * sweep.made
   pub new : has found u ≡ false
   pub why : (has present u ≡ true) ⊎ (2 ≤ extra)
   pub lost : has present u ≡ true → tries ≤ line.state.lost_mutes
@@ -152,17 +168,19 @@ pub record CostsStray (present : List ℕ) (line : Watched) (found : List ℕ) (
 
 -- a phase still costs this many half exchanges at most; a run that has ended costs nothing, and has no fault
 abbrev pub Costs : Search → List ℕ → Watched → List ℕ → Phase → ℕ → Type 0
-Costs search present line found (Unmuting more known) cost = CostsUnmuting search present found more known cost
+Costs search present line found (Unmuting more known) cost =
+    CostsUnmuting search present found line.aside more known cost
 Costs search present line found (MutingKnown u tries spare known) cost =
-    CostsKnown search present found tries known cost
+    CostsKnown search present found line.aside tries known cost
 Costs search present line found (Searching silences bads spent top below) cost =
     CostsSearching search present found line.row silences bads spent top below cost
 Costs search present line found (MutingRead u tries spare bads top below) cost =
     CostsRead present line found u tries top below cost
-Costs search present line found (Sweeping sweep) cost = CostsSweeping present line.row found sweep cost
+Costs search present line found (Sweeping sweep) cost = CostsSweeping present line.row line.aside found sweep cost
 Costs search present line found (MutingSwept u tries spare sweep) cost =
     CostsSwept present line found u tries sweep cost
-Costs search present line found (Checking u silences sweep) cost = CostsChecking present found u silences sweep cost
+Costs search present line found (Checking u silences sweep) cost =
+    CostsChecking present line.aside found u silences sweep cost
 Costs search present line found (MutingStray u tries spare sweep) cost =
     CostsStray present line found u tries sweep cost
 Costs search present line found (Ended fault) cost = fault ≡ None
@@ -173,9 +191,12 @@ pub record Finds (present : List ℕ) (line : LineState) (found : List ℕ) : Ty
   pub muted : (u : ℕ) → has found u ≡ true → line.muted u ≡ true
   pub counted : length found + length (unfound present found) ≤ length present
 
--- the exchanges so far and what is still to come make no more than total half exchanges
+-- The exchanges so far and what is still to come make no more than total half exchanges. No more UIDs are set apart
+-- than were paid for
 pub record Affords (present : List ℕ) (total : ℕ) (line : Watched) (a : AgentState) : Type 0 where
+  pub aside : ℕ
+  pub room : length a.apart ≤ aside
   pub cost : ℕ
-  pub costs : Costs a.search present line (found_uids a) a.phase cost
+  pub costs : Costs a.search present (with_aside aside line) (found_uids a) a.phase cost
   pub within : 2 * a.frames + cost ≤ total
   pub finds : Finds present line.state (found_uids a)

@@ -159,11 +159,12 @@ read-some present s found u tries top below cost c = some_left c.spelt
     some_left (inr (several, inr some)) = omega (arith, some)
 
 module _ (present : List ℕ) (set : IsDeviceSet present) (few : length present ≤ MOST_DEVICES) (total base bonus : ℕ)
-    (s new : Watched) (a : AgentState) (within : 2 * a.frames + base ≤ total) where
+    (s new : Watched) (a : AgentState) (within : 2 * a.frames + base ≤ total) (kept : new.aside ≡ s.aside)
+    (room : length a.apart ≤ new.aside) where
   goes_on : (phase : Phase) → Finds present new.state (found_uids a)
       → Cheaper a.search present new (found_uids a) (base + bonus) phase
       → Affords present (total + bonus) new (to_phase a phase)
-  goes_on phase f cheaper = to_phase-affords present set few total base bonus s new a within phase f cheaper
+  goes_on phase f cheaper = to_phase-affords present set few total base bonus s new a within kept room phase f cheaper
 
   -- it is silent
   silent-affords : (silences bads spent : ℕ) (top : Span) (below : List Span) → Finds present new.state (found_uids a)
@@ -472,7 +473,8 @@ module _ (present : List ℕ) (set : IsDeviceSet present) (few : length present 
       → Affords present (total + bonus) new (mute_heard a u tries spare bads top below h)
   read-affords u tries spare bads top below (Acked ack) sound paid f step costs =
       let acked = acked-mute present s.state new.state u ack step in let tried = costs.few in let is = costs.cost_is in
-      to_found-affords present set few total base bonus s new a within u ack (Searching 0 0 0 top below) acked.0 acked.1
+      to_found-affords present set few total base bonus s new a within kept room u ack (Searching 0 0 0 top below)
+      acked.0 acked.1
       (mute-keeps present s.state new.state u (Acked ack) step) f
       (λ more grows now one_more.
       let pays = Covers-device present (found_uids a) more grows u top below costs.ranges acked.0

@@ -7,13 +7,14 @@ use Rattle.rdm_agent.proofs.Common.{due_in, Branch, Mute, Failed, Silent, One, A
 use Rattle.rdm_agent.proofs.Common.{Noise, AgentState, found_uids, unassigned, counted}
 use Rattle.rdm_agent.proofs.Common.{counted_silent, sweep_on, sweep_split, to_phase}
 use Rattle.rdm_agent.proofs.Common.{is_checked_again, check_silent, check_heard, stray_found, stray_heard, Checking}
-use Rattle.rdm_agent.proofs.Common.{MutingStray, TRIES, Sweep, garbled_mutes, stray_lost}
+use Rattle.rdm_agent.proofs.Common.{MutingStray, TRIES, Sweep, garbled_mutes, stray_lost, sweep_limit, limit_of}
 use Rattle.rdm_agent.proofs.Potential.{is_left, left_in, CostsChecking, CostsStray, Finds, Affords}
 use Rattle.rdm_agent.proofs.Members.{member}
 use Rattle.rdm_agent.proofs.LeftLemmas.{first_passes, left-halves}
 use Rattle.rdm_agent.proofs.CoverLemmas.{one_uid}
 use Rattle.rdm_agent.proofs.SuspectLemmas.{stray-vain}
-use Rattle.rdm_agent.proofs.SweepPaid.{on-costs, split-costs, many, goes_on, one-lost, all-lost, lost-vain}
+use Rattle.rdm_agent.proofs.SweepPaid.{on-costs, limit-paid, split-costs, many, limit_room, goes_on}
+use Rattle.rdm_agent.proofs.SweepPaid.{one-lost, all-lost, lost-vain}
 use Rattle.rdm_agent.proofs.PaidLemmas.{Cheaper, CountsOneMore, SpellsNew, mute-keeps, acked-mute}
 use Rattle.rdm_agent.proofs.PaidLemmas.{Finds-keeps, answered, to_found-affords}
 use Rattle.rdm_agent.proofs.Potential.{Watched}
@@ -54,29 +55,30 @@ no_pair present found set two =
     omega (arith, two, halves, one, none)
 
 module _ (present : List ℕ) (set : IsDeviceSet present) (few : length present ≤ MOST_DEVICES) (total base bonus : ℕ)
-    (s new : Watched) (a : AgentState) (within : 2 * a.frames + base ≤ total) where
+    (s new : Watched) (a : AgentState) (within : 2 * a.frames + base ≤ total) (kept : new.aside ≡ s.aside)
+    (room : length a.apart ≤ new.aside) where
   -- the range without devices is branched
   loud-affords : (u silences : ℕ) (sweep : Sweep) → Finds present new.state (found_uids a)
-      → CostsChecking present (found_uids a) u silences sweep base
-      → Affords present (total + bonus) new (to_phase a (sweep_split (counted sweep) unassigned 0 (length a.found)))
+      → CostsChecking present s.aside (found_uids a) u silences sweep base
+      → Affords present (total + bonus) new (to_phase a (sweep_split (counted sweep) unassigned 0 (limit_of a)))
   loud-affords u silences sweep f costs =
       let under = costs.below in let enough = costs.enough in let once = costs.few in
-      goes_on present set few total base bonus s new a within _ f
-      (split-costs a.search present new (found_uids a) (base + bonus) (counted sweep) unassigned 0 (length a.found)
-      (omega arith) (many present set few total base bonus s new a within) costs.vain
+      goes_on present set few total base bonus s new a within kept room _ f
+      (split-costs a.search present new (found_uids a) (base + bonus) (counted sweep) unassigned 0 (limit_of a)
+      (omega arith) (limit_room present set few total base bonus s new a within kept room) costs.vain
       (record { more = 0; below = omega arith; enough = omega arith }))
 
   quiet-affords : (u silences : ℕ) (sweep : Sweep) → Finds present new.state (found_uids a)
-      → CostsChecking present (found_uids a) u silences sweep base
+      → CostsChecking present s.aside (found_uids a) u silences sweep base
       → Affords present (total + bonus) new
-      (to_phase a (check_silent u silences (counted_silent sweep) (length a.found)))
+      (to_phase a (check_silent u silences (counted_silent sweep) (limit_of a)))
   quiet-affords u silences sweep f costs =
       cond_both (is_checked_again (counted_silent sweep).belief silences) _ _
       (λ p. Affords present (total + bonus) new (to_phase a p)) again
       (λ split. let under = costs.below in let enough = costs.enough in let once = costs.few in
-      goes_on present set few total base bonus s new a within _ f
+      goes_on present set few total base bonus s new a within kept room _ f
       (split-costs a.search present new (found_uids a) (base + bonus) (counted_silent sweep) unassigned (silences + 1)
-      (length a.found) (omega arith) (many present set few total base bonus s new a within) costs.vain
+      (limit_of a) (omega arith) (limit_room present set few total base bonus s new a within kept room) costs.vain
       (record { more = 0; below = omega arith; enough = omega arith })))
     where
       again : is_checked_again (counted_silent sweep).belief silences ≡ true
@@ -84,7 +86,8 @@ module _ (present : List ℕ) (set : IsDeviceSet present) (few : length present 
       again is =
           let none : silences ≡ 0 = eqb-true silences 0 (and_parts (silences == 0) _ is).0 in
           let under = costs.below in let enough = costs.enough in
-          goes_on present set few total base bonus s new a within (Checking u (silences + 1) (counted_silent sweep)) f
+          goes_on present set few total base bonus s new a within kept room
+          (Checking u (silences + 1) (counted_silent sweep)) f
           (record {
             left = base - 2;
             saves = omega arith;
@@ -98,10 +101,10 @@ module _ (present : List ℕ) (set : IsDeviceSet present) (few : length present 
           })
 
   spelt-affords : (u silences v : ℕ) (sweep : Sweep) → Finds present new.state (found_uids a)
-      → CostsChecking present (found_uids a) u silences sweep base
+      → CostsChecking present s.aside (found_uids a) u silences sweep base
       → SpellsNew present (found_uids a) unassigned (One v) ⊎ (30 ≤ bonus)
       → Affords present (total + bonus) new (to_phase a (cond (v == u) (MutingStray u 0 garbled_mutes (counted sweep))
-      (sweep_split (counted sweep) unassigned 0 (length a.found))))
+      (sweep_split (counted sweep) unassigned 0 (limit_of a))))
   spelt-affords u silences v sweep f costs answer =
       cond_both (v == u) _ _ (λ p. Affords present (total + bonus) new (to_phase a p)) (λ is. muted is answer)
       (λ other. loud-affords u silences sweep f costs)
@@ -114,7 +117,8 @@ module _ (present : List ℕ) (set : IsDeviceSet present) (few : length present 
       muted is (inl one) =
           let at : one.uid ≡ u = sym (same one.uid one.heard) ∙ eqb-true v u is in
           let under = costs.below in let enough = costs.enough in let once = costs.few in
-          goes_on present set few total base bonus s new a within (MutingStray u 0 garbled_mutes (counted sweep)) f
+          goes_on present set few total base bonus s new a within kept room
+          (MutingStray u 0 garbled_mutes (counted sweep)) f
           (record {
             left = base - 2;
             saves = omega arith;
@@ -132,7 +136,8 @@ module _ (present : List ℕ) (set : IsDeviceSet present) (few : length present 
           })
       muted is (inr paid) =
           let under = costs.below in let enough = costs.enough in let once = costs.few in
-          goes_on present set few total base bonus s new a within (MutingStray u 0 garbled_mutes (counted sweep)) f
+          goes_on present set few total base bonus s new a within kept room
+          (MutingStray u 0 garbled_mutes (counted sweep)) f
           (record {
             left = base + 2;
             saves = omega (arith, paid);
@@ -153,7 +158,7 @@ module _ (present : List ℕ) (set : IsDeviceSet present) (few : length present 
       → (is_disturbed_branch (due_in present s.state.muted unassigned.lo unassigned.hi) h ≡ true → 30 ≤ bonus)
       → Finds present s.state (found_uids a)
       → NoisyStep present s.state (Branch unassigned.lo unassigned.hi) h new.state
-      → CostsChecking present (found_uids a) u silences sweep base
+      → CostsChecking present s.aside (found_uids a) u silences sweep base
       → Affords present (total + bonus) new (check_heard a u silences sweep h)
   checking-affords u silences sweep h sound paid f step costs = of_heard h sound paid
     where
@@ -184,15 +189,15 @@ module _ (present : List ℕ) (set : IsDeviceSet present) (few : length present 
   lost-affords : (u tries spare : ℕ) (sweep : Sweep) (h : Heard) → is_acked h ≡ false
       → Finds present s.state (found_uids a) → NoisyStep present s.state (Mute u) h new.state
       → CostsStray present s (found_uids a) u tries sweep base
-      → Affords present (total + bonus) new (to_phase a (stray_lost u tries spare (counted sweep) (length a.found)))
+      → Affords present (total + bonus) new (to_phase a (stray_lost u tries spare (counted sweep) (limit_of a)))
   lost-affords u tries spare sweep h lost f step costs =
       let under = costs.below in let enough = costs.enough in let some = costs.few in
-      goes_on present set few total base bonus s new a within _
+      goes_on present set few total base bonus s new a within kept room _
       (Finds-keeps present (found_uids a) s.state new.state (mute-keeps present s.state new.state u h step) f)
       (cond_both ((tries + 1) == TRIES) _ _ (Cheaper a.search present new (found_uids a) (base + bonus))
       (λ five. let all = eqb-true (tries + 1) TRIES five in let extra = noise all costs.why in
       split-costs a.search present new (found_uids a) (base + bonus) (sweep_suspecting u (counted sweep)) unassigned 0
-      (length a.found) (omega arith) (many present set few total base bonus s new a within)
+      (limit_of a) (omega arith) (limit_room present set few total base bonus s new a within kept room)
       (lost-vain present s new u tries h lost step costs.lost all)
       (record { more = costs.more + costs.extra; below = omega arith; enough = omega arith }))
       (λ fewer. let other : tries + 1 ≡ TRIES → ⊥ = eqb-false (tries + 1) TRIES fewer in
@@ -223,11 +228,12 @@ module _ (present : List ℕ) (set : IsDeviceSet present) (few : length present 
       → CostsStray present s (found_uids a) u tries sweep base
       → Affords present (total + bonus) new
       (to_phase a (cond (nat_lt 0 spare) (MutingStray u tries (spare - 1) (counted sweep))
-      (stray_lost u tries spare (counted sweep) (length a.found))))
+      (stray_lost u tries spare (counted sweep) (limit_of a))))
   garbled-affords u tries spare sweep h lost paid f step costs =
       cond_both (nat_lt 0 spare) _ _ (λ p. Affords present (total + bonus) new (to_phase a p))
       (λ spares. let under = costs.below in let enough = costs.enough in
-      goes_on present set few total base bonus s new a within (MutingStray u tries (spare - 1) (counted sweep))
+      goes_on present set few total base bonus s new a within kept room
+      (MutingStray u tries (spare - 1) (counted sweep))
       (Finds-keeps present (found_uids a) s.state new.state (mute-keeps present s.state new.state u h step) f)
       (record {
         left = base;
@@ -253,21 +259,24 @@ module _ (present : List ℕ) (set : IsDeviceSet present) (few : length present 
       → Affords present (total + bonus) new (stray_heard a u tries spare sweep h)
   stray-affords u tries spare sweep (Acked ack) sound paid f step costs =
       let acked = acked-mute present s.state new.state u ack step in
-      to_found-affords present set few total base bonus s new a within u ack
-      (sweep_on (counted sweep) 0 0 (length a.found + 1) (stray_found sweep.belief)) acked.0 acked.1
+      to_found-affords present set few total base bonus s new a within kept room u ack
+      (sweep_on (counted sweep) 0 0 (sweep_limit (length a.found + 1) (length a.apart)) (stray_found sweep.belief))
+      acked.0 acked.1
       (mute-keeps present s.state new.state u (Acked ack) step) f
       (λ more grows now one_more. onward more one_more)
     where
       onward : (more : List ℕ) → CountsOneMore present (found_uids a) u more
           → Cheaper a.search present new more (base + bonus)
-          (sweep_on (counted sweep) 0 0 (length a.found + 1) (stray_found sweep.belief))
+          (sweep_on (counted sweep) 0 0 (sweep_limit (length a.found + 1) (length a.apart)) (stray_found sweep.belief))
       onward more (inl old) = absurd (true≢false (sym old.0 ∙ costs.new))
       onward more (inr one_more) =
           let longer = one_more.0 in let fewer = one_more.1 in let some = costs.few in let under = costs.below in
           let enough = costs.enough in
-          let counts = many present set few total base bonus s new a within in
+          let counts = many present set few total base bonus s new a within kept room in
           on-costs a.search present new more (base + bonus) (counted sweep) sweep.question.range 0 0
-          (length a.found + 1) (stray_found sweep.belief) (omega arith) (omega arith) (omega (arith, counts, longer))
+          0 (sweep_limit (length a.found + 1) (length a.apart)) (stray_found sweep.belief) (omega arith) (omega arith)
+          (λ none. omega arith)
+          (let paid = limit-paid (length a.found + 1) (length a.apart) in omega (arith, counts, longer, room, paid))
           (stray-vain present sweep.belief costs.vain)
           (record { more = costs.more; below = omega arith; enough = omega arith })
   stray-affords u tries spare sweep Failed sound paid f step costs = absurd (sound refl)

@@ -8,7 +8,7 @@ use Rattle.rdm_agent.proofs.Common.{Noise, known_of, Phase, AgentState, to_phase
 use Rattle.rdm_agent.proofs.Common.{counted_silent, sweep_suspecting, sweep_on, sweep_split, is_checked_again}
 use Rattle.rdm_agent.proofs.Common.{check_silent, check_heard, stray_found, stray_heard, MutingStray, Kind, TRIES}
 use Rattle.rdm_agent.proofs.Common.{Sweep}
-use Rattle.rdm_agent.proofs.Common.{answers_in_a_row, garbled_mutes, stray_lost}
+use Rattle.rdm_agent.proofs.Common.{answers_in_a_row, garbled_mutes, stray_lost, sweep_limit, limit_of}
 use Rattle.rdm_agent.proofs.Rows.{none-answers, other-none, acked-none, lost-same}
 use Rattle.rdm_agent.proofs.UnderWay.{EndsWith-none, EndsWith-push, lost-acks_none, InSuccession-fewer}
 use Rattle.rdm_agent.proofs.SearchPhase.{search-branch, search-lost, search-acked, search-given_up}
@@ -45,16 +45,16 @@ module _ (kind : Kind) (known : List ℕ) (budget : ℕ) (x : List Seen) (a : Ag
   loud-stands : (u silences : ℕ) (sweep : Sweep) (h : Heard) → h ≢ Failed
       → IsChecking a.search (known_of kind known) u silences x (found_uids a)
       → RunInvariant kind known budget (x ++ check h ∷ [])
-      (to_phase a (sweep_split (counted sweep) unassigned 0 (length a.found)))
+      (to_phase a (sweep_split (counted sweep) unassigned 0 (limit_of a)))
   loud-stands u silences sweep h sound p =
       checked h _ (split-phase a.search kind known budget (x ++ check h ∷ []) (found_uids a)
-      (branches u silences h sound p) p.quick (counted sweep) unassigned 0 (length a.found) (omega arith)
+      (branches u silences h sound p) p.quick (counted sweep) unassigned 0 (limit_of a) (omega arith)
       (EndsWith-none _ (x ++ check h ∷ [])) (none_check h))
 
   quiet-stands : (u silences : ℕ) (sweep : Sweep)
       → IsChecking a.search (known_of kind known) u silences x (found_uids a)
       → RunInvariant kind known budget (x ++ check Silent ∷ [])
-      (to_phase a (check_silent u silences (counted_silent sweep) (length a.found)))
+      (to_phase a (check_silent u silences (counted_silent sweep) (limit_of a)))
   quiet-stands u silences sweep p =
       cond_both (is_checked_again (counted_silent sweep).belief silences) _ _
       (λ q. RunInvariant kind known budget (x ++ check Silent ∷ []) (to_phase a q))
@@ -68,7 +68,7 @@ module _ (kind : Kind) (known : List ℕ) (budget : ℕ) (x : List Seen) (a : Ag
       }))
       (λ split. checked Silent _ (split-phase a.search kind known budget (x ++ check Silent ∷ []) (found_uids a)
       (branches u silences Silent silent_sound p) p.quick (counted_silent sweep) unassigned (silences + 1)
-      (length a.found) (let few = p.few in omega arith) more (none_check Silent)))
+      (limit_of a) (let few = p.few in omega arith) more (none_check Silent)))
     where
       silent_sound : Silent ≡ Failed → ⊥
       silent_sound q = cc
@@ -84,7 +84,7 @@ module _ (kind : Kind) (known : List ℕ) (budget : ℕ) (x : List Seen) (a : Ag
       → IsChecking a.search (known_of kind known) u silences x (found_uids a)
       → RunInvariant kind known budget (x ++ check (One v) ∷ [])
       (to_phase a (cond (v == u) (MutingStray u 0 garbled_mutes (counted sweep))
-      (sweep_split (counted sweep) unassigned 0 (length a.found))))
+      (sweep_split (counted sweep) unassigned 0 (limit_of a))))
   spelt-stands u silences v sweep p =
       cond_both (v == u) _ _ (λ q. RunInvariant kind known budget (x ++ check (One v) ∷ []) (to_phase a q))
       (λ same. checked (One v) _ (record {
@@ -156,7 +156,7 @@ module _ (kind : Kind) (known : List ℕ) (budget : ℕ) (x : List Seen) (a : Ag
     }
 
     lost-stands : (spare : ℕ) → RunInvariant kind known budget (x ++ muted ∷ [])
-        (to_phase a (stray_lost u tries spare (counted sweep) (length a.found)))
+        (to_phase a (stray_lost u tries spare (counted sweep) (limit_of a)))
     lost-stands spare =
         cond_both ((tries + 1) == TRIES) _ _ (λ q. RunInvariant kind known budget (x ++ muted ∷ []) (to_phase a q))
         (λ last. goes_on _ (given_up (eqb-true (tries + 1) TRIES last)))
@@ -165,19 +165,19 @@ module _ (kind : Kind) (known : List ℕ) (budget : ℕ) (x : List Seen) (a : Ag
         (let some = p.some in omega arith)))
       where
         given_up : tries + 1 ≡ TRIES → InPhase a.search kind known budget
-            (sweep_split (sweep_suspecting u (counted sweep)) unassigned 0 (length a.found)) (x ++ muted ∷ [])
+            (sweep_split (sweep_suspecting u (counted sweep)) unassigned 0 (limit_of a)) (x ++ muted ∷ [])
             (found_uids a)
         given_up last =
             split-phase a.search kind known budget (x ++ muted ∷ []) (found_uids a)
             (search-given_up (known_of kind known) whole [] (x ++ muted ∷ []) (found_uids a) u p.device
             (InSuccession-fewer TRIES (p.n + 1) (let some = p.some in omega (arith, some, last))
             (WasSpelt-succession u (p.n + 1) unassigned (x ++ muted ∷ []) spelt)) searches)
-            p.quick (sweep_suspecting u (counted sweep)) unassigned 0 (length a.found) (omega arith)
+            p.quick (sweep_suspecting u (counted sweep)) unassigned 0 (limit_of a) (omega arith)
             (EndsWith-none _ (x ++ muted ∷ [])) none
 
     garbled-stands : (spare : ℕ) → RunInvariant kind known budget (x ++ muted ∷ [])
         (to_phase a (cond (nat_lt 0 spare) (MutingStray u tries (spare - 1) (counted sweep))
-        (stray_lost u tries spare (counted sweep) (length a.found))))
+        (stray_lost u tries spare (counted sweep) (limit_of a))))
     garbled-stands spare =
         cond_both (nat_lt 0 spare) _ _ (λ q. RunInvariant kind known budget (x ++ muted ∷ []) (to_phase a q))
         (λ spares. goes_on (MutingStray u tries (spare - 1) (counted sweep))
@@ -189,13 +189,13 @@ module _ (kind : Kind) (known : List ℕ) (budget : ℕ) (x : List Seen) (a : Ag
       → RunInvariant kind known budget (x ++ exchange (Mute u) h ∷ []) (stray_heard a u tries spare sweep h)
   stray-stands u tries spare sweep (Acked ack) sound p =
       to_found-stands kind known budget x a s goes u ack
-      (sweep_on (counted sweep) 0 0 (length a.found + 1) (stray_found sweep.belief))
+      (sweep_on (counted sweep) 0 0 (sweep_limit (length a.found + 1) (length a.apart)) (stray_found sweep.belief))
       p.searches.under_way.no_failure p.searches.under_way.is_found
       (λ more is_found grows here. on-phase a.search kind known budget (x ++ exchange (Mute u) (Acked ack) ∷ []) more
       (search-acked (known_of kind known) whole [] x (found_uids a) u ack more p.device p.searches
       (read_is kind known budget x a s goes u p.n unassigned p.spelt) is_found grows here)
       p.quick (counted sweep) sweep.question.range 0 0
-      (length a.found + 1) (stray_found sweep.belief) (omega arith) (omega arith)
+      (sweep_limit (length a.found + 1) (length a.apart)) (stray_found sweep.belief) (omega arith) (omega arith)
       (EndsWith-none _ (x ++ exchange (Mute u) (Acked ack) ∷ []))
       (none-answers sweep.question.range (x ++ exchange (Mute u) (Acked ack) ∷ []) (λ v. acked-none v x u ack)))
   stray-stands u tries spare sweep Failed sound p = absurd (sound refl)

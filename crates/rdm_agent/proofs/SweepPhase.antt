@@ -53,11 +53,11 @@ module _ (search : Search) (kind : Kind) (known : List ℕ) (budget : ℕ) (x : 
   }
 
   -- the sweep goes on, or the steady search begins
-  pub on-phase : (sweep : Sweep) (last : Span) (silences bads found_now : ℕ) (b : Belief) → silences < TRIES
+  pub on-phase : (sweep : Sweep) (last : Span) (silences bads limit : ℕ) (b : Belief) → silences < TRIES
       → bads < BAD_ANSWERS → EndsSilent silences last x → AnswersOf last bads x
-      → InPhase search kind known budget (sweep_on_after sweep last silences bads found_now b) x found
-  on-phase sweep last silences bads found_now b few few_bads silent answers =
-      cond_both (nat_lt sweep.made (100 * (found_now + 2))) _ _ (λ p. InPhase search kind known budget p x found)
+      → InPhase search kind known budget (sweep_on_after sweep last silences bads limit b) x found
+  on-phase sweep last silences bads limit b few few_bads silent answers =
+      cond_both (nat_lt sweep.made limit) _ _ (λ p. InPhase search kind known budget p x found)
       (λ goes. asks-phase silences bads last (choose sweep.made silences bads last b) sweep.made silent answers
       few_bads (chosen sweep.made silences bads last b few))
       (λ out. cond_both (is_whole last) silences 0
@@ -70,14 +70,14 @@ module _ (search : Search) (kind : Kind) (known : List ℕ) (budget : ℕ) (x : 
       rows = few-answers last bads x answers (λ one. few_bads)
 
   -- what it asked collided, and then a range was silent so often
-  pub split-phase : (sweep : Sweep) (last : Span) (silences found_now : ℕ) → silences < TRIES
+  pub split-phase : (sweep : Sweep) (last : Span) (silences limit : ℕ) → silences < TRIES
       → EndsSilent silences last x → ((u : ℕ) → answers_in_a_row u x ≡ 0)
-      → InPhase search kind known budget (sweep_split sweep last silences found_now) x found
-  split-phase sweep last silences found_now few silent none =
+      → InPhase search kind known budget (sweep_split sweep last silences limit) x found
+  split-phase sweep last silences limit few silent none =
       cond_both (is_last sweep.question.part && is_in_vain sweep.belief) _ _
       (λ p. InPhase search kind known budget p x found)
       (λ found_nothing. begins-steady 0 (omega arith) (EndsWith-none _ x)
       (λ u. let zero = none u in omega (arith, zero)))
-      (λ goes. on-phase sweep last silences 0 found_now
+      (λ goes. on-phase sweep last silences 0 limit
       (believed_apart sweep.question.part sweep.question.range sweep.silences sweep.belief) few (omega arith) silent
       (none-answers last x none))

@@ -13,6 +13,7 @@ use Rattle.rdm_agent.proofs.Common.{IsCorruptBy, BAD_ANSWERS, answers_in_a_row, 
 use Rattle.rdm_agent.specs.declared.belief.Part.{Part}
 use Rattle.rdm_agent.specs.declared.belief.Part.TheVariants as parts
 use Rattle.rdm_agent.specs.declared.fault.AgentFault.TheVariants.{Corrupt}
+use Rattle.rdm_agent.proofs.Common.{sweep_limit, limit_of}
 use Rattle.rdm_agent.specs.Machine.{is_outside, to_apart, fifth_silence, put_apart, asks_on, found_belief}
 use Rattle.rdm_agent.specs.Machine.{spare_of_answer}
 use Rattle.rdm_agent.specs.Apart.{without, has_room, ask_turn, next_gap}
@@ -51,10 +52,10 @@ pub record IsStray (found : List ℕ) (r : Span) (u : ℕ) : Type 0 where
   pub new : has found u ≡ false
   pub several : r.lo ≡ r.hi → ⊥
 
-pub stray-is : (found : List ℕ) (sweep : Sweep) (u : ℕ) → is_stray found sweep u ≡ true
+pub stray-is : (found apart : List ℕ) (sweep : Sweep) (u : ℕ) → is_stray found apart sweep u ≡ true
     → IsStray found sweep.question.range u
-stray-is found sweep u stray =
-    let both = and_parts (is_outside found sweep u) _ stray in
+stray-is found apart sweep u stray =
+    let both = and_parts (is_outside found apart sweep u) _ stray in
     let device = and_parts (nat_le u last_uid) (not (is_broadcast u))
     (and_parts (nat_le u last_uid && not (is_broadcast u)) _ both.0).0 in
     let small : u ≤ last_uid = leb-true u last_uid device.0 in
@@ -93,38 +94,38 @@ module _ (kind : Kind) (known : List ℕ) (budget : ℕ) (x : List Seen) (a : Ag
     module _ (searches : Searches (known_of kind known) None whole [] (x ++ e ∷ []) (found_uids a))
         (quick : a.search ≡ Quick) where
       -- the sweep goes on, whatever it believes
-      onward : (sweep : Sweep) (silences bads : ℕ) (b : Belief) → silences < TRIES → bads < BAD_ANSWERS
+      onward : (sweep : Sweep) (silences bads limit : ℕ) (b : Belief) → silences < TRIES → bads < BAD_ANSWERS
           → EndsSilent silences sweep.question.range (x ++ e ∷ []) → AnswersOf sweep.question.range bads (x ++ e ∷ [])
-          → InPhase a.search kind known budget (sweep_on sweep silences bads (length a.found) b) (x ++ e ∷ [])
+          → InPhase a.search kind known budget (sweep_on sweep silences bads limit b) (x ++ e ∷ [])
           (found_uids a)
-      onward sweep silences bads b few few_bads silent answers =
+      onward sweep silences bads limit b few few_bads silent answers =
           on-phase a.search kind known budget (x ++ e ∷ []) (found_uids a) searches quick sweep sweep.question.range
-          silences bads (length a.found) b few few_bads silent answers
+          silences bads limit b few few_bads silent answers
 
       -- what it asked was silent for the fifth time
       fifth-stands : (sweep : Sweep) → EndsSilent TRIES sweep.question.range (x ++ e ∷ [])
           → ((u : ℕ) → answers_in_a_row u (x ++ e ∷ []) ≡ 0) → (part : Part) → After (fifth_silence part a sweep)
       fifth-stands sweep five no_answers part = of_part part
         where
-          fresh : (b : Belief) → InPhase a.search kind known budget (sweep_on sweep 0 0 (length a.found) b)
+          fresh : (limit : ℕ) (b : Belief) → InPhase a.search kind known budget (sweep_on sweep 0 0 limit b)
               (x ++ e ∷ []) (found_uids a)
-          fresh b = onward sweep 0 0 b (omega arith) (omega arith) (EndsWith-none _ (x ++ e ∷ []))
+          fresh limit b = onward sweep 0 0 limit b (omega arith) (omega arith) (EndsWith-none _ (x ++ e ∷ []))
               (none-answers sweep.question.range (x ++ e ∷ []) no_answers)
 
           above : After (cond (is_whole sweep.question.range) (to_phase a (Ended None))
-              (to_phase a (sweep_on sweep 0 0 (length a.found)
+              (to_phase a (sweep_on sweep 0 0 (limit_of a)
               (next_gap (sweep.belief.top + 1) a.apart sweep.belief))))
           above = cond_both (is_whole sweep.question.range) _ _ After
               (λ all. stands (Ended None) (search-next a.search kind known budget whole [] x e (found_uids a) searches
               (EndsWith-succession (subst (λ (r : Span). EndsSilent TRIES r (x ++ e ∷ []))
               (same_range sweep.question.range whole all) five))
               (λ r. subst (λ q. NotCorrupt q r 0 (x ++ e ∷ [])) (sym quick) (none-row r (x ++ e ∷ []) no_answers))))
-              (λ gap. stands _ (fresh (next_gap (sweep.belief.top + 1) a.apart sweep.belief)))
+              (λ gap. stands _ (fresh _ (next_gap (sweep.belief.top + 1) a.apart sweep.belief)))
 
           of_part : (part : Part) → After (fifth_silence part a sweep)
           of_part parts.Apart = stands_apart (without sweep.question.range.hi a.apart) a.more _
               (WereBad-without sweep.question.range.hi a.apart (x ++ e ∷ []) (WereBad-push a.apart x e s.bad))
-              (fresh (ask_turn (without sweep.question.range.hi a.apart) sweep.belief.turn sweep.belief))
+              (fresh _ (ask_turn (without sweep.question.range.hi a.apart) sweep.belief.turn sweep.belief))
           of_part parts.Fresh = above
           of_part parts.Lower = above
           of_part parts.Rest = above
@@ -143,7 +144,7 @@ module _ (kind : Kind) (known : List ℕ) (budget : ℕ) (x : List Seen) (a : Ag
           (λ all. ended one (eqb-true (sweep.bads + 1) BAD_ANSWERS all))
           (λ fewer. again one (less (eqb-false (sweep.bads + 1) BAD_ANSWERS fewer)) sweep.question.part))
           (λ several. stands _ (split-phase a.search kind known budget (x ++ e ∷ []) (found_uids a) searches quick sweep
-          sweep.question.range 0 (length a.found) (omega arith) (EndsWith-none _ (x ++ e ∷ []))
+          sweep.question.range 0 (limit_of a) (omega arith) (EndsWith-none _ (x ++ e ∷ []))
           (several-none sweep.question.range (sweep.bads + 1) (x ++ e ∷ []) answers
           (eqb-false sweep.question.range.lo sweep.question.range.hi several))))
         where
@@ -164,10 +165,10 @@ module _ (kind : Kind) (known : List ℕ) (budget : ℕ) (x : List Seen) (a : Ag
             );
           })
 
-          on : (bads : ℕ) → bads ≡ sweep.bads + 1 → bads < BAD_ANSWERS → (b : Belief)
-              → InPhase a.search kind known budget (sweep_on sweep 0 bads (length a.found) b) (x ++ e ∷ [])
+          on : (bads : ℕ) → bads ≡ sweep.bads + 1 → bads < BAD_ANSWERS → (limit : ℕ) (b : Belief)
+              → InPhase a.search kind known budget (sweep_on sweep 0 bads limit b) (x ++ e ∷ [])
               (found_uids a)
-          on bads is fewer b = onward sweep 0 bads b (omega arith) fewer (EndsWith-none _ (x ++ e ∷ []))
+          on bads is fewer limit b = onward sweep 0 bads limit b (omega arith) fewer (EndsWith-none _ (x ++ e ∷ []))
               (subst (λ n. AnswersOf sweep.question.range n (x ++ e ∷ [])) (sym is) answers)
 
           was_bad : sweep.question.range.lo ≡ sweep.question.range.hi → sweep.bads + 1 ≡ bads_aside
@@ -184,24 +185,24 @@ module _ (kind : Kind) (known : List ℕ) (budget : ℕ) (x : List Seen) (a : Ag
               → After (put_apart a sweep sweep.question.range.hi)
           aside one four =
               cond_both (is_broadcast sweep.question.range.hi) _ _ After
-              (λ no_device. stands _ (on bads_aside (sym four) (omega arith) _))
+              (λ no_device. stands _ (on bads_aside (sym four) (omega arith) _ _))
               (λ device. cond_both (has_room a.apart) _ _ After
               (λ room. stands_apart (sweep.question.range.hi ∷ a.apart) a.more _
-              (was_bad one four, WereBad-push a.apart x e s.bad) (on bads_aside (sym four) (omega arith) _))
+              (was_bad one four, WereBad-push a.apart x e s.bad) (on bads_aside (sym four) (omega arith) _ _))
               (λ full. stands_apart a.apart true _ (WereBad-push a.apart x e s.bad)
-              (on bads_aside (sym four) (omega arith) _)))
+              (on bads_aside (sym four) (omega arith) _ _)))
 
           other : sweep.question.range.lo ≡ sweep.question.range.hi → sweep.bads + 1 < BAD_ANSWERS
               → After (cond ((sweep.bads + 1) == bads_aside)
               (put_apart a sweep sweep.question.range.hi)
-              (to_phase a (sweep_on sweep 0 (sweep.bads + 1) (length a.found) (end_answered sweep.belief))))
+              (to_phase a (sweep_on sweep 0 (sweep.bads + 1) (limit_of a) (end_answered sweep.belief))))
           other one fewer = cond_both ((sweep.bads + 1) == bads_aside) _ _ After
               (λ four. aside one (eqb-true (sweep.bads + 1) bads_aside four))
-              (λ not_yet. stands _ (on (sweep.bads + 1) refl fewer (end_answered sweep.belief)))
+              (λ not_yet. stands _ (on (sweep.bads + 1) refl fewer _ (end_answered sweep.belief)))
 
           again : sweep.question.range.lo ≡ sweep.question.range.hi → sweep.bads + 1 < BAD_ANSWERS → (part : Part)
               → After (asks_on part a sweep (sweep.bads + 1))
-          again one fewer parts.Apart = stands _ (on (sweep.bads + 1) refl fewer _)
+          again one fewer parts.Apart = stands _ (on (sweep.bads + 1) refl fewer _ _)
           again one fewer parts.Fresh = other one fewer
           again one fewer parts.Lower = other one fewer
           again one fewer parts.Rest = other one fewer
@@ -235,7 +236,7 @@ module _ (kind : Kind) (known : List ℕ) (budget : ℕ) (x : List Seen) (a : Ag
         (subst (λ n. EndsSilent n sweep.question.range (x ++ branched Silent ∷ []))
         (eqb-true (sweep.silences + 1) TRIES five) more) no_answers sweep.question.part)
         (λ fewer. stands (branched Silent) refl _ (onward (branched Silent) refl searches p.quick (counted_silent sweep)
-        (sweep.silences + 1) 0 (believed_silent sweep.question.part sweep.question.range (hushing sweep.belief))
+        (sweep.silences + 1) 0 _ (believed_silent sweep.question.part sweep.question.range (hushing sweep.belief))
         (few_more sweep.silences p.asks.few (eqb-false (sweep.silences + 1) TRIES fewer)) (omega arith) more
         (none-answers sweep.question.range (x ++ branched Silent ∷ []) no_answers)))
       where
@@ -265,8 +266,9 @@ module _ (kind : Kind) (known : List ℕ) (budget : ℕ) (x : List Seen) (a : Ag
           few_bads = p.few_bads;
           answers = answers;
         }))
-        (λ refused. cond_both (is_stray (found_uids a) (counted_spelt u sweep) u) _ _ (After (branched (One u)) refl)
-        (λ stray. let is = stray-is (found_uids a) (counted_spelt u sweep) u stray in
+        (λ refused. cond_both (is_stray (found_uids a) a.apart (counted_spelt u sweep) u) _ _
+        (After (branched (One u)) refl)
+        (λ stray. let is = stray-is (found_uids a) a.apart (counted_spelt u sweep) u stray in
         stands (branched (One u)) refl (Checking u 0 (counted_spelt u sweep)) (record {
           quick = p.quick;
           searches = branches None (One u) sound;
@@ -377,15 +379,16 @@ module _ (kind : Kind) (known : List ℕ) (budget : ℕ) (x : List Seen) (a : Ag
       → RunInvariant kind known budget (x ++ exchange (Mute u) h ∷ []) (swept_heard a u tries spare sweep h)
   swept-stands u tries spare sweep (Acked ack) sound p =
       to_found-stands kind known budget x a s goes u ack
-      (sweep_on (counted sweep) 0 0 (length a.found + 1) (found_belief sweep.question.part u a.apart sweep))
+      (sweep_on (counted sweep) 0 0 (sweep_limit (length a.found + 1) (length a.apart))
+      (found_belief sweep.question.part u a.apart sweep))
       p.searches.under_way.no_failure p.searches.under_way.is_found
       (λ more is_found grows here. on-phase a.search kind known budget (x ++ exchange (Mute u) (Acked ack) ∷ []) more
       (search-acked (known_of kind known) whole [] x (found_uids a) u ack more
       (is_muting_swept-device a.search (known_of kind known) u tries spare sweep x (found_uids a) p) p.searches
       (read_is kind known budget x a s goes u p.n sweep.question.range p.spelt) is_found grows here)
       p.quick (counted sweep) sweep.question.range 0 0
-      (length a.found + 1) (found_belief sweep.question.part u a.apart sweep) (omega arith)
-      (omega arith) (EndsWith-none _ (x ++ exchange (Mute u) (Acked ack) ∷ []))
+      (sweep_limit (length a.found + 1) (length a.apart)) (found_belief sweep.question.part u a.apart sweep)
+      (omega arith) (omega arith) (EndsWith-none _ (x ++ exchange (Mute u) (Acked ack) ∷ []))
       (none-answers sweep.question.range (x ++ exchange (Mute u) (Acked ack) ∷ []) (λ v. acked-none v x u ack)))
   swept-stands u tries spare sweep Failed sound p = absurd (sound refl)
   swept-stands u tries spare sweep Silent sound p = lost-stands u tries spare sweep Silent sound refl p

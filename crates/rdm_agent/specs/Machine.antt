@@ -213,17 +213,27 @@ counted_spelt u sweep = record sweep { made = sweep.made + 1; belief = hearing u
 abbrev pub sweep_suspecting : ℕ → Sweep → Sweep
 sweep_suspecting u sweep = record sweep { belief = suspecting u sweep.belief }
 
--- a sweep that has found this many devices goes on while it has made fewer exchanges than 100 for each of them and 200
--- more. Then the steady search begins, in which the last silences of the whole range count. The silences and bad
--- answers are those of the last range
+-- LIMIT. A sweep goes on while it has made fewer exchanges than these: 100 for each device found, and 200 more. Each UID
+-- that is set apart adds 60, up to two more of them than were found, so that noise alone doesn't go on. That costs the
+-- bound nothing. A UID is set apart after four disturbed branches in a row, and each of those is allowed 15 exchanges.
+-- On an honest line none is set apart
+abbrev pub sweep_limit : ℕ → ℕ → ℕ
+sweep_limit found apart = 100 * (found + 2) + 60 * min apart (found + 2)
+
+-- this agent's
+abbrev pub limit_of : AgentState → ℕ
+limit_of a = sweep_limit (length a.found) (length a.apart)
+
+-- A sweep goes on below this limit. Then the steady search begins, in which the last silences of the whole range
+-- count. The silences and bad answers are those of the last range
 abbrev pub sweep_on_after : Sweep → Span → ℕ → ℕ → ℕ → Belief → Phase
-sweep_on_after sweep last silences bads found b =
-    if nat_lt sweep.made (100 * (found + 2)) then Sweeping (choose sweep.made silences bads last b)
+sweep_on_after sweep last silences bads limit b =
+    if nat_lt sweep.made limit then Sweeping (choose sweep.made silences bads last b)
     else search_whole (if is_whole last then silences else 0)
 
 -- the same after what it asked
 abbrev pub sweep_on : Sweep → ℕ → ℕ → ℕ → Belief → Phase
-sweep_on sweep silences bads found b = sweep_on_after sweep sweep.question.range silences bads found b
+sweep_on sweep silences bads limit b = sweep_on_after sweep sweep.question.range silences bads limit b
 
 -- whether the whole range was asked after a pass
 abbrev pub is_last : Part → Bool
@@ -233,9 +243,9 @@ is_last _ = false
 -- what it asked collided, and then the last range was silent so often. If a pass found nothing, and the whole range
 -- was asked again, too, the steady search begins
 abbrev pub sweep_split : Sweep → Span → ℕ → ℕ → Phase
-sweep_split sweep last silences found =
+sweep_split sweep last silences limit =
     if is_last sweep.question.part && is_in_vain sweep.belief then search_whole 0
-    else sweep_on_after sweep last silences 0 found
+    else sweep_on_after sweep last silences 0 limit
     (believed_apart sweep.question.part sweep.question.range sweep.silences sweep.belief)
 
 -- the agent after one more exchange, in this phase
@@ -282,17 +292,17 @@ to_found a d phase =
 abbrev pub fifth_silence : Part → AgentState → Sweep → AgentState
 fifth_silence Apart a sweep =
     to_apart a (without sweep.question.range.hi a.apart) a.more
-    (sweep_on sweep 0 0 (length a.found)
+    (sweep_on sweep 0 0 (sweep_limit (length a.found) (length (without sweep.question.range.hi a.apart)))
     (ask_turn (without sweep.question.range.hi a.apart) sweep.belief.turn sweep.belief))
 fifth_silence _ a sweep =
     if is_whole sweep.question.range then to_phase a (Ended None)
-    else to_phase a (sweep_on sweep 0 0 (length a.found) (next_gap (sweep.belief.top + 1) a.apart sweep.belief))
+    else to_phase a (sweep_on sweep 0 0 (limit_of a) (next_gap (sweep.belief.top + 1) a.apart sweep.belief))
 
 -- what a sweep asked was silent
 abbrev pub sweep_silent : AgentState → Sweep → AgentState
 sweep_silent a sweep =
     if (sweep.silences + 1) == TRIES then fifth_silence sweep.question.part a sweep
-    else to_phase a (sweep_on sweep (sweep.silences + 1) 0 (length a.found)
+    else to_phase a (sweep_on sweep (sweep.silences + 1) 0 (limit_of a)
     (believed_silent sweep.question.part sweep.question.range sweep.belief))
 
 -- a UID alone that answered badly so often in a row is set apart
@@ -300,19 +310,20 @@ abbrev pub bads_aside : ℕ
 bads_aside = 4
 
 -- the UID that was asked alone is given up
-abbrev pub given_up : List Device → Sweep → ℕ → Phase
-given_up found sweep u = sweep_on sweep 0 bads_aside (length found) (give_up u sweep.belief)
+abbrev pub given_up : ℕ → Sweep → ℕ → Phase
+given_up limit sweep u = sweep_on sweep 0 bads_aside limit (give_up u sweep.belief)
 
 -- the same for one more than can be set apart
 abbrev pub put_aside : AgentState → Sweep → ℕ → AgentState
-put_aside a sweep u = to_apart a a.apart true (given_up a.found sweep u)
+put_aside a sweep u = to_apart a a.apart true (given_up (limit_of a) sweep u)
 
 -- The UID that was asked alone is set apart. It is given up instead if no device has it, or if too many are set apart
 abbrev pub put_apart : AgentState → Sweep → ℕ → AgentState
 put_apart a sweep u =
-    if is_broadcast u then to_phase a (given_up a.found sweep u)
+    if is_broadcast u then to_phase a (given_up (limit_of a) sweep u)
     else (if has_room a.apart then to_apart a (u ∷ a.apart) a.more
-    (sweep_on sweep 0 bads_aside (length a.found) (set_apart u (u ∷ a.apart) sweep.belief))
+    (sweep_on sweep 0 bads_aside (sweep_limit (length a.found) (length (u ∷ a.apart)))
+    (set_apart u (u ∷ a.apart) sweep.belief))
     else put_aside a sweep u)
 
 -- whether a UID that was set apart, and then answered badly so often in a row, was asked often enough: seven times, but
@@ -324,11 +335,11 @@ is_turn_over apart sweep bads = ((bads + 1) == BAD_ANSWERS) && nat_lt (sweep.bel
 -- before, it may be another one's turn
 abbrev pub asks_on : Part → AgentState → Sweep → ℕ → AgentState
 asks_on Apart a sweep bads =
-    to_phase a (sweep_on sweep 0 bads (length a.found)
+    to_phase a (sweep_on sweep 0 bads (limit_of a)
     (if is_turn_over a.apart sweep bads then ask_turn a.apart (sweep.belief.turn + 1) sweep.belief else sweep.belief))
 asks_on _ a sweep bads =
     if bads == bads_aside then put_apart a sweep sweep.question.range.hi
-    else to_phase a (sweep_on sweep 0 bads (length a.found) (end_answered sweep.belief))
+    else to_phase a (sweep_on sweep 0 bads (limit_of a) (end_answered sweep.belief))
 
 -- the last bad answer in a row ends the run
 abbrev pub badly_alone : AgentState → Sweep → ℕ → AgentState
@@ -340,7 +351,7 @@ badly_alone a sweep bads =
 abbrev pub sweep_apart : AgentState → Sweep → AgentState
 sweep_apart a sweep =
     if is_one sweep.question.range then badly_alone a sweep (sweep.bads + 1)
-    else to_phase a (sweep_split sweep sweep.question.range 0 (length a.found))
+    else to_phase a (sweep_split sweep sweep.question.range 0 (limit_of a))
 
 -- what follows a silence of the top range: the fifth in a row ends it
 abbrev pub search_silent : ℕ → ℕ → Span → List Span → Phase
@@ -403,22 +414,24 @@ is_wanted found sweep u =
 abbrev pub spare_of_answer : Sweep → ℕ
 spare_of_answer sweep = if is_last_answer sweep then 0 else garbled_mutes
 
--- whether the UID that a sweep's branch spelt may be a device's outside the range, that wasn't found or given up
-abbrev pub is_outside : List ℕ → Sweep → ℕ → Bool
-is_outside found sweep u =
+-- whether the UID that a sweep's branch spelt may be a device's outside the range, that wasn't found, given up or set
+-- apart
+abbrev pub is_outside : List ℕ → List ℕ → Sweep → ℕ → Bool
+is_outside found apart sweep u =
     (nat_le u last_uid && not (is_broadcast u))
     && (not (is_within sweep.question.range.lo sweep.question.range.hi u)
-    && (not (has found u) && not (is_suspect sweep.belief.suspect u)))
+    && (not (has found u) && (not (has apart u) && not (is_suspect sweep.belief.suspect u))))
 
 -- whether it is checked: it is due. If one UID was asked alone, another one is a bad answer
-abbrev pub is_stray : List ℕ → Sweep → ℕ → Bool
-is_stray found sweep u = is_outside found sweep u && (not (is_one sweep.question.range) && is_due sweep.belief)
+abbrev pub is_stray : List ℕ → List ℕ → Sweep → ℕ → Bool
+is_stray found apart sweep u =
+    is_outside found apart sweep u && (not (is_one sweep.question.range) && is_due sweep.belief)
 
 -- the agent after a branch of a sweep that spelt this UID
 abbrev pub sweep_spelt : AgentState → Sweep → ℕ → AgentState
 sweep_spelt a sweep u =
     if is_wanted (found_uids a) sweep u then to_phase a (MutingSwept u 0 (spare_of_answer sweep) sweep)
-    else (if is_stray (found_uids a) sweep u then to_phase a (Checking u 0 sweep) else sweep_apart a sweep)
+    else (if is_stray (found_uids a) a.apart sweep u then to_phase a (Checking u 0 sweep) else sweep_apart a sweep)
 
 -- the agent after a branch of a sweep
 abbrev pub sweep_heard : AgentState → Sweep → Heard → AgentState
@@ -442,7 +455,8 @@ found_belief part u us sweep = believed_found part sweep.question.range sweep.be
 abbrev pub swept_heard : AgentState → ℕ → ℕ → ℕ → Sweep → Heard → AgentState
 swept_heard a u tries spare sweep (Acked ack) =
     to_found a (device_from u ack)
-    (sweep_on (counted sweep) 0 0 (length a.found + 1) (found_belief sweep.question.part u a.apart sweep))
+    (sweep_on (counted sweep) 0 0 (sweep_limit (length a.found + 1) (length a.apart))
+    (found_belief sweep.question.part u a.apart sweep))
 swept_heard a u tries spare sweep Silent = swept_lost a u tries spare (counted sweep)
 swept_heard a u tries spare sweep _ =
     if nat_lt 0 spare then to_phase a (MutingSwept u tries (spare - 1) (counted sweep))
@@ -450,38 +464,38 @@ swept_heard a u tries spare sweep _ =
 
 -- what follows a silence of the check
 abbrev pub check_silent : ℕ → ℕ → Sweep → ℕ → Phase
-check_silent u silences sweep found =
+check_silent u silences sweep limit =
     if is_checked_again sweep.belief silences then Checking u (silences + 1) sweep
-    else sweep_split sweep unassigned (silences + 1) found
+    else sweep_split sweep unassigned (silences + 1) limit
 
 -- and what follows if it spelt another UID, or this one
 abbrev pub check_spelt : ℕ → ℕ → Sweep → ℕ → Phase
-check_spelt u v sweep found =
-    if v == u then MutingStray u 0 garbled_mutes sweep else sweep_split sweep unassigned 0 found
+check_spelt u v sweep limit =
+    if v == u then MutingStray u 0 garbled_mutes sweep else sweep_split sweep unassigned 0 limit
 
 -- the agent after a check whether this UID answers for others, too. If it does it is muted. Anything else means that
 -- what the sweep asked collided
 abbrev pub check_heard : AgentState → ℕ → ℕ → Sweep → Heard → AgentState
-check_heard a u silences sweep Silent = to_phase a (check_silent u silences (counted_silent sweep) (length a.found))
-check_heard a u silences sweep (One v) = to_phase a (check_spelt u v (counted sweep) (length a.found))
-check_heard a u silences sweep _ = to_phase a (sweep_split (counted sweep) unassigned 0 (length a.found))
+check_heard a u silences sweep Silent = to_phase a (check_silent u silences (counted_silent sweep) (limit_of a))
+check_heard a u silences sweep (One v) = to_phase a (check_spelt u v (counted sweep) (limit_of a))
+check_heard a u silences sweep _ = to_phase a (sweep_split (counted sweep) unassigned 0 (limit_of a))
 
 -- what follows a mute of a UID that answers for others, if it counts as a try: after the fifth the sweep gives the UID
 -- up, and what it asked collided
 abbrev pub stray_lost : ℕ → ℕ → ℕ → Sweep → ℕ → Phase
-stray_lost u tries spare sweep found =
-    if (tries + 1) == TRIES then sweep_split (sweep_suspecting u sweep) unassigned 0 found
+stray_lost u tries spare sweep limit =
+    if (tries + 1) == TRIES then sweep_split (sweep_suspecting u sweep) unassigned 0 limit
     else MutingStray u (tries + 1) spare sweep
 
 -- the agent after the mute of a UID that answers for others, too. If it is found the same is asked again
 abbrev pub stray_heard : AgentState → ℕ → ℕ → ℕ → Sweep → Heard → AgentState
 stray_heard a u tries spare sweep (Acked ack) =
     to_found a (device_from u ack)
-    (sweep_on (counted sweep) 0 0 (length a.found + 1) (stray_found sweep.belief))
-stray_heard a u tries spare sweep Silent = to_phase a (stray_lost u tries spare (counted sweep) (length a.found))
+    (sweep_on (counted sweep) 0 0 (sweep_limit (length a.found + 1) (length a.apart)) (stray_found sweep.belief))
+stray_heard a u tries spare sweep Silent = to_phase a (stray_lost u tries spare (counted sweep) (limit_of a))
 stray_heard a u tries spare sweep _ =
     to_phase a (if nat_lt 0 spare then MutingStray u tries (spare - 1) (counted sweep)
-    else stray_lost u tries spare (counted sweep) (length a.found))
+    else stray_lost u tries spare (counted sweep) (limit_of a))
 
 -- the agent after this was heard in this phase, if the line didn't fail
 abbrev pub heard_by_phase : AgentState → Phase → Heard → AgentState

@@ -1,5 +1,6 @@
 //! The UIDs that a quick run sets apart, since they can't be read or muted.
 ghost use Rattle.std.specs.Prelude.{◌≡◌, ◌∷◌, ◌≤◌, ◌<◌, ◌^◌, [], length, slice_get};
+ghost use Rattle.rdm_wire.specs.Uid.{has};
 ghost use Rattle.rdm_agent.specs.Apart.{without, has_room, past, up_to};
 
 use crate::limits::MOST_APART;
@@ -55,6 +56,13 @@ impl UidsApart {
         ensures { result ≡ has_room self.now }
     {
         self.uids.len() < MOST_APART
+    }
+
+    /// Whether this is one of them.
+    pub(crate) fn contains(&self, uid: Uid) -> bool
+        ensures { result ≡ has self.now uid }
+    {
+        self.uids.as_slice().contains(&uid)
     }
 
     /// Adds the newest one.

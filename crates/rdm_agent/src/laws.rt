@@ -304,8 +304,8 @@ pub fn honest_lines()
 
 /// Quick searches. The first silence of an empty line is one of the five. The line of [`honest_run`] takes ten
 /// exchanges, as with the steady search. Two devices that collide take 13, and 18 with the steady search. On a line
-/// that answers each branch with one byte the sweep reaches its limit of 200 exchanges, and the steady search after it
-/// finds UID 0 corrupt.
+/// that answers each branch with one byte the sweep sets UIDs apart and reaches its limit of 320 exchanges, and the
+/// steady search after it finds UID 0 corrupt.
 pub fn quick_runs()
     ensures empty { fed_all (start_by Quick Full [] DEFAULT_BUDGET) (replicate 8 Silent)
         ≡ (record {
@@ -337,7 +337,7 @@ pub fn quick_runs()
       phase = Ended None;
     }) }
     ensures corrupt { (fed_all (start_by Quick Full [] DEFAULT_BUDGET)
-        (replicate 3 Silent ++ replicate 352 Noise)).phase ≡ Ended (Some (AgentFault.Corrupt 0)) }
+        (replicate 3 Silent ++ replicate 472 Noise)).phase ≡ Ended (Some (AgentFault.Corrupt 0)) }
 {}
 
 /// The constants of the profile.

@@ -38,6 +38,9 @@ pub const MOST_RANGES: usize = 49;
 /// A sweep goes on while it has made fewer exchanges than this for each device found, and twice as many more.
 pub(crate) const SWEEP_FRAMES: usize = 100;
 
+/// So many more for each UID that is set apart, up to two more than the devices found.
+pub(crate) const LIAR_FRAMES: usize = 60;
+
 // What a device adds to the bound: 24 splits of ten exchanges, 24 last ranges of five, and ten of its own.
 const FRAMES_PER_DEVICE: u64 = 370;
 

@@ -7,7 +7,7 @@ ghost use Rattle.rdm_agent.specs.Run.{heard_of_mute, heard_of_branch};
 ghost use Rattle.rdm_agent.specs.body.Sound.{IsSmall};
 ghost use Rattle.rdm_agent.specs.body.GoesOn.{GoesOn, Follows, IsConsistent};
 
-use super::sweeping::{sweep_on, sweep_split};
+use super::sweeping::{sweep_limit, sweep_on, sweep_split};
 use crate::limits::{GARBLED_MUTES, TRIES};
 use crate::phase::Phase;
 use crate::run_state::{RunState, device_from};
@@ -27,11 +27,11 @@ impl RunState {
         ensures goes_on { GoesOn (heard_of_branch reply) (Phase.Checking uid silences sweep) self.old result self.new }
         ensures fresh { self.new.below ≡ [] }
     {
-        let found = self.found.len();
+        let limit = self.limit();
         match reply {
-            BranchReply::Silent => check_silent(uid, silences, sweep.counted_silent(), found),
-            BranchReply::One(other) => check_spelt(uid, other, sweep.counted(), found),
-            BranchReply::Collision => sweep_split(sweep.counted(), unassigned(), 0, found),
+            BranchReply::Silent => check_silent(uid, silences, sweep.counted_silent(), limit),
+            BranchReply::One(other) => check_spelt(uid, other, sweep.counted(), limit),
+            BranchReply::Collision => sweep_split(sweep.counted(), unassigned(), 0, limit),
         }
     }
 
@@ -49,15 +49,15 @@ impl RunState {
             self.old result self.new }
         ensures fresh { self.new.below ≡ [] }
     {
-        let found = self.found.len();
         let counted = sweep.counted();
         if let Some(ack) = ack {
             let belief = counted.belief.stray_found();
-            let onward = sweep_on(counted, 0, 0, found + 1, belief);
+            let limit = sweep_limit(self.found.len() + 1, self.apart.len());
+            let onward = sweep_on(counted, 0, 0, limit, belief);
             return self.find(device_from(uid, ack), onward);
         }
         match tries + 1 {
-            TRIES => sweep_split(counted.suspecting(uid), unassigned(), 0, found),
+            TRIES => sweep_split(counted.suspecting(uid), unassigned(), 0, self.limit()),
             tries => Phase::MutingStray {
                 uid,
                 tries,
@@ -86,12 +86,12 @@ impl RunState {
 }
 
 // The range without devices spelt another UID, or this one, which is muted.
-fn check_spelt(uid: Uid, other: Uid, sweep: Sweep, found: usize) -> Phase
-    requires found { found ≤ 1025 }
+fn check_spelt(uid: Uid, other: Uid, sweep: Sweep, limit: usize) -> Phase
+    requires limit { limit ≤ 2 ^ 20 }
     requires device { is_broadcast uid ≡ false }
     requires counted { (sweep.silences < TRIES) × (sweep.bads < 8) × (sweep.made ≤ 2 ^ 20 + 2) }
     requires small { IsSmall sweep.belief }
-    ensures { Follows (check_spelt uid other sweep found) result }
+    ensures { Follows (check_spelt uid other sweep limit) result }
 {
     if other == uid {
         return Phase::MutingStray {
@@ -101,17 +101,17 @@ fn check_spelt(uid: Uid, other: Uid, sweep: Sweep, found: usize) -> Phase
             sweep,
         };
     }
-    sweep_split(sweep, unassigned(), 0, found)
+    sweep_split(sweep, unassigned(), 0, limit)
 }
 
 // The range without devices was silent once more.
-fn check_silent(uid: Uid, silences: u8, sweep: Sweep, found: usize) -> Phase
-    requires found { found ≤ 1025 }
+fn check_silent(uid: Uid, silences: u8, sweep: Sweep, limit: usize) -> Phase
+    requires limit { limit ≤ 2 ^ 20 }
     requires silences { silences < 2 }
     requires device { is_broadcast uid ≡ false }
     requires counted { (sweep.silences < TRIES) × (sweep.bads < 8) × (sweep.made ≤ 2 ^ 20 + (silences + 1)) }
     requires small { IsSmall sweep.belief }
-    ensures { Follows (check_silent uid silences sweep found) result }
+    ensures { Follows (check_silent uid silences sweep limit) result }
 {
     if sweep.belief.is_checked_again(silences) {
         return Phase::Checking {
@@ -120,5 +120,5 @@ fn check_silent(uid: Uid, silences: u8, sweep: Sweep, found: usize) -> Phase
             sweep,
         };
     }
-    sweep_split(sweep, unassigned(), silences + 1, found)
+    sweep_split(sweep, unassigned(), silences + 1, limit)
 }

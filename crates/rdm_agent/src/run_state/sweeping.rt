@@ -1,10 +1,10 @@
 //! How a sweep goes on after a reply.
-ghost use Rattle.std.specs.Prelude.{◌≡◌, ◌<◌, ◌≤◌, ◌^◌, [], true};
+ghost use Rattle.std.specs.Prelude.{◌≡◌, ◌<◌, ◌≤◌, ◌^◌, [], length, true};
 ghost use Rattle.rdm_wire.specs.Devices.{uids_of};
 ghost use Rattle.rdm_agent.specs.Machine.{sweep_on_after, sweep_on, sweep_split, sweep_silent, fifth_silence};
 ghost use Rattle.rdm_agent.specs.Machine.{sweep_apart, badly_alone, asks_on, put_apart, found_belief};
 ghost use Rattle.rdm_agent.specs.Machine.{is_wanted, is_stray, sweep_spelt, is_last_answer, spare_of_answer};
-ghost use Rattle.rdm_agent.specs.Machine.{is_turn_over, put_aside, given_up};
+ghost use Rattle.rdm_agent.specs.Machine.{is_turn_over, put_aside, given_up, sweep_limit};
 ghost use Rattle.rdm_wire.specs.Honest.Heard.{Noise};
 ghost use Rattle.rdm_agent.specs.Run.{heard_of_mute, heard_of_branch};
 ghost use Rattle.rdm_agent.specs.body.Sound.{IsSmall};
@@ -12,7 +12,7 @@ ghost use Rattle.rdm_agent.specs.body.GoesOn.{GoesOn, Moves, Follows, IsConsiste
 
 use crate::belief::{Belief, Part};
 use crate::fault::AgentFault;
-use crate::limits::{BAD_ANSWERS, BADS_ASIDE, GARBLED_MUTES, SWEEP_FRAMES, TRIES};
+use crate::limits::{BAD_ANSWERS, BADS_ASIDE, GARBLED_MUTES, LIAR_FRAMES, SWEEP_FRAMES, TRIES};
 use crate::phase::Phase;
 use crate::run_state::{RunState, device_from, searching_all};
 use crate::sweep::{Sweep, is_whole};
@@ -69,7 +69,7 @@ impl RunState {
             TRIES => self.fifth_silence(sweep),
             silences => {
                 let belief = sweep.belief.silent(sweep.question);
-                sweep_on(sweep, silences, 0, self.found.len(), belief)
+                sweep_on(sweep, silences, 0, self.limit(), belief)
             }
         }
     }
@@ -90,7 +90,7 @@ impl RunState {
         } else {
             sweep.belief.next_gap(sweep.belief.top + 1, &self.apart)
         };
-        sweep_on(sweep, 0, 0, self.found.len(), belief)
+        sweep_on(sweep, 0, 0, self.limit(), belief)
     }
 
     // What a sweep asked was answered badly. A range of several UIDs collided.
@@ -105,7 +105,7 @@ impl RunState {
         if asked.range.lo == asked.range.hi {
             return self.badly_alone(sweep, sweep.bads + 1);
         }
-        sweep_split(sweep, asked.range, 0, self.found.len())
+        sweep_split(sweep, asked.range, 0, self.limit())
     }
 
     // One UID that a sweep asked alone answered badly this many times in a row. The last time ends the run.
@@ -136,7 +136,7 @@ impl RunState {
             _ if bads == BADS_ASIDE => return self.put_apart(sweep),
             _ => sweep.belief.end_answered(),
         };
-        sweep_on(sweep, 0, bads, self.found.len(), belief)
+        sweep_on(sweep, 0, bads, self.limit(), belief)
     }
 
     // The UID that was asked alone is set apart. It is given up instead if no device has it, or if too many are set
@@ -155,9 +155,9 @@ impl RunState {
             return self.put_aside(sweep);
         }
         self.apart.add(uid);
-        let found = self.found.len();
+        let limit = self.limit();
         let belief = sweep.belief.set_apart(uid, &self.apart);
-        sweep_on(sweep, 0, BADS_ASIDE, found, belief)
+        sweep_on(sweep, 0, BADS_ASIDE, limit, belief)
     }
 
     // One more UID than can be set apart is given up.
@@ -173,11 +173,12 @@ impl RunState {
     // The UID that was asked alone is given up.
     fn given_up(&self, sweep: Sweep) -> Phase
         requires small { IsSmall sweep.belief }
-        ensures { Follows (given_up self.now.found sweep sweep.question.range.hi) result }
+        ensures { Follows (given_up (sweep_limit (length self.now.found) (length self.now.apart)) sweep
+            sweep.question.range.hi) result }
     {
         let asked = sweep.question;
         let belief = sweep.belief.give_up(asked.range.hi);
-        sweep_on(sweep, 0, BADS_ASIDE, self.found.len(), belief)
+        sweep_on(sweep, 0, BADS_ASIDE, self.limit(), belief)
     }
 
     // Whether a UID that was set apart was asked often enough.
@@ -206,7 +207,8 @@ impl RunState {
         let counted = sweep.counted();
         if let Some(ack) = ack {
             let belief = self.found_belief(uid, &sweep);
-            let onward = sweep_on(counted, 0, 0, self.found.len() + 1, belief);
+            let limit = sweep_limit(self.found.len() + 1, self.apart.len());
+            let onward = sweep_on(counted, 0, 0, limit, belief);
             return self.find(device_from(uid, ack), onward);
         }
         match tries + 1 {
@@ -259,35 +261,54 @@ impl RunState {
             && (sweep.belief.suspect != Some(uid) || is_last_answer(sweep))
     }
 
-    // Whether a UID that a sweep's branch spelt is checked: it isn't in the range that was asked, wasn't found or given
-    // up, and is due. If one UID was asked alone, another one is a bad answer.
+    // Whether a UID that a sweep's branch spelt is checked: it isn't in the range that was asked, wasn't found, given
+    // up or set apart, and is due. If one UID was asked alone, another one is a bad answer.
     fn is_stray(&self, uid: Uid, sweep: &Sweep) -> bool
-        ensures { result ≡ is_stray (uids_of self.now.found) sweep.now uid }
+        ensures { result ≡ is_stray (uids_of self.now.found) self.now.apart sweep.now uid }
     {
         let asked = sweep.question.range;
         (!uid.is_broadcast() && !asked.contains(uid))
-            && (!self.found.contains(uid) && sweep.belief.suspect != Some(uid))
+            && (!self.found.contains(uid) && !self.apart.contains(uid))
+            && sweep.belief.suspect != Some(uid)
             && (asked.lo != asked.hi && sweep.belief.is_due())
+    }
+
+    // The sweep's limit.
+    pub(super) fn limit(&self) -> usize
+        ensures value { result ≡ sweep_limit (length self.now.found) (length self.now.apart) }
+        ensures small { result ≤ 2 ^ 20 }
+    {
+        sweep_limit(self.found.len(), self.apart.len())
     }
 }
 
-// A sweep that has found this many devices goes on with this belief, after this many silences or bad answers in a row
-// of the range `last`. At its limit the steady search begins.
+// How many exchanges a sweep may make that has found and set apart this many.
+pub(super) fn sweep_limit(found: usize, apart: usize) -> usize
+    requires found { found ≤ 1025 }
+    requires apart { apart ≤ 16 }
+    ensures value { result ≡ sweep_limit found apart }
+    ensures small { result ≤ 2 ^ 20 }
+{
+    SWEEP_FRAMES * (found + 2) + LIAR_FRAMES * apart.min(found + 2)
+}
+
+// A sweep goes on with this belief, after this many silences or bad answers in a row of the range `last`. At its limit
+// the steady search begins.
 pub(super) fn sweep_on_after(
     sweep: Sweep,
     last: UidRange,
     silences: u8,
     bads: u8,
-    found: usize,
+    limit: usize,
     belief: Belief,
 ) -> Phase
-    requires found { found ≤ 1025 }
+    requires limit { limit ≤ 2 ^ 20 }
     requires silences { silences < TRIES }
     requires bads { bads < 8 }
     requires small { IsSmall belief }
-    ensures { Follows (sweep_on_after sweep last silences bads found belief) result }
+    ensures { Follows (sweep_on_after sweep last silences bads limit belief) result }
 {
-    if sweep.made < SWEEP_FRAMES * (found + 2) {
+    if sweep.made < limit {
         return Phase::Sweeping {
             sweep: Sweep::choose(sweep.made, silences, bads, last, belief),
         };
@@ -296,31 +317,31 @@ pub(super) fn sweep_on_after(
 }
 
 // The same after silences or bad answers of the range that it asked.
-pub(super) fn sweep_on(sweep: Sweep, silences: u8, bads: u8, found: usize, belief: Belief) -> Phase
-    requires found { found ≤ 1025 }
+pub(super) fn sweep_on(sweep: Sweep, silences: u8, bads: u8, limit: usize, belief: Belief) -> Phase
+    requires limit { limit ≤ 2 ^ 20 }
     requires silences { silences < TRIES }
     requires bads { bads < 8 }
     requires small { IsSmall belief }
-    ensures { Follows (sweep_on sweep silences bads found belief) result }
+    ensures { Follows (sweep_on sweep silences bads limit belief) result }
 {
     let asked = sweep.question;
-    sweep_on_after(sweep, asked.range, silences, bads, found, belief)
+    sweep_on_after(sweep, asked.range, silences, bads, limit, belief)
 }
 
 // What a sweep asked collided. Then the range `last` was silent this many times in a row. If all UIDs collide after a
 // pass that found nothing, and were asked again, too, the steady search begins.
-pub(super) fn sweep_split(sweep: Sweep, last: UidRange, silences: u8, found: usize) -> Phase
-    requires found { found ≤ 1025 }
+pub(super) fn sweep_split(sweep: Sweep, last: UidRange, silences: u8, limit: usize) -> Phase
+    requires limit { limit ≤ 2 ^ 20 }
     requires silences { silences < TRIES }
     requires small { IsSmall sweep.belief }
-    ensures { Follows (sweep_split sweep last silences found) result }
+    ensures { Follows (sweep_split sweep last silences limit) result }
 {
     let asked = sweep.question;
     if asked.part == Part::Whole && sweep.belief.is_in_vain() {
         return searching_all(0);
     }
     let belief = sweep.belief.apart(asked, sweep.silences);
-    sweep_on_after(sweep, last, silences, 0, found, belief)
+    sweep_on_after(sweep, last, silences, 0, limit, belief)
 }
 
 // Whether a sweep asked a UID alone for the last time.

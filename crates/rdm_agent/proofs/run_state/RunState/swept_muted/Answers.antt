@@ -2,7 +2,7 @@ use Rattle.rdm_agent.proofs.Common.{◌≡◌, ◌+◌, length, refl, ap, ◌∙
 use Rattle.rdm_agent.proofs.Common.{sweep_on, device_from, state_of, seen_phase, rules}
 use Rattle.rdm_agent.proofs.Common.{eq-eqb, Silent, TRIES}
 use Rattle.rdm_agent.proofs.Moved.{moved-goes_on}
-use Rattle.rdm_agent.specs.Machine.{found_belief}
+use Rattle.rdm_agent.specs.Machine.{found_belief, sweep_limit}
 use Rattle.rdm_agent.specs.declared.phase.Phase.TheVariants.{MutingSwept}
 use Rattle.rdm_agent.proofs.run_state.RunState.swept_muted.Goals as goal
 
@@ -18,13 +18,16 @@ returns-in-Some-clause-goes_on c = record {
 }
   where
     onward : seen_phase c.sweep_on-onward.result c.args.self.now
-        ≡ sweep_on (counted c.args.sweep) 0 0 (length c.args.self.now.found + 1)
+        ≡ sweep_on (counted c.args.sweep) 0 0
+        (sweep_limit (length c.args.self.now.found + 1) (length c.args.self.now.apart))
         (found_belief c.args.sweep.question.part c.args.uid c.args.self.now.apart c.args.sweep)
     onward = rw (
       c.requires.1,
       c.sweep_on-onward.ensures.phase c.args.self.now.known,
       c.counted-counted.ensures,
       c.found_belief-belief.ensures.value,
+      c.sweep_limit-limit.ensures.value,
+      c.len-in-Some.ensures.value,
       c.len.ensures.value,
     ) refl
 
