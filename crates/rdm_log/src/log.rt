@@ -180,7 +180,8 @@ impl Log {
 
     /// Hands out all entries that are stored, oldest first, and continues in other memory, which must be empty. It
     /// copies no entry and allocates nothing. The number of the first entry that it hands out is what
-    /// [`first_stored`](Log::first_stored) returned before. What it hands out has capacity for as many as the log had.
+    /// [`first_stored`](Log::first_stored) returned before. If the log kept entries, what it hands out has at least the
+    /// log's capacity ([`room`](Log::room)).
     pub fn drain(&mut self, next: Vec<Entry>) -> Vec<Entry>
         requires empty { next.items ≡ [] }
         requires some { 1 ≤ vec_capacity next }
@@ -200,7 +201,7 @@ impl Log {
     /// Hands out all entries that are stored to another log, in place of that log's own, and continues in its memory.
     /// It copies no entry and allocates nothing. The number of the first entry that it hands out is what
     /// [`gone`](Log::gone) returns of the other log then. Of that log's opening only the search changes, to this log's.
-    /// It must keep entries.
+    /// The other log must keep entries.
     pub fn drain_into(&mut self, page: &mut Log)
         requires in_all { length self.old.entries + (page.old.room - page.old.gone) ≤ 2 ^ 62 }
         requires keeps { page.old.keeps ≡ true }

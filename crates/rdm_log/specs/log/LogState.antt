@@ -29,7 +29,7 @@ stored k = if k.keeps then drop k.gone k.entries else []
 abbrev pub drained : LogState → ℕ → LogState
 drained k room = record k { room = length k.entries + room; gone = length k.entries; keeps = true }
 
--- a page that takes all that a log stores, with its memory: its opening keeps all but how runs search, which is the log's
+-- a page that takes all that a log stores, and the log's memory. Its own opening stays, but its search is the log's
 abbrev pub filled_page : LogState → LogState → LogState
 filled_page page k = record page {
   opening = record page.opening { search = k.opening.search };
