@@ -2,7 +2,8 @@
 ghost use Rattle.std.specs.Prelude.{◌≡◌};
 ghost use Rattle.std.specs.List.{position};
 ghost use Rattle.rdm_findings.specs.DeviceText.{mentioned, is_before};
-ghost use Rattle.rdm_findings.specs.Mentions.{is_misread, spelt_or, named_in, garbled_mention, signed_in, stray_mention};
+ghost use Rattle.rdm_findings.specs.Mentions.{is_misread, spelt_or, named_in};
+ghost use Rattle.rdm_findings.specs.Mentions.{garbled_mention, signed_in, stray_mention};
 
 use crate::ending::{has_bytes, is_own};
 use crate::head::Start;
