@@ -10,7 +10,7 @@ from typing import List
 from clone import ROOT, Clone, new_clone
 
 PARTS = ("memory", "copies", "mutants", "pages", "layout", "linters", "scripts", "lines", "cases", "bindings", "fuzz",
-         "ola", "rust")
+         "ola", "rust", "arm")
 RT = """#!/bin/sh
 echo 'rt: rdm_wire is kept: an earlier run on this machine proved the same files over the same libraries'
 echo 'rt: rdm_join proved'
