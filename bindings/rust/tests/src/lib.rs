@@ -3,6 +3,8 @@ mod core_tests;
 mod memory;
 mod port;
 pub mod rig;
+#[cfg(test)]
+mod sizes;
 pub mod stage;
 mod threads;
 mod trials;
