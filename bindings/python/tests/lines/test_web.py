@@ -42,24 +42,24 @@ class Fixtures(LongTestCase):
             seen.type("20")
             seen.key("Enter")
             events.until(lambda parts: parts[f"fixture/{LEFT}"]["address"] == 20)
-            seen.until(f"document.querySelector(\"{row(LEFT)} .slots\").textContent === '20–26'")
+            seen.until(f"document.querySelector(\"{row(LEFT)} .slots\").textContent === '20-26'")
             self.assertEqual(seen.value(f"{row(LEFT)} .label"), BAD)
             self.assertEqual(seen.page.value("[window.bad ?? 0, document.images.length]"), [0, 0])
             # What is taken back is said before. At 1 it would overlap again.
             seen.button("Undo (2)")
-            self.assertEqual(seen.texts(".message p"), [f"Undo: address of {BAD}, 20 → 1?"])
+            self.assertEqual(seen.texts(".message p"), [f"Undo: {BAD} ({LEFT}): address 20 → 1?"])
             self.assertEqual(seen.page.value("document.activeElement.textContent"), "Cancel")
             seen.button("Undo")
-            seen.until("document.querySelector('.message')?.innerText.includes('1–7 overlaps 9abc:00000002')")
+            seen.until("document.querySelector('.message')?.innerText.includes('1-7 overlaps 9abc:00000002')")
             seen.button("Do it anyway")
             seen.until(f"document.querySelector('.message p')?.innerText === "
-                       f"'Undone: the address of {BAD} is 1 again (was 20).'")
+                       f"'Undone: {BAD} ({LEFT}): address 20 → 1.'")
             seen.button("Undo (1)")
-            self.assertEqual(seen.texts(".message p"), [f"Undo: label, {BAD} → Front left?"])
+            self.assertEqual(seen.texts(".message p"), [f"Undo: {BAD} ({LEFT}): label {BAD} → Front left?"])
             seen.button("Undo")
             events.until(lambda parts: parts[f"fixture/{LEFT}"]["label"] == "Front left")
             seen.until(f"document.querySelector('.message p')?.innerText === "
-                       f"'Undone: the label is Front left again (was {BAD}).'")
+                       f"'Undone: {BAD} ({LEFT}): label {BAD} → Front left.'")
             # It is of no use elsewhere.
             seen.button("Slots")
             seen.until("!document.querySelector('.message') && document.querySelector('.universe')")
@@ -74,7 +74,7 @@ class Fixtures(LongTestCase):
             seen.type("99")
             seen.key("Enter")
             seen.until("document.querySelector('.message')")
-            self.assertIn("99–105 overlaps 454e:0a000017 Back truss 100", seen.texts(".message p")[0])
+            self.assertIn("99-105 overlaps 454e:0a000017 Back truss 100", seen.texts(".message p")[0])
             # The question is where keys are, and then they are where they were.
             self.assertEqual(seen.page.value("document.activeElement.textContent"), "Cancel")
             seen.key("Enter")
@@ -110,6 +110,29 @@ class Fixtures(LongTestCase):
             seen.key("Escape")
             self.assertEqual(seen.value(f"{row(LEFT)} .label"), "Front left")
 
+    @at_each_size
+    def test_only_what_was_typed_is_sent(self, size: Tuple[int, int]) -> None:
+        with opened(size) as (seen, web, _), web.follow() as events:
+            label = f"{row(LEFT)} .label"
+            seen.until(f"document.querySelector(\"{label}\")?.value === 'Front left'")
+            self.assertEqual(seen.texts(".sending"),
+                             ["Enter, or leaving a field, sends what you typed; Escape restores it."])
+            # Whoever passes through, types what is there, or takes back what was typed changes nothing.
+            seen.click(label)
+            for _ in range(12):
+                seen.key("Tab")
+            for text, end in (("Front left", "Enter"), ("Half a na", "Escape")):
+                seen.click(label)
+                seen.type(text)
+                seen.key(end)
+                self.assertEqual(seen.value(label), "Front left")
+                seen.key("Tab")
+            seen.click(label)
+            seen.type("Wash 1")
+            seen.key("Tab")
+            events.until(lambda parts: parts.get(f"fixture/{LEFT}", {}).get("label") == "Wash 1")
+            self.assertEqual(sum(each.endswith("/api/change") for each in seen.page.requests), 1)
+
     def test_personality(self) -> None:
         with opened(DESK) as (seen, web, _), web.follow() as events:
             chosen = f"{row(RIGHT)} .personality"
@@ -120,7 +143,7 @@ class Fixtures(LongTestCase):
             seen.key("ArrowDown")
             seen.key("Enter")
             events.until(lambda parts: parts.get(f"fixture/{RIGHT}", {}).get("personality") == 2)
-            seen.until(f"document.querySelector(\"{row(RIGHT)} .slots\").textContent === '8–21'")
+            seen.until(f"document.querySelector(\"{row(RIGHT)} .slots\").textContent === '8-21'")
 
     @at_each_size
     def test_the_walk(self, size: Tuple[int, int]) -> None:
@@ -202,7 +225,7 @@ class Fixtures(LongTestCase):
             self.assertIn("missing: Lost (4444:00000004)", shown)
             self.assertIn(f"moved: Front left ({LEFT}), at 1, file says 20", shown)
             self.assertIn(f"relabelled: Front left ({LEFT}), label Front left, file says Wash 1", shown)
-            self.assertIn("1–7 overlaps 9abc:00000002", shown)
+            self.assertIn("1-7 overlaps 9abc:00000002", shown)
             bad = [each.split(":")[0] for each in seen.texts(".differences .bad")]
             self.assertEqual(bad, ["missing", "overlap", "overlap"])
             # The table says so, too, and leads there.
@@ -267,7 +290,8 @@ class OtherViews(LongTestCase):
             seen.page.value("[...document.querySelectorAll('details[open] input')].at(-1).focus()")
             seen.type("0")
             seen.button("Do it: record sensors")
-            seen.button("Really?")
+            self.assertEqual(seen.texts(".message p"), ["Really do it: record sensors?"])
+            seen.button("Do it")
             seen.until("document.querySelector('.message')?.textContent.includes('record sensors was set')")
             seen.until("[...document.querySelectorAll('dd')].some((each) => each.textContent.includes('recorded 41'))")
 
@@ -322,13 +346,22 @@ class OtherViews(LongTestCase):
                 self.assertGreaterEqual(len(places), 3)
                 self.assertEqual(places, [True] * len(places))
 
+    @at_each_size
+    def test_the_hint_of_slots_stays_in_sight(self, size: Tuple[int, int]) -> None:
+        with opened(size, "slots") as (seen, _, _rig):
+            seen.until("document.querySelectorAll('button.crowded').length === 3")
+            for part in (0, 0.5, 1):
+                seen.page.value(f"scrollTo(0, {part} * document.documentElement.scrollHeight)")
+                seen.until("""(({top, bottom}) => top > 0 && bottom <= innerHeight)
+                    (document.querySelector(".hint").getBoundingClientRect())""")
+
     def test_slots_by_keys(self) -> None:
         with opened(DESK, "slots") as (seen, web, _), web.follow() as events:
             seen.until(f"document.querySelector(\"button[data-uid='{RIGHT}']\")")
             seen.page.value(f"document.querySelector(\"button[data-uid='{RIGHT}']\").focus()")
             for key in ("ArrowDown", "ArrowRight", "ArrowDown", "ArrowLeft", "ArrowLeft"):
                 seen.key(key)
-            self.assertEqual(seen.texts(".hint"), ["Front right: 8–14 → 71–77, free"])
+            self.assertEqual(seen.texts(".hint"), ["Front right: 8-14 → 71-77, free"])
             seen.key("Escape")
             self.assertIn("Drag a fixture", seen.texts(".hint")[0])
             for _ in range(3):
@@ -343,6 +376,7 @@ class OtherViews(LongTestCase):
         with opened(size, "discovery") as (seen, _, rig):
             seen.until("document.querySelector('.result').textContent.startsWith('5 fixtures found with')")
             self.assertIn("nothing else can be on this line if it is honest", seen.texts(".result")[0])
+            self.assertIn("Once it has begun, nothing stops it: it ends by itself.", seen.texts(".tools p"))
             rig.gone.add(rig.fixtures[2].uid)
             rig.delay = 0.02
             seen.button("Discover")
@@ -359,6 +393,10 @@ class OtherViews(LongTestCase):
             seen.button("Discovery")
             if program() is not None:
                 seen.until("document.querySelector('iframe')?.src.includes('/picture/')")
+                if size == PHONE:
+                    # It has all of the phone's width, and isn't scrolled within the page.
+                    seen.until("document.querySelector('iframe').offsetWidth === innerWidth")
+                    self.assertGreater(seen.page.value("document.querySelector('iframe').offsetHeight"), 1_000)
 
     def test_who_broke_the_rules_and_who_is_missing(self) -> None:
         if program() is None:

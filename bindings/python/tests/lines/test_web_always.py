@@ -11,7 +11,8 @@ from browser import needs_chromium
 from common import LongTestCase, needs_library, scene
 from page_rules import RULES
 from web_pages import (
-    BACK, DESK, FIVE, LEFT, PHONE, RIGHT, SECOND, Moody, Web, at_each_size, five, many, opened, row, web_on, window,
+    BACK, DESK, FIVE, LEFT, PHONE, RIGHT, SECOND, Moody, Web, at_each_size, busy, five, many, opened, row, web_on,
+    window,
 )
 
 
@@ -45,14 +46,7 @@ class Always(LongTestCase):
             other.key("Escape")
             self.assertEqual(other.value(f"{row(LEFT)} .label"), "Wash 1")
             # On a quiet machine it is 0.2 s; the line takes no time.
-            self.assertLess(taken, 0.2 * self.busy())
-
-    @staticmethod
-    def busy() -> float:
-        """How much longer than on a quiet machine things may take here."""
-        began = time.monotonic()
-        sum(range(1_000_000))
-        return max(1.0, (time.monotonic() - began) / 0.01)
+            self.assertLess(taken, 0.2 * busy())
 
     @at_each_size
     def test_forty_fixtures_open_at_once(self, size: Tuple[int, int]) -> None:
@@ -62,7 +56,7 @@ class Always(LongTestCase):
             began = time.monotonic()
             seen.page.call("Page.navigate", url=web.address)
             seen.until("document.querySelectorAll('.rig tbody tr').length === 40")
-            self.assertLess(time.monotonic() - began, 1.0 * self.busy())
+            self.assertLess(time.monotonic() - began, 1.0 * busy())
 
     def test_the_server_ends_and_comes_back(self) -> None:
         rig = Moody(scene(devices=FIVE["devices"]))

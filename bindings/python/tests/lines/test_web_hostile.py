@@ -13,8 +13,8 @@ from unittest import mock
 
 from common import LongTestCase, TestCase, needs_library
 from servers import runtime
-from web_pages import LEFT, Web, five
-from wurstlinen.web import door, tokens
+from web_pages import LEFT, SECONDS, Web, busy, five
+from wurstlinen.web import door, pages
 
 MANY = 10_000
 # What one process may have open besides, on each side.
@@ -22,9 +22,9 @@ SPARE = 500
 GIGABYTE = 1 << 30
 
 
-def sent(web: Web, data: bytes, wait: float = 10.0) -> bytes:
+def sent(web: Web, data: bytes) -> bytes:
     """All that comes back for bytes, until the connection ends."""
-    with socket.create_connection(("127.0.0.1", web.port), timeout=wait) as connection:
+    with socket.create_connection(("127.0.0.1", web.port), timeout=SECONDS) as connection:
         with contextlib.suppress(OSError):
             connection.sendall(data)
         found = b""
@@ -45,9 +45,9 @@ class Files(TestCase):
         self.addCleanup(os.umask, before)
         # A umask is that of all threads.
         with runtime() as made, mock.patch("os.umask", side_effect=AssertionError):
-            kept = tokens.kept("rig:/it", False)
-            self.assertEqual(tokens.kept("rig:/it", False), kept)
-            self.assertNotEqual(tokens.kept("rig:/it", True), kept)
+            kept = pages.kept("rig:/it", False)
+            self.assertEqual(pages.kept("rig:/it", False), kept)
+            self.assertNotEqual(pages.kept("rig:/it", True), kept)
             self.assertEqual([stat.S_IMODE(path.stat().st_mode) for path in made.rglob("web-*.token")], [0o600])
 
 
@@ -121,7 +121,7 @@ class Strangers(TestCase):
                 status, found = web.ask("POST", "/api/identify", body, token)
                 self.assertEqual(status, 400, body[:50])
                 self.assertIn(said, found)
-            for path in ("/api/", "/api/../change", "/api/__init__", "/page.html", "/../tokens.py", "//", "/picture/"):
+            for path in ("/api/", "/api/../change", "/api/__init__", "/page.html", "/../pages.py", "//", "/picture/"):
                 self.assertEqual(web.ask("POST", path, b"{}", token)[0], 404, path)
 
 
@@ -143,26 +143,29 @@ class Attacks(LongTestCase):
         idle: List[socket.socket] = []
         with contextlib.ExitStack() as stack, five() as (web, _), web.follow() as events:
             for _ in range(min(MANY, most - SPARE)):
-                idle.append(stack.enter_context(socket.create_connection(("127.0.0.1", web.port), timeout=30)))
-            self.assertLess(self.works(web), 5.0)
+                idle.append(stack.enter_context(socket.create_connection(("127.0.0.1", web.port), timeout=SECONDS)))
+            # All of them came before this one. A busy machine's queue of new ones may be full, and then TCP waits.
+            self.assertEqual(web.ask("GET", "/")[0], 200)
+            self.assertLess(self.works(web), 5.0 * busy())
             # A page that is open isn't thrown out.
             events.until(lambda parts: parts.get(f"fixture/{LEFT}", {}).get("identifies"))
             self.assertLessEqual(web.door.connections, door.MOST_CONNECTIONS)
 
     def test_one_that_is_slow_with_its_request(self) -> None:
         with five() as (web, _):
-            with socket.create_connection(("127.0.0.1", web.port), timeout=30) as connection:
+            with socket.create_connection(("127.0.0.1", web.port), timeout=SECONDS) as connection:
                 connection.sendall(b"GET / HT")
                 began = time.monotonic()
                 with contextlib.suppress(OSError):
-                    while time.monotonic() < began + 25:
+                    while time.monotonic() < began + SECONDS:
                         connection.sendall(b"x")
                         time.sleep(1.0)
-                self.assertLess(time.monotonic() - began, 20.0)
+                self.assertLess(time.monotonic() - began, 20.0 * busy())
             self.works(web)
 
     def test_large_requests(self) -> None:
-        with five() as (web, _):
+        # What is too large is refused at once, however late a busy machine is.
+        with mock.patch.object(door, "REQUEST_SECONDS", SECONDS), five() as (web, _):
             host = f"Host: 127.0.0.1:{web.port}\r\n"
             token = f"Authorization: Bearer {web.tokens.using}\r\n"
             memory = resource.getrusage(resource.RUSAGE_SELF).ru_maxrss
@@ -185,10 +188,10 @@ class Attacks(LongTestCase):
     def test_slow_readers(self) -> None:
         with five() as (web, _), contextlib.ExitStack() as stack:
             for _ in range(door.MOST_STREAMS):
-                reader = stack.enter_context(socket.create_connection(("127.0.0.1", web.port), timeout=30))
+                reader = stack.enter_context(socket.create_connection(("127.0.0.1", web.port), timeout=SECONDS))
                 reader.sendall(f"GET /api/events HTTP/1.1\r\nHost: 127.0.0.1:{web.port}\r\n"
                                f"Authorization: Bearer {web.tokens.using}\r\n\r\n".encode())
-            until, status = time.monotonic() + 20, 0
+            until, status = time.monotonic() + SECONDS, 0
             while status != 503:
                 self.assertLess(time.monotonic(), until)
                 # As long as there is a place, this is a page too, and has no end.

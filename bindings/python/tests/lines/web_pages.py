@@ -17,7 +17,7 @@ from wurstlinen import LineFailed
 from wurstlinen.lines import OpenLine
 from wurstlinen.lines.rig import Rig
 from wurstlinen.lines.scene import Scene
-from wurstlinen.web import running, tokens
+from wurstlinen.web import pages, running
 from wurstlinen.web.door import Door
 
 LEFT, RIGHT, BACK, HOUSE, SECOND = ("1234:00000001", "1234:00000002", "454e:0a000017", "9abc:00000002",
@@ -65,8 +65,8 @@ class Moody(Rig):
 class Web:
     """The page's program in this process, at a port of its own."""
 
-    def __init__(self, line: str, port: int = 0, kept: Optional[tokens.Tokens] = None) -> None:
-        self.tokens = kept or tokens.Tokens()
+    def __init__(self, line: str, port: int = 0, kept: Optional[pages.Tokens] = None) -> None:
+        self.tokens = kept or pages.Tokens()
         self.door = Door((running.LOOPBACK, port))
         self.port = int(self.door.server_address[1])
         server = running.ServerOfLine(line)
@@ -166,11 +166,21 @@ def web_on(rig: Moody, name: str = "rig:/it") -> Iterator[Web]:
 
 @contextlib.contextmanager
 def five(**others: Any) -> Iterator[Tuple[Web, Moody]]:
-    """The page of the example's five fixtures, which were all asked."""
+    """The page of the example's five fixtures, which were all asked, also for their personalities."""
     rig = Moody(scene(devices=[*FIVE["devices"], *others.get("devices", [])], rig=others.get("rig", {})))
     with web_on(rig) as web:
         web.wait([LEFT, RIGHT, BACK, HOUSE, SECOND])
+        with web.follow() as events:
+            events.until(lambda parts: all(len(parts.get(f"fixture/{uid}", {}).get("personalities", [])) == 2
+                                           for uid in (LEFT, RIGHT)))
         yield web, rig
+
+
+def busy() -> float:
+    """How much longer than on a quiet machine things may take here."""
+    began = time.monotonic()
+    sum(range(1_000_000))
+    return max(1.0, (time.monotonic() - began) / 0.01)
 
 
 def many(count: int) -> Moody:

@@ -1,7 +1,7 @@
 // The frame of the page: its views, how things are, and messages.
 
 import { button, classes, make, show } from "/dom.js";
-import { call, fixtureOf, follow, lost, maySend, parts, partsOf, token } from "/server.js";
+import { call, follow, lost, maySend, parts, partsOf, token } from "/server.js";
 import * as discovery from "/discovery.js";
 import * as file from "/file.js";
 import * as fixture from "/fixture.js";
@@ -94,12 +94,8 @@ function statusText() {
 }
 
 // Takes the last change back, once that is wanted.
-function undo({ uid, column, before, after, text }) {
-    const what = column === "label" ? column : `${column} of ${fixtures.nameOf(fixtureOf(uid)) || uid}`;
-    const [old, now] = [before, after].map((each) => each || "empty");
-    say(`Undo: ${what}, ${now} → ${old}?`, { action: { text: "Undo", act: () => act("undo", { text },
-        `Undone: the ${what} is ${old} again (was ${now}).`) } });
-}
+const undo = ({ text, back }) => say(`Undo: ${back}?`, { action: { text: "Undo",
+    act: () => act("undo", { text }, `Undone: ${back}.`) } });
 
 // Which fixtures show themselves, and how all of them stop.
 function stop() {
@@ -135,7 +131,7 @@ export function draw() {
         document.title = `${TITLES[name] ?? uid} · Wurstlinen`;
     }
     show(document.body, [header(name), make("main", { id: "view", key: place, class: name, tabindex: "-1" },
-        views[name].view(uid)), messages()]);
+        TITLES[name] && make("h2", { class: "hidden" }, TITLES[name]), ...views[name].view(uid)), messages()]);
     if (before && place !== before) {
         document.getElementById("view").focus();
         scrollTo(0, 0);
@@ -146,10 +142,7 @@ let frame = 0;
 
 // A page in the background draws nothing until it is seen.
 export function redraw() {
-    frame ||= requestAnimationFrame(() => {
-        frame = 0;
-        draw();
-    });
+    frame ||= requestAnimationFrame(() => (frame = 0, draw()));
 }
 
 addEventListener("hashchange", () => (location.hash.slice(1).split("/")[0] === token ? draw() : location.reload()));

@@ -14,7 +14,7 @@ from ..parameters import Parameter
 from ..parameters.decoding import Values
 from ..parameters.fields import Field, Flag, Group, Number
 from ..parameters.words import name_of
-from .board import Board, latest
+from .hands import Board
 from .rig import Rig
 
 # A board has no more of them.
@@ -63,8 +63,9 @@ class Details:
     def read(self, uid: Uid) -> None:
         """Has a fixture asked for all that it supports. Raises Failure."""
         self._rig.entry(uid)
-        before = self._shown.get(uid, {"sections": {}, "forms": {}})
-        for each in latest(self._shown, uid, before, MOST_SHOWN):
+        before = self._shown[uid] = self._shown.pop(uid, {"sections": {}, "forms": {}})
+        for each in list(self._shown)[:-MOST_SHOWN]:
+            self._shown.pop(each, None)
             self._board.put(f"details/{each}", None)
         self._rig.hands.do(str(uid), partial(self._read, uid, before)).result()
 

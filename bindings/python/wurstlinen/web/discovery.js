@@ -38,9 +38,10 @@ export function view() {
     const missing = [...partsOf("fixture/").filter((found) => found.missing).map((found) => ({ uid: found.uid,
         text: found.missing })), ...said.filter(({ uid, is_broken: isBroken }) => !isBroken && !fixtureOf(uid))];
     const address = last?.picture && `/picture/${last.picture}`;
-    return [make("h2", { class: "hidden" }, "Discovery"),
-        make("div", { class: "tools" }, button(last?.runs ? "Discovering …" : "Discover", () => act("discover", {}),
-            { class: "main", disabled: !maySend() || Boolean(last?.runs) })),
+    const begin = button(last?.runs ? "Discovering …" : "Discover", () => act("discover", {}), { class: "main",
+        disabled: !maySend() || Boolean(last?.runs) });
+    return [make("div", { class: "tools" }, begin,
+        make("p", { class: "sending" }, "Once it has begun, nothing stops it: it ends by itself.")),
         make("p", { role: "status" }, progressText(parts.get("progress"), last)),
         make("p", { class: classes("result", last?.fault && "bad") }, resultText(last)),
         section("Fixtures that did something wrong", said.filter((each) => each.is_broken)),

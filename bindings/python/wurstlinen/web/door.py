@@ -30,15 +30,10 @@ HEADERS = {
                                "frame-ancestors 'none'",
     "X-Content-Type-Options": "nosniff", "Referrer-Policy": "no-referrer", "Cache-Control": "no-store",
     "Cross-Origin-Resource-Policy": "same-origin", "Cross-Origin-Opener-Policy": "same-origin"}
-PLAIN = "text/plain; charset=utf-8"
 
 
 class Refusal(Exception):
-    """A request isn't answered, for this reason, with this status."""
-
-    def __init__(self, status: int, text: str) -> None:
-        super().__init__(text)
-        self.status = status
+    """A request isn't answered, with this status, for this reason."""
 
 
 class Stream(io.BufferedReader):
@@ -79,7 +74,8 @@ class Handler(BaseHTTPRequestHandler):
             self.server.note_request(self.connection)
             self.server.answer(self, body)
         except Refusal as refusal:
-            self.reply(refusal.status, str(refusal).encode(), PLAIN)
+            status, text = refusal.args
+            self.reply(status, text.encode(), "text/plain; charset=utf-8")
 
     do_POST = do_GET
 
@@ -115,10 +111,8 @@ class Handler(BaseHTTPRequestHandler):
 
 
 class Door(socketserver.ThreadingTCPServer):
-    """The server. A thread answers each connection.
-
-    `answer` answers a request, or raises Refusal. `admits` says whether a request's body is read.
-    """
+    """The server. A thread answers each connection: `answer` answers a request, or raises Refusal. `admits` says
+    whether a request's body is read."""
 
     allow_reuse_address = True
     daemon_threads = True

@@ -5,9 +5,6 @@ import { button, classes, make, plural } from "/dom.js";
 import { differencesOf, linked } from "/fixtures.js";
 import { maySend, mayUse, parts } from "/server.js";
 
-// Where something is wrong, and not only otherwise.
-const BAD = ["missing", "overlap", "end"];
-
 async function save() {
     const answer = await asked("save");
     if (answer) {
@@ -42,20 +39,19 @@ function differences(file) {
     const { name, rows, note, differences: found } = file;
     return [make("p", {}, `${name} has ${plural(rows, "fixture")}; ${found.length ? `${differencesOf(file)}:`
         : "nothing differs."}`), make("p", {}, note),
-    make("ul", { class: "differences" }, found.map(({ kind, uid, label, text }) =>
-        make("li", { class: classes(BAD.includes(kind) && "bad") }, make("b", {}, `${kind}: `), linked(uid, label),
-            `, ${text}`)))];
+    make("ul", { class: "differences" }, found.map(({ kind, uid, label, text }) => {
+        const isWrong = ["missing", "overlap", "end"].includes(kind);
+        return make("li", { class: classes(isWrong && "bad") }, make("b", {}, `${kind}: `), linked(uid, label),
+            `, ${text}`);
+    }))];
 }
 
 export function view() {
     const file = parts.get("file"), disabled = !mayUse();
-    return [make("h2", { class: "hidden" }, "File"),
-        make("div", { class: "tools" }, button("Save as CSV", save, { disabled }),
-            button(`Compare with ${file ? "another" : "a saved"} file …`, ({ target }) => target.nextSibling.click(),
-                { disabled }),
-            make("input", { type: "file", accept: ".csv,.txt,.tsv,text/csv", id: "chooser", hidden: true,
-                onchange: load }),
-            file && button(`Apply ${file.name} …`, look, { disabled: !maySend() }),
-            file && button("Close the file", () => act("unload", {}), { disabled })),
-        ...(file ? differences(file) : [])];
+    return [make("div", { class: "tools" }, button("Save as CSV", save, { disabled }),
+        button(`Compare with ${file ? "another" : "a saved"} file …`, ({ target }) => target.nextSibling.click(),
+            { disabled }),
+        make("input", { type: "file", accept: ".csv,.txt,.tsv,text/csv", id: "chooser", hidden: true, onchange: load }),
+        file && button(`Apply ${file.name} …`, look, { disabled: !maySend() }),
+        file && button("Close the file", () => act("unload", {}), { disabled })), ...(file ? differences(file) : [])];
 }

@@ -1,12 +1,12 @@
 // One fixture: on a phone it fills the screen. What `show` shows, and what can be set.
 
-import { act, addressOf, busily, busy, redraw } from "/app.js";
+import { act, addressOf, busily, busy, say } from "/app.js";
 import { button, classes, make } from "/dom.js";
-import { editor, identifier, nameOf, notesOf, ordered, remarksOf, slotsOf, walk } from "/fixtures.js";
+import { SENDING, editor, identifier, nameOf, notesOf, ordered, remarksOf, slotsOf, walk } from "/fixtures.js";
 import { fixtureOf, maySend, mayUse, parts } from "/server.js";
 
-// The fixture that was asked for all by this page, and what would be done at once if it is wanted once more.
-let asked = "", sure = "";
+// The fixture that was asked for all by this page.
+let asked = "";
 
 // Goes to a fixture beside this one, which shows itself if this one did.
 async function go(uid, by) {
@@ -24,22 +24,18 @@ function fieldOf({ name, unit, hint, choices, value }) {
     make("small", {}, ` ${hint}`));
 }
 
-// A form for a parameter. What it does at once is asked for once more.
+// A form for a parameter. What it does at once is a question first.
 function formOf(uid, { parameter, about, acts, fields }) {
-    const title = parameter.replaceAll("_", " "), name = `${uid}/${parameter}`, isSure = sure === name;
+    const title = parameter.replaceAll("_", " ");
     const send = ({ target }) => {
         const values = [...target.parentElement.querySelectorAll("input, select")].map((each) => each.value);
         const words = fields.flatMap((field, at) => (field.is_list ? values[at].split(" ").filter(Boolean)
             : [values[at]]));
-        sure = acts && !isSure ? name : "";
-        redraw();
-        if (!sure) {
-            act("set", { uid, parameter, words }, `${title} was set, and the fixture read again.`);
-        }
+        const set = () => act("set", { uid, parameter, words }, `${title} was set, and the fixture read again.`);
+        return acts ? say(`Really do it: ${title}?`, { action: { text: "Do it", act: set } }) : set();
     };
     return make("details", { class: "form" }, make("summary", {}, `Change ${title}`), make("p", {}, about),
-        fields.map(fieldOf), button(!acts ? "Set" : isSure ? "Really?" : `Do it: ${title}`, send,
-            { disabled: !maySend() }));
+        fields.map(fieldOf), button(acts ? `Do it: ${title}` : "Set", send, { disabled: !maySend() }));
 }
 
 // A section stays, with what somebody types in its forms, until it has other values.
@@ -74,18 +70,19 @@ export function view(uid) {
     const isReading = busy.has(`${uid}/show`) || isOver === false, notes = notesOf(found);
     const field = (text, column) => make("label", { class: "field" }, make("span", {}, text), editor(found, column));
     const about = [found.manufacturer, found.model, uid, found.first && `slots ${slotsOf(found)}`].filter(Boolean);
+    const steps = [["‹ Previous", -1], [found.identifies && maySend() ? "Identify next ›" : "Next ›", 1]]
+        .map(([text, by]) => button(text, () => go(uid, by), { class: "main" }));
     const short = ([title, text]) => `${title.replace(/^\d+ /, "")} ${text.split(" (")[0]}`.trim();
     const measured = (sections.sensors ?? []).map(short).join(" · ");
     return [make("article", {}, back, make("h2", { class: "name" }, nameOf(found)),
         make("p", { class: "whole" }, about.join(" · ")),
         make("p", { class: classes("notes", notes.length && "bad") }, [...notes, ...remarksOf(found)].join("; ")),
         identifier(found, "big"),
-        make("div", { class: "steps" }, [["‹ Previous", -1], [found.identifies && maySend() ? "Identify next ›"
-            : "Next ›", 1]].map(([text, by]) => button(text, () => go(uid, by), { class: "main" }))),
-        field("Label", "label"),
+        make("div", { class: "tools steps" }, steps), field("Label", "label"),
         make("div", { class: "place" }, field("Address", "address"), nudge(found, "−", -1, "lower"),
             nudge(found, "+", 1, "higher")),
-        field("Personality", "personality"), make("p", { class: "sensors" }, measured),
+        field("Personality", "personality"), make("p", { class: "sending" }, mayUse() ? SENDING : ""),
+        make("p", { class: "sensors" }, measured),
         mayUse() && button(isReading ? "Reading …" : "Read all again", () => readAll(uid),
             { disabled: isReading || !maySend() }),
         make("div", { class: "sections", "aria-busy": String(isReading) },

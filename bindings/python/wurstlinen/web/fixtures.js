@@ -7,6 +7,7 @@ import { fixtureOf, maySend, mayUse, parts, partsOf } from "/server.js";
 const COLUMNS = { label: "Label", address: "Address", slots: "Slots", personality: "Personality", model: "Model",
     uid: "UID" };
 const MOST_NOTES = 2;
+export const SENDING = "Enter, or leaving a field, sends what you typed; Escape restores it.";
 const chosen = { filter: "", column: "address", isDown: false };
 // The fixture to which this page's walk has come, which the page's program may not have shown so far.
 let walked = null;
@@ -20,9 +21,8 @@ export function linked(uid, label = "") {
 }
 
 // What is wrong with the slots of one of two fixtures, or of the only one.
-export function problemOf({ kind, uid, other }, own) {
-    return kind === "end" ? "ends after slot 512" : `overlaps ${nameOf(fixtureOf(own === uid ? other : uid))}`;
-}
+export const problemOf = ({ kind, uid, other }, own) => (kind === "end" ? "ends after slot 512"
+    : `overlaps ${nameOf(fixtureOf(own === uid ? other : uid))}`);
 
 // What is wrong with a fixture, and what else is remarkable.
 export function notesOf({ uid, missing, notes }) {
@@ -36,10 +36,8 @@ export function remarksOf({ uid, root, is_slow: isSlow }) {
 }
 
 export function slotsOf({ first, last, is_read: isRead }) {
-    if (!first) {
-        return isRead ? "none" : "…";
-    }
-    return first === last ? `${first}` : `${first}–${last}`;
+    const unknown = isRead ? "none" : "…";
+    return first ? [...new Set([first, last])].join("-") : unknown;
 }
 
 // In the order in which they are shown.
@@ -64,7 +62,7 @@ function personalitiesOf({ personality, personality_name: name, personalities, s
         `${each.number} ${each.name} (${plural(each.slots, "slot")})`));
 }
 
-// An input for a value in the table. What is typed is sent, read back, and shown; what was refused comes back.
+// An input for a value. What is typed is sent, read back, and shown; what was refused comes back.
 export function editor(found, column) {
     const { uid } = found, name = `${uid}/${column}`, isChoice = column === "personality", isLabel = column === "label";
     const known = () => String(fixtureOf(uid)?.[column] ?? "");
@@ -75,13 +73,8 @@ export function editor(found, column) {
             target.value = known();
         }
     };
-    const onkeydown = (event) => {
-        if (event.key === "Escape") {
-            event.target.value = known();
-        } else if (event.key === "Enter") {
-            send(event);
-        }
-    };
+    const restore = ({ target }) => (target.value = known());
+    const onkeydown = (event) => ({ Escape: restore, Enter: send })[event.key]?.(event);
     return make(isChoice ? "select" : "input", { ...busyAs(name, column), shown: busy.has(name) ? null : known(),
         onkeydown, onchange: send, onblur: redraw, autocomplete: "off", spellcheck: "false",
         "aria-label": `${COLUMNS[column]} of ${nameOf(found)}`, inputmode: column === "address" ? "numeric" : null,
@@ -167,7 +160,7 @@ export function view() {
     const orderOf = (column) => (chosen.column !== column ? "none" : chosen.isDown ? "descending" : "ascending");
     const heads = Object.entries(COLUMNS).map(([column, title]) => head(button(title, () => sortBy(column)),
         orderOf(column)));
-    return [make("h2", { class: "hidden" }, "Fixtures"), tools(all, shown),
+    return [tools(all, shown), make("p", { class: "sending" }, mayUse() ? SENDING : ""),
         make("table", { class: "rig" }, make("thead", {}, make("tr", {}, head("Identify"), heads, head("Note"),
             head("More"))), make("tbody", {}, shown.map(rowOf)))];
 }

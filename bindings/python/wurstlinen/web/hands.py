@@ -1,10 +1,11 @@
-"""Threads that ask fixtures, each by a connection of its own, so that a slow fixture doesn't hold up the others."""
+"""What threads share: a board with what pages show, and hands that ask fixtures, none of which holds up the others."""
 from __future__ import annotations
 
 import os
 import threading
+import time
 from concurrent.futures import Future
-from typing import Any, Callable, List, NamedTuple, Optional, Set, TypeVar
+from typing import Any, Callable, Dict, Iterator, List, NamedTuple, Optional, Set, TypeVar
 
 from .. import Fault
 from .._standard_streams import warn
@@ -22,6 +23,59 @@ Made = TypeVar("Made")
 # What commands print for people isn't printed.
 NOWHERE = open(os.devnull, "w", encoding="utf-8")
 SILENT = Output(False, NOWHERE, NOWHERE)
+# How long changes are gathered, and after how long without one a page gets a sign that all is well.
+GATHERING_SECONDS = 0.03
+BEAT_SECONDS = 5.0
+Parts = Dict[str, Any]
+
+
+class Board:
+    """Parts, which are values of JSON, by their names. Threads put them and follow them."""
+
+    def __init__(self) -> None:
+        self._parts: Parts = {}
+        self._changed = threading.Condition()
+        # For each page, the names of the parts that have changed since it got them.
+        self._followers: List[Set[str]] = []
+        self._has_ended = False
+
+    def put(self, name: str, value: Any) -> None:
+        """A part has this value now. None takes it away."""
+        with self._changed:
+            if self._parts.get(name) == value:
+                return
+            self._parts[name] = value
+            if value is None:
+                del self._parts[name]
+            for changed in self._followers:
+                changed.add(name)
+            self._changed.notify_all()
+
+    def end(self) -> None:
+        """Nobody follows it any more."""
+        with self._changed:
+            self._has_ended = True
+            self._changed.notify_all()
+
+    def follow(self) -> Iterator[Parts]:
+        """All parts, then those that change; none if nothing did for a while. Who is slow gets the newest values."""
+        changed: Set[str] = set()
+        with self._changed:
+            self._followers.append(changed)
+            found = dict(self._parts)
+        try:
+            while not self._has_ended:
+                yield found
+                with self._changed:
+                    is_new = self._changed.wait_for(lambda: changed or self._has_ended, BEAT_SECONDS)
+                # What belongs together comes together.
+                time.sleep(GATHERING_SECONDS if is_new else 0)
+                with self._changed:
+                    found = {name: self._parts.get(name) for name in changed}
+                    changed.clear()
+        finally:
+            with self._changed:
+                self._followers = [each for each in self._followers if each is not changed]
 
 
 class Task(NamedTuple):
@@ -35,10 +89,8 @@ class Task(NamedTuple):
 
 
 class Hands:
-    """Does tasks: urgent ones first, and never two for one key at a time.
-
-    `connect` makes a client of the server. It raises LineFailed.
-    """
+    """Does tasks: urgent ones first, and never two for one key at a time. `connect` makes a client of the server, or
+    raises LineFailed."""
 
     def __init__(self, connect: Callable[[], SharedClient]) -> None:
         self._connect = connect
@@ -67,10 +119,8 @@ class Hands:
         return {client.queue.number for client in self._clients if client is not None}
 
     def do(self, key: str, work: Callable[[Work], Made], is_urgent: bool = True, name: str = "") -> "Future[Made]":
-        """Has something done, and returns what will become of it: what it returns, or Failure.
-
-        With a name, what waits for the key under that name already isn't done once more.
-        """
+        """Has something done, and returns what will become of it: what it returns, or Failure. With a name, what waits
+        for the key under that name already isn't done once more."""
         with self._has_changed:
             for task in self._waiting:
                 if name and (task.key, task.name) == (key, name):
@@ -100,10 +150,9 @@ class Hands:
                 if work is None or not is_alive(self._clients[number]):
                     work = self._connected(number)
                 task.end.set_result(task.work(work))
-            except Failure as failure:
-                task.end.set_exception(failure)
-            except Exception as fault:  # Only this task has a fault, whatever it is. No answer can be trusted any more.
-                work = None
+            except Exception as fault:  # Only this task has a fault, whatever it is.
+                # Unless it is an answer, none can be trusted any more.
+                work = work if isinstance(fault, Failure) else None
                 task.end.set_exception(failure_of(fault))
             with self._has_changed:
                 self._busy.discard(task.key)
@@ -130,6 +179,8 @@ def is_alive(client: Optional[SharedClient]) -> bool:
 
 def failure_of(fault: Exception) -> Failure:
     """What pages say of a fault. One of their program's own goes to standard error, too."""
+    if isinstance(fault, Failure):
+        return fault
     if isinstance(fault, (Fault, LineFailed)):
         return Failure(FAILED, str(fault), reason=LINE_FAILED)
     text = f"the page has a fault: {fault!r}"

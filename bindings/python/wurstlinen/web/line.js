@@ -53,9 +53,8 @@ export function view() {
     const now = parts.get("line"), paused = Boolean(now?.paused), clients = programsOf(parts.get("clients") ?? []);
     const count = clients.reduce((sum, each) => sum + each.outstanding, 0);
     const last = partsOf("request/").sort((one, other) => other.at - one.at);
-    return [make("h2", { class: "hidden" }, "Line"),
-        make("p", {}, now?.served ? `${now.name} is served by process ${now.process}, as ${now.source}.`
-            : "No server runs."),
+    return [make("p", {}, now?.served ? `${now.name} is served by process ${now.process}, as ${now.source}.`
+        : "No server runs."),
         make("div", { class: "tools" }, pauser(paused, clients, !mayUse() || !now?.served),
             make("p", { role: "status" }, waitingText(paused, count))),
         table("Programs", { Program: "name", Process: "process", Waiting: "waits", Pause: "paused" },

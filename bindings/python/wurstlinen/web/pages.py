@@ -5,27 +5,32 @@ browsers keep no cookie. It is in the part of the address behind the #, which br
 """
 from __future__ import annotations
 
+import contextlib
+import hashlib
+import hmac
 import inspect
 import json
+import os
 import pkgutil
+import secrets
 import socket
+import threading
+from dataclasses import dataclass, field
 from typing import Callable, Mapping, Optional, Tuple
 from urllib.parse import urlsplit
 
 from .. import Fault, Uid
-from ..front.output import Failure
+from ..front.files import PRIVATE_MODE, file_of
+from ..shared.client import SharedClient
+from ..shared.listening import made_folder
 from ..shared.words import BadRequest, Keys, object_of
-from .board import Board
 from .details import Details
-from .discoveries import Discoveries
-from .door import MOST_STREAMS, Door, Handler, Refusal
-from .hands import failure_of
+from .door import HOUSEKEEPING_SECONDS, MOST_STREAMS, Door, Handler, Refusal
+from .hands import Board, Hands, failure_of
 from .plans import Plans
 from .rig import Rig
-from .tokens import LOOKS, Tokens
-from .watcher import Watcher
+from .watcher import Discoveries, Watcher
 
-JSON = "application/json"
 SCRIPT, STYLE, PAGE = "text/javascript; charset=utf-8", "text/css; charset=utf-8", "text/html; charset=utf-8"
 FILES = {"/": ("page.html", PAGE), "/page.css": ("page.css", STYLE),
          **{f"/{name}.js": (f"{name}.js", SCRIPT)
@@ -34,24 +39,69 @@ API, PICTURE, EVENTS = "/api/", "/picture/", "/api/events"
 BEARER = "Bearer "
 # The page that explains a discovery runs its own scripts, as if it came from nowhere.
 PICTURE_HEADERS = {"Content-Security-Policy": "sandbox allow-scripts; frame-ancestors 'self'"}
-OWN_SITES = (None, "same-origin", "none")
 LOOPBACK = "127.0.0.1"
+TOKEN_BYTES = 16
+USES, LOOKS = "uses", "looks"
+
+
+@dataclass(frozen=True)
+class Tokens:
+    """Both tokens. They are the same as long as the user is logged in, so that pages survive a restart."""
+
+    using: str = field(default_factory=lambda: secrets.token_urlsafe(TOKEN_BYTES))
+
+    @property
+    def looking(self) -> str:
+        """The token for looking, from which nobody can tell the other one."""
+        return hashlib.sha256(self.using.encode()).hexdigest()[:2 * TOKEN_BYTES]
+
+    def role(self, said: str) -> Optional[str]:
+        """What somebody with this token may do; None: nothing."""
+        return next((role for role, token in ((USES, self.using), (LOOKS, self.looking))
+                     if hmac.compare_digest(said.encode(), token.encode())), None)
+
+
+def kept(line: str, wants_new: bool) -> Tokens:
+    """The tokens of a line's page, in a file of the user's own. Raises BadPlace and OSError."""
+    path = made_folder(None) / f"web-{hashlib.sha256(os.fsencode(line)).hexdigest()[:TOKEN_BYTES]}.token"
+    with contextlib.suppress(OSError, ValueError):
+        found = "" if wants_new else path.read_text(encoding="ascii")
+        if len(found) >= TOKEN_BYTES:
+            return Tokens(found)
+    new = Tokens()
+    with file_of(str(path), new_mode=PRIVATE_MODE) as written:
+        written.write(new.using)
+    return new
 
 
 class Pages:
-    """Answers requests. What is asked for under /api/ is done by the call of that name, whose parameters are keys."""
+    """Answers requests. What is asked for under /api/ is done by the call of that name, whose parameters are keys.
+    `connect` makes a client of the line's server, and `connect_or_start` starts a server if none runs."""
 
-    def __init__(self, door: Door, board: Board, rig: Rig, tokens: Tokens, discoveries: Discoveries, plans: Plans,
-                 watcher: Watcher) -> None:
-        self.board = board
-        self.tokens = tokens
-        self.discoveries = discoveries
-        details = Details(board, rig)
+    def __init__(self, door: Door, tokens: Tokens, connect: Callable[[], SharedClient],
+                 connect_or_start: Callable[[], SharedClient]) -> None:
+        self.door, self.tokens, self.board = door, tokens, Board()
+        self.rig = rig = Rig(self.board, Hands(connect))
+        self.discoveries = Discoveries(self.board, rig)
+        self.plans = plans = Plans(self.board, rig)
+        self.watcher = Watcher(self.board, connect_or_start, rig, self.discoveries)
+        details = Details(self.board, rig)
         self.calls: Mapping[str, Callable[..., object]] = {
-            "change": rig.set, "undo": rig.undo, "identify": rig.identify, "forget": rig.forget,
-            "show": details.read, "set": details.set, "discover": discoveries.begin, "pause": watcher.pause,
+            "change": rig.set, "undo": rig.undo, "identify": rig.identify, "forget": rig.forget, "show": details.read,
+            "set": details.set, "discover": self.discoveries.begin, "pause": self.watcher.pause,
             "save": plans.save, "load": plans.load, "unload": plans.unload, "apply": plans.apply}
         door.answer, door.admits = self.answer, lambda handler: self.role_of(handler) is not None
+
+    def serve(self) -> None:
+        """Serves what comes through the door, until that is shut."""
+        threading.Thread(target=self.plans.follow, daemon=True).start()
+        self.watcher.start()
+        try:
+            self.door.serve_forever(HOUSEKEEPING_SECONDS)
+        finally:
+            self.board.end()
+            self.watcher.end()
+            self.rig.hands.end()
 
     def role_of(self, handler: Handler) -> Optional[str]:
         """What whoever asks may do."""
@@ -90,11 +140,9 @@ class Pages:
             answer = call(**arguments_of(call, object_of(body))) or {}
         except BadRequest as fault:
             raise Refusal(400, str(fault)) from None
-        except Failure as failure:
-            answer = {"error": str(failure)}
         except Exception as fault:  # Whatever it is, who asks hears of it.
             answer = {"error": str(failure_of(fault))}
-        handler.reply(200, json.dumps(answer, default=vars).encode(), JSON)
+        handler.reply(200, json.dumps(answer, default=vars).encode(), "application/json")
 
     def _events(self, handler: Handler, role: str) -> None:
         """All that the page shows, and each change. A page that doesn't read loses its connection, and nothing else."""
@@ -126,7 +174,7 @@ def check_origin(handler: Handler) -> None:
     """Raises Refusal if another site's page asks."""
     origin = handler.headers.get("Origin")
     if origin not in (None, f"http://{handler.headers.get('Host')}") \
-            or handler.headers.get("Sec-Fetch-Site") not in OWN_SITES:
+            or handler.headers.get("Sec-Fetch-Site") not in (None, "same-origin", "none"):
         raise Refusal(403, "another site's page asks, and isn't answered")
 
 

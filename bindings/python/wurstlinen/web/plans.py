@@ -12,9 +12,8 @@ from ..front.fixtures import FOOTPRINT_FIELD, Fixture
 from ..front.guarding import ADDRESS, problems_of
 from ..front.output import BAD_ARGUMENTS, Failure, Output
 from ..front.sheets import Sheet
-from .board import Board
-from .hands import SILENT, failure_of
-from .rig import PREFIX, Plan, Rig, typeset, value_in
+from .hands import SILENT, Board, failure_of
+from .rig import PREFIX, Plan, Rig, value_in
 
 MOST_NAME = 100
 
@@ -91,7 +90,7 @@ def text_of(found: Difference) -> str:
     """What differs: what there is, and then what the file says."""
     keys = found.keys
     if found.kind not in KINDS.values():
-        return typeset(found.text)
+        return found.text
     name = "at" if keys["column"] == ADDRESS else keys["column"]
     return f"{name} {keys['after'] or 'empty'}, file says {keys['before'] or 'empty'}"
 

@@ -1,7 +1,6 @@
 """The fixtures as the page knows them: what they have said, what the last discovery said, and changes with undo."""
 from __future__ import annotations
 
-import re
 import threading
 import time
 from concurrent.futures import Future
@@ -20,20 +19,15 @@ from ..front.requests import OFF, ON, identify
 from ..front.work import Work
 from ..parameters import WordFault, encode
 from ..parameters.words import whole
-from .board import Board
-from .hands import Hands
+from .hands import Board, Hands
 
 MOST_UNDOS = 100
 # How long after the line has failed a device is asked again.
 AGAIN_SECONDS = 5.0
 # What the parts begin with that show a device.
 PREFIX = "fixture/"
-# What reading a device is called among tasks.
-READ = "read"
 # The page says this in another place, for all that overlap.
 END_NOTE = "its slots end after"
-# The slots of a device in texts for terminals.
-SLOTS = re.compile("([0-9]+)-([0-9]+)(?= overlaps | ends |$)")
 # A model: its maker, its number, and its software's.
 Model = Tuple[int, object, object]
 
@@ -84,10 +78,14 @@ class Rig:
         # The devices of the file that is loaded.
         self.planned_labels: Mapping[Uid, str] = {}
 
+    def _those(self, is_wanted: Callable[[Entry], bool]) -> List[Entry]:
+        """The devices for which this is true."""
+        with self.lock:
+            return [entry for _, entry in sorted(self.entries.items()) if is_wanted(entry)]
+
     def fixtures(self) -> List[Fixture]:
         """Those that the last discovery found, as far as they were asked."""
-        with self.lock:
-            return [entry.fixture for _, entry in sorted(self.entries.items()) if not entry.missing]
+        return [entry.fixture for entry in self._those(lambda each: not each.missing)]
 
     def entry(self, uid: Uid) -> Entry:
         """A device that the page knows. Raises Failure."""
@@ -118,22 +116,18 @@ class Rig:
 
     def explain(self, reasons: Mapping[Uid, str]) -> None:
         """Has pages show why devices are missing."""
-        with self.lock:
-            self.reasons = reasons
-            gone = [entry for entry in self.entries.values() if entry.missing]
-        for entry in gone:
+        self.reasons = reasons
+        for entry in self._those(lambda each: bool(each.missing)):
             self.show(entry)
 
     def adopt(self, devices: Sequence[Device], fault: Optional[str], reads_all: bool) -> None:
         """These devices are on the line, and with a fault perhaps more."""
         found = {device.uid for device in devices}
         why = "the last discovery didn't find it" if fault is None else f"the last discovery is incomplete: {fault}"
-        with self.lock:
-            # What other programs' runs show isn't known.
-            self.reasons = {} if reads_all else {uid: text for uid, text in self.reasons.items() if uid not in found}
-            gone = [entry for uid, entry in self.entries.items() if uid not in found]
-            known = {uid for uid, entry in self.entries.items() if not entry.missing and not entry.fixture.is_gone}
-        for entry in gone:
+        # What other programs' runs show isn't known.
+        self.reasons = {} if reads_all else {uid: text for uid, text in self.reasons.items() if uid not in found}
+        known = {each.uid for each in self.fixtures() if not each.is_gone}
+        for entry in self._those(lambda each: each.device.uid not in found):
             entry.missing = why
             self.show(entry)
         for device in devices:
@@ -147,13 +141,13 @@ class Rig:
             entry = self.entries.setdefault(device.uid, new)
             entry.device, entry.missing, entry.failed_at = device, "", None
         self.show(entry)
-        self.hands.do(str(device.uid), partial(self._read, entry), is_urgent, READ).add_done_callback(
+        self.hands.do(str(device.uid), partial(self._read, entry), is_urgent, "read").add_done_callback(
             partial(self._end_read, entry))
 
     def _end_read(self, entry: Entry, end: Future[None]) -> None:
         """A device was asked, perhaps in vain."""
         fault = end.exception()
-        if is_of_line(fault):
+        if isinstance(fault, Failure) and fault.is_of_line:
             entry.failed_at = time.monotonic()
         elif fault is not None:
             with self.lock:
@@ -167,10 +161,8 @@ class Rig:
 
     def read_those(self, is_wanted: Callable[[Entry], bool], is_urgent: bool = False) -> None:
         """Has devices asked again."""
-        with self.lock:
-            wanted = [entry.device for entry in self.entries.values() if not entry.missing and is_wanted(entry)]
-        for device in wanted:
-            self.read(device, is_urgent)
+        for entry in self._those(lambda each: not each.missing and is_wanted(each)):
+            self.read(entry.device, is_urgent)
 
     def forget(self, uid: Uid) -> None:
         """Takes a device away that isn't there. Raises Failure."""
@@ -189,47 +181,30 @@ class Rig:
             if fixture.is_gone and entry.fixture.info is not None:
                 fixture = replace(entry.fixture, notes=fixture.notes, is_gone=True)
             entry.fixture, entry.is_read, entry.identifies = fixture, True, identifies
-            count = 0 if fixture.is_gone else fixture.number("personality_count") or 0
-            lacks = count > 1 and entry.model not in self._personalities
-            if lacks:
-                self._personalities[entry.model] = []
+            is_wanted = not fixture.is_gone and (fixture.number("personality_count") or 0) > 1
         self.show(entry)
-        if lacks:
-            asking = partial(self._read_personalities, fixture.uid, entry.model, count)
-            self.hands.do(str(fixture.uid), asking, is_urgent=False).add_done_callback(
-                partial(self._end_personalities, entry, entry.model))
+        if is_wanted and entry.model not in self._personalities:
+            asking = partial(self._read_personalities, fixture, entry.model)
+            self.hands.do(str(entry.model), asking, False, "read").add_done_callback(partial(self._end_read, entry))
 
-    def _read_personalities(self, uid: Uid, model: Model, count: int, work: Work) -> None:
-        """Asks a device for what all of its model have."""
-        asked = Fixture(uid)
-        numbers = range(1, count + 1)
+    def _read_personalities(self, fixture: Fixture, model: Model, work: Work) -> None:
+        """Asks a device for what all of its model have. If it doesn't say all, the next one that is read is asked."""
+        asked, numbers = Fixture(fixture.uid), range(1, (fixture.number("personality_count") or 0) + 1)
+        # Another one may have said it since.
+        if model in self._personalities:
+            return
         answers = [values_of(work, asked, "dmx_personality_description", bytes([number])) for number in numbers]
-        if asked.is_gone:
-            raise Failure(FAILED, f"{uid} doesn't answer any more", reason="timeout")
-        with self.lock:
+        if not asked.is_gone:
             self._personalities[model] = [
                 {"number": number, "name": str(values["description"]), "slots": values["slots_required"]}
                 for number, values in zip(numbers, answers) if values is not None]
-            alike = [each for each in self.entries.values() if each.model == model]
-        for each in alike:
-            self.show(each)
-
-    def _end_personalities(self, entry: Entry, model: Model, end: Future[None]) -> None:
-        """If a device didn't say all, the next one of its model is asked, or the same if the line has failed."""
-        fault = end.exception()
-        if fault is None:
-            return
-        with self.lock:
-            self._personalities.pop(model, None)
-        if is_of_line(fault):
-            entry.failed_at = time.monotonic()
+        for entry in self._those(lambda each: each.model == model):
+            self.show(entry)
 
     def identify(self, uid: Uid, on: bool = False, only: bool = False) -> None:
         """Has a device show itself, or not; if only that one, the others stop. Raises Failure."""
         wanted = self.entry(uid)
-        with self.lock:
-            found = [each for each in self.entries.values()
-                     if each is wanted or (only and each.identifies and not each.missing)]
+        found = self._those(lambda each: each is wanted or (only and bool(each.identifies) and not each.missing))
         for end in [self.hands.do(str(each.device.uid), partial(self._identify, each, on and each is wanted))
                     for each in found]:
             end.result()
@@ -266,7 +241,7 @@ class Rig:
         """Makes changes, those of a device in their order, unless slots would overlap or end after the last one."""
         # As `apply` sees it.
         problems = problems_after(self.fixtures(), moved_by(changes), partial(self._changed, changes))
-        plan = Plan([self._text(change) for change in changes], [typeset(each.text_after) for each in problems])
+        plan = Plan([self._text(change) for change in changes], [each.text_after for each in problems])
         if is_dry or (plan.problems and not is_forced):
             return plan
         for change, end in [(each, self.hands.do(str(each.uid), partial(self._make, each, is_undo)))
@@ -303,7 +278,7 @@ class Rig:
 
     def _text(self, change: Change) -> str:
         """A change, for a page."""
-        fixture = self.entry(change.uid).fixture
+        fixture = self.entries[change.uid].fixture if change.uid in self.entries else Fixture(change.uid)
         before, after = (text or "empty" for text in (change.before, change.after))
         return f"{fixture.label or fixture.model or ''} ({change.uid}): {change.column} {before} → {after}".lstrip()
 
@@ -318,14 +293,12 @@ class Rig:
     def _set_undos(self, undos: List[Change]) -> None:
         """These changes can be taken back, the last one first."""
         self._undos = undos[-MOST_UNDOS:]
-        self._board.put("undo", {**vars(undos[-1]), "uid": str(undos[-1].uid), "text": undos[-1].text,
+        self._board.put("undo", {"text": undos[-1].text, "back": self._text(reverse(undos[-1])),
                                  "count": len(self._undos)} if undos else None)
 
     def undo(self, text: str = "", force: bool = False) -> Plan:
-        """Takes the last change back, to what was there before, unless slots would overlap or end after the last one.
-
-        Raises Failure if that isn't the change with this text, or if somebody has changed it since.
-        """
+        """Takes the last change back, unless slots would overlap or end after the last one. Raises Failure if that
+        isn't the change with this text, or if somebody has changed it since."""
         with self.lock:
             if not self._undos:
                 raise Failure(BAD_ARGUMENTS, "there is no change to take back", reason="undo")
@@ -337,21 +310,16 @@ class Rig:
                 self._set_undos(self._undos[:-1])
                 raise Failure(FAILED, f"{last.uid} has {last.column} {now} by now, so it isn't taken back",
                               reason="undo")
-        plan = self.change([Change(last.uid, last.column, last.after, last.before)], force, is_undo=True)
+        plan = self.change([reverse(last)], force, is_undo=True)
         if plan.made:
             with self.lock:
                 self._set_undos([each for each in self._undos if each is not last])
         return plan
 
 
-def typeset(text: str) -> str:
-    """What is wrong with slots, as pages show slots."""
-    return SLOTS.sub("\\1–\\2", text)
-
-
-def is_of_line(fault: Optional[BaseException]) -> bool:
-    """Whether a task has failed since the line has."""
-    return isinstance(fault, Failure) and fault.is_of_line
+def reverse(change: Change) -> Change:
+    """What takes a change back."""
+    return Change(change.uid, change.column, change.after, change.before)
 
 
 def identifies_of(work: Work, uid: Uid) -> Optional[bool]:

@@ -4,6 +4,7 @@ from __future__ import annotations
 import argparse
 import contextlib
 import json
+import math
 import os
 import shutil
 import signal
@@ -14,7 +15,6 @@ import sys
 import threading
 import time
 from fcntl import ioctl
-from pathlib import Path
 from typing import List, Optional
 
 from .._endings import end_by
@@ -25,19 +25,12 @@ from ..lines.waiting import when_free
 from ..shared.client import SharedClient, connect
 from ..shared.connection import NotServed
 from ..shared.place import canonical
-from .board import Board
-from .discoveries import Discoveries
-from .door import HOUSEKEEPING_SECONDS, Door
-from .hands import Hands
-from .pages import LOOPBACK, Pages
-from .plans import Plans
-from .rig import Rig
-from .tokens import Tokens, kept
-from .watcher import Watcher
+from ..tool.places import PACKAGE
+from .door import Door
+from .pages import LOOPBACK, Pages, Tokens, kept
 
 # Linux's number for asking an interface for its IPv4 address.
 SIOCGIFADDR = 0x8915
-PACKAGE = Path(__file__).resolve().parent.parent
 # A server that was started for the page ends when nobody has used it for so long.
 IDLE_SECONDS = 2
 # How long a server that has ended may take to come back, before another is started.
@@ -45,41 +38,32 @@ PATIENCE_SECONDS = 3.0
 
 
 class ServerOfLine:
-    """Connects to the server of a line. If none runs, `connect_or_start` starts one."""
+    """Connects to the server of a line, and starts one if none runs. One thread calls it at a time."""
 
     def __init__(self, line: str) -> None:
         self.line = line
-        self._starting = threading.Lock()
         self._child: Optional[subprocess.Popen[str]] = None
-        # Since when no server runs.
-        self._gone_since: Optional[float] = None
+        # Since when no server runs. The first one doesn't come back.
+        self._gone_since: Optional[float] = -math.inf
 
     def connect(self) -> SharedClient:
-        """A client of the server that runs. Raises LineFailed."""
-        return connect(self.line)
-
-    def connect_or_start(self, patience: float = PATIENCE_SECONDS) -> SharedClient:
-        """The same. If no server has run for so long, one is started, and serves other programs too."""
-        with self._starting:
-            try:
-                client = self.connect()
-            except NotServed:
-                now = time.monotonic()
-                self._gone_since = now if self._gone_since is None else self._gone_since
-                if now < self._gone_since + patience:
-                    raise LineFailed("the server of the line has ended; another is started soon") from None
-                self._start()
-                client = self.connect()
-            self._gone_since = None
-            return client
+        """A client. If no server has run for a while, one is started, and serves other programs too."""
+        try:
+            client = connect(self.line)
+        except NotServed:
+            now = time.monotonic()
+            self._gone_since = now if self._gone_since is None else self._gone_since
+            if now < self._gone_since + PATIENCE_SECONDS:
+                raise LineFailed("the server of the line has ended; another is started soon") from None
+            self._start()
+            client = connect(self.line)
+        self._gone_since = None
+        return client
 
     def _start(self) -> None:
-        """Starts a server, which outlives this process if others use it.
-
-        Raises LineFailed, and ValueError for what names no line.
-        """
+        """Starts a server, which others may use longer. Raises LineFailed, and ValueError for what names no line."""
         words = ["serve", "--json", "--line", self.line, "--idle", str(IDLE_SECONDS)]
-        path = os.pathsep.join(filter(None, (str(PACKAGE.parent), os.environ.get("PYTHONPATH"))))
+        path = os.pathsep.join(filter(None, (os.path.dirname(PACKAGE), os.environ.get("PYTHONPATH"))))
         if self._child is not None:
             # The last one that was started has ended.
             self._child.wait()
@@ -107,7 +91,7 @@ def run_web(chosen: argparse.Namespace, output: Output) -> int:
         line = canonical(chosen.line)
         tokens = kept(line, chosen.new_tokens)
         server = ServerOfLine(line)
-        first = when_free(lambda: server.connect_or_start(patience=0.0), chosen.wait_line, output.note)
+        first = when_free(server.connect, chosen.wait_line, output.note)
     with first, opened(chosen) as door:
         # The signal's handler runs in the thread that serves, which can't wait for itself.
         end_by(lambda number, frame: threading.Thread(target=door.shutdown, daemon=True).start(),
@@ -127,21 +111,8 @@ def opened(chosen: argparse.Namespace) -> Door:
 
 def serve(door: Door, server: ServerOfLine, tokens: Tokens, first: SharedClient) -> None:
     """Serves what comes through a door, until that is shut."""
-    board = Board()
-    rig = Rig(board, Hands(server.connect))
-    discoveries = Discoveries(board, rig)
-    plans = Plans(board, rig)
     waiting = [first]
-    watcher = Watcher(board, lambda: waiting.pop() if waiting else server.connect_or_start(), rig, discoveries)
-    Pages(door, board, rig, tokens, discoveries, plans, watcher)
-    threading.Thread(target=plans.follow, daemon=True).start()
-    watcher.start()
-    try:
-        door.serve_forever(HOUSEKEEPING_SECONDS)
-    finally:
-        board.end()
-        watcher.end()
-        rig.hands.end()
+    Pages(door, tokens, lambda: connect(server.line), lambda: waiting.pop() if waiting else server.connect()).serve()
 
 
 def tell(line: str, door: Door, tokens: Tokens, chosen: argparse.Namespace, output: Output) -> None:

@@ -13,11 +13,8 @@ export let lost = "connecting ...";
 const headers = { Authorization: `Bearer ${token}` };
 
 export const partsOf = (prefix) => [...parts].filter(([name]) => name.startsWith(prefix)).map(([, value]) => value);
-
 export const fixtureOf = (uid) => parts.get(`fixture/${uid}`);
-
 export const mayUse = () => parts.get("role") === "uses" && !lost;
-
 export const maySend = () => mayUse() && Boolean(parts.get("line")?.there);
 
 export async function call(name, keys = {}) {
@@ -40,9 +37,7 @@ function take(text) {
     lost = "";
 }
 
-function inTime(work) {
-    return Promise.race([work, new Promise((_, fail) => setTimeout(fail, LATE, new Error(ABSENT)))]);
-}
+const inTime = (work) => Promise.race([work, new Promise((_, fail) => setTimeout(fail, LATE, new Error(ABSENT)))]);
 
 async function listen(changed) {
     const ending = new AbortController();

@@ -11,6 +11,7 @@ const HELP = matchMedia("(pointer: coarse)").matches ? "Tap a fixture to select 
 const isNarrow = matchMedia("(max-width: 700px)");
 const width = () => (isNarrow.matches ? 16 : 32);
 const rowOf = (slot) => Math.ceil(slot / width());
+const areaOf = (from, to) => `grid-area: ${rowOf(from)} / ${(from - 1) % width() + 1} / auto / span ${to - from + 1};`;
 // The fixture that is being moved, and where it is now.
 let moving = null;
 
@@ -73,9 +74,8 @@ function keyed(event) {
     }
 }
 
-function slotAt({ clientX, clientY }) {
-    return Number(document.elementsFromPoint(clientX, clientY).find((each) => each.matches("i"))?.textContent);
-}
+const slotAt = ({ clientX, clientY }) => Number(document.elementsFromPoint(clientX, clientY)
+    .find((each) => each.matches("i"))?.textContent);
 
 function dragged(event) {
     const { uid } = event.target.dataset;
@@ -91,10 +91,6 @@ function dragged(event) {
     }
 }
 
-function areaOf(from, to) {
-    return `grid-area: ${rowOf(from)} / ${(from - 1) % width() + 1} / auto / span ${to - from + 1};`;
-}
-
 // The parts of a fixture in the rows of the grid. The first one is the fixture for keys and for who listens.
 function piecesOf(found, owners) {
     const { uid, first, last, lane } = found, end = Math.min(last, LAST), pieces = [];
@@ -102,7 +98,7 @@ function piecesOf(found, owners) {
         const to = Math.min(end, rowOf(from) * width()), isFirst = from === first;
         const isCrowded = owners.slice(from - 1, to).some((count) => count > 1);
         const attributes = { key: `${uid} ${pieces.length}`, "data-uid": uid,
-            title: `${nameOf(found)}, ${first}–${last}`,
+            title: `${nameOf(found)}, ${slotsOf(found)}`,
             class: classes("piece", isCrowded && "crowded", moving?.uid === uid && "moving"),
             style: `${areaOf(from, to)} --lane: ${lane}` };
         pieces.push(isFirst ? make("button", { ...attributes, type: "button", onblur: redraw, "aria-label":
@@ -117,14 +113,14 @@ export function view() {
     const crowded = owners.filter((each) => each > 1).length, free = owners.filter((each) => !each).length;
     const problems = (parts.get("problems") ?? []).map((each) => [fixtureOf(each.uid), problemOf(each, each.uid)]);
     const opened = ({ target: { dataset: { uid } } }) => uid && (location.hash = addressOf("fixture", uid));
-    return [make("h2", { class: "hidden" }, "Slots"), make("p", { class: "hint", role: "status" }, hint(fixtures)),
-        make("p", {}, `${free} slots are free${crowded ? `, ${crowded} shared` : ""}.`),
+    return [make("p", {}, `${free} slots are free${crowded ? `, ${crowded} shared` : ""}.`),
         make("ul", { class: "problems" }, problems.map(([found, text]) =>
             make("li", {}, `${found ? `${nameOf(found)} ${slotsOf(found)}` : ""} ${text}`))),
         make("div", { class: "universe", role: "group", "aria-label": "512 slots", style: `--columns: ${width()}`,
             onkeydown: keyed, onpointerdown: dragged, ondblclick: opened },
         owners.map((count, at) => make("i", { class: classes(count > 1 && "crowded"), style: areaOf(at + 1, at + 1) },
-            String(at + 1))), fixtures.map((found) => piecesOf(found, owners)).flat())];
+            String(at + 1))), fixtures.map((found) => piecesOf(found, owners)).flat()),
+        make("p", { class: "hint", role: "status" }, hint(fixtures))];
 }
 
 isNarrow.addEventListener("change", redraw);
