@@ -9,11 +9,12 @@ import sys
 from pathlib import Path
 from typing import BinaryIO
 
-import common  # noqa: F401  (it makes the package known)
-from search import discover
-from wurstlinen.line import Line
-from wurstlinen.lines import TextLine
-from wurstlinen.lines.uids import uid_text
+# Without `common`, since the program begins hundreds of times.
+sys.path.insert(0, str(Path(__file__).resolve().parents[2]))
+from search import discover  # noqa: E402
+from wurstlinen.line import Line  # noqa: E402
+from wurstlinen.lines import TextLine  # noqa: E402
+from wurstlinen.lines.uids import uid_text  # noqa: E402
 
 
 class Logged:
@@ -31,9 +32,10 @@ class Logged:
 
 
 def program_in(folder: Path) -> str:
-    """The stand-in as a program of its own."""
+    """The stand-in as a program of its own, which is compiled once."""
     path = folder / "program"
-    path.write_text(f"#!/bin/sh\nexec {sys.executable} {Path(__file__).resolve()} \"$@\"\n")
+    path.write_text(f"#!/bin/sh\nunset PYTHONDONTWRITEBYTECODE\nPYTHONPYCACHEPREFIX={folder / 'compiled'} "
+                    f"exec {sys.executable} -S {Path(__file__).resolve()} \"$@\"\n")
     path.chmod(0o755)
     return str(path)
 

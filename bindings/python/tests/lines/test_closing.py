@@ -2,6 +2,7 @@
 from __future__ import annotations
 
 import os
+import socket
 import sys
 import threading
 import time
@@ -131,7 +132,10 @@ class Texts(TestCase):
             names = [str(place / name) for name in ("frames", "replies")]
             os.mkfifo(names[0])
             os.mkdir(names[1])
-            for frames, replies in (names, names[::-1], (names[0], "/dev/none"), (str(place), names[1])):
+            with socket.socket(socket.AF_UNIX) as bound:
+                bound.bind(str(place / "socket"))
+            for frames, replies in (names, names[::-1], (names[0], "/dev/none"), (names[0], str(place / "socket")),
+                                    (str(place), names[1])):
                 for _ in range(5):
                     self.assertRaises(LineFailed, TextLine.open, frames, replies)
             self.assertEqual(held(), before)

@@ -12,7 +12,7 @@ import weakref
 from typing import Any, Callable, List, Optional, Tuple
 from unittest import mock
 
-from common import ENTTEC, LongTestCase, folder, needs_library, one
+from common import ENTTEC, SEEDS, LongTestCase, folder, needs_library, one
 from page_logs import found_in
 from stand_in import program_in
 from test_page import STAND_IN
@@ -29,15 +29,15 @@ WANTED = f"uid,label\n{UID},Front\n"
 UNPATCHED, PATCHED = f"uid,address,slots\n{UID},7,3\n", f"uid,address,slots\n{UID},1,3\n"
 LOG = '{"number":0,"operation":"unmute","frame":"cc","reply":""}\n'
 SIGNALS = (signal.SIGKILL, signal.SIGINT)
-# Each step gets one of these, too.
+# Each step gets one of these, too; with checks/lines --all, each of them.
 OTHERS = (signal.SIGTERM, signal.SIGHUP, signal.SIGPIPE)
 # What a command does to files and devices, as Python reports it, and calls that it doesn't report.
 EVENTS = {"open", "os.rename", "os.remove", "os.link", "os.chmod", "os.chown", "fcntl.flock", "fcntl.ioctl",
           "subprocess.Popen", "os.mkdir", "os.truncate", "socket.bind"}
 CALLS = ((os, "write"), (os, "fsync"), (termios, "tcsetattr"))
 MODULES = (".py", ".pyc", ".so")
-# The first step of each kind is tried, and the last one.
-TIMES = 1
+# The first step of each kind is tried, and the last one; with --all, so many of them.
+TIMES = 1 if SEEDS == 3 else 1000
 ANSWER_SECONDS = 5.0
 KILLED = -signal.SIGKILL
 
@@ -76,7 +76,7 @@ class Signals(LongTestCase):
         self.locks.mkdir()
         self.file = self.place / "files" / "file"
         self.file.parent.mkdir()
-        widget = Widget(manufacturer=ENTTEC, ends_branches=True, ends_responses=True)
+        widget = Widget(manufacturer=ENTTEC, ends_branches=True, ends_responses=True, takes_time=True)
         self.emulator = Emulator(Rig(one()), widget)
         self.emulator.__enter__()
         self.addCleanup(self.emulator.__exit__, None, None, None)
@@ -138,7 +138,7 @@ class Signals(LongTestCase):
         steps.update(len(names) - 1 - names[::-1].index(name) for name in names)
         self.assertGreater(len(steps), 5)
         for step in sorted(steps):
-            for number in (*SIGNALS, OTHERS[step % len(OTHERS)]):
+            for number in (*SIGNALS, *(OTHERS if TIMES > 1 else OTHERS[step % len(OTHERS)::len(OTHERS)])):
                 # A lock that was being made when its process was killed has no effect.
                 for path in self.locks.glob(".LCK..*"):
                     path.unlink()
@@ -172,8 +172,8 @@ class Signals(LongTestCase):
 
         self.each(["save", str(self.file), "--line", f"enttec:{self.emulator.path}"], begin, check)
 
-    @needs_library
-    def test_apply_and_set(self) -> None:
+    def each_of_set(self, *words: str) -> None:
+        """Sets a label."""
         def begin() -> None:
             self.file.write_text(WANTED)
             self.emulator.line = Rig(one(label="Lamp"))
@@ -184,11 +184,18 @@ class Signals(LongTestCase):
             self.assertIn(reply.data, (b"Front",) if status == 0 else (b"Lamp", b"Front"))
             self.assertEqual(self.file.read_text(), WANTED)
 
-        for words in (["apply", str(self.file)], ["set", UID, "device_label", "Front"]):
-            self.each([*words, "--line", f"enttec:{self.emulator.path}"], begin, check)
+        self.each([*words, "--line", f"enttec:{self.emulator.path}"], begin, check)
 
     @needs_library
-    def test_logs(self) -> None:
+    def test_apply(self) -> None:
+        self.each_of_set("apply", str(self.file))
+
+    @needs_library
+    def test_set(self) -> None:
+        self.each_of_set("set", UID, "device_label", "Front")
+
+    def each_of_log(self, *words: str) -> None:
+        """Writes a log."""
         def begin() -> None:
             for path in self.file.parent.iterdir():
                 path.unlink()
@@ -199,8 +206,19 @@ class Signals(LongTestCase):
             self.assertTrue(status or UID.replace(":", "") in text)
 
         with mock.patch.dict(os.environ, WURSTLINEN_PROGRAM=program_in(self.place)):
-            for words in (["fixtures"], ["discover"], ["run", "file"]):
-                self.each([*words, "--log", str(self.file), "--line", f"enttec:{self.emulator.path}"], begin, check)
+            self.each([*words, "--log", str(self.file), "--line", f"enttec:{self.emulator.path}"], begin, check)
+
+    @needs_library
+    def test_fixtures(self) -> None:
+        self.each_of_log("fixtures")
+
+    @needs_library
+    def test_discover(self) -> None:
+        self.each_of_log("discover")
+
+    @needs_library
+    def test_run(self) -> None:
+        self.each_of_log("run", "file")
 
     @needs_library
     def test_serve(self) -> None:
