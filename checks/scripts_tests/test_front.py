@@ -186,7 +186,7 @@ class Commands(Place):
                     "wurstlinen: /nowhere can't be opened: No such file or directory\n")
         self.expect(["run", "x", "--line", "rig:nowhere"], 1, "", "wurstlinen: nowhere: No such file or directory\n")
         self.expect(["run", "x", "--line", "exec:"], 2, "", "wurstlinen: 'exec:' names no line; a line is "
-                    "enttec:DEVICE, text:FRAMES[,REPLIES], exec:COMMAND or rig:FILE\n")
+                    "enttec:DEVICE, text:FRAMES[,REPLIES], exec:COMMAND, rig:FILE or ola:UNIVERSE\n")
 
     def test_signals_end_both(self) -> None:
         for more in ("", "trap '' TERM INT HUP"):

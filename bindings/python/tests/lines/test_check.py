@@ -26,7 +26,8 @@ PROGRAM = """\
 #!/bin/sh
 [ "$1" = explain ] && cp "$2" {log} && shift 2
 echo "discovery: full"
-while [ $# -gt 0 ]; do echo "$2 was never heard"; shift 2; done
+said="didn't mute"
+while [ $# -gt 0 ]; do echo "$2 $said"; said="check its power and its cable"; shift 2; done
 exit 3
 """
 
@@ -59,10 +60,10 @@ class Check(OneRig):
         self.run_command("set", LEFT, "device_label", "=1")
         text = self.saved + f"{GONE},Front 9,3,1,,\n"
         self.assertEqual(self.check(text), (3, [
-            f"missing  {GONE}  Front 9  wasn't found",
-            f"relabelled  {LEFT}  =1  label Left -> \\x3d1",
-            f"moved  {RIGHT}  Right  address 8 -> 506",
-            f"personality  {RIGHT}  Right  personality 1 -> 2",
+            f"missing  {GONE}  Front 9  wasn't found; see whether it is on and connected",
+            f"relabelled  {LEFT}  =1  label \\x3d1, file says Left",
+            f"moved  {RIGHT}  Right  address 506, file says 8",
+            f"personality  {RIGHT}  Right  personality 2, file says 1",
             f"end  {RIGHT}  Right  506-519 ends after 512",
             "5 differences; 2 of 3 devices are there"], ""))
 
@@ -82,7 +83,8 @@ class Check(OneRig):
         _, out, _ = self.run_command("check", "-", "--json", text=text)
         found = [json.loads(line) for line in out.splitlines()]
         self.assertEqual(found, [
-            {"difference": "missing", "uid": GONE, "label": "Front 9", "reason": "wasn't found"},
+            {"difference": "missing", "uid": GONE, "label": "Front 9",
+             "reason": "wasn't found; see whether it is on and connected"},
             {"difference": "moved", "uid": LEFT, "label": "Left", "column": "address", "before": "3", "after": "1"},
             {"differences": 2, "devices": 2, "expected": 3, "fault": None}])
         new = json.loads(self.run_command("check", "-", "--json", text="uid\n")[1].splitlines()[0])
@@ -99,8 +101,9 @@ class Check(OneRig):
             with mock.patch.dict(os.environ, {"WURSTLINEN_PROGRAM": str(program)}):
                 status, lines, _ = self.check(HEAD + f"{GONE},Nine,,,,\n1234:00000008,,,,,\n", "--log",
                                               str(place / "our.log"))
-            self.assertEqual((status, lines[:2]), (3, [f"missing  {GONE}  Nine  was never heard",
-                                                       "missing  1234:00000008  was never heard"]))
+            self.assertEqual((status, lines[:2]), (3, [
+                f"missing  {GONE}  Nine  didn't mute; see whether it is on and connected",
+                "missing  1234:00000008  check its power and its cable"]))
             # The program reads no times.
             ours = (place / "our.log").read_text()
             self.assertIn("microseconds", ours)
@@ -109,7 +112,8 @@ class Check(OneRig):
             program.write_text("")
             with mock.patch.dict(os.environ, {"WURSTLINEN_PROGRAM": str(program)}):
                 status, lines, errors = self.check(HEAD + f"{GONE},Nine,,,,\n")
-            self.assertEqual((status, lines[0]), (3, f"missing  {GONE}  Nine  wasn't found"))
+            self.assertEqual((status, lines[0]), (3, f"missing  {GONE}  Nine  wasn't found; see whether it is on "
+                                                   "and connected"))
             self.assertIn("wurstlinen: why devices are missing can't be said: ", errors)
 
     def test_a_device_that_does_not_answer(self) -> None:
@@ -127,7 +131,7 @@ class Check(OneRig):
         self.scene({"uid": LEFT, "rig": {**WIDE, "label": "Left", "lies": ["ignores mutes"]}})
         status, lines, _ = self.check(self.saved)
         self.assertEqual(status, 1)
-        self.assertIn("devices are there; the discovery is incomplete: the branch of", lines[-1])
+        self.assertIn("devices are there; the discovery is incomplete: 1234:00000001 was asked alone", lines[-1])
 
     def test_lines_and_files_that_fail(self) -> None:
         self.scene({"uid": LEFT, "rig": WIDE}, fails=[3])

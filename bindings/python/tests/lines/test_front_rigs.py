@@ -107,7 +107,7 @@ class Fixtures(OneRig):
         self.scene({"uid": "1234:00000001", "rig": {"lies": ["ignores mutes"]}}, {"uid": "1234:00000002"})
         status, out, _ = self.run_command("fixtures")
         self.assertEqual(status, 1)
-        self.assertIn("the discovery is incomplete: the branch of 1234:00000001 alone was answered", out)
+        self.assertIn("the discovery is incomplete: 1234:00000001 was asked alone, and the answer was wrong", out)
         self.scene({"uid": "1234:00000001"}, fails=[3])
         status, out, _ = self.run_command("fixtures")
         self.assertEqual((status, out), (1, "0 fixtures, 4 frames; the discovery is incomplete: "
@@ -119,7 +119,7 @@ class Fixtures(OneRig):
             self.scene({"uid": LEFT, "rig": {"lies": [lie]}}, {"uid": "1234:00000002", "rig": {"address": 9}})
             self.assertEqual(self.rows(), {"1234:00000002": "", LEFT: wrong}, lie)
             self.assertEqual((self.status, self.end["fixtures"]), (1, 2))
-            self.assertIn(f"the branch of {LEFT} alone", self.end["fault"])
+            self.assertIn(f"{LEFT} was asked alone", self.end["fault"])
         for other in ("1234:00000009", "1234:00000002"):
             self.scene({"uid": LEFT, "rig": {"spells": other}}, {"uid": "1234:00000002", "rig": {"address": 9}})
             self.assertEqual(self.rows(), {"1234:00000002": "", LEFT: wrong}, other)
@@ -296,7 +296,7 @@ uid,label,address,personality,model,slots
             file.write_text("uid,address,truss\n1234:00000002,1,north\n1234:00000003,20,south\n")
             status, out, errors = self.run_command("save", str(file))
             self.assertEqual((status, out), (1, f"1 device: {file}\n"))
-            self.assertIn("devices may be missing: the branch of 1234:00000001 alone was answered", errors)
+            self.assertIn("devices may be missing: 1234:00000001 was asked alone, and the answer was wrong", errors)
             rows = [row.split(",")[:3] for row in file.read_text().splitlines()[1:]]
             self.assertEqual(rows, [["1234:00000002", "9", "north"], ["1234:00000003", "20", "south"]])
 

@@ -20,9 +20,9 @@ from unittest import mock
 
 from common import ENTTEC, ROOT, LongTestCase, folder, needs_library, scene
 from fronts import called
-from servers import HELLO, SECONDS, TOOL, Program, command, environment, here, runtime, serve
+from servers import HELLO, SECONDS, SOURCE, TOOL, Program, command, environment, here, runtime, serve
 from test_serve import FIVE, FOUND, GET, LABEL, LEFT, TIMEOUT, Gate, five
-from wurstlinen import LineFailed, OutcomeKind, RunFaultKind, Status, Unserved, connect, tool
+from wurstlinen import MOST_CLIENTS, LineFailed, OutcomeKind, RunFaultKind, Status, Unserved, connect, tool
 from wurstlinen._types import kind_of
 from wurstlinen.front.output import Failure, Output
 from wurstlinen.lines import EnttecPro, Rig, TextLine
@@ -30,10 +30,12 @@ from wurstlinen.lines.emulator import Emulator, Widget
 from wurstlinen.lines.uids import uid_text
 from wurstlinen.shared import peer, place, server, worker
 from wurstlinen.shared.listening import Passed, Place
-from wurstlinen.tool import adapters, places, sharing
+from wurstlinen.tool import adapters, doctor, places, sharing
 
 LINE = f"rig:{FIVE}"
 WIDGET = Widget(manufacturer=ENTTEC)
+# No program listens on it.
+NO_PORT = 1
 
 
 class Plug(Rig):
@@ -283,11 +285,32 @@ class Adapters(LongTestCase):
                     lambda: EnttecPro(str(made / "adapter"), made), name=line) as served:
             shared = f"shared by process {os.getpid()}, "
             found = adapters.look_at(Path(line.partition(":")[2]))
-            self.assertEqual((found.text, found.fault), (f"{shared}0 programs", None))
+            told = f"it sends as {SOURCE}; its firmware can't be asked meanwhile"
+            self.assertEqual((found.text, found.fault), (f"{shared}0 programs; no discovery so far; {told}", None))
             with Program(served.place.path) as program:
+                program.ask({"do": "discover"})
+                count = len(program.next("devices")["devices"])
+                program.ask({"do": "pause"})
+                wanted = f"{shared}1 program; a program has paused it; {count} devices found; {told}"
+                self.assertEqual(doctor.adapters(line)[0], ("adapter", f"{line}: {wanted}"))
                 emulator.__exit__(None, None, None)
-                self.assertFalse(program.next("event")["there"])
-                self.assertRegex(adapters.sharing(line) or "", f"^{shared}1 program; .*adapter")
+                self.assertFalse(program.next("there")["there"])
+                self.assertRegex(adapters.sharing(line) or "", f"^{shared}1 program; .*adapter.*; {count} devices")
+
+    def test_what_the_doctor_says_of_a_line(self) -> None:
+        with here(five, name=LINE) as served:
+            self.assertRegex(doctor.state_of(LINE), f"^shared by process {os.getpid()}, 0 programs; .* as {SOURCE}$")
+            with contextlib.ExitStack() as stack:
+                for _ in range(MOST_CLIENTS):
+                    stack.enter_context(Program(served.place.path))
+                self.assertEqual(doctor.state_of(LINE),
+                                 f"the server of {LINE} refused it: sixteen clients have joined")
+        with runtime() as made, self.adapter(made) as (line, _):
+            self.assertEqual(doctor.adapters(LINE)[-1], ("line", f"{LINE}: {doctor.NOT_SHARED}"))
+            self.assertIn(", firmware 2.4, RDM", doctor.adapters(line)[0][1])
+            for text, said in (("foo", "it names no line; "), ("ola:x", "'ola:x' names no universe"),
+                               (f"ola:1:{NO_PORT}", "olad doesn't listen"), ("enttec:/nope", "No such file")):
+                self.assertTrue(any(said in found for _, found in doctor.adapters(text)), text)
 
     def test_an_adapter_that_is_unplugged_is_waited_for(self) -> None:
         with folder() as made:

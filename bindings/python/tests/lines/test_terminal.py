@@ -16,7 +16,7 @@ from unittest import mock
 from common import ListLine, TestCase, folder
 from wurstlinen.line import LineBusy, LineFailed
 from wurstlinen.lines import EnttecPro
-from wurstlinen.lines.emulator import Emulator
+from wurstlinen.lines.emulator import Emulator, Widget
 from wurstlinen.lines.terminal import Terminal
 
 # Linux: whether TIOCEXCL is in force.
@@ -50,7 +50,34 @@ def is_exclusive(path: str) -> bool:
         os.close(descriptor)
 
 
+# Opens a terminal, and tells it apart by its argument whether others may; then it waits.
+OTHER = """
+import fcntl, os, sys, termios
+file = os.open(sys.argv[1], os.O_RDWR | os.O_NOCTTY)
+if sys.argv[2]:
+    fcntl.ioctl(file, termios.TIOCEXCL)
+print(flush=True)
+sys.stdin.read()
+"""
+
+
 class Locks(TestCase):
+    def test_who_has_it_without_a_lock_file_is_named(self) -> None:
+        """As olad does, whose lock file has the name of a link."""
+        for exclusive in ("exclusive", ""):
+            with folder() as locks, Emulator(ListLine(), Widget(hangs_after=0)) as emulator, subprocess.Popen(
+                    [sys.executable, "-c", OTHER, emulator.path, exclusive], stdin=subprocess.PIPE,
+                    stdout=subprocess.PIPE) as other:
+                other.stdout.readline()
+                with self.assertRaisesRegex(LineBusy, rf"{emulator.path} is used by process {other.pid} \(\S+\)$"):
+                    EnttecPro(emulator.path, locks)
+                other.stdin.close()
+                other.wait()
+                if exclusive and os.geteuid() == 0:
+                    # Nobody has it now, and root may open it.
+                    emulator.widget = Widget()
+                    EnttecPro(emulator.path, locks).close()
+
     def test_the_lock_file_is_there_while_it_is_open(self) -> None:
         with folder() as locks, Emulator(ListLine()) as emulator:
             lock = locks / f"LCK..{os.path.basename(emulator.path)}"

@@ -16,6 +16,8 @@ from .work import open_work
 
 MISSING = "missing"
 NOT_FOUND = "wasn't found"
+# What the program advises if it has heard nothing of a device, and what else comes first.
+POWER, LOOK = "check its power and its cable", "; see whether it is on and connected"
 # What a value that differs is called, by its column.
 KINDS: Mapping[str, str] = {ADDRESS: "moved", LABEL: "relabelled", PERSONALITY: "personality"}
 
@@ -75,7 +77,8 @@ def missing(rows: Sequence[Row], found: Sequence[Fixture], log: Sequence[str], o
     absent = [row for row in rows if row.uid not in here]
     reasons = reasons_of(log, [row.uid for row in absent], output)
     for row in absent:
-        text = reasons.get(row.uid, NOT_FOUND)
+        reason = reasons.get(row.uid, NOT_FOUND)
+        text = reason if POWER in reason else reason + LOOK
         yield Difference(MISSING, row.uid, row.cells.get(LABEL, ""), text, {"reason": text})
     known = {row.uid for row in rows}
     for fixture in found:
@@ -120,7 +123,7 @@ def difference(row: Row, fixture: Fixture, column: str, found: str) -> Differenc
     """How a value differs from that of the file."""
     before = row.values[column]
     planned = row.cells.get(LABEL, "")
-    text = f"{column} {written(before)} -> {written(found)}"
+    text = f"{column} {written(found)}, file says {written(before)}"
     return Difference(KINDS[column], row.uid, fixture.label or planned, text,
                       {"column": column, "before": before, "after": found})
 

@@ -18,7 +18,7 @@ from .locks import Folder
 from .messages import LENGTHS_FROM_ADAPTER, Label, Message, MessageReader
 from .packets import START_CODE, is_answer, is_branch_frame, is_broadcast_frame, is_whole_packet
 from .uids import uid_text
-from .terminal import LOCK_FOLDER, Terminal
+from .terminal import LOCK_FOLDER, Terminal, busy
 
 # How long an exchange may take, and the answer to a question about the adapter itself.
 EXCHANGE_SECONDS = 2.0
@@ -184,7 +184,8 @@ class EnttecPro(OpenLine):
         """Asks for the serial number, the firmware and the maker."""
         serial = self._ask_serial_number(max(self._answer_seconds, SERIAL_NUMBER_SECONDS))
         if serial is None:
-            raise LineFailed(f"{self.path} doesn't answer as a USB Pro does")
+            # Who has it without these locks may have taken the answer.
+            raise busy(self.path) or LineFailed(f"{self.path} doesn't answer as a USB Pro does")
         self.serial = int.from_bytes(serial[:SERIAL_NUMBER_BYTES], "little")
         maker, self.firmware = self._ask_maker_and_firmware()
         self.source = (maker or ENTTEC) << 32 | self.serial
@@ -366,7 +367,9 @@ class EnttecPro(OpenLine):
     def _without_end(self, kept: bytes) -> bytes:
         """The time is over: what came counts, and if nothing did the exchange has failed."""
         if not kept and not self._reader.has_lost_message:
-            raise LineFailed(f"{self.path} didn't end an exchange within {EXCHANGE_SECONDS:.0f} seconds")
+            other = busy(self.path)
+            raise LineFailed(f"{self.path} didn't end an exchange within {EXCHANGE_SECONDS:.0f} seconds"
+                             f"{'' if other is None else f'; {other.holder} has it, too'}")
         return kept or self._silence()
 
     def _clear(self) -> None:

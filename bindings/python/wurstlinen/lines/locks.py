@@ -199,6 +199,26 @@ def name_of(process: int) -> str:
     return name if name.isprintable() else ""
 
 
+def user_of(device: str) -> str:
+    """Another process that has a device open; nothing if none is known. Who has the other end emulates it."""
+    path = os.path.realpath(device)
+    for process in map(int, filter(str.isdigit, os.listdir("/proc"))):
+        files = _open_files(process)
+        if process != os.getpid() and path in files and not any(name.endswith("/ptmx") for name in files):
+            return f"process {process}{_named(process)}"
+    return ""
+
+
+def _open_files(process: int) -> List[str]:
+    """What a process has open, as far as this one may know it."""
+    found, folder = [], f"/proc/{process}/fd"
+    with contextlib.suppress(OSError):
+        for name in os.listdir(folder):
+            with contextlib.suppress(OSError):
+                found.append(os.readlink(f"{folder}/{name}"))
+    return found
+
+
 def holder_of(path: str) -> str:
     """What the process calls itself that a lock file names; nothing if that isn't known."""
     try:

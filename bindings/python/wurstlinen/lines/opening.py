@@ -7,7 +7,7 @@ from typing import List, Optional
 
 from .base import OpenLine
 
-FORMS = "enttec:DEVICE, text:FRAMES[,REPLIES], exec:COMMAND or rig:FILE"
+FORMS = "enttec:DEVICE, text:FRAMES[,REPLIES], exec:COMMAND, rig:FILE or ola:UNIVERSE"
 
 
 def open_line(text: str, seconds: Optional[float] = None) -> OpenLine:
@@ -44,6 +44,8 @@ def open_line(text: str, seconds: Optional[float] = None) -> OpenLine:
             return TextLine.run(_words(rest), seconds)
         frames, _, replies = rest.partition(",")
         return TextLine.open(frames, replies or None, seconds)
+    if kind == "ola":
+        raise ValueError(f"olad has {text}, and shares it itself; this needs another line")
     raise ValueError(f"'{kind}' is no kind of line; a line is {FORMS}")
 
 

@@ -12,10 +12,12 @@ from typing import Optional
 
 from ..line import LineBusy, LineFailed
 from .alarm import Alarm, Ended
-from .locks import Folder, LockFile
+from .locks import Folder, LockFile, user_of
 
 LOCK_FOLDER = "/var/lock"
 READ_BYTES = 4096
+# Linux has it since 3.8, and Python doesn't name it.
+TIOCGEXCL = 0x80045440
 
 
 class Terminal:
@@ -36,7 +38,8 @@ class Terminal:
             failure = self._closed(f"{path} can't be opened: {_reason(error)}")
             # Who has it made it exclusive, and has no lock file.
             if getattr(error, "errno", None) == errno.EBUSY:
-                failure = LineBusy(f"{failure}; if no program uses it, plug it in again, or start the rig again")
+                failure = busy(path) or LineBusy(f"{failure}; if no program uses it, plug it in again, or start the "
+                                                  "rig again")
             raise failure from error
         except BaseException:
             self.close()
@@ -127,6 +130,10 @@ class _Device:
             fcntl.flock(self.descriptor, fcntl.LOCK_EX | fcntl.LOCK_NB)
         except BlockingIOError:
             raise LineBusy(f"{self._path} is used by another program") from None
+        # Root isn't kept out, and olad's lock file has the name of a link.
+        other = busy(self._path) if _is_exclusive(self.descriptor) else None
+        if other is not None:
+            raise other
         _make_raw(self.descriptor)
         self._is_exclusive = True
         fcntl.ioctl(self.descriptor, termios.TIOCEXCL)
@@ -151,6 +158,20 @@ class _Device:
         if self.descriptor >= 0 and self._is_exclusive and self._process == os.getpid():
             _unlock_terminal(self.descriptor)
             self._is_exclusive = False
+
+
+def _is_exclusive(descriptor: int) -> bool:
+    """Whether somebody has the terminal to itself, or had it."""
+    try:
+        return any(fcntl.ioctl(descriptor, TIOCGEXCL, bytes(4)))
+    except OSError:
+        return False
+
+
+def busy(path: str) -> Optional[LineBusy]:
+    """The exception for a device that another process has open, if one is known that has."""
+    user = user_of(path)
+    return LineBusy(f"{path} is used by {user}", user) if user else None
 
 
 def _make_raw(descriptor: int) -> None:

@@ -81,7 +81,8 @@ class Connection:
         except (Refused, HasEnded, Fault) as fault:
             if (fault.name if isinstance(fault, Refused) else type(fault).__name__) not in PASSING:
                 raise
-            raise LineBusy(str(fault), f"the server of {self._line}") from None
+            said = f"the server of {self._line} refused it: {fault}" if isinstance(fault, Fault) else str(fault)
+            raise LineBusy(said, f"the server of {self._line}") from None
 
     def close(self) -> None:
         """Ends the connection. A call of another thread fails."""

@@ -120,12 +120,12 @@ def word(path: Path) -> str:
 
 def look_at(device: Path, lock_folder: Folder = LOCK_FOLDER) -> Adapter:
     """Asks a chip which adapter it is in."""
-    if not os.access(device, os.R_OK | os.W_OK):
-        return Adapter(device, fault=no_permission(device))
     try:
         shared = sharing(Adapter(device).line)
         if shared is not None:
-            return Adapter(device, shared=shared)
+            return Adapter(device, shared=f"{shared}; its firmware can't be asked meanwhile")
+        if not os.access(device, os.R_OK | os.W_OK):
+            return Adapter(device, fault=no_permission(device))
         with EnttecPro(str(device), lock_folder) as line:
             maker = "DMXking" if (line.source or 0) >> 32 == DMXKING else "Enttec USB Pro"
             return Adapter(device, line.serial, maker, line.firmware)
@@ -134,7 +134,7 @@ def look_at(device: Path, lock_folder: Folder = LOCK_FOLDER) -> Adapter:
 
 
 def sharing(line: str) -> Optional[str]:
-    """Which server shares a line, with how many other programs, if one does. Raises LineFailed."""
+    """Which server shares a line, with how many other programs, and what it knows of it. Raises LineFailed."""
     if not place.may_be_served(line):
         return None
     # A command that only wants to know the line doesn't load it.
@@ -142,12 +142,17 @@ def sharing(line: str) -> Optional[str]:
     try:
         with contextlib.closing(Connection(line)) as connection:
             hello = connection.hello
+            run, found = connection.ask({"do": "devices"}, lambda keys: (keys["run"], len(keys["devices"])))
     except NotServed:
         return None
     # This program is one of them.
     count = hello["clients"] - 1
-    absence = "" if hello["there"] else f"; {hello['reason']}"
-    return f"shared by process {hello['process']}, {count} program{'' if count == 1 else 's'}{absence}"
+    return "; ".join(filter(None, (
+        f"shared by process {hello['process']}, {count} program{'' if count == 1 else 's'}",
+        "" if hello["there"] else hello["reason"],
+        "a program has paused it" if hello["paused"] else "",
+        f"{found} device{'' if found == 1 else 's'} found" if run else "no discovery so far",
+        f"it sends as {hello['source']}")))
 
 
 def no_permission(device: Path) -> str:

@@ -50,7 +50,7 @@ def add_discover(made: Any, name: str) -> None:
     command.add_argument("--source", metavar="UID", help="the controller's UID")
     command.add_argument("--known", metavar="UID", help="a device that --incremental mutes first")
     command.add_argument("--incremental", action="store_true", help="keep known devices that answer")
-    command.add_argument("--quick", action="store_true", help=f"sweep before searching, as on {FORMS}")
+    command.add_argument("--quick", action="store_true", help="sweep before searching, as without FILE")
     command.add_argument("--steady", action="store_true", help="search without a sweep, as in a scene file")
     add_json(command)
     command.add_argument("--budget", metavar="N", help="the most frames to send")
@@ -89,7 +89,7 @@ def add_line(command: Parser) -> None:
     command.add_argument("--line", metavar="LINE", help=f"{FORMS}; or a stream that another program serves")
     command.add_argument("--replies", metavar="IN", help="the stream of that program's replies")
     commands.add_wait_line(command)
-    command.add_argument("--frames", action="store_true", help=f"show the frames and replies, on {FORMS}")
+    command.add_argument("--frames", action="store_true", help="show the frames and replies")
 
 
 def add_adapters(made: Any, name: str) -> None:
@@ -102,6 +102,8 @@ def add_doctor(made: Any, name: str) -> None:
     """The arguments of doctor."""
     command = add_command(made, name, "say what is missing on this machine", "doctor", "tool.doctor.run_doctor",
                           needs_line=False)
+    # It looks at a line that isn't there, too.
+    command.add_argument("--line", dest="named", metavar="LINE", help="also look at this line; WURSTLINEN_LINE if absent")
     # What the script in the repository adds.
     command.add_argument("--also", nargs=2, action="append", default=[], help=argparse.SUPPRESS)
 
