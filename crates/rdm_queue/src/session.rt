@@ -335,8 +335,9 @@ impl Session {
     /// Hands out all entries that the log stores, oldest first, and continues in other memory. That is possible at any
     /// time. It copies no entry and allocates nothing. Contracts still cover all entries, so that nothing that clients
     /// are promised depends on when this is called, except whether the log is full. The memory must be empty. If the
-    /// log kept entries, the memory that is handed out has at least its capacity ([`Log::room`]). Once it is cleared, it
-    /// can be the next. The number of the first entry that it hands out is what [`Log::first_stored`] returned before.
+    /// log kept entries, the memory that is handed out has at least its capacity ([`Log::room`]), and can be the next
+    /// one, once it is cleared. The number of the first entry that it hands out is what [`Log::first_stored`] returned
+    /// before.
     /// Err: the memory has no capacity for all entries that are [`reserved`](Session::reserved), or there would be more
     /// than 2^62 entries in all; nothing has changed, and the memory is returned.
     pub fn drain(&mut self, next: Vec<Entry>) -> Result<Vec<Entry>, (LogFull, Vec<Entry>)>
