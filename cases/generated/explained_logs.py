@@ -25,7 +25,7 @@ UNREAD = "exchange 7 mutes a UID that no earlier branch had read\n"
 GOES_ON = "0 devices; its certificate is incomplete, or the log ends within the run\n"
 ENDS = "fault 1 1234:00000008 (its answer showed no new device), 0 devices; its certificate is incomplete\n"
 GARBLED = """\
-exchange 3{}: bytes came from 1234:00000008 alone that aren't its text; \
+exchange 3{}: 1234:00000008 alone was asked, and bytes came that aren't its text; \
 a rule was broken, by it, another device or noise: try each device alone on the line
 """
 IGNORES = """\
@@ -48,13 +48,15 @@ which the log doesn't have
 UNMUTED = """\
 discovery: full, steady, 4 exchanges, 0 devices; its certificate is incomplete, or the log ends within the run
 0000:00000000 is the first UID that a missed device may have: five silences in a row of a range with it rule it out
-exchange 3: bytes came from 0000:00000000 to ffff:ffffffff, where no listed device was due; \
+exchange 3: the UIDs from 0000:00000000 to ffff:ffffffff were asked, \
+and bytes came though no listed device was due; \
 they read as 1234:00000001, which isn't listed: name it by --present, if it is there
 """
 
 ALONE = """\
 discovery: 1 exchange, 0 devices; its certificate can't be decided, since the log begins within the run
-exchange 3: bytes came from 0000:00000000 to ffff:ffffffff, where no listed device was due; \
+exchange 3: the UIDs from 0000:00000000 to ffff:ffffffff were asked, \
+and bytes came though no listed device was due; \
 they read as 1234:00000001, which isn't listed: name it by --present, if it is there
 """
 

@@ -37,7 +37,7 @@ other bytes from another UID alone, with which a run ends
 4 exchanges, fault 1 1234:00000008 (its answer showed no new device), 0 devices; its certificate is incomplete
 0000:00000000 is the first UID that a missed device may have: five silences in a row of a range with it rule it out
 1234:00000009 wasn't found: the run ended before it was ruled out; it broke no rule until then
-exchange 3: bytes came from 1234:00000008 alone that aren't its text; \
+exchange 3: 1234:00000008 alone was asked, and bytes came that aren't its text; \
 a rule was broken, by it, another device or noise: try each device alone on the line
 status 3
 
@@ -46,7 +46,7 @@ the same after a complete certificate, with which a run has ended without a faul
 9 exchanges, 0 devices; its certificate is complete but for what depends on its kind, which the log doesn't have
 1234:00000009 was never heard: exchange 7 is the fifth silence in a row in a range that holds it; \
 check its power and its cable
-exchange 8: bytes came from 1234:00000008 alone that aren't its text; \
+exchange 8: 1234:00000008 alone was asked, and bytes came that aren't its text; \
 a rule was broken, by it, another device or noise: try each device alone on the line
 status 3
 
@@ -75,7 +75,7 @@ another UID's text from it alone, after which a run goes on
 4 exchanges, 0 devices; its certificate is incomplete, or the log ends within the run
 0000:00000000 is the first UID that a missed device may have: five silences in a row of a range with it rule it out
 1234:00000009 wasn't found yet; it followed the rules in the exchanges that the log has
-exchange 3: bytes came from 1234:00000008 to 1234:00000008, where no listed device was due; \
+exchange 3: 1234:00000008 alone was asked, and bytes came though no listed device was due; \
 they read as 1234:00000008, which isn't listed: name it by --present, if it is there
 status 0
 
@@ -93,7 +93,7 @@ the same, but the line fails at the fifth mute
 exchange 8 failed: check the adapter and the cable
 0000:00000000 is the first UID that a missed device may have: five silences in a row of a range with it rule it out
 1234:00000009 wasn't found: exchange 8 failed before it was ruled out; it broke no rule until then
-exchange 3: bytes came from 1234:00000008 to 1234:00000008, where no listed device was due; \
+exchange 3: 1234:00000008 alone was asked, and bytes came though no listed device was due; \
 they read as 1234:00000008, which isn't listed: name it by --present, if it is there
 status 0
 
@@ -131,7 +131,8 @@ discovery: 4 exchanges, fault 1 ffff:ffffffff (its answer showed no new device),
 0 devices; its certificate is incomplete
 0000:00000000 is the first UID that a missed device may have: five silences in a row of a range with it rule it out
 1234:00000009 wasn't found: the run ended before it was ruled out; it broke no rule until then
-exchange 3: bytes came from ffff:ffffffff alone, which no device may have; a rule was broken: look for one that has it
+exchange 3: ffff:ffffffff alone was asked and answered, though no device may have it; \
+a rule was broken: look for one that has it
 status 3
 
 other bytes from a broadcast UID alone
@@ -140,7 +141,7 @@ discovery: 4 exchanges, fault 1 ffff:ffffffff (its answer showed no new device),
 0 devices; its certificate is incomplete
 0000:00000000 is the first UID that a missed device may have: five silences in a row of a range with it rule it out
 1234:00000009 wasn't found: the run ended before it was ruled out; it broke no rule until then
-exchange 3: bytes came from ffff:ffffffff alone that aren't its text; \
+exchange 3: ffff:ffffffff alone was asked, and bytes came that aren't its text; \
 a rule was broken, by a device or noise: try each device alone on the line
 status 3
 
@@ -158,8 +159,8 @@ discovery: 9 exchanges, fault 1 1234:00000009 (its answer showed no new device),
 2 devices; its certificate is incomplete
 0000:00000000 is the first UID that a missed device may have: five silences in a row of a range with it rule it out
 1234:00000008 was found, and followed the rules
-1234:00000009 was found, and followed the rules, but see exchange 7
-exchange 7 (and 1 more): bytes came from 1234:00000009 alone, which had acknowledged its mute: \
+1234:00000009 was found, but may have broken a rule: see exchange 7
+exchange 7 (and 1 more): 1234:00000009 alone was asked and answered, though it was muted: \
 it restarted, or broke a rule; try it alone on the line
 status 3
 
@@ -187,8 +188,8 @@ discovery: 11 exchanges, fault 1 1234:00000009 (its answer showed no new device)
 2 devices; its certificate is incomplete
 0000:00000000 is the first UID that a missed device may have: five silences in a row of a range with it rule it out
 1234:00000008 was found, and followed the rules
-1234:00000009 was found, and followed the rules, but see exchange 10
-exchange 10: bytes came from 1234:00000009 alone, which had acknowledged its mute: \
+1234:00000009 was found, but may have broken a rule: see exchange 10
+exchange 10: 1234:00000009 alone was asked and answered, though it was muted: \
 it restarted, or broke a rule; try it alone on the line
 status 3
 
@@ -204,7 +205,8 @@ bytes from a range with a listed device, and from one without
 discovery: 5 exchanges, 0 devices; its certificate is incomplete, or the log ends within the run
 0000:00000000 is the first UID that a missed device may have: five silences in a row of a range with it rule it out
 1234:00000009 wasn't found yet; it followed the rules in the exchanges that the log has
-exchange 4: bytes came from 8000:00000000 to ffff:ffffffff, where no listed device was due; \
+exchange 4: the UIDs from 8000:00000000 to ffff:ffffffff were asked, \
+and bytes came though no listed device was due; \
 they may be those of a device that the log doesn't show
 status 0
 
@@ -246,9 +248,9 @@ discovery: 10 exchanges, fault 1 1234:00000009 (its answer showed no new device)
 0 devices; its certificate is incomplete
 exchange 5 mutes a UID that neither acknowledged nor was muted five times in a row: perhaps no device has it
 0000:00000000 is the first UID that a missed device may have: five silences in a row of a range with it rule it out
-1234:00000009 wasn't found: the run ended before it was ruled out; it broke no rule until then, \
-but see exchange 8
-exchange 8 (and 1 more): bytes came from 1234:00000009 alone that aren't its text; \
+1234:00000009 wasn't found: the run ended before it was ruled out; it may have broken a rule: \
+see exchange 8
+exchange 8 (and 1 more): 1234:00000009 alone was asked, and bytes came that aren't its text; \
 a rule was broken, by it, another device or noise: try each device alone on the line
 status 3
 
@@ -428,7 +430,8 @@ discovery: incremental, steady, 12 exchanges, 1 device; its certificate is compl
     ("a device that comes, and answers after its acknowledgement",
      opening("full") + discovery("3 unmute; 5 all; all > new; mute new > ack; 2 all > new"), """\
 discovery: full, steady, 12 exchanges, 1 device; its certificate is complete
-exchange 10 (and 1 more): bytes came from 0000:00000000 to ffff:ffffffff, where no listed device was due; \
+exchange 10 (and 1 more): the UIDs from 0000:00000000 to ffff:ffffffff were asked, \
+and bytes came though no listed device was due; \
 they read as 9abc:00000002, which should be silent there unless it restarted: try it alone on the line
 """, 3),
     ("the same after an unmute",

@@ -51,15 +51,14 @@ UID = "([0-9a-f]{4}:[0-9a-f]{8})"
 SIGHTING = r"exchange (\d+)((?: \(and \d+ more\))?)"
 SHORTENED = {re.compile(line): short for line, short in (
     (f"{UID} was found, and followed the rules(?: in the exchanges that the log has)?", rf"\1 {FOUND}"),
-    (rf"{UID} was found, and followed the rules.*, but see exchange (\d+)", rf"\1 {FOUND} \2"),
+    (rf"{UID} was found, but may have broken a rule: see exchange (\d+)", rf"\1 {FOUND} \2"),
     (f"{UID} wasn't found(?::| yet;) .* (?:until then|that the log has)", rf"\1 {MISSED}"),
-    (rf"{UID} wasn't found(?::| yet;) .*, but see exchange (\d+)", rf"\1 {MISSED} \2"),
+    (rf"{UID} wasn't found(?::| yet;) .*it may have broken a rule: see exchange (\d+)", rf"\1 {MISSED} \2"),
     (rf"{UID} (?:was never|wasn't) heard: exchange (\d+) is .*", rf"\1 {HIDDEN} \2"),
     (rf"{UID} didn't mute: exchange (\d+) is .*", rf"\1 {UNMUTED} \2"),
     (rf"{UID} was to mute, and other bytes came: exchange (\d+) has .*", rf"\1 {GARBLED} \2"),
-    (rf"{SIGHTING}: bytes came .*, (?:where no listed device was due|which isn't listed)[;:] .*", r"stray \1\2"),
-    (rf"{SIGHTING}: bytes came .* (?:aren't its text|acknowledged its mute|don't acknowledge it)[;:] .*",
-     r"none \1\2"))}
+    (rf"{SIGHTING}: .*(?:bytes came though no listed device was due|, which isn't listed)[;:] .*", r"stray \1\2"),
+    (rf"{SIGHTING}: .* (?:aren't its text|though it was muted|don't acknowledge it)[;:] .*", r"none \1\2"))}
 
 
 class Exchange(NamedTuple):
@@ -86,6 +85,10 @@ class Exchange(NamedTuple):
         if self.pid == BRANCH and self.low == self.high:
             return decode_branch_reply(self.reply) == self.low and self.low not in muted
         return self.pid != MUTE or self.is_acknowledged
+
+    def is_misread(self, uid: int) -> bool:
+        """Whether it is a branch of this UID alone, and the reply, if there is one, reads otherwise."""
+        return self.pid == BRANCH and self.low == self.high == uid and self.reads != {uid}
 
     @property
     def names(self) -> Set[int]:
@@ -138,7 +141,7 @@ class Device:
             self.broken = f"{rule} {at}"
 
     def shown(self, named_at: Sequence[int]) -> str:
-        """What is said of it, if lines about these exchanges name it: they are looked at in this order."""
+        """What is said of it, if lines about these exchanges name it, or count them: the first one counts."""
         see = "".join(f" {at}" for at in named_at[:1])
         return f"{uid_text(self.uid)} {self.broken or (FOUND if self.is_found else MISSED) + see}"
 
@@ -160,6 +163,7 @@ def findings_of(exchanges: Sequence[Exchange], uids: Sequence[str], has_all: boo
     shown = []
     for device in devices:
         named_at = [at for at in none[:1] if device.uid in exchanges[at].names]
+        named_at += [at for at in none if exchanges[at].is_misread(device.uid)]
         named_at += [at for at in stray[:1] if device.uid in exchanges[at].reads]
         shown.append(device.shown(named_at))
     return shown + sighting("stray", stray) + sighting("none", none), 3 if is_broken else 0

@@ -102,7 +102,8 @@ exchange 18446744073709551615 failed: check the adapter and the cable
 "reply":"fefefefefefefeaaba57be75aa55aa55aa55ab55ae57eb55"}
 """, """\
 discovery: 1 exchange, 0 devices; its certificate can't be decided, since the log begins within the run
-exchange 1: bytes came from 0000:00000000 to ffff:ffffffff, where no listed device was due; \
+exchange 1: the UIDs from 0000:00000000 to ffff:ffffffff were asked, \
+and bytes came though no listed device was due; \
 they read as 1234:00000001, which isn't listed: name it by --present, if it is there
 """, 0),
     ("""\

@@ -85,7 +85,7 @@ def check_commands(checks: Checks, commands: Commands, daemon: Daemon) -> None:
     commands.check(["get", "--raw", LAMP, "0082"], 0, f"0 00 {b'Lamp'.hex()}\n")
     commands.check(["get", LAMP, "0x9000"], 3, "",
                    f"wurstlinen: {LAMP} refused it: unknown pid (NACK 0x0000)\n")
-    commands.check(["get", ABSENT, "device_label"], 1, "", f"wurstlinen: {ABSENT}: no answer\n")
+    commands.check(["get", ABSENT, "device_label"], 1, "", f"wurstlinen: {ABSENT}: no answer, or not all of it\n")
     commands.check(["get", SLOW, "device_label"], 0, "House lights\n", waits)
     # olad joins the parts of an answer.
     commands.check(["get", "--raw", LAMP, "8001"], 0, f"0 00 {LONG.hex()}\n")

@@ -213,10 +213,10 @@ counted_spelt u sweep = record sweep { made = sweep.made + 1; belief = hearing u
 abbrev pub sweep_suspecting : ℕ → Sweep → Sweep
 sweep_suspecting u sweep = record sweep { belief = suspecting u sweep.belief }
 
--- LIMIT. A sweep goes on while it has made fewer exchanges than these: 100 for each device found, and 200 more. Each UID
--- that is set apart adds 60, up to two more of them than were found, so that noise alone doesn't go on. That costs the
--- bound nothing. A UID is set apart after four disturbed branches in a row, and each of those is allowed 15 exchanges.
--- On an honest line none is set apart
+-- LIMIT. A sweep goes on while it has made fewer exchanges than this: 100 for each device found, and 200 more. Each UID
+-- adds 60 while it is set apart. At most `found + 2` of them count, so that noise alone can't keep a sweep going for
+-- long. The bound stays the same: on a noisy line only four disturbed branches in a row set a UID apart, and it allows
+-- 15 exchanges for each. On an honest line none is set apart
 abbrev pub sweep_limit : ℕ → ℕ → ℕ
 sweep_limit found apart = 100 * (found + 2) + 60 * min apart (found + 2)
 
@@ -224,8 +224,8 @@ sweep_limit found apart = 100 * (found + 2) + 60 * min apart (found + 2)
 abbrev pub limit_of : AgentState → ℕ
 limit_of a = sweep_limit (length a.found) (length a.apart)
 
--- A sweep goes on below this limit. Then the steady search begins, in which the last silences of the whole range
--- count. The silences and bad answers are those of the last range
+-- A sweep goes on below this limit. At the limit the steady search begins, in which the last silences of the whole
+-- range count. The silences and bad answers are those of the last range
 abbrev pub sweep_on_after : Sweep → Span → ℕ → ℕ → ℕ → Belief → Phase
 sweep_on_after sweep last silences bads limit b =
     if nat_lt sweep.made limit then Sweeping (choose sweep.made silences bads last b)
@@ -451,7 +451,8 @@ abbrev pub found_belief : Part → ℕ → List ℕ → Sweep → Belief
 found_belief Apart u us sweep = ask_turn (without u us) sweep.belief.turn sweep.belief
 found_belief part u us sweep = believed_found part sweep.question.range sweep.belief
 
--- the agent after the mute of a UID that a sweep read. It is found if acknowledged
+-- the agent after the mute of a UID that a sweep read. It is found if acknowledged. If it was set apart, it still counts
+-- in the limit of this step
 abbrev pub swept_heard : AgentState → ℕ → ℕ → ℕ → Sweep → Heard → AgentState
 swept_heard a u tries spare sweep (Acked ack) =
     to_found a (device_from u ack)

@@ -35,11 +35,11 @@ pub(crate) const MOST_SPENT: u8 = 10;
 /// ranges of E1.20's discovery unique branch.
 pub const MOST_RANGES: usize = 49;
 
-/// A sweep goes on while it has made fewer exchanges than this for each device found, and twice as many more.
+/// A sweep's limit has this many exchanges for each device found, and twice as many more.
 pub(crate) const SWEEP_FRAMES: usize = 100;
 
-/// So many more for each UID that is set apart, up to two more than the devices found.
-pub(crate) const LIAR_FRAMES: usize = 60;
+/// It has this many more for each UID that is set apart, but for at most two UIDs more than devices found.
+pub(crate) const APART_FRAMES: usize = 60;
 
 // What a device adds to the bound: 24 splits of ten exchanges, 24 last ranges of five, and ten of its own.
 const FRAMES_PER_DEVICE: u64 = 370;

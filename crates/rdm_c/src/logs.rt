@@ -156,7 +156,8 @@ pub extern "C" fn wurst_session_drain(
     ensures gone { result ≡ DONE → handle.old.session.keeps ≡ true → first.new ≡ handle.old.session.gone }
     ensures handed_out { result ≡ DONE → (holds a_log log.new ≡ true)
         × ((log.new.log.entries ≡ handle.old.session.entries) × (log.new.log.gone ≡ handle.old.session.gone)
-        × (log.new.log.keeps ≡ handle.old.session.keeps)) }
+        × ((log.new.log.room ≡ handle.old.session.room) × (log.new.log.keeps ≡ handle.old.session.keeps))
+        × (log.new.log.opening.search ≡ handle.old.session.opening.search)) }
     ensures unchanged { result ≢ DONE → (handle.new.session ≡ handle.old.session) × (first.new ≡ first.old) }
     ensures kept { result ≢ DONE → holds a_log log.old ≡ false → log.new ≡ log.old }
     ensures kept_log { result ≢ DONE → holds a_log log.old ≡ true → (holds a_log log.new ≡ true)

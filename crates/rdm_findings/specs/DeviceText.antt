@@ -1,11 +1,13 @@
 -- The lines of a run about devices: those that are listed, the one that didn't mute, and the known ones that are gone.
 use Rattle.std.specs.Prelude.{ℕ, Bool, true, false, ◌&&◌, ◌||◌, not, List, [], ◌++◌, Option, Some, None, codes, decimal}
-use Rattle.std.specs.Prelude.{◌==◌, if◌then◌else◌}
+use Rattle.std.specs.Prelude.{◌==◌, if◌then◌else◌, is_some, nat_lt}
+use Rattle.std.specs.List.{position}
 use Rattle.rdm_wire.specs.UidText.{uid_text}
 use Rattle.rdm_explain.specs.declared.rule.Rule.{Rule}
 use Rattle.rdm_explain.specs.declared.rule.Rule.TheVariants.{SilentBranches, SilentMutes, GarbledMute}
 use Rattle.rdm_explain.specs.declared.rule.Breach.{Breach}
 use Rattle.rdm_explain.specs.declared.rule.DeviceFinding.{DeviceFinding}
+use Rattle.rdm_explain.specs.declared.exchange.Exchange.{Exchange}
 use Rattle.rdm_findings.specs.declared.form.About.{About}
 use Rattle.rdm_findings.specs.declared.form.Form.{Form}
 use Rattle.rdm_findings.specs.declared.form.Judgement.{Judgement}
@@ -17,6 +19,7 @@ use Rattle.rdm_findings.specs.declared.mention.RunFacts.{RunFacts}
 use Rattle.rdm_findings.specs.FindingText.{exchange_name, uid_finding}
 use Rattle.rdm_findings.specs.Forms.{finding}
 use Rattle.rdm_findings.specs.HeardUids.{in_uids}
+use Rattle.rdm_findings.specs.Mentions.{is_misread}
 use Rattle.rdm_findings.specs.Starts.{has_start, number_at}
 
 -- a breach, before its exchange. The log has all of a run in which a device was never heard
@@ -60,17 +63,36 @@ over_text start (Some at) = exchange_name (number_at start at) ++ codes " failed
 abbrev pub yet_text : Bool → List ℕ
 yet_text begun = if begun then codes " wasn't found yet; it" else []
 
--- a device that acknowledged no mute, and broke no rule. In a run that is over, it wasn't ruled out either: five
--- silences in a row would have broken a rule
-abbrev pub missed_text : RunFacts → List ℕ
-missed_text r =
-    if r.whole then codes " wasn't found: " ++ over_text r.start r.failure
-    ++ codes " before it was ruled out; it broke no rule until then"
-    else yet_text (has_start r.start) ++ (followed_text false ++ until_text r.start r.failure)
+-- a device that acknowledged no mute. In a run that is over, it wasn't ruled out either: five silences in a row would
+-- have broken a rule
+abbrev pub unfound_text : RunFacts → List ℕ
+unfound_text r =
+    if r.whole then codes " wasn't found: " ++ over_text r.start r.failure ++ codes " before it was ruled out; it"
+    else yet_text (has_start r.start)
+
+-- that such a device broke no rule
+abbrev pub calm_text : RunFacts → List ℕ
+calm_text r =
+    if r.whole then codes " broke no rule until then"
+    else followed_text false ++ until_text r.start r.failure
 
 -- a device that broke no rule. The flag says that it acknowledged a mute
 abbrev pub unbroken_text : RunFacts → Bool → List ℕ
-unbroken_text r acked = if acked then found_text r else missed_text r
+unbroken_text r acked = if acked then found_text r else unfound_text r ++ calm_text r
+
+-- what comes before a doubt of a device
+abbrev pub before_doubt : RunFacts → Bool → List ℕ
+before_doubt r acked = if acked then codes " was found, but" else unfound_text r
+
+-- the doubt, and the exchange that shows it
+abbrev pub doubt_text : ℕ → List ℕ
+doubt_text number = codes " may have broken a rule: see " ++ exchange_name number
+
+-- a device whose log doesn't show that it broke a rule; but the exchange with this number, if there is one, leaves a
+-- doubt
+abbrev pub innocent_text : RunFacts → Bool → Option ℕ → List ℕ
+innocent_text r acked None = unbroken_text r acked
+innocent_text r acked (Some number) = before_doubt r acked ++ doubt_text number
 
 -- the number of an exchange of a line, if that line names the device
 abbrev pub mentioned : Option Mention → ℕ → Option ℕ
@@ -82,20 +104,30 @@ abbrev pub first_number : Option ℕ → Option ℕ → Option ℕ
 first_number None second = second
 first_number (Some n) second = Some n
 
--- the exchange at which a line about bytes names the device: that of the bytes that no honest line allows, or else that
--- of bytes that nobody was due to send
-abbrev pub seen_at : RunFacts → ℕ → Option ℕ
-seen_at r u = first_number (mentioned r.garbled u) (mentioned r.stray u)
+-- whether an exchange comes before the one that failed
+abbrev pub is_before : Option ℕ → ℕ → Bool
+is_before None at = true
+is_before (Some failure) at = nat_lt at failure
 
--- a reference to that exchange
-abbrev pub see_text : Option ℕ → List ℕ
-see_text None = []
-see_text (Some number) = codes ", but see " ++ exchange_name number
+-- the number of the exchange at this index, if no exchange failed before it
+abbrev pub number_before : RunFacts → Option ℕ → Option ℕ
+number_before r None = None
+number_before r (Some at) = if is_before r.failure at then Some (number_at r.start at) else None
+
+-- The first exchange in which other bytes than its text answered a branch of u alone. The line about bytes that no
+-- honest line allows counts all such exchanges, and names the first
+abbrev pub misread_at : RunFacts → List Exchange → ℕ → Option ℕ
+misread_at r xs u = if is_some r.garbled then number_before r (position (is_misread u) xs) else None
+
+-- the exchange at which a line about bytes names the device: that of the bytes that no honest line allows, or one that
+-- this line counts, or else that of bytes that nobody was due to send
+abbrev pub seen_at : RunFacts → List Exchange → ℕ → Option ℕ
+seen_at r xs u = first_number (mentioned r.garbled u) (first_number (misread_at r xs u) (mentioned r.stray u))
 
 -- Whether a device was found, if it broke no rule; or which rule it broke first, and where. The flags say that it was
--- heard in the run, and that it acknowledged a mute
+-- heard in the run, and that it acknowledged a mute. The number is that of an exchange that leaves a doubt
 abbrev pub verdict_text : RunFacts → Bool → Bool → Option ℕ → Option Breach → List ℕ
-verdict_text r heard acked see None = unbroken_text r acked ++ see_text see
+verdict_text r heard acked see None = innocent_text r acked see
 verdict_text r heard acked see (Some b) =
     breach_before (r.whole && not heard) b.rule ++ decimal (number_at r.start b.at) ++ breach_after heard b.rule
 
@@ -122,10 +154,10 @@ of_device r u acked see breach = record {
 }
 
 -- The finding about a listed device. The sets have the UIDs that were heard, and those that acknowledged a mute
-abbrev pub device_finding : Form → RunFacts → RunUids → RunUids → DeviceFinding → List ℕ
-device_finding form r heard acked f =
-    finding form (of_device r f.uid (in_uids acked f.uid) (seen_at r f.uid) f.breach)
-    (uid_text f.uid ++ verdict_text r (in_uids heard f.uid) (in_uids acked f.uid) (seen_at r f.uid) f.breach)
+abbrev pub device_finding : Form → RunFacts → List Exchange → RunUids → RunUids → DeviceFinding → List ℕ
+device_finding form r xs heard acked f =
+    finding form (of_device r f.uid (in_uids acked f.uid) (seen_at r xs f.uid) f.breach)
+    (uid_text f.uid ++ verdict_text r (in_uids heard f.uid) (in_uids acked f.uid) (seen_at r xs f.uid) f.breach)
 
 -- the finding about a device that answered a branch of it alone, and then acknowledged no mute, if there is one
 abbrev pub culprit_finding : Form → Option ℕ → List ℕ

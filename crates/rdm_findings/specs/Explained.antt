@@ -121,9 +121,9 @@ facts_of head xs f = record {
 }
 
 -- the findings about devices
-abbrev pub devices_text : Form → RunFacts → Findings → List ℕ
-devices_text form r f =
-    flat_map (device_finding form r f.heard f.acked) f.devices.items
+abbrev pub devices_text : Form → RunFacts → List Exchange → Findings → List ℕ
+devices_text form r xs f =
+    flat_map (device_finding form r xs f.heard f.acked) f.devices.items
     ++ culprit_finding form f.culprit ++ flat_map (gone_finding form r) f.gone.items
 
 -- the findings about bytes
@@ -141,7 +141,8 @@ run_text form head xs f =
 -- Their text: a finding a line, or an object of JSON that has what is known of the run, and its findings
 abbrev pub findings_text : Form → RunHead → List Exchange → Findings → List ℕ
 findings_text form head xs f =
-    run_text form head xs f ++ (devices_text form (facts_of head xs f) f ++ bytes_text form head xs f ++ run_end form)
+    run_text form head xs f
+    ++ (devices_text form (facts_of head xs f) xs f ++ bytes_text form head xs f ++ run_end form)
 
 -- whether any finding is that a rule was broken. A known UID that is gone broke none
 abbrev pub is_broken : RunHead → Findings → Bool

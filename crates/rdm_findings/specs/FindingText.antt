@@ -249,9 +249,11 @@ abbrev pub run_gaps : Form → Start → RunFinding → Option KnownFinding → 
 run_gaps form start f names =
     if has_start start then gaps_text form f ++ known_gaps form names else failure_gap form start f.failure
 
--- a range, from which bytes came
+-- a range that was asked
 abbrev pub range_text : ℕ → ℕ → List ℕ
-range_text lo hi = codes ": bytes came from " ++ uid_text lo ++ (codes " to " ++ uid_text hi)
+range_text lo hi =
+    if lo == hi then codes ": " ++ uid_text lo ++ codes " alone was asked"
+    else codes ": the UIDs from " ++ uid_text lo ++ (codes " to " ++ uid_text hi ++ codes " were asked")
 
 -- a mute, after which bytes came
 abbrev pub mute_text : ℕ → List ℕ
@@ -259,7 +261,7 @@ mute_text u = codes ": bytes came after a mute of " ++ uid_text u ++ codes ", wh
 
 -- after what bytes came, though nobody was due. After other frames than these, no bytes are stray
 abbrev pub place_text : Asked → List ℕ
-place_text (Branch lo hi) = range_text lo hi ++ codes ", where no listed device was due"
+place_text (Branch lo hi) = range_text lo hi ++ codes ", and bytes came though no listed device was due"
 place_text (Mute u) = mute_text u
 place_text _ = []
 
@@ -336,13 +338,15 @@ reply_text u _ = each_text u
 
 -- after a branch of u alone: bytes that aren't its text
 abbrev pub other_bytes : ℕ → Heard → List ℕ
-other_bytes u heard = codes " alone that aren't its text" ++ reply_text u heard
+other_bytes u heard = codes " alone was asked, and bytes came that aren't its text" ++ reply_text u heard
 
 -- after a branch of u alone, its text: no device has such a UID, or it is muted
 abbrev pub same_text : ℕ → List ℕ
 same_text u =
-    if is_broadcast u then codes " alone, which no device may have; a rule was broken: look for one that has it"
-    else codes " alone, which had acknowledged its mute: it restarted, or broke a rule; try it alone on the line"
+    if is_broadcast u then
+    codes " alone was asked and answered, though no device may have it; a rule was broken: look for one that has it"
+    else
+    codes " alone was asked and answered, though it was muted: it restarted, or broke a rule; try it alone on the line"
 
 -- the same, or other bytes
 abbrev pub own_text : ℕ → Heard → List ℕ
@@ -360,7 +364,7 @@ unacked_text u flaw = codes " that don't acknowledge it" ++ why_text flaw ++ eac
 
 -- about bytes that came after a branch of one UID alone and aren't its text, or after a mute and don't acknowledge it
 abbrev pub garbled_text : Option Flaw → Asked → Heard → List ℕ
-garbled_text flaw (Branch lo hi) heard = codes ": bytes came from " ++ uid_text lo ++ own_text lo heard
+garbled_text flaw (Branch lo hi) heard = codes ": " ++ uid_text lo ++ own_text lo heard
 garbled_text flaw (Mute u) heard = codes ": bytes came after a mute of " ++ uid_text u ++ unacked_text u flaw
 garbled_text flaw _ heard = []
 

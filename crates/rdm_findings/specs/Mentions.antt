@@ -1,5 +1,5 @@
 -- The devices that a run's lines about bytes name.
-use Rattle.std.specs.Prelude.{ℕ, List, Option, Some, None, slice_get}
+use Rattle.std.specs.Prelude.{ℕ, Bool, false, ◌&&◌, not, List, Option, Some, None, slice_get, ◌==◌}
 use Rattle.rdm_explain.specs.declared.exchange.Asked.{Asked}
 use Rattle.rdm_explain.specs.declared.exchange.Asked.TheVariants.{Branch, Mute}
 use Rattle.rdm_explain.specs.declared.exchange.Heard.{Heard}
@@ -10,6 +10,7 @@ use Rattle.rdm_findings.specs.declared.head.Start.{Start}
 use Rattle.rdm_findings.specs.declared.mention.Mention.{Mention}
 use Rattle.rdm_findings.specs.declared.stray_bytes.Sign.{Sign}
 use Rattle.rdm_findings.specs.declared.stray_bytes.Sign.TheVariants as signs
+use Rattle.rdm_findings.specs.Ends.{has_bytes, is_own}
 use Rattle.rdm_findings.specs.Starts.{number_at}
 use Rattle.rdm_findings.specs.StrayBytes.{sign_of}
 
@@ -33,6 +34,15 @@ named_by number (Some e) = named_in number e.asked e.heard
 abbrev pub garbled_mention : Start → List Exchange → Option Sighting → Option Mention
 garbled_mention start xs None = None
 garbled_mention start xs (Some s) = named_by (number_at start s.at) (slice_get xs s.at)
+
+-- whether a branch of u alone was answered by other bytes than its text
+abbrev pub misreads : ℕ → Asked → Heard → Bool
+misreads u (Branch lo hi) heard = (lo == u) && (hi == u) && (has_bytes heard && not (is_own u heard))
+misreads u _ heard = false
+
+-- the same of an exchange
+abbrev pub is_misread : ℕ → Exchange → Bool
+is_misread u e = misreads u e.asked e.heard
 
 -- bytes that nobody was due to send, if they read as a listed UID
 abbrev pub signed_in : ℕ → Sign → Option Mention

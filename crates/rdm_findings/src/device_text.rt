@@ -1,7 +1,8 @@
 //! What is printed about devices.
 ghost use Rattle.std.specs.Prelude.{◌≡◌, ◌++◌, OnOk, codes, decimal, flat_map};
 ghost use Rattle.rdm_findings.specs.DeviceText.{breach_before, breach_after, followed_text, until_text, over_text};
-ghost use Rattle.rdm_findings.specs.DeviceText.{yet_text, found_text, unbroken_text, see_text, verdict_text};
+ghost use Rattle.rdm_findings.specs.DeviceText.{yet_text, found_text, unfound_text, calm_text, unbroken_text};
+ghost use Rattle.rdm_findings.specs.DeviceText.{before_doubt, doubt_text, innocent_text, verdict_text};
 ghost use Rattle.rdm_findings.specs.DeviceText.{device_finding, device_exchange, device_judgement, of_device};
 ghost use Rattle.rdm_findings.specs.DeviceText.{unbroken_judgement};
 ghost use Rattle.rdm_findings.specs.Forms.{finding};
@@ -12,7 +13,7 @@ use crate::head::Start;
 use crate::heard::RunUids;
 use crate::mention::RunFacts;
 use crate::writing::{write, write_exchange, write_number, write_uid};
-use rdm_explain::{Breach, DeviceFinding, Rule};
+use rdm_explain::{Breach, DeviceFinding, Exchange, Rule};
 use rdm_wire::Uid;
 use std::alloc::AllocError;
 
@@ -22,15 +23,16 @@ pub(crate) fn write_devices(
     text: &mut Vec<u8>,
     form: Form,
     facts: &RunFacts,
+    exchanges: &[Exchange],
     heard: &RunUids,
     acked: &RunUids,
     found: &[DeviceFinding],
 ) -> Result<(), AllocError>
     ensures { OnOk result (text.new.items ≡ text.old.items
-        ++ flat_map (device_finding form facts.now heard.now acked.now) found.now) }
+        ++ flat_map (device_finding form facts.now exchanges.now heard.now acked.now) found.now) }
 {
     'devices: for device in found {
-        write_device(text, form, facts, heard, acked, device)?;
+        write_device(text, form, facts, exchanges, heard, acked, device)?;
     }
     Ok(())
 }
@@ -39,16 +41,17 @@ fn write_device(
     text: &mut Vec<u8>,
     form: Form,
     facts: &RunFacts,
+    exchanges: &[Exchange],
     heard: &RunUids,
     acked: &RunUids,
     found: &DeviceFinding,
 ) -> Result<(), AllocError>
     ensures { OnOk result (text.new.items ≡ text.old.items
-        ++ device_finding form facts.now heard.now acked.now found.now) }
+        ++ device_finding form facts.now exchanges.now heard.now acked.now found.now) }
 {
     let was_heard = heard.contains(found.uid);
     let was_acked = acked.contains(found.uid);
-    let see = facts.seen_at(found.uid);
+    let see = facts.seen_at(exchanges, found.uid);
     write_judged(
         text,
         form,
@@ -135,10 +138,7 @@ fn write_verdict(
     ensures { OnOk result (text.new.items ≡ text.old.items ++ verdict_text facts.now heard acked see breach) }
 {
     match breach {
-        None => {
-            write_unbroken(text, facts, acked)?;
-            write_see(text, see)
-        }
+        None => write_innocent(text, facts, acked, see),
         Some(breach) => {
             write(text, breach_before(facts.whole && !heard, breach.rule))?;
             write_number(text, facts.start.number(breach.at))?;
@@ -147,17 +147,59 @@ fn write_verdict(
     }
 }
 
+// A device whose log doesn't show that it broke a rule, and the exchange that leaves a doubt.
+fn write_innocent(
+    text: &mut Vec<u8>,
+    facts: &RunFacts,
+    acked: bool,
+    see: Option<u64>,
+) -> Result<(), AllocError>
+    ensures { OnOk result (text.new.items ≡ text.old.items ++ innocent_text facts.now acked see) }
+{
+    match see {
+        None => write_unbroken(text, facts, acked),
+        Some(number) => write_doubted(text, facts, acked, number),
+    }
+}
+
+fn write_doubted(
+    text: &mut Vec<u8>,
+    facts: &RunFacts,
+    acked: bool,
+    number: u64,
+) -> Result<(), AllocError>
+    ensures { OnOk result (text.new.items ≡ text.old.items
+        ++ (before_doubt facts.now acked ++ doubt_text number)) }
+{
+    write_before_doubt(text, facts, acked)?;
+    write_doubt(text, number)
+}
+
+fn write_before_doubt(text: &mut Vec<u8>, facts: &RunFacts, acked: bool) -> Result<(), AllocError>
+    ensures { OnOk result (text.new.items ≡ text.old.items ++ before_doubt facts.now acked) }
+{
+    if acked {
+        write(text, " was found, but")
+    } else {
+        write_unfound(text, facts)
+    }
+}
+
+fn write_doubt(text: &mut Vec<u8>, number: u64) -> Result<(), AllocError>
+    ensures { OnOk result (text.new.items ≡ text.old.items ++ doubt_text number) }
+{
+    write(text, " may have broken a rule: see ")?;
+    write_exchange(text, number)
+}
+
 // A device that broke no rule.
 fn write_unbroken(text: &mut Vec<u8>, facts: &RunFacts, acked: bool) -> Result<(), AllocError>
     ensures { OnOk result (text.new.items ≡ text.old.items ++ unbroken_text facts.now acked) }
 {
     if acked {
         write_found(text, facts)
-    } else if facts.whole {
-        write_missed(text, facts.start, facts.failure)
     } else {
-        write(text, yet_text(facts.start.is_first()))?;
-        write_followed(text, false, facts.start, facts.failure)
+        write_missed(text, facts)
     }
 }
 
@@ -182,17 +224,42 @@ fn write_followed(
     write_until(text, start, failure)
 }
 
+// That it wasn't found, or not yet, and broke no rule.
+fn write_missed(text: &mut Vec<u8>, facts: &RunFacts) -> Result<(), AllocError>
+    ensures { OnOk result (text.new.items ≡ text.old.items ++ (unfound_text facts.now ++ calm_text facts.now)) }
+{
+    write_unfound(text, facts)?;
+    write_calm(text, facts)
+}
+
+fn write_calm(text: &mut Vec<u8>, facts: &RunFacts) -> Result<(), AllocError>
+    ensures { OnOk result (text.new.items ≡ text.old.items ++ calm_text facts.now) }
+{
+    if facts.whole {
+        write(text, " broke no rule until then")
+    } else {
+        write_followed(text, false, facts.start, facts.failure)
+    }
+}
+
+fn write_unfound(text: &mut Vec<u8>, facts: &RunFacts) -> Result<(), AllocError>
+    ensures { OnOk result (text.new.items ≡ text.old.items ++ unfound_text facts.now) }
+{
+    if facts.whole {
+        write_ended(text, facts.start, facts.failure)
+    } else {
+        write(text, yet_text(facts.start.is_first()))
+    }
+}
+
 // That it wasn't found in a run that is over.
-fn write_missed(text: &mut Vec<u8>, start: Start, failure: Option<usize>) -> Result<(), AllocError>
+fn write_ended(text: &mut Vec<u8>, start: Start, failure: Option<usize>) -> Result<(), AllocError>
     ensures { OnOk result (text.new.items ≡ text.old.items ++ (codes " wasn't found: "
-        ++ over_text start failure ++ codes " before it was ruled out; it broke no rule until then")) }
+        ++ over_text start failure ++ codes " before it was ruled out; it")) }
 {
     write(text, " wasn't found: ")?;
     write_over(text, start, failure)?;
-    write(
-        text,
-        " before it was ruled out; it broke no rule until then",
-    )
+    write(text, " before it was ruled out; it")
 }
 
 // Why the run was over.
@@ -212,19 +279,6 @@ fn yet_text(begun: bool) -> &'static str
     ensures { result.now ≡ yet_text begun }
 {
     if begun { " wasn't found yet; it" } else { "" }
-}
-
-// A reference to the exchange of a line that names the device.
-fn write_see(text: &mut Vec<u8>, see: Option<u64>) -> Result<(), AllocError>
-    ensures { OnOk result (text.new.items ≡ text.old.items ++ see_text see) }
-{
-    match see {
-        None => Ok(()),
-        Some(number) => {
-            write(text, ", but see ")?;
-            write_exchange(text, number)
-        }
-    }
 }
 
 fn followed_text(whole: bool) -> &'static str

@@ -397,7 +397,7 @@ fn shows_new(found: &DeviceSet, uid: Uid, heard: &Heard) -> bool
 }
 
 // Whether an answer is the text of this UID.
-fn is_own(uid: Uid, heard: &Heard) -> bool
+pub(crate) fn is_own(uid: Uid, heard: &Heard) -> bool
     ensures { result ≡ is_own uid heard.now }
 {
     match heard {
@@ -407,7 +407,7 @@ fn is_own(uid: Uid, heard: &Heard) -> bool
 }
 
 // Whether bytes came.
-fn has_bytes(heard: &Heard) -> bool
+pub(crate) fn has_bytes(heard: &Heard) -> bool
     ensures own { result ≡ has_bytes heard.now }
     ensures seen { result ≡ has_bytes_seen (heard_of heard.now) }
 {

@@ -106,7 +106,6 @@ fn find(
         found) }
 {
     let reported = acknowledged_devices(exchanges);
-    let acked = acknowledged_uids(alloc, exchanges)?;
     let Ok(uids) = listed(alloc, &reported, present, passing) else {
         return Err(NoMemory);
     };
@@ -119,6 +118,7 @@ fn find(
     if add_one(&mut due, culprit).is_err() {
         return Err(NoMemory);
     }
+    let acked = acknowledged_uids(alloc, exchanges)?;
     Ok(Findings {
         certificate,
         names: names(alloc, kind, known, exchanges)?,
@@ -258,10 +258,16 @@ fn write_others(
     found: &Findings,
 ) -> Result<(), AllocError>
     ensures { OnOk result (text.new.items ≡ text.old.items
-        ++ (devices_text form (facts_of head.now exchanges.now found.now) found.now
+        ++ (devices_text form (facts_of head.now exchanges.now found.now) exchanges.now found.now
         ++ bytes_text form head.now exchanges.now found.now ++ run_end form)) }
 {
-    write_judged(text, form, &facts_of(head, exchanges, found), found)?;
+    write_judged(
+        text,
+        form,
+        &facts_of(head, exchanges, found),
+        exchanges,
+        found,
+    )?;
     write_bytes(text, form, head, exchanges, found)?;
     write_run_end(text, form)
 }
@@ -347,14 +353,17 @@ fn write_judged(
     text: &mut Vec<u8>,
     form: Form,
     facts: &RunFacts,
+    exchanges: &[Exchange],
     found: &Findings,
 ) -> Result<(), AllocError>
-    ensures { OnOk result (text.new.items ≡ text.old.items ++ devices_text form facts.now found.now) }
+    ensures { OnOk result (text.new.items ≡ text.old.items
+        ++ devices_text form facts.now exchanges.now found.now) }
 {
     write_devices(
         text,
         form,
         facts,
+        exchanges,
         &found.heard,
         &found.acked,
         &found.devices,

@@ -100,9 +100,9 @@ fn write_reason(
 
 fn write_from(text: &mut Vec<u8>, uid: Uid, heard: &Heard) -> Result<(), AllocError>
     ensures { OnOk result (text.new.items ≡ text.old.items
-        ++ (codes ": bytes came from " ++ uid_text uid ++ own_text uid heard.now)) }
+        ++ (codes ": " ++ uid_text uid ++ own_text uid heard.now)) }
 {
-    write(text, ": bytes came from ")?;
+    write(text, ": ")?;
     write_uid(text, uid)?;
     write_own(text, uid, heard)
 }
@@ -122,9 +122,9 @@ fn same_text(uid: Uid) -> &'static str
     ensures { result.now ≡ same_text uid }
 {
     if uid.is_broadcast() {
-        " alone, which no device may have; a rule was broken: look for one that has it"
+        " alone was asked and answered, though no device may have it; a rule was broken: look for one that has it"
     } else {
-        " alone, which had acknowledged its mute: it restarted, or broke a rule; try it alone on the line"
+        " alone was asked and answered, though it was muted: it restarted, or broke a rule; try it alone on the line"
     }
 }
 
@@ -161,7 +161,10 @@ fn write_why(text: &mut Vec<u8>, flaw: Option<Flaw>) -> Result<(), AllocError>
 fn write_other_bytes(text: &mut Vec<u8>, uid: Uid, heard: &Heard) -> Result<(), AllocError>
     ensures { OnOk result (text.new.items ≡ text.old.items ++ other_bytes uid heard.now) }
 {
-    write(text, " alone that aren't its text")?;
+    write(
+        text,
+        " alone was asked, and bytes came that aren't its text",
+    )?;
     write_reply(text, uid, heard)
 }
 

@@ -153,13 +153,20 @@ fn write_place(text: &mut Vec<u8>, asked: &Asked) -> Result<(), AllocError>
     ensures { OnOk result (text.new.items ≡ text.old.items ++ place_text asked.now) }
 {
     match asked {
-        Asked::Branch { lo, hi } => {
-            write_range(text, *lo, *hi)?;
-            write(text, ", where no listed device was due")
-        }
+        Asked::Branch { lo, hi } => write_asked(text, *lo, *hi),
         Asked::Mute(uid) => write_mute(text, *uid),
         _ => Ok(()),
     }
+}
+
+const NOBODY_WAS_DUE: &str = ", and bytes came though no listed device was due";
+
+fn write_asked(text: &mut Vec<u8>, lo: Uid, hi: Uid) -> Result<(), AllocError>
+    ensures { OnOk result (text.new.items ≡ text.old.items
+        ++ (range_text lo hi ++ codes ", and bytes came though no listed device was due")) }
+{
+    write_range(text, lo, hi)?;
+    write(text, NOBODY_WAS_DUE)
 }
 
 fn write_mute(text: &mut Vec<u8>, uid: Uid) -> Result<(), AllocError>
@@ -173,14 +180,36 @@ fn write_mute(text: &mut Vec<u8>, uid: Uid) -> Result<(), AllocError>
 fn write_range(text: &mut Vec<u8>, lo: Uid, hi: Uid) -> Result<(), AllocError>
     ensures { OnOk result (text.new.items ≡ text.old.items ++ range_text lo hi) }
 {
-    write(text, ": bytes came from ")?;
+    if lo == hi {
+        write_one(text, lo)
+    } else {
+        write_between(text, lo, hi)
+    }
+}
+
+fn write_one(text: &mut Vec<u8>, uid: Uid) -> Result<(), AllocError>
+    ensures { OnOk result (text.new.items ≡ text.old.items
+        ++ (codes ": " ++ uid_text uid ++ codes " alone was asked")) }
+{
+    write(text, ": ")?;
+    write_uid(text, uid)?;
+    write(text, " alone was asked")
+}
+
+fn write_between(text: &mut Vec<u8>, lo: Uid, hi: Uid) -> Result<(), AllocError>
+    ensures { OnOk result (text.new.items ≡ text.old.items ++ (codes ": the UIDs from " ++ uid_text lo
+        ++ (codes " to " ++ uid_text hi ++ codes " were asked"))) }
+{
+    write(text, ": the UIDs from ")?;
     write_uid(text, lo)?;
     write_to(text, hi)
 }
 
 fn write_to(text: &mut Vec<u8>, hi: Uid) -> Result<(), AllocError>
-    ensures { OnOk result (text.new.items ≡ text.old.items ++ (codes " to " ++ uid_text hi)) }
+    ensures { OnOk result (text.new.items ≡ text.old.items
+        ++ (codes " to " ++ uid_text hi ++ codes " were asked")) }
 {
     write(text, " to ")?;
-    write_uid(text, hi)
+    write_uid(text, hi)?;
+    write(text, " were asked")
 }

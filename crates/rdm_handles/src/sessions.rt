@@ -11,7 +11,7 @@ ghost use Rattle.rdm_log.specs.declared.outcome.OutcomeKind.TheVariants as kinds
 ghost use Rattle.rdm_log.specs.log.History.{awaited, is_idle};
 ghost use Rattle.rdm_log.specs.log.Legal.{Legal};
 ghost use Rattle.rdm_log.specs.log.LogState.{is_full_log, begun, blank_log, nothing_log, opening_after, drained};
-ghost use Rattle.rdm_log.specs.log.LogState.{MayGoOn};
+ghost use Rattle.rdm_log.specs.log.LogState.{MayGoOn, filled_page};
 ghost use Rattle.rdm_log.specs.promises.Blocks.{JoinLogs, SubmitLogs, DiscoverLogs, PauseLogs, ResumeLogs, TakeLogs};
 ghost use Rattle.rdm_log.specs.promises.Blocks.{DeliverAdds, CollectAdds, GrowsBy};
 ghost use Rattle.rdm_log.specs.log.Broken.{oldest_may_be_incomplete};
@@ -399,12 +399,7 @@ pub fn drain_into(session: &mut Session, page: &mut Log) -> u32
     ensures full { result ≡ LOG_FULL → page.old.keeps ≡ true
         → MayGoOn session.old (page.old.room - page.old.gone) → ⊥ }
     ensures drained { result ≡ DONE → session.new ≡ drained session.old (page.old.room - page.old.gone) }
-    ensures handed_out { result ≡ DONE → page.new ≡ record page.old {
-      entries = session.old.entries;
-      room = session.old.room;
-      gone = session.old.gone;
-      keeps = session.old.keeps;
-    } }
+    ensures handed_out { result ≡ DONE → page.new ≡ filled_page page.old session.old }
     ensures legal { Legal session.new.opening session.new.entries }
     ensures unchanged { result ≢ DONE → (session.new ≡ session.old) × (page.new ≡ page.old) }
 {
@@ -419,11 +414,7 @@ pub fn drain_into(session: &mut Session, page: &mut Log) -> u32
 pub fn drain(session: &mut Session, alloc: Global, entries: usize) -> Result<Box<Log>, u32>
     ensures drained { IfOk result (λ page. (drain_status session.old entries ≡ 0)
         × (session.new ≡ drained session.old (entries + 1))) }
-    ensures handed_out { IfOk result (λ page. page.value ≡ record (blank_log session.old.room) {
-      entries = session.old.entries;
-      gone = session.old.gone;
-      keeps = session.old.keeps;
-    }) }
+    ensures handed_out { IfOk result (λ page. page.value ≡ filled_page (blank_log (entries + 1)) session.old) }
     ensures refused { IfErr result (λ fault. (session.new ≡ session.old) × (fault
         ≡ (if drain_status session.old entries == 0 then OUT_OF_MEMORY else drain_status session.old entries))) }
 {

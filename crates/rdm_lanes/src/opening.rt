@@ -51,7 +51,7 @@ pub struct Lanes<
 /// - the controller's UID isn't broadcast;
 /// - the greatest sum of queue depths is at most [`MOST_PLACES`](rdm_queue::MOST_PLACES);
 /// - the budget is at least 1;
-/// - the log has no entries;
+/// - the log has never had an entry ([`Log::len_in_all`](rdm_log::Log::len_in_all));
 /// - a ring has at least one slot.
 ///
 /// Err: the first fault that applies. The log is returned without entries, like a new one with the same capacity, and

@@ -1,6 +1,6 @@
 //! What a port's mutex holds.
 ghost use Rattle.std.specs.Prelude.{◌≡◌, ◌≢◌, ◌+◌, ◌++◌, ◌∷◌, ℕ, [], length, Ok, Err, Some, OnOk, OnErr, IfOk, IfErr};
-ghost use Rattle.std.specs.Prelude.{IfSome, IfNone, nat_lt, if◌then◌else◌, vec_capacity};
+ghost use Rattle.std.specs.Prelude.{◌≤◌, true, IfSome, IfNone, nat_lt, if◌then◌else◌, vec_capacity};
 ghost use Rattle.std.specs.Arc.{arc_value};
 ghost use Rattle.rdm_log.specs.log.LogState.{stored, drained, MayGoOn};
 ghost use Rattle.rdm_log.specs.log.History.{next_client};
@@ -216,6 +216,8 @@ impl<L: Ledger> Inside<L> {
         ensures first { IfOk result (λ page. page.first + length page.entries.items
             ≡ length self.old.session.entries) }
         ensures handed_out { IfOk result (λ page. page.entries.items ≡ stored self.old.session) }
+        ensures memory { self.old.session.keeps ≡ true → IfOk result (λ page.
+            self.old.session.room ≤ self.old.session.gone + vec_capacity page.entries) }
         ensures page { IfOk result IsPage }
         ensures log { OnOk result (self.new.session ≡ drained self.old.session (vec_capacity next)) }
         ensures back { IfErr result (λ e. e.1 ≡ next) }

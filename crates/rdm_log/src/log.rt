@@ -56,7 +56,7 @@ impl Log {
     ghost use Rattle.std.specs.Prelude.{◌≡◌, ◌≢◌, ◌+◌, ◌-◌, ◌^◌, ◌<◌, ◌≤◌, true, false, [], ◌∷◌, IfOk, length};
     ghost use Rattle.std.specs.Prelude.{vec_capacity};
     ghost use Rattle.rdm_log.specs.log.LogState.{grown, stored, drained, blank_opening, blank_log, nothing_log};
-    ghost use Rattle.rdm_log.specs.log.LogState.{emptied_log};
+    ghost use Rattle.rdm_log.specs.log.LogState.{emptied_log, filled_page};
 
     /// A log without entries, with capacity for this many, 0 to [`MOST_FREE_ENTRIES`], and one more for a close. Its
     /// opening has 0 everywhere, no clients and no devices, and is neither paused nor closed. It is written when a
@@ -161,7 +161,7 @@ impl Log {
     pub fn room(&self) -> usize
         ensures room { self.now.gone + result ≡ self.now.room }
         ensures within { length self.now.entries ≤ self.now.room }
-        ensures some { 1 ≤ self.now.room }
+        ensures some { 1 ≤ result }
         ensures in_all { self.now.room ≤ 2 ^ 62 }
     {
         self.room
@@ -180,12 +180,14 @@ impl Log {
 
     /// Hands out all entries that are stored, oldest first, and continues in other memory, which must be empty. It
     /// copies no entry and allocates nothing. The number of the first entry that it hands out is what
-    /// [`first_stored`](Log::first_stored) returned before.
+    /// [`first_stored`](Log::first_stored) returned before. If the log kept entries, what it hands out has at least the
+    /// log's capacity ([`room`](Log::room)).
     pub fn drain(&mut self, next: Vec<Entry>) -> Vec<Entry>
         requires empty { next.items ≡ [] }
         requires some { 1 ≤ vec_capacity next }
         requires in_all { length self.old.entries + vec_capacity next ≤ 2 ^ 62 }
         ensures handed_out { result.items ≡ stored self.old }
+        ensures memory { self.old.keeps ≡ true → self.old.room ≤ self.old.gone + vec_capacity result }
         ensures log { self.new ≡ drained self.old (vec_capacity next) }
     {
         self.gone += self.entries.len() as u64;
@@ -198,16 +200,12 @@ impl Log {
 
     /// Hands out all entries that are stored to another log, in place of that log's own, and continues in its memory.
     /// It copies no entry and allocates nothing. The number of the first entry that it hands out is what
-    /// [`gone`](Log::gone) returns of the other log then. That log's opening is unchanged. It must keep entries.
+    /// [`gone`](Log::gone) returns of the other log then. Of that log's opening only the search changes, to this log's.
+    /// The other log must keep entries.
     pub fn drain_into(&mut self, page: &mut Log)
         requires in_all { length self.old.entries + (page.old.room - page.old.gone) ≤ 2 ^ 62 }
         requires keeps { page.old.keeps ≡ true }
-        ensures page { page.new ≡ record page.old {
-          entries = self.old.entries;
-          room = self.old.room;
-          gone = self.old.gone;
-          keeps = self.old.keeps;
-        } }
+        ensures page { page.new ≡ filled_page page.old self.old }
         ensures log { self.new ≡ drained self.old (page.old.room - page.old.gone) }
     {
         page.entries.clear();
@@ -216,6 +214,7 @@ impl Log {
         mem::swap(&mut self.keeps, &mut page.keeps);
         let past = self.past.and_all(&page.entries);
         page.past = mem::replace(&mut self.past, past);
+        page.opening.search = self.opening.search;
         page.gone = self.gone;
         self.gone += page.entries.len() as u64;
     }

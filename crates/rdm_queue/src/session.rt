@@ -46,7 +46,7 @@ impl Session {
     ghost use Rattle.rdm_log.specs.log.Legal.{Legal};
     ghost use Rattle.rdm_log.specs.log.Config.{IsConfig};
     ghost use Rattle.rdm_log.specs.log.LogState.{free_entries, is_full_log, begun, opening_after, stored, drained};
-    ghost use Rattle.rdm_log.specs.log.LogState.{MayGoOn};
+    ghost use Rattle.rdm_log.specs.log.LogState.{MayGoOn, filled_page};
     ghost use Rattle.rdm_log.specs.promises.Promised.{Promised};
     ghost use Rattle.rdm_log.specs.promises.Blocks.{JoinLogs, SubmitLogs, PauseLogs, ResumeLogs, TakeLogs};
     ghost use Rattle.rdm_log.specs.log.Runs.{known_devices, devices_run, next_run};
@@ -62,7 +62,7 @@ impl Session {
     /// A session without clients, neither paused nor closed. Its discovery runs are numbered from 1, and all else from
     /// 0. With a [`Config`](crate::Config) alone its runs search steadily; a [`Setup`](crate::Setup) also says how they
     /// search. It writes the log's opening, which records both. The configuration must be valid
-    /// ([`Config::is_valid`](crate::Config::is_valid)), and the log must have no entries ([`Log::entries`]).
+    /// ([`Config::is_valid`](crate::Config::is_valid)), and the log must never have had an entry ([`Log::len_in_all`]).
     /// Err: out of memory; the log is returned unchanged.
     pub fn new<S: IntoSetup>(alloc: Global, setup: S, log: Log) -> Result<Session, (NoMemory, Log)>
         requires config_is { IsConfig (S.setup_of setup).config }
@@ -334,15 +334,17 @@ impl Session {
 
     /// Hands out all entries that the log stores, oldest first, and continues in other memory. That is possible at any
     /// time. It copies no entry and allocates nothing. Contracts still cover all entries, so that nothing that clients
-    /// are promised depends on when this is called. The memory must be empty. Memory that was handed out, once it is
-    /// cleared, can be the next. The number of the first entry that it hands out is what [`Log::first_stored`] returned
-    /// before.
+    /// are promised depends on when this is called, except whether the log is full. The memory must be empty. If the
+    /// log kept entries, the memory that is handed out has at least its capacity ([`Log::room`]). Once it is cleared, it
+    /// can be the next. The number of the first entry that it hands out is what [`Log::first_stored`] returned before.
     /// Err: the memory has no capacity for all entries that are [`reserved`](Session::reserved), or there would be more
     /// than 2^62 entries in all; nothing has changed, and the memory is returned.
     pub fn drain(&mut self, next: Vec<Entry>) -> Result<Vec<Entry>, (LogFull, Vec<Entry>)>
         requires empty { next.items ≡ [] }
         ensures fits { OnOk result (MayGoOn self.old (vec_capacity next)) }
         ensures handed_out { IfOk result (λ page. page.items ≡ stored self.old) }
+        ensures memory { self.old.keeps ≡ true → IfOk result (λ page.
+            self.old.room ≤ self.old.gone + vec_capacity page) }
         ensures log { OnOk result (self.new ≡ drained self.old (vec_capacity next)) }
         ensures history { (self.new.opening ≡ self.old.opening) × (self.new.entries ≡ self.old.entries) }
         ensures back { IfErr result (λ e. e.1 ≡ next) }
@@ -363,12 +365,7 @@ impl Session {
     /// Err: as `drain` returns, or the other log keeps nothing; nothing has changed.
     pub fn drain_into(&mut self, page: &mut Log) -> Result<(), LogFull>
         ensures fits { OnOk result ((page.old.keeps ≡ true) × MayGoOn self.old (page.old.room - page.old.gone)) }
-        ensures handed_out { OnOk result (page.new ≡ record page.old {
-          entries = self.old.entries;
-          room = self.old.room;
-          gone = self.old.gone;
-          keeps = self.old.keeps;
-        }) }
+        ensures handed_out { OnOk result (page.new ≡ filled_page page.old self.old) }
         ensures log { OnOk result (self.new ≡ drained self.old (page.old.room - page.old.gone)) }
         ensures history { (self.new.opening ≡ self.old.opening) × (self.new.entries ≡ self.old.entries) }
         ensures refused { OnErr result (page.old.keeps ≡ true → MayGoOn self.old (page.old.room - page.old.gone) → ⊥) }
@@ -498,7 +495,7 @@ impl Session {
     ///
     /// The numbers of requests, discoveries, runs and frames continue. The clients with their queue depths, the devices
     /// and their run, the GETs that broke off, how runs search, and whether it is paused or closed are unchanged: all
-    /// are in the new log's opening. The new log has no entries.
+    /// are in the new log's opening. The new log must never have had an entry ([`Log::len_in_all`]).
     /// Err: the session isn't idle. It is returned unchanged, and so is the new log.
     pub fn rotate(mut self, log: Log) -> Result<(Session, Log), (NotIdle, Session, Log)>
         requires empty { log.entries ≡ [] }

@@ -127,7 +127,7 @@ class Check(OneRig):
         self.scene({"uid": LEFT, "rig": {**WIDE, "label": "Left", "lies": ["ignores mutes"]}})
         status, lines, _ = self.check(self.saved)
         self.assertEqual(status, 1)
-        self.assertIn("devices are there; the discovery ended early: the branch of", lines[-1])
+        self.assertIn("devices are there; the discovery is incomplete: the branch of", lines[-1])
 
     def test_lines_and_files_that_fail(self) -> None:
         self.scene({"uid": LEFT, "rig": WIDE}, fails=[3])

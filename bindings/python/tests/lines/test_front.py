@@ -238,6 +238,14 @@ class Requests(OneRig):
         self.assertEqual(self.run_command("get", "1234:00000009", "device_label"),
                          (1, "", "wurstlinen: 1234:00000009: no answer\n"))
 
+    def test_an_answer_that_breaks_off(self) -> None:
+        self.scene({"uid": LEFT, "params": [{"pid": "0082", "parts": ["4c61", "6d70"]}]}, losses=[1])
+        self.assertEqual(self.run_command("get", LEFT, "device_label"),
+                         (1, "", f"wurstlinen: {LEFT}: the answer broke off after a part of it\n"))
+        self.scene({"uid": LEFT, "params": [{"pid": "0082", "parts": ["4c61", "6d70"]}]}, losses=[1])
+        error = json.loads(self.run_command("get", LEFT, "device_label", "--json")[1])["error"]
+        self.assertEqual(error["reason"], "incomplete")
+
     def test_a_line_that_fails(self) -> None:
         self.scene({"uid": LEFT}, fails=[0])
         self.assertEqual(self.run_command("get", LEFT, "device_label", "--frames"),

@@ -107,11 +107,11 @@ class Fixtures(OneRig):
         self.scene({"uid": "1234:00000001", "rig": {"lies": ["ignores mutes"]}}, {"uid": "1234:00000002"})
         status, out, _ = self.run_command("fixtures")
         self.assertEqual(status, 1)
-        self.assertIn("the discovery ended early: the branch of 1234:00000001 alone was answered", out)
+        self.assertIn("the discovery is incomplete: the branch of 1234:00000001 alone was answered", out)
         self.scene({"uid": "1234:00000001"}, fails=[3])
         status, out, _ = self.run_command("fixtures")
-        self.assertEqual((status, out), (1, "0 fixtures, 4 frames; the discovery ended early: the rig's file lets this "
-                                            "exchange fail\n"))
+        self.assertEqual((status, out), (1, "0 fixtures, 4 frames; the discovery is incomplete: "
+                                            "the rig's file lets this exchange fail\n"))
 
     def test_devices_that_lie(self) -> None:
         wrong = "ended the discovery by wrong answers"

@@ -123,7 +123,7 @@ class Guarded(OneRig):
                    {"uid": RIGHT, "rig": {**WIDE, "address": 15, "lies": ["ignores mutes"]}})
         status, _, errors = self.apply(f"uid,address\n{LEFT},40\n")
         self.assertEqual(status, 0)
-        self.assertIn("slots of devices that weren't found aren't compared: the discovery ended early", errors)
+        self.assertIn("slots of devices that weren't found aren't compared: the discovery is incomplete", errors)
 
     def test_a_line_that_fails(self) -> None:
         self.scene({"uid": LEFT, "rig": WIDE}, fails=[4])

@@ -140,7 +140,7 @@ class Show(OneRig):
     def test_lines_that_fail(self) -> None:
         self.scene({"uid": LEFT}, fails=[3])
         fails = "the rig's file lets this exchange fail\n"
-        self.assertEqual(self.run_command("show")[::2], (1, f"wurstlinen: the discovery ended early: {fails}"))
+        self.assertEqual(self.run_command("show")[::2], (1, f"wurstlinen: the discovery is incomplete: {fails}"))
         self.scene({"uid": LEFT}, fails=[3])
         self.assertEqual(self.run_command("show", LEFT), (1, f"{LEFT}\n", f"wurstlinen: {fails}"))
         self.assertEqual(self.run_command("show", "ffff:ffffffff")[0], 2)
@@ -211,7 +211,7 @@ class Several(OneRig):
     def test_lines_that_fail(self) -> None:
         self.scene({"uid": LEFT}, fails=[3])
         self.assertEqual(self.run_command("get", "all", "device_label"), (
-            1, "", "wurstlinen: the discovery ended early: the rig's file lets this exchange fail\n"))
+            1, "", "wurstlinen: the discovery is incomplete: the rig's file lets this exchange fail\n"))
 
 
 class OtherStandards(TestCase):

@@ -126,12 +126,12 @@ class Joined(TestCase):
         other = Packet(OTHER, SOURCE, 0, 1, 0, 0, CommandClass.GET, Pid.DEVICE_LABEL)
         more, last = answer(ResponseType.ACK_OVERFLOW, b"Lam"), answer(ResponseType.ACK, b" 1")
         self.assertEqual(self.traced((GET, more), (other, answer(ResponseType.ACK, b"x", other)), (GET, last))[1:],
-                         ["ACK device_label x", "ACK device_label  1"])
+                         ["ACK device_label x", "ACK device_label  1 (may lack its first parts)"])
         # A GET ends with a reply that is lost or damaged. What comes then is the answer to another one.
         self.assertEqual(self.traced((GET, more), (GET, b""), (GET, b"\1"), (GET, last))[3],
-                         "ACK device_label  1")
+                         "ACK device_label  1 (may lack its first parts)")
         self.assertEqual(self.traced((GET, more), (GET, answer(ResponseType.NACK_REASON, b"\0\0")), (GET, last))[2],
-                         "ACK device_label  1")
+                         "ACK device_label  1 (may lack its first parts)")
 
     def test_json(self) -> None:
         log = "".join(json.dumps({"frame": GET.encode().hex(), "reply": answer(kind, data).hex()}) + "\n"
@@ -154,6 +154,21 @@ class Joined(TestCase):
             parts.joined(GET.encode(), answer(ResponseType.ACK_OVERFLOW, b"Lam"))
             found = parts.joined(GET.encode(), answer(ResponseType.ACK, b"p 1"))
             self.assertEqual((found.response and found.response.data, found.parts), (b"Lamp 1", 2))
+
+    def test_an_answer_that_may_be_a_rest(self) -> None:
+        # A device goes on where it stopped: E1.20, ACK_OVERFLOW.
+        part, last = answer(ResponseType.ACK_OVERFLOW, b"La"), answer(ResponseType.ACK, b"mp")
+        other = GET._replace(pid=0x0080).encode()
+        for between in ((GET.encode(), b""), (GET.encode(), None), (GET.encode(), last[:-1]), (other, b"")):
+            exchanges = (GET.encode(), part), between, (GET.encode(), last), (GET.encode(), part), (GET.encode(), last)
+            log = "".join(json.dumps({"frame": frame.hex(), **({"failed": True} if reply is None else
+                                                               {"reply": reply.hex()})}) + "\n"
+                          for frame, reply in exchanges)
+            said = [line.partition("  -> ")[2] for line in called("trace", "-", text=log)[1].splitlines()]
+            self.assertEqual(said[2:], ["ACK device_label mp (may lack its first parts)",
+                                        "ACK_OVERFLOW, 2 bytes", "ACK device_label Lamp (2 parts)"])
+            found = [json.loads(line)["answer"] for line in called("trace", "-", "--json", text=log)[1].splitlines()]
+            self.assertEqual([each.get("may_be_incomplete") for each in found[2:]], [True, None, None])
 
 
 class Bytes(TestCase):

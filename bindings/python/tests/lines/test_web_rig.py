@@ -221,7 +221,7 @@ class Worse(TestCase):
                 # Only the UID isn't said twice.
                 said = {each["uid"]: each["text"] for each in parts["discovery"]["devices"]}
                 self.assertRegex(said["4444:00000001"], 
-                                 r"^exchange [0-9]+( \(and [0-9]+ more\))?: bytes came from 4444:00000001 alone")
+                                 r"^exchange [0-9]+( \(and [0-9]+ more\))?: 4444:00000001 alone was asked")
                 status, body = web.ask("GET", f"/picture/{parts['discovery']['picture']}")
                 self.assertEqual(status, 200)
                 self.assertIn(b"4444:00000001", body)

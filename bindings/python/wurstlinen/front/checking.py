@@ -43,7 +43,7 @@ def run_check(chosen: argparse.Namespace, output: Output) -> int:
     if failure is not None:
         raise failure
     count = {0: "no difference", 1: "1 difference"}.get(len(differences), f"{len(differences)} differences")
-    end = "" if fault is None else f"; the discovery ended early: {fault}"
+    end = "" if fault is None else f"; the discovery is incomplete: {fault}"
     there = sum(row.uid in {each.uid for each in found} for row in rows)
     output.result([f"{count}; {there} of {len(rows)} devices are there{end}"], differences=len(differences),
                   devices=len(found), expected=len(rows), fault=fault)

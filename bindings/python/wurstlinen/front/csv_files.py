@@ -143,11 +143,11 @@ def merged(before: Sheet, rows: Sequence[Mapping[str, str]], output: Output, kee
 
 
 def saved(chosen: argparse.Namespace, output: Output) -> Tuple[List[Dict[str, str]], bool, Optional[str]]:
-    """The devices' values, whether each device answered, and why the discovery ended early. Raises Failure."""
+    """The devices' values, whether each device answered, and why the discovery is incomplete. Raises Failure."""
     with open_work(chosen, output) as work:
         devices, fault = work.discover()
         if fault is not None and not work.has_searched:
-            raise Failure(FAILED, f"the discovery ended early, so nothing is written: {fault}", reason="discovery")
+            raise Failure(FAILED, f"the discovery is incomplete, so nothing is written: {fault}", reason="discovery")
         if fault is not None:
             output.note(f"devices may be missing: {fault}")
         rows, are_whole = [], True

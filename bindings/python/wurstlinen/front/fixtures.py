@@ -21,7 +21,7 @@ MOST_SILENCES = 2
 ADDRESS_FIELD = "dmx_start_address"
 FOOTPRINT_FIELD = "dmx_footprint"
 SLOW = "answers slowly"
-REASONS = {"timeout": "no answer", "late": "no answer in time"}
+REASONS = {"timeout": "no answer", "late": "no answer in time", "incomplete": "no whole answer"}
 
 
 @dataclass
@@ -71,7 +71,7 @@ def run_fixtures(chosen: argparse.Namespace, output: Output) -> int:
     if failure is not None:
         raise failure
     count = "1 fixture" if len(found) == 1 else f"{len(found)} fixtures"
-    end = work.line.ending if fault is None else f"the discovery ended early: {fault}"
+    end = work.line.ending if fault is None else f"the discovery is incomplete: {fault}"
     # Without frames another program made the exchanges, and keeps them to itself.
     sent = {0: "", 1: ", 1 frame"}.get(frames, f", {frames} frames")
     output.result([f"{count}{sent}; {end}"], fixtures=len(found), frames=frames, fault=fault)

@@ -1,7 +1,7 @@
 """Frames and their replies, decoded."""
 from __future__ import annotations
 
-from typing import Any, Dict, Iterator, NamedTuple, Optional, Tuple
+from typing import Any, Dict, Iterator, NamedTuple, Optional, Set, Tuple
 
 from ..lines.numbers import CommandClass, Pid, ResponseType
 from ..lines.packets import Packet, decode_branch_reply, decode_packet, is_branch_frame
@@ -27,6 +27,8 @@ class Reply(NamedTuple):
     data: Optional[bytes]
     response: Optional[Packet]
     parts: int = 1
+    # Whether it may be a rest: an earlier GET of the same broke off, and none was whole since.
+    may_be_incomplete: bool = False
 
 
 class Parts:
@@ -36,9 +38,35 @@ class Parts:
         self._of: Tuple[int, ...] = ()
         self._data = b""
         self._count = 0
+        # What the last part belongs to, and the GETs that broke off: a device, its sub-device and a PID.
+        self._asked: Optional[Tuple[int, ...]] = None
+        self._broken: Set[Tuple[int, ...]] = set()
 
     def joined(self, frame: bytes, reply: Optional[bytes]) -> Reply:
-        """What came after a frame. The last part of an answer has the data of all, if they followed each other.
+        """What came after a frame, and whether that may be a rest. The last part of an answer has the data of all."""
+        found = self._joined(frame, reply)
+        command, response = decode_packet(frame), found.response
+        asked = key_of(command)
+        before, self._asked = self._asked, None
+        if before is not None and before != asked:
+            self._broken.add(before)
+        if command is None or asked is None:
+            return found
+        if (response is None or response.source != command.destination
+                or command.pid not in (response.pid, Pid.QUEUED_MESSAGE)):
+            self._broken.add(asked)
+        elif response.port_or_type == ResponseType.ACK_OVERFLOW:
+            self._asked = asked
+        elif response.port_or_type != ResponseType.ACK:
+            if before == asked:
+                self._broken.add(asked)
+        elif asked in self._broken:
+            self._broken.remove(asked)
+            return found._replace(may_be_incomplete=True)
+        return found
+
+    def _joined(self, frame: bytes, reply: Optional[bytes]) -> Reply:
+        """What came after a frame. Only parts that followed each other are joined.
 
         After a reply that was lost or damaged, the answer broke off: whatever comes next begins another one.
         """
@@ -54,6 +82,13 @@ class Parts:
         elif response.port_or_type == ResponseType.ACK and count:
             return Reply(reply, response._replace(data=before + response.data), count + 1)
         return Reply(reply, response)
+
+
+def key_of(command: Optional[Packet]) -> Optional[Tuple[int, ...]]:
+    """What a command asks for, if it is a GET of one device."""
+    if command is None or command.command_class != CommandClass.GET:
+        return None
+    return command.destination, command.sub_device, command.pid
 
 
 def exchange_text(number: int, frame: bytes, reply: Reply, seconds: Optional[float] = None) -> str:
@@ -77,7 +112,8 @@ def answer_text(frame: bytes, reply: Reply) -> str:
         return branch_text(reply.data)
     command = decode_packet(frame)
     text = bytes_text(reply.data, reply.response, None if command is None else command.pid) if reply.data else SILENCE
-    return text if reply.parts == 1 else f"{text} ({reply.parts} parts)"
+    text += "" if reply.parts == 1 else f" ({reply.parts} parts)"
+    return text + (" (may lack its first parts)" if reply.may_be_incomplete else "")
 
 
 def answer_keys(frame: bytes, reply: Reply) -> Dict[str, Any]:
@@ -90,6 +126,7 @@ def answer_keys(frame: bytes, reply: Reply) -> Dict[str, Any]:
     if response is None:
         return keys
     keys["uid"] = uid_text(response.source)
+    keys.update({"may_be_incomplete": True} if reply.may_be_incomplete else {})
     if response.port_or_type == ResponseType.NACK_REASON:
         return {**keys, "nack": nack_of(response.data)}
     if response.port_or_type == ResponseType.ACK and response.command_class in RESPONSES:

@@ -117,7 +117,7 @@ def fixtures_of(work: Work, moved: Iterable[Uid]) -> List[Fixture]:
     if work.line.failure is not None:
         raise Failure(FAILED, str(work.line.failure), reason=LINE_FAILED)
     if fault is not None:
-        work.output.note(f"slots of devices that weren't found aren't compared: the discovery ended early: {fault}")
+        work.output.note(f"slots of devices that weren't found aren't compared: the discovery is incomplete: {fault}")
     known = {device.uid for device in devices}
     found = [*devices, *(Device(uid) for uid in moved if uid not in known)]
     fixtures = []

@@ -48,7 +48,7 @@ def run_get(chosen: argparse.Namespace, output: Output) -> int:
         devices, fault = work.discover()
         status = read_each(work, [device.uid for device in devices], asked, chosen, output)
     if fault is not None:
-        raise Failure(FAILED, f"the discovery ended early: {fault}", reason="discovery")
+        raise Failure(FAILED, f"the discovery is incomplete: {fault}", reason="discovery")
     return status
 
 
@@ -189,7 +189,7 @@ def identify_each(work: Work, output: Output) -> int:
             output.failure(failure)
             status = failure.status
     if fault is not None:
-        raise Failure(FAILED, f"the discovery ended early: {fault}", reason="discovery")
+        raise Failure(FAILED, f"the discovery is incomplete: {fault}", reason="discovery")
     return status
 
 

@@ -56,7 +56,7 @@ def run_show(chosen: argparse.Namespace, output: Output) -> int:
                 output.result([section, *(f"  {line}" for line in aligned(rows))])
             status = status if shown.is_whole else FAILED
     if fault is not None:
-        raise Failure(FAILED, f"the discovery ended early: {fault}", reason="discovery")
+        raise Failure(FAILED, f"the discovery is incomplete: {fault}", reason="discovery")
     return status
 
 
@@ -130,7 +130,7 @@ class Shown:
             return f"refused: {str(failure.keys['nack']).replace('_', ' ')}"
         self._silences += 1
         self.is_whole = False
-        return "no answer" if failure.keys.get("reason") == "timeout" else str(failure)
+        return self._work.line.silence if failure.keys.get("reason") == "timeout" else str(failure)
 
     def _rows(self, pid: int) -> List[Row]:
         """The rows of a parameter."""

@@ -40,6 +40,16 @@ class Watched:
         """Why nothing can be sent at all now, if that is known."""
         return ""
 
+    @property
+    def silence(self) -> str:
+        """What is said of a GET without an answer. Whether a part came, other programs keep to themselves."""
+        return "no answer, or not all of it"
+
+    @property
+    def has_broken_off(self) -> bool:
+        """Whether the last exchange was silent after a part of an answer, as far as that is known."""
+        return False
+
     def exchange(self, frame: bytes) -> bytes:
         """A line's exchange. Who watches another program's line makes none."""
         raise LineFailed("another program makes the exchanges of this line")
@@ -99,6 +109,20 @@ class WatchedLine(Watched):
     def __init__(self, line: Line, output: Output, shown: Optional[str]) -> None:
         super().__init__(output, shown)
         self._line = line
+        # The last two replies.
+        self._replies = (b"", b"")
+
+    @property
+    def silence(self) -> str:
+        return "the answer broke off after a part of it" if self.has_broken_off else "no answer"
+
+    @property
+    def has_broken_off(self) -> bool:
+        from ..lines.numbers import ResponseType
+        from ..lines.packets import decode_packet
+        before, last = self._replies
+        part = decode_packet(before)
+        return not last and part is not None and part.port_or_type == ResponseType.ACK_OVERFLOW
 
     def exchange(self, frame: bytes) -> bytes:
         """The line's exchange."""
@@ -108,5 +132,6 @@ class WatchedLine(Watched):
             self.failure = failure
             self.saw(frame, None)
             raise
+        self._replies = (self._replies[1], reply)
         self.saw(frame, reply)
         return reply

@@ -45,7 +45,7 @@ class Work:
         self.output = output
         # The devices that asked for time.
         self.slow: Set[Uid] = set()
-        # The UID whose branch was answered again and again, so that the last discovery ended early.
+        # The UID whose branch was answered again and again, so that the last discovery is incomplete.
         self.unmuted: Optional[Uid] = None
         # The bad UIDs of the last discovery.
         self.bad = BadUids()
@@ -77,32 +77,32 @@ class Work:
         if answer.is_late:
             raise Failure(FAILED, f"{uid} didn't answer within {self._asker.wait:g} s, since it needs more time",
                           uid=str(uid), reason="late")
-        return self._acknowledged(uid, answer.completion)
+        return self._acknowledged(uid, answer.completion, is_set)
 
     def _unserved(self, what: str) -> Failure:
         """Why the server hasn't done something in time."""
         reason = self.line.absence or "the line has too much to do"
         return Failure(FAILED, f"the {what} has no result so far, and {self.line.later}: {reason}", reason="unserved")
 
-    def _acknowledged(self, uid: Uid, completion: Completion) -> Completion:
+    def _acknowledged(self, uid: Uid, completion: Completion, is_set: bool) -> Completion:
         """A completion that is an acknowledgement. Raises Failure for any other."""
         if completion.status == Status.WAS_BROADCAST:
             return completion
         if completion.status == Status.FAILED_TO_SEND:
             raise Failure(FAILED, str(self.line.failure or "the line failed"), reason=LINE_FAILED)
         if completion.head is None:
-            reason = completion.status.name.lower()
-            raise Failure(FAILED, f"{uid}: {self._reason(completion.status)}", uid=str(uid), reason=reason)
+            reason = "incomplete" if self.line.has_broken_off else completion.status.name.lower()
+            raise Failure(FAILED, f"{uid}: {self._reason(completion.status, is_set)}", uid=str(uid), reason=reason)
         if completion.head.ack == AckType.NACK:
             name = nack_of(completion.data)
             raise Failure(REFUSED, f"{uid} refused it: {name.replace('_', ' ')} (NACK 0x{completion.data.hex()})",
                           uid=str(uid), reason="nack", nack=name)
         return completion
 
-    def _reason(self, status: Status) -> str:
-        """Why nothing came back."""
+    def _reason(self, status: Status, is_set: bool) -> str:
+        """Why nothing came back, or not all. No answer to a SET has parts."""
         if status == Status.TIMEOUT:
-            return "no answer"
+            return "no answer" if is_set else self.line.silence
         return f"no valid answer ({status.name.lower().replace('_', ' ')})"
 
     def _report(self, uid: Uid, message: Completion) -> None:
@@ -138,7 +138,7 @@ class Work:
             return raw_parameter(pid)
 
     def discover(self, sink: Optional[Sink] = None) -> Tuple[Tuple[Device, ...], Optional[str]]:
-        """The devices on the line, and why the run ended early; None if it didn't. A sink gets the run's log."""
+        """The devices on the line, and why the run is incomplete; None if it isn't. A sink gets the run's log."""
         found = self.search(sink)
         self.unmuted = None if found.fault is None else found.fault.uid
         self.bad = bad_uids_of_run(self._client.queue, found.run)

@@ -74,7 +74,7 @@ class Found(NamedTuple):
         if self.fault is not None:
             fault = str(failure or RUN_FAULTS[self.fault.kind].format(uid=self.fault.uid))
         parts = [counted(len(self.devices), "device"), *([counted(self.frames, "frame")] if self.frames else [])]
-        end = ending if fault is None else f"the discovery ended early: {fault}"
+        end = ending if fault is None else f"the discovery is incomplete: {fault}"
         output.result([f"{', '.join(parts)}; {end}"], devices=len(self.devices), frames=self.frames, fault=fault)
 
 

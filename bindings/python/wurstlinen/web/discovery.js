@@ -10,7 +10,7 @@ function resultText(last) {
         return "";
     }
     const found = `${plural(last.found, "fixture")} found with ${plural(last.frames, "frame")}`;
-    return last.fault ? `${found}. The discovery ended early: ${last.fault}.`
+    return last.fault ? `${found}. The discovery is incomplete: ${last.fault}.`
         : `${found}; nothing else can be on this line if it is honest.`;
 }
 

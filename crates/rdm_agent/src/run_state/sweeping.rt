@@ -12,7 +12,7 @@ ghost use Rattle.rdm_agent.specs.body.GoesOn.{GoesOn, Moves, Follows, IsConsiste
 
 use crate::belief::{Belief, Part};
 use crate::fault::AgentFault;
-use crate::limits::{BAD_ANSWERS, BADS_ASIDE, GARBLED_MUTES, LIAR_FRAMES, SWEEP_FRAMES, TRIES};
+use crate::limits::{BAD_ANSWERS, BADS_ASIDE, GARBLED_MUTES, APART_FRAMES, SWEEP_FRAMES, TRIES};
 use crate::phase::Phase;
 use crate::run_state::{RunState, device_from, searching_all};
 use crate::sweep::{Sweep, is_whole};
@@ -282,14 +282,14 @@ impl RunState {
     }
 }
 
-// How many exchanges a sweep may make that has found and set apart this many.
+// The limit of a sweep that has found this many devices, and set this many UIDs apart.
 pub(super) fn sweep_limit(found: usize, apart: usize) -> usize
     requires found { found ≤ 1025 }
     requires apart { apart ≤ 16 }
     ensures value { result ≡ sweep_limit found apart }
     ensures small { result ≤ 2 ^ 20 }
 {
-    SWEEP_FRAMES * (found + 2) + LIAR_FRAMES * apart.min(found + 2)
+    SWEEP_FRAMES * (found + 2) + APART_FRAMES * apart.min(found + 2)
 }
 
 // A sweep goes on with this belief, after this many silences or bad answers in a row of the range `last`. At its limit

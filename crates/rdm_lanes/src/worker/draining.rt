@@ -1,5 +1,5 @@
 //! How the entries of a worker's log are handed out.
-ghost use Rattle.std.specs.Prelude.{◌≡◌, ◌+◌, true, [], length, IfOk, IfErr, OnOk, OnErr, vec_capacity};
+ghost use Rattle.std.specs.Prelude.{◌≡◌, ◌+◌, ◌≤◌, true, [], length, IfOk, IfErr, OnOk, OnErr, vec_capacity};
 ghost use Rattle.rdm_log.specs.log.LogState.{stored, drained, MayGoOn};
 ghost use Rattle.rdm_lanes.specs.Workers.{session_of, lanes_of, operator_has_left, published_by};
 ghost use Rattle.rdm_lanes.specs.Workers.{operator_ring, turns_made_of};
@@ -20,6 +20,8 @@ impl Worker {
             ≡ length self.old.session.entries) }
         ensures gone { IfOk result (λ page. self.old.session.keeps ≡ true → page.first ≡ self.old.session.gone) }
         ensures handed_out { IfOk result (λ page. page.entries.items ≡ stored self.old.session) }
+        ensures memory { self.old.session.keeps ≡ true → IfOk result (λ page.
+            self.old.session.room ≤ self.old.session.gone + vec_capacity page.entries) }
         ensures fits { OnOk result (MayGoOn self.old.session (vec_capacity next)) }
         ensures log { OnOk result (self.new.session ≡ drained self.old.session (vec_capacity next)) }
         ensures back { IfErr result (λ e. e.1 ≡ next) }
@@ -47,6 +49,8 @@ impl<J: ViewHistory, R: Wait + Drop> ViewWorker<J, Shown<J>, R> {
         ensures gone { IfOk result (λ page. (session_of self.old).keeps ≡ true
             → page.first ≡ (session_of self.old).gone) }
         ensures handed_out { IfOk result (λ page. page.entries.items ≡ stored (session_of self.old)) }
+        ensures memory { (session_of self.old).keeps ≡ true → IfOk result (λ page.
+            (session_of self.old).room ≤ (session_of self.old).gone + vec_capacity page.entries) }
         ensures fits { OnOk result (MayGoOn (session_of self.old) (vec_capacity next)) }
         ensures log { OnOk result (session_of self.new ≡ drained (session_of self.old) (vec_capacity next)) }
         ensures back { IfErr result (λ e. e.1 ≡ next) }

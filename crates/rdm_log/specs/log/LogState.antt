@@ -29,6 +29,16 @@ stored k = if k.keeps then drop k.gone k.entries else []
 abbrev pub drained : LogState → ℕ → LogState
 drained k room = record k { room = length k.entries + room; gone = length k.entries; keeps = true }
 
+-- a page that takes all that a log stores, and the log's memory. Its own opening stays, but its search is the log's
+abbrev pub filled_page : LogState → LogState → LogState
+filled_page page k = record page {
+  opening = record page.opening { search = k.opening.search };
+  entries = k.entries;
+  room = k.room;
+  gone = k.gone;
+  keeps = k.keeps;
+}
+
 -- whether the log, once all its entries are handed out, can continue in memory for this many: it has capacity for those
 -- that are reserved, and there are at most 2^62 in all
 abbrev pub MayGoOn : LogState → ℕ → Type 0

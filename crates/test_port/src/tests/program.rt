@@ -61,7 +61,7 @@ pub const LOG: Due<'static> = (
      exchange 0 should be one of the three unmutes that begin a run\n\
      0000:00000000 is the first UID that a missed device may have: \
      five silences in a row of a range with it rule it out\n\
-     exchange 0: bytes came from 0000:00000000 alone that aren't its text; \
+     exchange 0: 0000:00000000 alone was asked, and bytes came that aren't its text; \
      a rule was broken, by it, another device or noise: try each device alone on the line\n",
     3,
 );

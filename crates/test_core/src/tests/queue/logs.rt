@@ -4,7 +4,7 @@ ghost use Rattle.std.specs.Prelude.{◌≡◌, []};
 use super::sessions::{CLIENT, get, log, reply, session};
 use crate::tests::checks::{check, check_eq};
 use rdm_agent::{DEFAULT_BUDGET, Kind, Search};
-use rdm_log::{Log, LogFull, Opening};
+use rdm_log::{Entry, Log, LogFull, Opening};
 use rdm_queue::Session;
 use rdm_wire::Uid;
 use std::alloc::Global;
@@ -98,4 +98,45 @@ fn a_cleared_log_has_its_room(rt: HostRuntime) {
     check_eq(&rt, session.resume(), Ok(()));
     check_eq(&rt, session.pause(), Err(LogFull));
     check_eq(&rt, session.log().entries().len(), 2);
+}
+
+// Drains the session into this memory, whose entries it drops first. Returns the memory of the log before.
+fn next_page(rt: &impl Abort, session: &mut Session, mut memory: Vec<Entry>) -> Vec<Entry> {
+    memory.clear();
+    let page = session.drain(memory);
+    page.expect(rt, "memory for what is reserved")
+}
+
+#[test]
+fn memory_that_was_handed_out_is_used_again(rt: HostRuntime) {
+    let mut session = session(&rt, rt.alloc(), 1, 4);
+    let memory = Vec::with_capacity(rt.alloc(), 5);
+    let mut page = next_page(
+        &rt,
+        &mut session,
+        memory.expect(&rt, "memory for five entries"),
+    );
+    check_eq(&rt, page.len(), 1);
+    for _ in 0..4 {
+        check_eq(&rt, session.pause(), Ok(()));
+        check_eq(&rt, session.resume(), Ok(()));
+        check_eq(&rt, session.pause(), Err(LogFull));
+        page = next_page(&rt, &mut session, page);
+        check(
+            &rt,
+            matches!(page.as_slice(), [Entry::Pause, Entry::Resume]),
+        );
+    }
+    check_eq(&rt, session.log().len_in_all(), 9);
+}
+
+#[test]
+fn a_page_is_searched_as_its_log(rt: HostRuntime) {
+    let mut session = session(&rt, rt.alloc(), 1, 4);
+    let mut page = log(&rt, rt.alloc(), 4);
+    check_eq(&rt, page.opening().search, Search::Steady);
+    check_eq(&rt, session.drain_into(&mut page), Ok(()));
+    check_eq(&rt, page.opening().search, Search::Quick);
+    check_eq(&rt, page.opening().source, Uid::default());
+    check_eq(&rt, page.entries().len(), 1);
 }

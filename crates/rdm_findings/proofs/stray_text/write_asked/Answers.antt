@@ -1,0 +1,6 @@
+use Rattle.rdm_findings.proofs.TextLemmas.{two_written}
+use Rattle.rdm_findings.proofs.stray_text.write_asked.Goals as goal
+
+pub returns : goal.returns
+returns c = two_written c.write.result c.args.text.now.items c.write_range.new.text.items c.write.new.text.items _ _
+    c.in_ok-write_range.ensures c.write.ensures
