@@ -451,8 +451,8 @@ abbrev pub found_belief : Part → ℕ → List ℕ → Sweep → Belief
 found_belief Apart u us sweep = ask_turn (without u us) sweep.belief.turn sweep.belief
 found_belief part u us sweep = believed_found part sweep.question.range sweep.belief
 
--- the agent after the mute of a UID that a sweep read. It is found if acknowledged. If it was set apart, it
--- counts in the limit of this step, too
+-- the agent after the mute of a UID that a sweep read. It is found if acknowledged. If it was set apart, it still
+-- counts in the limit of this step
 abbrev pub swept_heard : AgentState → ℕ → ℕ → ℕ → Sweep → Heard → AgentState
 swept_heard a u tries spare sweep (Acked ack) =
     to_found a (device_from u ack)

@@ -12,7 +12,7 @@ ghost use Rattle.rdm_agent.specs.body.GoesOn.{GoesOn, Moves, Follows, IsConsiste
 
 use crate::belief::{Belief, Part};
 use crate::fault::AgentFault;
-use crate::limits::{BAD_ANSWERS, BADS_ASIDE, GARBLED_MUTES, APART_FRAMES, SWEEP_FRAMES, TRIES};
+use crate::limits::{APART_FRAMES, BAD_ANSWERS, BADS_ASIDE, GARBLED_MUTES, SWEEP_FRAMES, TRIES};
 use crate::phase::Phase;
 use crate::run_state::{RunState, device_from, searching_all};
 use crate::sweep::{Sweep, is_whole};
