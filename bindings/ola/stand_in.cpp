@@ -225,8 +225,11 @@ void StandIn::heard(const Heard &heard, const RDMReply *reply) {
 
 // A few devices, of which one is still there, unless the rig was changed.
 static std::vector<UID> some_of(const std::vector<wurst::Device> &devices) {
+    const std::size_t count = std::min<std::size_t>(devices.size(), 4);
     std::vector<UID> some;
-    for (std::size_t i = 0; i < std::min<std::size_t>(devices.size(), 4); i++) {
+    // The device that answered last is added to them, without an allocation that might fail.
+    some.reserve(count + 1);
+    for (std::size_t i = 0; i < count; i++) {
         some.emplace_back(devices[i].uid.manufacturer(), devices[i].uid.device());
     }
     return some;

@@ -186,6 +186,13 @@ public:
             discover(false);
         }
         answer_all();
+        // After an answer of another exchange, the next discovery checks the line first.
+        lower_.answers = [](const RDMRequest &) { return std::make_unique<RDMReply>(RDM_TRANSACTION_MISMATCH); };
+        request(get());
+        answer_all();
+        lower_.answers = nullptr;
+        discover(false);
+        answer_all();
         act([&] { queue_->Pause(); });
         request(get());
         discover(true);
@@ -338,6 +345,33 @@ void test_threads_of_discoveries() {
     CHECK(second.sets.empty());
 }
 
+// A controller for which there is no memory is OLA's own, and serves its client all the same.
+void test_no_memory_to_begin() {
+    for (bool is_over = false; !is_over;) {
+        TargetLower lower;
+        lower.wire.fixtures = fixtures(1);
+        Client client;
+        std::unique_ptr<Queue> queue;
+        const unsigned int number = moment.fails + 1;
+        moment = {};
+        moment.fails = number;
+        const Armed armed(true);
+        try {
+            queue = std::make_unique<Queue>(&lower, 20);
+        } catch (const std::bad_alloc &) {
+            continue;
+        }
+        is_armed = false;
+        is_over = moment.allocations < number;
+        queue->SendRDMRequest(get(), client.callback());
+        queue->RunFullDiscovery(client.discovery());
+        CHECK(client.got.size() == 1 && client.last() == RDM_COMPLETED_OK);
+        CHECK(client.sets.size() == 1 && client.sets[0] == uids_of(lower.wire));
+        CHECK(!is_over || number > 5);
+    }
+    moment = {};
+}
+
 template <typename L> void test_layer() {
     for (const When when : {When::Inside, When::Later}) {
         test_each<L>(when, &Moment::throws, &Moment::calls);
@@ -354,6 +388,7 @@ void test_moments() {
     test_layer<ThrowingTarget>();
     test_layer<named::DmxterWidgetImpl>();
     test_threads_of_discoveries();
+    test_no_memory_to_begin();
 }
 
 } // namespace tests

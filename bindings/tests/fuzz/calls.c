@@ -218,7 +218,9 @@ static uint32_t log_call(uint8_t call) {
     const struct wurst_setup made = setup();
     const size_t entries = byte() * (byte() > 250 ? 10000u : 1u), size = room(WURST_MOST_FRAME_BYTES);
     switch (call) {
-    case 0: return wurst_session_open(session, &made, entries);
+    case 0:
+        return size % 2 == 0 ? wurst_session_open_without_log(session, &made)
+                             : wurst_session_open(session, &made, entries);
     case 1: return wurst_session_free_entries(session, &count);
     case 2: return wurst_session_entry_count(session, &count);
     case 3: return wurst_session_entry(session, entries, &entry, memory(size), size);

@@ -6,8 +6,10 @@
 #include <chrono>
 #include <cstdio>
 #include <cstdlib>
+#include <dlfcn.h>
 #include <fstream>
 #include <new>
+#include <pthread.h>
 #include <sstream>
 #include <sys/syscall.h>
 #include <thread>
@@ -17,6 +19,7 @@ namespace tests {
 
 Disk disk;
 std::atomic<bool> has_thread_no_memory{false};
+std::atomic<bool> has_no_threads{false};
 
 namespace {
 
@@ -68,6 +71,15 @@ bool becomes(const std::function<bool()> &holds) {
 }
 
 } // namespace tests
+
+#if !defined(__SANITIZE_ADDRESS__) && !defined(__SANITIZE_THREAD__)
+// In place of the system's.
+extern "C" int pthread_create(pthread_t *thread, const pthread_attr_t *how, void *(*run)(void *),
+                              void *argument) noexcept {
+    static const auto own = reinterpret_cast<decltype(&pthread_create)>(dlsym(RTLD_NEXT, "pthread_create"));
+    return tests::has_no_threads ? EAGAIN : own(thread, how, run, argument);
+}
+#endif
 
 // In place of the system's: only the code under test calls it here.
 extern "C" ssize_t write(int file, const void *bytes, size_t count) {

@@ -28,6 +28,14 @@ extern Disk disk;
 // Whether allocations fail on all threads except the main one.
 extern std::atomic<bool> has_thread_no_memory;
 
+// Whether no thread can be started. Sanitizers start threads themselves.
+extern std::atomic<bool> has_no_threads;
+#if defined(__SANITIZE_ADDRESS__) || defined(__SANITIZE_THREAD__)
+constexpr bool MAY_LACK_THREADS = false;
+#else
+constexpr bool MAY_LACK_THREADS = true;
+#endif
+
 // A new folder, which is removed with what is in it.
 class Folder {
 public:

@@ -180,6 +180,24 @@ void test_no_memory() {
     CHECK(seconds() - began < 9);
 }
 
+// Without a thread all is lost, which is said once. It is tried again with each line.
+void test_no_thread() {
+    const Folder folder;
+    LogWriter writer({folder.path()});
+    forget_messages();
+    has_no_threads = true;
+    writer.add(line(1));
+    writer.add(line(2));
+    CHECK(messages().size() == 1 && messages_with("no thread to write it") == 1);
+    has_no_threads = false;
+    writer.add(line(3));
+    writer.flush(10 * SECOND);
+    writer.add(line(4));
+    writer.flush(10 * SECOND);
+    const auto lines = lines_of(folder.path());
+    CHECK(lines.size() == 2 && lost_in(lines[0]) == 3 && lines[1] + '\n' == line(4));
+}
+
 void test_rotation() {
     const Folder folder;
     {
@@ -269,6 +287,9 @@ void test_writers() {
     test_full_disk();
     test_disk_that_is_full_at_each_byte();
     test_no_memory();
+    if (MAY_LACK_THREADS) {
+        test_no_thread();
+    }
     test_rotation();
     test_signals();
     test_fork();
