@@ -38,7 +38,8 @@ class Reports(Place):
         """FORMATS, the program: the control field and the binding UID. E1.20 says what the field's bits mean."""
         self.put_program(FINDING)
         words = ["discover", "--line", f"rig:{FIXTURES}"]
-        end = "the discovery ended early: 4444:00000009 was asked alone, and the answer was wrong: try it alone on the line"
+        end = ("the discovery ended early: 4444:00000009 was asked alone, and the answer was wrong: "
+               "try it alone on the line")
         self.expect(words, 1, "1234:00000001\n1234:00000002  part of 1234:00000001, has sub-devices\n"
                               f"1234:00000003  behind a proxy\n3 devices, 9 frames; {end}\n", "wurstlinen: a remark\n")
         done = self.call(*words, "--json")

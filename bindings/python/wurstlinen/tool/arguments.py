@@ -103,7 +103,8 @@ def add_doctor(made: Any, name: str) -> None:
     command = add_command(made, name, "say what is missing on this machine", "doctor", "tool.doctor.run_doctor",
                           needs_line=False)
     # It looks at a line that isn't there, too.
-    command.add_argument("--line", dest="named", metavar="LINE", help="also look at this line; WURSTLINEN_LINE if absent")
+    command.add_argument("--line", dest="named", metavar="LINE",
+                         help="also look at this line; WURSTLINEN_LINE if absent")
     # What the script in the repository adds.
     command.add_argument("--also", nargs=2, action="append", default=[], help=argparse.SUPPRESS)
 
