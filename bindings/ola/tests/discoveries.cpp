@@ -4,6 +4,18 @@
 namespace tests {
 namespace {
 
+// This class reports success without bytes if nothing came after a branch.
+class JaRulePortHandleImpl : public Lower {
+public:
+    JaRulePortHandleImpl() {
+        answers = [this](const RDMRequest &request) {
+            Reply reply = request.ParamId() == PID_DISC_UNIQUE_BRANCH ? wire.reply_to(request) : nullptr;
+            const bool is_silent = reply && reply->StatusCode() == RDM_TIMEOUT;
+            return is_silent ? std::make_unique<RDMReply>(RDM_DUB_RESPONSE) : std::move(reply);
+        };
+    }
+};
+
 template <typename L> void test_exact(When when, unsigned int count) {
     L lower;
     lower.when = when;
@@ -264,6 +276,7 @@ void test_discoveries() {
     for (const auto when : {When::Inside, When::InsideTwice, When::Later}) {
         test_exact<TargetLower>(when, 5);
         test_exact<DmxterWidgetImpl>(when, 5);
+        test_exact<JaRulePortHandleImpl>(when, 5);
     }
     test_exact<TargetLower>(When::Inside, 200);
     test_losses<TargetLower>();
