@@ -1,3 +1,4 @@
 mod LogLemmas
+mod MisreadLemmas
 mod StopLemmas
 mod TextLemmas

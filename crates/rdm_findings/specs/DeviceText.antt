@@ -1,13 +1,11 @@
 -- The lines of a run about devices: those that are listed, the one that didn't mute, and the known ones that are gone.
 use Rattle.std.specs.Prelude.{ℕ, Bool, true, false, ◌&&◌, ◌||◌, not, List, [], ◌++◌, Option, Some, None, codes, decimal}
 use Rattle.std.specs.Prelude.{◌==◌, if◌then◌else◌, is_some, nat_lt}
-use Rattle.std.specs.List.{position}
 use Rattle.rdm_wire.specs.UidText.{uid_text}
 use Rattle.rdm_explain.specs.declared.rule.Rule.{Rule}
 use Rattle.rdm_explain.specs.declared.rule.Rule.TheVariants.{SilentBranches, SilentMutes, GarbledMute}
 use Rattle.rdm_explain.specs.declared.rule.Breach.{Breach}
 use Rattle.rdm_explain.specs.declared.rule.DeviceFinding.{DeviceFinding}
-use Rattle.rdm_explain.specs.declared.exchange.Exchange.{Exchange}
 use Rattle.rdm_findings.specs.declared.form.About.{About}
 use Rattle.rdm_findings.specs.declared.form.Form.{Form}
 use Rattle.rdm_findings.specs.declared.form.Judgement.{Judgement}
@@ -16,10 +14,11 @@ use Rattle.rdm_findings.specs.declared.head.Start.{Start}
 use Rattle.rdm_findings.specs.declared.heard.RunUids.{RunUids}
 use Rattle.rdm_findings.specs.declared.mention.Mention.{Mention}
 use Rattle.rdm_findings.specs.declared.mention.RunFacts.{RunFacts}
+use Rattle.rdm_findings.specs.declared.misread.Misreads.{Misreads}
 use Rattle.rdm_findings.specs.FindingText.{exchange_name, uid_finding}
 use Rattle.rdm_findings.specs.Forms.{finding}
 use Rattle.rdm_findings.specs.HeardUids.{in_uids}
-use Rattle.rdm_findings.specs.Mentions.{is_misread}
+use Rattle.rdm_findings.specs.Mentions.{misread_in}
 use Rattle.rdm_findings.specs.Starts.{has_start, number_at}
 
 -- a breach, before its exchange. The log has all of a run in which a device was never heard
@@ -116,13 +115,14 @@ number_before r (Some at) = if is_before r.failure at then Some (number_at r.sta
 
 -- The first exchange in which other bytes than its text answered a branch of u alone. The line about bytes that no
 -- honest line allows counts all such exchanges, and names the first
-abbrev pub misread_at : RunFacts → List Exchange → ℕ → Option ℕ
-misread_at r xs u = if is_some r.garbled then number_before r (position (is_misread u) xs) else None
+abbrev pub misread_at : RunFacts → Misreads → ℕ → Option ℕ
+misread_at r misreads u = if is_some r.garbled then number_before r (misread_in misreads u) else None
 
 -- the exchange at which a line about bytes names the device: that of the bytes that no honest line allows, or one that
 -- this line counts, or else that of bytes that nobody was due to send
-abbrev pub seen_at : RunFacts → List Exchange → ℕ → Option ℕ
-seen_at r xs u = first_number (mentioned r.garbled u) (first_number (misread_at r xs u) (mentioned r.stray u))
+abbrev pub seen_at : RunFacts → Misreads → ℕ → Option ℕ
+seen_at r misreads u =
+    first_number (mentioned r.garbled u) (first_number (misread_at r misreads u) (mentioned r.stray u))
 
 -- Whether a device was found, if it broke no rule; or which rule it broke first, and where. The flags say that it was
 -- heard in the run, and that it acknowledged a mute. The number is that of an exchange that leaves a doubt
@@ -154,10 +154,10 @@ of_device r u acked see breach = record {
 }
 
 -- The finding about a listed device. The sets have the UIDs that were heard, and those that acknowledged a mute
-abbrev pub device_finding : Form → RunFacts → List Exchange → RunUids → RunUids → DeviceFinding → List ℕ
-device_finding form r xs heard acked f =
-    finding form (of_device r f.uid (in_uids acked f.uid) (seen_at r xs f.uid) f.breach)
-    (uid_text f.uid ++ verdict_text r (in_uids heard f.uid) (in_uids acked f.uid) (seen_at r xs f.uid) f.breach)
+abbrev pub device_finding : Form → RunFacts → Misreads → RunUids → RunUids → DeviceFinding → List ℕ
+device_finding form r misreads heard acked f =
+    finding form (of_device r f.uid (in_uids acked f.uid) (seen_at r misreads f.uid) f.breach)
+    (uid_text f.uid ++ verdict_text r (in_uids heard f.uid) (in_uids acked f.uid) (seen_at r misreads f.uid) f.breach)
 
 -- the finding about a device that answered a branch of it alone, and then acknowledged no mute, if there is one
 abbrev pub culprit_finding : Form → Option ℕ → List ℕ

@@ -1,6 +1,7 @@
 -- What is printed for a run: the findings about exactly its exchanges.
 use Rattle.std.specs.Prelude.{◌≡◌, ℕ, Bool, ◌&&◌, ◌||◌, not, List, [], ◌∷◌, ◌++◌, Option, Some, None, flat_map, filter}
 use Rattle.std.specs.Prelude.{is_some, if◌then◌else◌}
+use Rattle.std.specs.List.{position}
 use Rattle.rdm_wire.specs.Uid.{has}
 use Rattle.rdm_wire.specs.Devices.{uids_of}
 use Rattle.rdm_agent.specs.Run.{acked_in}
@@ -26,7 +27,7 @@ use Rattle.rdm_findings.specs.FindingText.{head_finding, run_gaps, quiet_text, s
 use Rattle.rdm_findings.specs.FindingText.{unless_garbled, any_broke, answered_finding}
 use Rattle.rdm_findings.specs.HeardUids.{heard_in, in_uids}
 use Rattle.rdm_findings.specs.RunJson.{before_run, run_end}
-use Rattle.rdm_findings.specs.Mentions.{garbled_mention, stray_mention}
+use Rattle.rdm_findings.specs.Mentions.{garbled_mention, stray_mention, is_misread, misread_in}
 
 -- some UIDs, and then the others of a list
 abbrev pub with_others : List ℕ → List ℕ → List ℕ
@@ -98,7 +99,8 @@ pub record Finds (kind : Option Kind) (known : Option (List ℕ)) (present passi
   pub first_stray :
       FirstStray (with_one (listed (uids_of f.reported) present passing) f.culprit) passing xs f.stray
   pub first_garbled : FirstGarbled xs f.garbled
-  -- the UIDs that were heard, and those that acknowledged a mute
+  -- the first exchange that misread each UID, the UIDs that were heard, and those that acknowledged a mute
+  pub misread : (u : ℕ) → misread_in f.misreads u ≡ position (is_misread u) xs
   pub heard : (u : ℕ) → in_uids f.heard u ≡ has (heard_in (seen_all xs)) u
   pub acked : (u : ℕ) → in_uids f.acked u ≡ has (acked_in (seen_all xs)) u
 
@@ -121,9 +123,9 @@ facts_of head xs f = record {
 }
 
 -- the findings about devices
-abbrev pub devices_text : Form → RunFacts → List Exchange → Findings → List ℕ
-devices_text form r xs f =
-    flat_map (device_finding form r xs f.heard f.acked) f.devices.items
+abbrev pub devices_text : Form → RunFacts → Findings → List ℕ
+devices_text form r f =
+    flat_map (device_finding form r f.misreads f.heard f.acked) f.devices.items
     ++ culprit_finding form f.culprit ++ flat_map (gone_finding form r) f.gone.items
 
 -- the findings about bytes
@@ -142,7 +144,7 @@ run_text form head xs f =
 abbrev pub findings_text : Form → RunHead → List Exchange → Findings → List ℕ
 findings_text form head xs f =
     run_text form head xs f
-    ++ (devices_text form (facts_of head xs f) xs f ++ bytes_text form head xs f ++ run_end form)
+    ++ (devices_text form (facts_of head xs f) f ++ bytes_text form head xs f ++ run_end form)
 
 -- whether any finding is that a rule was broken. A known UID that is gone broke none
 abbrev pub is_broken : RunHead → Findings → Bool

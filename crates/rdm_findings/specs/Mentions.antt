@@ -1,5 +1,7 @@
 -- The devices that a run's lines about bytes name.
 use Rattle.std.specs.Prelude.{ℕ, Bool, false, ◌&&◌, not, List, Option, Some, None, slice_get, ◌==◌}
+use Rattle.std.specs.Ordering.{nat_cmp}
+use Rattle.std.specs.BTreeMap.{get}
 use Rattle.rdm_explain.specs.declared.exchange.Asked.{Asked}
 use Rattle.rdm_explain.specs.declared.exchange.Asked.TheVariants.{Branch, Mute}
 use Rattle.rdm_explain.specs.declared.exchange.Heard.{Heard}
@@ -8,6 +10,7 @@ use Rattle.rdm_explain.specs.declared.exchange.Exchange.{Exchange}
 use Rattle.rdm_explain.specs.declared.sighting.Sighting.{Sighting}
 use Rattle.rdm_findings.specs.declared.head.Start.{Start}
 use Rattle.rdm_findings.specs.declared.mention.Mention.{Mention}
+use Rattle.rdm_findings.specs.declared.misread.Misreads.{Misreads}
 use Rattle.rdm_findings.specs.declared.stray_bytes.Sign.{Sign}
 use Rattle.rdm_findings.specs.declared.stray_bytes.Sign.TheVariants as signs
 use Rattle.rdm_findings.specs.Ends.{has_bytes, is_own}
@@ -43,6 +46,10 @@ misreads u _ heard = false
 -- the same of an exchange
 abbrev pub is_misread : ℕ → Exchange → Bool
 is_misread u e = misreads u e.asked e.heard
+
+-- the index of the first such exchange of a run
+abbrev pub misread_in : Misreads → ℕ → Option ℕ
+misread_in misreads u = get nat_cmp misreads.tree u
 
 -- bytes that nobody was due to send, if they read as a listed UID
 abbrev pub signed_in : ℕ → Sign → Option Mention

@@ -12,8 +12,9 @@ use crate::form::{About, Form, Judgement, begin, end};
 use crate::head::Start;
 use crate::heard::RunUids;
 use crate::mention::RunFacts;
+use crate::misread::Misreads;
 use crate::writing::{write, write_exchange, write_number, write_uid};
-use rdm_explain::{Breach, DeviceFinding, Exchange, Rule};
+use rdm_explain::{Breach, DeviceFinding, Rule};
 use rdm_wire::Uid;
 use std::alloc::AllocError;
 
@@ -23,16 +24,16 @@ pub(crate) fn write_devices(
     text: &mut Vec<u8>,
     form: Form,
     facts: &RunFacts,
-    exchanges: &[Exchange],
+    misreads: &Misreads,
     heard: &RunUids,
     acked: &RunUids,
     found: &[DeviceFinding],
 ) -> Result<(), AllocError>
     ensures { OnOk result (text.new.items ≡ text.old.items
-        ++ flat_map (device_finding form facts.now exchanges.now heard.now acked.now) found.now) }
+        ++ flat_map (device_finding form facts.now misreads.now heard.now acked.now) found.now) }
 {
     'devices: for device in found {
-        write_device(text, form, facts, exchanges, heard, acked, device)?;
+        write_device(text, form, facts, misreads, heard, acked, device)?;
     }
     Ok(())
 }
@@ -41,17 +42,17 @@ fn write_device(
     text: &mut Vec<u8>,
     form: Form,
     facts: &RunFacts,
-    exchanges: &[Exchange],
+    misreads: &Misreads,
     heard: &RunUids,
     acked: &RunUids,
     found: &DeviceFinding,
 ) -> Result<(), AllocError>
     ensures { OnOk result (text.new.items ≡ text.old.items
-        ++ device_finding form facts.now exchanges.now heard.now acked.now found.now) }
+        ++ device_finding form facts.now misreads.now heard.now acked.now found.now) }
 {
     let was_heard = heard.contains(found.uid);
     let was_acked = acked.contains(found.uid);
-    let see = facts.seen_at(exchanges, found.uid);
+    let see = facts.seen_at(misreads, found.uid);
     write_judged(
         text,
         form,

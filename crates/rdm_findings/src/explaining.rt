@@ -20,6 +20,7 @@ use crate::head_text::write_head;
 use crate::heard::{RunUids, acknowledged_uids, heard_uids};
 use crate::listing::{add_one, culprit_of, gone_of, listed, with_passing};
 use crate::mention::{RunFacts, garbled_mention, stray_mention};
+use crate::misread::Misreads;
 use crate::run_json::{write_before_run, write_run_end};
 use crate::stray_text::write_stray;
 use crate::unmute_text::write_answered;
@@ -57,6 +58,7 @@ struct Findings {
     gone: Vec<DeviceFinding>,
     stray: Option<Sighting>,
     garbled: Option<Sighting>,
+    misreads: Misreads,
     heard: RunUids,
     acked: RunUids,
 }
@@ -127,6 +129,7 @@ fn find(
         gone: gone(alloc, &acked, &due, known, exchanges)?,
         stray: judged.stray,
         garbled: first_garbled(alloc, exchanges)?,
+        misreads: Misreads::of(alloc, exchanges)?,
         heard: heard_uids(alloc, exchanges)?,
         due,
         reported,
@@ -258,16 +261,10 @@ fn write_others(
     found: &Findings,
 ) -> Result<(), AllocError>
     ensures { OnOk result (text.new.items ≡ text.old.items
-        ++ (devices_text form (facts_of head.now exchanges.now found.now) exchanges.now found.now
+        ++ (devices_text form (facts_of head.now exchanges.now found.now) found.now
         ++ bytes_text form head.now exchanges.now found.now ++ run_end form)) }
 {
-    write_judged(
-        text,
-        form,
-        &facts_of(head, exchanges, found),
-        exchanges,
-        found,
-    )?;
+    write_judged(text, form, &facts_of(head, exchanges, found), found)?;
     write_bytes(text, form, head, exchanges, found)?;
     write_run_end(text, form)
 }
@@ -353,17 +350,15 @@ fn write_judged(
     text: &mut Vec<u8>,
     form: Form,
     facts: &RunFacts,
-    exchanges: &[Exchange],
     found: &Findings,
 ) -> Result<(), AllocError>
-    ensures { OnOk result (text.new.items ≡ text.old.items
-        ++ devices_text form facts.now exchanges.now found.now) }
+    ensures { OnOk result (text.new.items ≡ text.old.items ++ devices_text form facts.now found.now) }
 {
     write_devices(
         text,
         form,
         facts,
-        exchanges,
+        &found.misreads,
         &found.heard,
         &found.acked,
         &found.devices,

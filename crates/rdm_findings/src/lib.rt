@@ -22,6 +22,7 @@ mod line;
 mod listing;
 mod log;
 mod mention;
+mod misread;
 mod opening;
 mod reading;
 mod run_json;

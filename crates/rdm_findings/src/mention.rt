@@ -1,12 +1,11 @@
 //! The devices that a run's lines about bytes name.
 ghost use Rattle.std.specs.Prelude.{◌≡◌};
-ghost use Rattle.std.specs.List.{position};
 ghost use Rattle.rdm_findings.specs.DeviceText.{mentioned, is_before};
-ghost use Rattle.rdm_findings.specs.Mentions.{is_misread, spelt_or, named_in};
+ghost use Rattle.rdm_findings.specs.Mentions.{spelt_or, named_in};
 ghost use Rattle.rdm_findings.specs.Mentions.{garbled_mention, signed_in, stray_mention};
 
-use crate::ending::{has_bytes, is_own};
 use crate::head::Start;
+use crate::misread::Misreads;
 use crate::stray_bytes::{Sign, sign_of};
 use rdm_explain::{Asked, Exchange, Heard, Sighting};
 use rdm_wire::Uid;
@@ -41,32 +40,32 @@ impl RunFacts {
     ghost use Rattle.rdm_findings.specs.DeviceText.{seen_at, misread_at, first_number, mentioned};
 
     /// The exchange at which a line about bytes names the device, or that such a line counts.
-    pub(crate) fn seen_at(&self, exchanges: &[Exchange], uid: Uid) -> Option<u64>
-        ensures { result ≡ seen_at self.now exchanges.now uid }
+    pub(crate) fn seen_at(&self, misreads: &Misreads, uid: Uid) -> Option<u64>
+        ensures { result ≡ seen_at self.now misreads.now uid }
     {
         match mentioned(&self.garbled, uid) {
             Some(number) => Some(number),
-            None => self.seen_later(exchanges, uid),
+            None => self.seen_later(misreads, uid),
         }
     }
 
-    fn seen_later(&self, exchanges: &[Exchange], uid: Uid) -> Option<u64>
-        ensures { result ≡ first_number (misread_at self.now exchanges.now uid) (mentioned self.now.stray uid) }
+    fn seen_later(&self, misreads: &Misreads, uid: Uid) -> Option<u64>
+        ensures { result ≡ first_number (misread_at self.now misreads.now uid) (mentioned self.now.stray uid) }
     {
-        match self.misread_at(exchanges, uid) {
+        match self.misread_at(misreads, uid) {
             Some(number) => Some(number),
             None => mentioned(&self.stray, uid),
         }
     }
 
     // The first exchange in which other bytes than its text answered a branch of the device alone.
-    fn misread_at(&self, exchanges: &[Exchange], uid: Uid) -> Option<u64>
-        ensures { result ≡ misread_at self.now exchanges.now uid }
+    fn misread_at(&self, misreads: &Misreads, uid: Uid) -> Option<u64>
+        ensures { result ≡ misread_at self.now misreads.now uid }
     {
         if self.garbled.is_none() {
             return None;
         }
-        match first_misread(exchanges, uid) {
+        match misreads.first(uid) {
             Some(at) if is_before(self.failure, at) => Some(self.start.number(at)),
             _ => None,
         }
@@ -79,25 +78,6 @@ fn is_before(failure: Option<usize>, at: usize) -> bool
     match failure {
         None => true,
         Some(failure) => at < failure,
-    }
-}
-
-fn first_misread(exchanges: &[Exchange], uid: Uid) -> Option<usize>
-    ensures { result ≡ position (is_misread uid) exchanges.now }
-{
-    exchanges
-        .iter()
-        .position(|exchange| is_misread(uid, exchange))
-}
-
-fn is_misread(uid: Uid, exchange: &Exchange) -> bool
-    ensures { result ≡ is_misread uid exchange.now }
-{
-    match exchange.asked {
-        Asked::Branch { lo, hi } => {
-            lo == uid && hi == uid && (has_bytes(&exchange.heard) && !is_own(uid, &exchange.heard))
-        }
-        _ => false,
     }
 }
 

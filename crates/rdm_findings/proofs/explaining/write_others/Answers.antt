@@ -8,7 +8,7 @@ use Rattle.rdm_findings.proofs.explaining.write_others.Goals as goal
 pub returns : goal.returns
 returns c =
     subst (λ (facts : RunFacts). OnOk c.write_run_end.result (c.write_run_end.new.text.items ≡ c.args.text.now.items
-    ++ (devices_text c.args.form facts c.args.exchanges.now c.args.found.now
+    ++ (devices_text c.args.form facts c.args.found.now
     ++ bytes_text c.args.form c.args.head.now c.args.exchanges.now c.args.found.now ++ run_end c.args.form)))
     c.facts_of.ensures
     (three_written c.write_run_end.result c.args.text.now.items c.write_judged.new.text.items
