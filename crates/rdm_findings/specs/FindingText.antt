@@ -204,13 +204,23 @@ start_gaps form f =
     ++ uid_gap form f.misreported
     (codes " acknowledged a mute, but isn't reported: a run reports at most 1,024 devices")
 
+-- whether this is the greatest UID, which addresses all devices
+abbrev pub is_greatest : Option ℕ → Bool
+is_greatest None = false
+is_greatest (Some u) = u == 281474976710655
+
+-- about the first UID that wasn't ruled out. If that is the greatest one, all others were
+abbrev pub uncovered_text : Option ℕ → List ℕ
+uncovered_text first =
+    if is_greatest first then codes " alone wasn't ruled out, and no device may have it"
+    else codes " is the first UID that a missed device may have: five silences in a row of a range with it rule it out"
+
 -- the parts about mutes, UIDs that weren't ruled out, and what is reported of a device
 abbrev pub end_gaps : Form → RunFinding → List ℕ
 end_gaps form f =
     exchange_gap form judged.Gap f.untried
     (codes " mutes a UID that neither acknowledged nor was muted five times in a row: perhaps no device has it")
-    ++ uid_gap form f.uncovered
-    (codes " is the first UID that a missed device may have: five silences in a row of a range with it rule it out")
+    ++ uid_gap form f.uncovered (uncovered_text f.uncovered)
     ++ device_gap form f.other_data (codes " isn't reported as in its first acknowledgement")
 
 -- the parts of the certificate that fail

@@ -1,5 +1,6 @@
 //! The parts of a certificate that fail.
 ghost use Rattle.std.specs.Prelude.{◌≡◌, ◌++◌, OnOk};
+ghost use Rattle.rdm_findings.specs.FindingText.{is_greatest, uncovered_text};
 ghost use Rattle.rdm_findings.specs.FindingText.{device_gap, start_gaps, end_gaps, gaps_text};
 ghost use Rattle.std.specs.List.{list_all};
 ghost use Rattle.rdm_findings.specs.FindingText.{quiet_text, hears_nothing};
@@ -12,7 +13,7 @@ use crate::writing::{
     write_exchange_finding, write_exchange_gap, write_finding, write_uid_finding, write_uid_gap,
 };
 use rdm_explain::{Exchange, KnownFinding, RunFinding};
-use rdm_wire::Device;
+use rdm_wire::{Device, Uid};
 use std::alloc::AllocError;
 
 /// Writes the parts of a certificate that fail. If the log may begin within the run, only a failure is decided.
@@ -118,18 +119,34 @@ fn write_end_gaps(text: &mut Vec<u8>, form: Form, found: &RunFinding) -> Result<
     ensures { OnOk result (text.new.items ≡ text.old.items ++ end_gaps form found.now) }
 {
     write_exchange_gap(text, form, Judgement::Gap, found.untried, UNTRIED)?;
-    write_uid_gap(
-        text,
-        form,
-        found.uncovered,
-        " is the first UID that a missed device may have: five silences in a row of a range with it rule it out",
-    )?;
+    let uncovered = uncovered_text(found.uncovered);
+    write_uid_gap(text, form, found.uncovered, uncovered)?;
     write_device_gap(
         text,
         form,
         &found.other_data,
         " isn't reported as in its first acknowledgement",
     )
+}
+
+// About the first UID that wasn't ruled out.
+fn uncovered_text(first: Option<Uid>) -> &'static str
+    ensures { result.now ≡ uncovered_text first }
+{
+    if is_greatest(first) {
+        " alone wasn't ruled out, and no device may have it"
+    } else {
+        " is the first UID that a missed device may have: five silences in a row of a range with it rule it out"
+    }
+}
+
+fn is_greatest(uid: Option<Uid>) -> bool
+    ensures { result ≡ is_greatest uid }
+{
+    match uid {
+        Some(uid) => uid == Uid::ALL,
+        None => false,
+    }
 }
 
 fn write_device_gap(
