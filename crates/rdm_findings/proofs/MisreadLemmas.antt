@@ -33,4 +33,5 @@ position_more p xs i x within read =
     ∙ position_from-zero p (take i xs ++ x ∷ []) ∙ from_push p 0 (take i xs) x
     ∙ ap (λ o. first_number o (if p x then Some (0 + length (take i xs)) else None))
     (sym (position_from-zero p (take i xs)))
-    ∙ ap (λ n. first_number (position p (take i xs)) (if p x then Some n else None)) (grind (arith, common_steps, within))
+    ∙ ap (λ n. first_number (position p (take i xs)) (if p x then Some n else None))
+    (grind (arith, common_steps, within))

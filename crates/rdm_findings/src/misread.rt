@@ -49,7 +49,7 @@ impl Misreads {
     ghost use Rattle.rdm_findings.specs.DeviceText.{first_number};
     ghost use Rattle.rdm_findings.specs.Mentions.{is_misread, misread_in};
 
-    /// Those of a run. The only error: out of memory.
+    /// Those of a run's exchanges. The only error: out of memory.
     pub(crate) fn of(alloc: Global, exchanges: &[Exchange]) -> Result<Misreads, NoMemory>
         ensures { IfOk result (λ found. (u : ℕ) → misread_in found u ≡ position (is_misread u) exchanges.now) }
     {
