@@ -114,10 +114,12 @@ class WatchedLine(Watched):
 
     @property
     def silence(self) -> str:
+        """What is said of a GET without an answer, or with a part of one."""
         return "the answer broke off after a part of it" if self.has_broken_off else "no answer"
 
     @property
     def has_broken_off(self) -> bool:
+        """Whether the last exchange was silent after a part of an answer."""
         from ..lines.numbers import ResponseType
         from ..lines.packets import decode_packet
         before, last = self._replies
