@@ -274,7 +274,10 @@ class OtherViews(LongTestCase):
                          and not parts[f"fixture/{BACK}"]["identifies"])
             seen.button("Identify next ›")
             seen.until("document.querySelector('.name')?.textContent === 'Back truss'")
-            events.until(lambda parts: parts[f"fixture/{BACK}"]["identifies"])
+            events.until(lambda parts: parts[f"fixture/{BACK}"]["identifies"]
+                         and not parts[f"fixture/{RIGHT}"]["identifies"])
+            # The page may hear it later than this test.
+            seen.until("document.querySelector('.identify').ariaChecked === 'true'")
             seen.button("1 identifies · Stop")
             events.until(lambda parts: not parts[f"fixture/{BACK}"]["identifies"])
             seen.button("Next ›")
