@@ -42,7 +42,7 @@ class Fixtures(LongTestCase):
             seen.type("20")
             seen.key("Enter")
             events.until(lambda parts: parts[f"fixture/{LEFT}"]["address"] == 20)
-            seen.until(f"document.querySelector(\"{row(LEFT)} .slots\").textContent === '20-26'")
+            seen.until(f"document.querySelector(\"{row(LEFT)} .slots\")?.textContent === '20-26'")
             self.assertEqual(seen.value(f"{row(LEFT)} .label"), BAD)
             self.assertEqual(seen.page.value("[window.bad ?? 0, document.images.length]"), [0, 0])
             # What is taken back is said before. At 1 it would overlap again.
@@ -64,7 +64,7 @@ class Fixtures(LongTestCase):
             seen.button("Slots")
             seen.until("!document.querySelector('.message') && document.querySelector('.universe')")
             seen.button("Fixtures")
-            seen.until(f"document.querySelector(\"{row(LEFT)} .label\").value === 'Front left'")
+            seen.until(f"document.querySelector(\"{row(LEFT)} .label\")?.value === 'Front left'")
 
     @at_each_size
     def test_what_overlaps_is_asked_again(self, size: Tuple[int, int]) -> None:
@@ -78,7 +78,7 @@ class Fixtures(LongTestCase):
             # The question is where keys are, and then they are where they were.
             self.assertEqual(seen.page.value("document.activeElement.textContent"), "Cancel")
             seen.key("Enter")
-            seen.until(f"document.querySelector(\"{row(RIGHT)} .address\").value === '8'")
+            seen.until(f"document.querySelector(\"{row(RIGHT)} .address\")?.value === '8'")
             self.assertEqual(seen.page.value("document.activeElement.className"), "address")
             self.assertEqual(seen.texts(".message"), [])
             seen.click(f"{row(RIGHT)} .address")
@@ -86,8 +86,8 @@ class Fixtures(LongTestCase):
             seen.key("Enter")
             seen.button("Do it anyway")
             events.until(lambda parts: parts.get(f"fixture/{RIGHT}", {}).get("address") == 99)
-            seen.until(f"document.querySelector(\"{row(RIGHT)} .note\").textContent.includes('overlaps Back truss')")
-            seen.until(f"document.querySelector(\"{row(RIGHT)} .address\").value === '99'")
+            seen.until(f"document.querySelector(\"{row(RIGHT)} .note\")?.textContent.includes('overlaps Back truss')")
+            seen.until(f"document.querySelector(\"{row(RIGHT)} .address\")?.value === '99'")
             # Who goes elsewhere leaves the question.
             seen.click(f"{row(RIGHT)} .address")
             seen.type("100")
@@ -104,7 +104,7 @@ class Fixtures(LongTestCase):
             seen.key("Tab")
             seen.until("document.querySelector('.message')")
             self.assertIn("513 is not from 1 to 512", seen.texts(".message p")[0])
-            seen.until(f"document.querySelector(\"{row(LEFT)} .address\").value === '1'")
+            seen.until(f"document.querySelector(\"{row(LEFT)} .address\")?.value === '1'")
             seen.click(f"{row(LEFT)} .label")
             seen.type("Anything")
             seen.key("Escape")
@@ -143,7 +143,7 @@ class Fixtures(LongTestCase):
             seen.key("ArrowDown")
             seen.key("Enter")
             events.until(lambda parts: parts.get(f"fixture/{RIGHT}", {}).get("personality") == 2)
-            seen.until(f"document.querySelector(\"{row(RIGHT)} .slots\").textContent === '8-21'")
+            seen.until(f"document.querySelector(\"{row(RIGHT)} .slots\")?.textContent === '8-21'")
 
     @at_each_size
     def test_the_walk(self, size: Tuple[int, int]) -> None:
@@ -377,7 +377,7 @@ class OtherViews(LongTestCase):
     @at_each_size
     def test_discovery(self, size: Tuple[int, int]) -> None:
         with opened(size, "discovery") as (seen, _, rig):
-            seen.until("document.querySelector('.result').textContent.startsWith('5 fixtures found with')")
+            seen.until("document.querySelector('.result')?.textContent.startsWith('5 fixtures found with')")
             self.assertIn("nothing else can be on this line if it is honest", seen.texts(".result")[0])
             self.assertIn("Once it has begun, nothing stops it: it ends by itself.", seen.texts(".tools p"))
             rig.gone.add(rig.fixtures[2].uid)
@@ -386,13 +386,13 @@ class OtherViews(LongTestCase):
             seen.until("/[0-9]+ frames so far, [1-3] fixtures? found: /.test("
                        "document.querySelector('main').textContent)")
             rig.delay = 0.0
-            seen.until("document.querySelector('.result').textContent.startsWith('4 fixtures found with')")
+            seen.until("document.querySelector('.result')?.textContent.startsWith('4 fixtures found with')")
             seen.until("[...document.querySelectorAll('li')].some((each) => "
                        "each.textContent.includes('Back truss (454e:0a000017)'))")
             seen.button("Fixtures")
             seen.until("document.querySelector('.count')?.textContent === '4 found, 1 missing'")
             seen.button("Remove from the list")
-            seen.until("document.querySelector('.count').textContent === '4 fixtures'")
+            seen.until("document.querySelector('.count')?.textContent === '4 fixtures'")
             seen.button("Discovery")
             if program() is not None:
                 seen.until("document.querySelector('iframe')?.src.includes('/picture/')")
@@ -421,14 +421,14 @@ class OtherViews(LongTestCase):
         with opened(size, "line") as (seen, _, _rig), \
                 servers.Program(servers.place.path_of(servers.place.own_folder(), "rig:/it"),
                                 {**servers.HELLO, "name": "console"}) as program:
-            seen.until("document.querySelector('main').textContent.includes('console')")
+            seen.until("document.querySelector('main')?.textContent.includes('console')")
             # Another program waits for it, too.
             seen.button("Pause all")
             self.assertEqual(seen.texts(".message p"), ["This pauses console, too."])
             seen.button("Pause them, too")
-            seen.until("document.querySelector('#status').textContent.endsWith(' · paused: no RDM request is sent')")
+            seen.until("document.querySelector('#status')?.textContent.endsWith(' · paused: no RDM request is sent')")
             program.say({"do": "get", "uid": LEFT, "pid": "0081"})
-            seen.until("document.querySelector('main').textContent.includes('Paused: 1 request waits. It ends when')")
+            seen.until("document.querySelector('main')?.textContent.includes('Paused: 1 request waits. It ends when')")
             seen.button("Go on")
             program.next("status")
             seen.until("document.querySelector('tr .command')?.textContent === 'GET 1234:00000001 manufacturer_label'")

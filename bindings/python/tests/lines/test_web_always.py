@@ -94,7 +94,7 @@ class Always(LongTestCase):
                 seen.open()
                 seen.until(f"document.querySelector(\"{row(LEFT)} .label\")?.value === 'Front left'")
                 web.end()
-                seen.until("document.querySelector('#status').textContent.startsWith('Not connected')")
+                seen.until("document.querySelector('#status')?.textContent.startsWith('Not connected')")
                 self.assertTrue(seen.page.value(f"document.querySelector(\"{row(LEFT)} .label\").disabled"))
                 again = Web("rig:/it", web.port, web.tokens)
                 try:
@@ -122,10 +122,10 @@ class Always(LongTestCase):
             seen.type("Gone")
             seen.key("Enter")
             seen.until("document.querySelector('.message')?.textContent.includes('no answer')")
-            seen.until(f"document.querySelector(\"{row(LEFT)} .note\").textContent.includes('no answer')")
+            seen.until(f"document.querySelector(\"{row(LEFT)} .note\")?.textContent.includes('no answer')")
             self.assertEqual(seen.value(f"{row(LEFT)} .label"), "Front left")
             rig.is_plugged_in = False
-            seen.until("document.querySelector('#status').textContent === "
+            seen.until("document.querySelector('#status')?.textContent === "
                        "'rig:/it: adapter unplugged, waiting for it; what you see is old'")
             for view in ("fixtures", "slots", "file", f"fixture/{BACK}", "discovery"):
                 seen.page.value(f"location.hash = location.hash.split('/')[0] + '/{view}'")
