@@ -112,7 +112,13 @@ private:
 template <typename InPlace, typename Lower>
 void make(Replaced constructor, void *object, Lower *lower, unsigned int places) {
     if (!is_handing_on && try_add(object, lower, places)) {
-        new (object) InPlace(lower, places);
+        try {
+            new (object) InPlace(lower, places);
+        } catch (...) {
+            // Nobody destroys what wasn't constructed.
+            remove(object);
+            throw;
+        }
         return;
     }
     const HandingOn handing_on;
