@@ -1,5 +1,5 @@
 -- A run that has a certificate has ended, without fault: what clears the greatest UID is the end of the search.
-use Rattle.rdm_agent.proofs.Common.{◌≡◌, ℕ, zero, suc, ◌+◌, ◌*◌, ◌^◌, ◌<◌, ◌≤◌, Bool, true, false, cond, List, [], ◌∷◌}
+use Rattle.rdm_agent.proofs.Common.{◌≡◌, ℕ, zero, suc, ◌+◌, ◌^◌, ◌<◌, ◌≤◌, Bool, true, false, cond, List, [], ◌∷◌}
 use Rattle.rdm_agent.proofs.Common.{◌++◌, length, append_assoc, append-nil, Option, None, Some, refl, sym, ap, ◌∙◌}
 use Rattle.rdm_agent.proofs.Common.{subst, inl, inr, true≢false, arith, ◌≢◌, ◌⊎◌, ◌==◌, nat_le, nat_lt, MatchOption}
 use Rattle.rdm_agent.proofs.Common.{eqb-false, leb-true, and_parts, cond_both, AllByRecursion, has, IsDevice}
@@ -379,6 +379,7 @@ swept_silent a sweep x asks k = cond_both ((sweep.silences + 1) == TRIES) _ _ Af
     fifth out parts.All low = gap out
     fifth out parts.Whole low = gap out
     fifth out parts.End low = gap out
+    fifth out parts.Spelt low = gap out
 
 -- the range without devices is silent once more
 checked_silent : (u silences : ℕ) (sweep : Sweep) (n : ℕ) (x : List Seen) → silences < 2

@@ -63,6 +63,7 @@ question-is b = by b.alone
     by alone.No = (swept-is b).range
     by alone.End = spanning-is b.end b.end
     by alone.Apart = spanning-is _ _
+    by alone.Spelt = spanning-is _ _
 
 -- a UID that was set apart isn't the greatest one
 apart-below : (b : Belief) → is_apart (question b).part ≡ true → (question b).range.hi < last_uid
@@ -71,6 +72,7 @@ apart-below b = by b.alone
     by : (al : Alone) → is_apart (asked_alone al b).part ≡ true → (asked_alone al b).range.hi < last_uid
     by alone.No p = absurd ((swept-is b).other p)
     by alone.End p = absurd (true≢false (sym p))
+    by alone.Spelt p = absurd (true≢false (sym p))
     by alone.Apart p =
         let hi = min-le_left (min b.end (last_uid - 1)) last_uid in
         let end = min-le_right b.end (last_uid - 1) in omega (arith, hi, end)

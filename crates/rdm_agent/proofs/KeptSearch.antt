@@ -27,6 +27,7 @@ fifth-keeps parts.Rest a sweep = cond_both (is_whole sweep.question.range) _ _ (
 fifth-keeps parts.All a sweep = cond_both (is_whole sweep.question.range) _ _ (Keeps a) (λ all. refl) (λ gap. refl)
 fifth-keeps parts.Whole a sweep = cond_both (is_whole sweep.question.range) _ _ (Keeps a) (λ all. refl) (λ gap. refl)
 fifth-keeps parts.End a sweep = cond_both (is_whole sweep.question.range) _ _ (Keeps a) (λ all. refl) (λ gap. refl)
+fifth-keeps parts.Spelt a sweep = cond_both (is_whole sweep.question.range) _ _ (Keeps a) (λ all. refl) (λ gap. refl)
 
 silent-keeps : (a : AgentState) (sweep : Sweep) → Keeps a (sweep_silent a sweep)
 silent-keeps a sweep = cond_both ((sweep.silences + 1) == TRIES) _ _ (Keeps a)
@@ -51,6 +52,7 @@ asks_on-keeps part a sweep bads = of_part part
     of_part parts.All = other
     of_part parts.Whole = other
     of_part parts.End = other
+    of_part parts.Spelt = other
 
 apart-keeps : (a : AgentState) (sweep : Sweep) → Keeps a (sweep_apart a sweep)
 apart-keeps a sweep = cond_both (is_one sweep.question.range) _ _ (Keeps a)

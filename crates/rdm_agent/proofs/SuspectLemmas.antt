@@ -8,7 +8,7 @@ use Rattle.rdm_agent.specs.declared.belief.Part.{Part}
 use Rattle.rdm_agent.specs.declared.belief.Part.TheVariants as parts
 use Rattle.rdm_agent.specs.Beliefs.{question, ready, restarted, past_zero, is_alone, is_same, is_suspect}
 use Rattle.rdm_agent.specs.Beliefs.{settled, part_silent, is_doubted, convinced, asks_whole_again}
-use Rattle.rdm_agent.specs.Beliefs.{end_answered, last_uid}
+use Rattle.rdm_agent.specs.Beliefs.{end_answered, last_uid, give_up, asks_spelt, part_apart, is_spelt_often}
 use Rattle.rdm_agent.specs.Apart.{ask_first, ask_next, ask_turn, next_gap, past, set_apart, without}
 use Rattle.rdm_agent.specs.Machine.{asking, is_asked_out, found_belief}
 
@@ -49,19 +49,25 @@ module _ (present : List ℕ) where
   settled-vain : (b : Belief) → Vain b → Vain (settled b)
   settled-vain b vain = cond_both (b.doubt == 0) _ _ Vain (λ same. vain) (λ louder. vain)
 
+  pub give_up-vain : (u : ℕ) (b : Belief) → Vain b → Vain (give_up u b)
+  give_up-vain u b vain = cond_both (asks_spelt b.alone) _ _ Vain (λ spelt. vain) (λ above. vain)
+
   part_silent-vain : (part : Part) (r : Span) (b : Belief) → Vain b → Vain (part_silent part r b)
   part_silent-vain parts.Fresh r b vain = vain
   part_silent-vain parts.Lower r b vain = vain
   part_silent-vain parts.Rest r b vain = vain
   part_silent-vain parts.All r b vain = vain
   part_silent-vain parts.Whole r b vain = vain
-  part_silent-vain parts.End r b vain = cond_both (b.quiet == 0) _ _ Vain (λ once. vain) (λ twice. vain)
+  part_silent-vain parts.End r b vain = cond_both (b.quiet == 0) _ _ Vain (λ once. vain)
+      (λ twice. give_up-vain b.end b vain)
   part_silent-vain parts.Apart r b vain = vain
+  part_silent-vain parts.Spelt r b vain = vain
 
   pub silent-vain : (part : Part) (r : Span) (b : Belief) → Vain b → Vain (believed_silent part r b)
   silent-vain part r b vain =
-      cond_both (b.doubt == 1) _ _ Vain (λ again. vain)
-      (λ sure. part_silent-vain part r (settled b) (settled-vain b vain))
+      cond_both (asks_spelt b.alone) _ _ Vain (λ spelt. vain)
+      (λ other. cond_both (b.doubt == 1) _ _ Vain (λ again. vain)
+      (λ sure. part_silent-vain part r (settled b) (settled-vain b vain)))
 
   pub stray-vain : (b : Belief) → Vain b → Vain (stray_found b)
   stray-vain b vain = settled-vain b vain
@@ -69,19 +75,25 @@ module _ (present : List ℕ) where
   convinced-vain : (b : Belief) → Vain b → Vain (convinced b)
   convinced-vain b vain = cond_both (b.doubt == 0) _ _ Vain (λ same. vain) (λ quieter. vain)
 
+  part_apart-vain : (part : Part) (r : Span) (silences : ℕ) (b : Belief) → Vain b → Vain (part_apart part r silences b)
+  part_apart-vain parts.Fresh r silences b vain =
+      cond_both (is_doubted b) _ _ Vain (λ again. vain) (λ sure. convinced-vain b vain)
+  part_apart-vain parts.Lower r silences b vain =
+      cond_both (is_doubted b) _ _ Vain (λ again. vain) (λ sure. convinced-vain b vain)
+  part_apart-vain parts.Rest r silences b vain =
+      cond_both (is_doubted b) _ _ Vain (λ again. vain) (λ sure. convinced-vain b vain)
+  part_apart-vain parts.All r silences b vain = vain
+  part_apart-vain parts.Whole r silences b vain =
+      cond_both (asks_whole_again silences b) _ _ Vain (λ again. vain) (λ pass. none)
+  part_apart-vain parts.End r silences b vain = vain
+  part_apart-vain parts.Apart r silences b vain = vain
+  part_apart-vain parts.Spelt r silences b vain = vain
+
   pub apart-vain : (part : Part) (r : Span) (silences : ℕ) (b : Belief) → Vain b
       → Vain (believed_apart part r silences b)
-  apart-vain parts.Fresh r silences b vain =
-      cond_both (is_doubted b) _ _ Vain (λ again. vain) (λ sure. convinced-vain b vain)
-  apart-vain parts.Lower r silences b vain =
-      cond_both (is_doubted b) _ _ Vain (λ again. vain) (λ sure. convinced-vain b vain)
-  apart-vain parts.Rest r silences b vain =
-      cond_both (is_doubted b) _ _ Vain (λ again. vain) (λ sure. convinced-vain b vain)
-  apart-vain parts.All r silences b vain = vain
-  apart-vain parts.Whole r silences b vain =
-      cond_both (asks_whole_again silences b) _ _ Vain (λ again. vain) (λ pass. none)
-  apart-vain parts.End r silences b vain = vain
-  apart-vain parts.Apart r silences b vain = vain
+  apart-vain part r silences b vain =
+      cond_both (is_spelt_often r b) _ _ Vain (λ spelt. part_apart-vain part r silences b vain)
+      (λ other. part_apart-vain part r silences b vain)
 
   pub answered-vain : (b : Belief) → Vain b → Vain (end_answered b)
   answered-vain b vain = cond_both (is_alone b.alone) _ _ Vain (λ alone. vain) (λ range. vain)
@@ -119,3 +131,4 @@ module _ (present : List ℕ) where
   found_belief-vain parts.All u us sweep vain = settled-vain sweep.belief vain
   found_belief-vain parts.Whole u us sweep vain = settled-vain sweep.belief vain
   found_belief-vain parts.End u us sweep vain = settled-vain sweep.belief vain
+  found_belief-vain parts.Spelt u us sweep vain = settled-vain sweep.belief vain

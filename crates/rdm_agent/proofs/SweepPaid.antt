@@ -21,7 +21,7 @@ use Rattle.rdm_agent.specs.Apart.{without, has_room, ask_turn, next_gap, set_apa
 use Rattle.rdm_agent.proofs.SweepRuns.{stray-is}
 use Rattle.rdm_agent.proofs.SuspectLemmas.{choose-vain, silent-vain, apart-vain, answered-vain}
 use Rattle.rdm_agent.proofs.SuspectLemmas.{hearing-vain, ask_turn-vain, gap-vain, set_apart-vain}
-use Rattle.rdm_agent.proofs.SuspectLemmas.{found_belief-vain}
+use Rattle.rdm_agent.proofs.SuspectLemmas.{found_belief-vain, give_up-vain}
 use Rattle.rdm_agent.proofs.Choices.{IsChosen, chosen}
 use Rattle.rdm_agent.proofs.CorruptLemmas.{is_new-device}
 use Rattle.rdm_agent.proofs.Potential.{unfound, is_left, left_in, sweep_cost, CostsSweeping, CostsSwept, Finds, Affords}
@@ -233,6 +233,7 @@ module _ (present : List ℕ) (set : IsDeviceSet present) (few : length present 
         of_part parts.All = above
         of_part parts.Whole = above
         of_part parts.End = above
+        of_part parts.Spelt = above
 
     module _ (vain : IsVain present sweep.belief.suspect) where
       silent-affords : sweep.silences ≤ 4 → After (sweep_silent a sweep)
@@ -257,11 +258,11 @@ module _ (present : List ℕ) (set : IsDeviceSet present) (few : length present 
           (λ full. goes_on-apart a.apart true new.aside _ room f
           (on-costs a.search present (with_aside new.aside new) (found_uids a) (base + bonus) sweep
           sweep.question.range 0 bads_aside 0 (limit_of a) (give_up u sweep.belief) (omega arith) in_row
-          (λ fewer. absurd (omega (arith, fewer))) limit_room vain pays)))
+          (λ fewer. absurd (omega (arith, fewer))) limit_room (give_up-vain present u sweep.belief vain) pays)))
         where
           given : After (to_phase a (given_up (limit_of a) sweep u))
           given = saving 0 bads_aside 0 (give_up u sweep.belief) (omega arith) in_row
-              (λ fewer. absurd (omega (arith, fewer))) vain pays
+              (λ fewer. absurd (omega (arith, fewer))) (give_up-vain present u sweep.belief vain) pays
 
           -- what its four bad answers saved
           paid : Pays present (found_uids a) (new.aside + 1) 0 sweep.made (base + bonus)
@@ -310,6 +311,7 @@ module _ (present : List ℕ) (set : IsDeviceSet present) (few : length present 
           of_part in_row save parts.All = aside in_row save
           of_part in_row save parts.Whole = aside in_row save
           of_part in_row save parts.End = aside in_row save
+          of_part in_row save parts.Spelt = aside in_row save
 
           alone : (sweep.bads + 1 ≤ new.row) × (new.row ≤ 7) × SavedNow
               → After (badly_alone a sweep (sweep.bads + 1))

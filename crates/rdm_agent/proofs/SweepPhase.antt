@@ -1,5 +1,5 @@
 -- What a sweep's exchanges keep.
-use Rattle.rdm_agent.proofs.Common.{◌≡◌, ℕ, ◌+◌, ◌*◌, ◌<◌, ◌&&◌, List, [], None, sym, inl, inr}
+use Rattle.rdm_agent.proofs.Common.{◌≡◌, ℕ, ◌<◌, ◌&&◌, List, [], None, sym, inl, inr}
 use Rattle.rdm_agent.proofs.Common.{subst, arith, nat_lt, cond_both, Span, whole}
 use Rattle.rdm_agent.proofs.Common.{Seen, known_of, IsSilentBranch, TRIES, Belief, Sweep, is_whole, is_last, choose}
 use Rattle.rdm_agent.proofs.Common.{sweep_on_after, sweep_split, believed_apart, Sweeping, Kind, Search, Quick}

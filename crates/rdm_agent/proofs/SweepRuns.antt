@@ -132,6 +132,7 @@ module _ (kind : Kind) (known : List ℕ) (budget : ℕ) (x : List Seen) (a : Ag
           of_part parts.All = above
           of_part parts.Whole = above
           of_part parts.End = above
+          of_part parts.Spelt = above
 
       -- what it asked was answered badly
       badly-stands : (sweep : Sweep) → sweep.bads < BAD_ANSWERS
@@ -209,6 +210,7 @@ module _ (kind : Kind) (known : List ℕ) (budget : ℕ) (x : List Seen) (a : Ag
           again one fewer parts.All = other one fewer
           again one fewer parts.Whole = other one fewer
           again one fewer parts.End = other one fewer
+          again one fewer parts.Spelt = other one fewer
 
   -- the range is branched
   module _ (sweep : Sweep) (p : IsSweeping a.search (known_of kind known) sweep x (found_uids a)) where

@@ -2,10 +2,11 @@
 use Rattle.std.specs.Prelude.{ℕ, ◌+◌, ◌-◌, ◌*◌, ◌/◌, Bool, true, false, ◌&&◌, ◌||◌, not}
 use Rattle.std.specs.Prelude.{Option, Some, None, ◌==◌, nat_lt, if◌then◌else◌, min, max}
 use Rattle.rdm_wire.specs.Span.{Span, whole}
+use Rattle.rdm_wire.specs.Uid.{is_within}
 use Rattle.rdm_agent.specs.declared.belief.Belief.{Belief}
 use Rattle.rdm_agent.specs.declared.belief.Question.{Question}
 use Rattle.rdm_agent.specs.declared.belief.Part.{Part}
-use Rattle.rdm_agent.specs.declared.belief.Part.TheVariants.{Fresh, Lower, Rest, All, Whole, End, Apart}
+use Rattle.rdm_agent.specs.declared.belief.Part.TheVariants.{Fresh, Lower, Rest, All, Whole, End, Apart, Spelt}
 use Rattle.rdm_agent.specs.declared.belief.Alone.{Alone}
 use Rattle.rdm_agent.specs.declared.belief.Alone.TheVariants as alone
 
@@ -116,12 +117,19 @@ swept b =
     if nat_lt (min b.top last_uid) b.at then record { part = Whole; range = all_of b }
     else with_lower b (part_of b)
 
--- the end of the range that answered alone, or a UID that was set apart alone, which isn't the greatest UID
+-- the UID that was spelt last
+abbrev pub spelt_last : Option ℕ → ℕ
+spelt_last None = last_uid
+spelt_last (Some u) = u
+
+-- the end of the range that answered alone, a UID that was set apart alone, which isn't the greatest UID, or the UID
+-- that was spelt last alone
 abbrev pub asked_alone : Alone → Belief → Question
 asked_alone alone.No b = swept b
 asked_alone alone.End b = record { part = End; range = spanning b.end b.end }
 asked_alone alone.Apart b =
     record { part = Apart; range = spanning (min b.end (last_uid - 1)) (min b.end (last_uid - 1)) }
+asked_alone alone.Spelt b = record { part = Spelt; range = spanning (spelt_last b.spelt) (spelt_last b.spelt) }
 
 -- what a sweep asks
 abbrev pub question : Belief → Question
@@ -132,24 +140,35 @@ abbrev pub is_alone : Alone → Bool
 is_alone alone.No = false
 is_alone _ = true
 
+-- whether it asks the UID that was spelt last alone
+abbrev pub asks_spelt : Alone → Bool
+asks_spelt alone.Spelt = true
+asks_spelt _ = false
+
+-- a belief that asks no UID alone
+abbrev pub unasked : Belief → Belief
+unasked b = record b { alone = alone.No }
+
 -- BEGIN AGAIN. One silence in the range that answered was a loss, so the range is swept again
 abbrev pub begin_again : Belief → Belief
 begin_again b = record b { at = b.lo; quiet = 0; begun = min (b.begun + 1) 4 }
 
 -- A UID is given up, since its range answers and can't be searched. The sweep goes on above it, and doesn't look back
--- to it in this pass
+-- to it in this pass. If it was asked alone because it was spelt, the search goes on where it was
 abbrev pub give_up : ℕ → Belief → Belief
-give_up u b = record b {
-  base = u + 1;
-  lo = u + 1;
-  at = u + 1;
-  need = 0;
-  width = 2;
-  growth = 2;
-  quiet = 0;
-  begun = 0;
-  alone = alone.No;
-}
+give_up u b =
+    if asks_spelt b.alone then unasked b
+    else record b {
+      base = u + 1;
+      lo = u + 1;
+      at = u + 1;
+      need = 0;
+      width = 2;
+      growth = 2;
+      quiet = 0;
+      begun = 0;
+      alone = alone.No;
+    }
 
 -- the end of the range that answered is asked alone
 abbrev pub ask_end : Belief → Belief
@@ -230,10 +249,14 @@ part_silent All r b = b
 part_silent Whole r b = record b { again = false }
 part_silent End r b = end_silent b
 part_silent Apart r b = b
+part_silent Spelt r b = b
 
--- after a silence of this part and range. If it was asked again after a bad answer, only a second silence is believed
+-- after a silence of this part and range. If it was asked again after a bad answer, only a second silence is believed.
+-- If a UID was asked alone because it was spelt, the search goes on where it was
 abbrev pub believed_silent : Part → Span → Belief → Belief
-believed_silent part r b = if b.doubt == 1 then record b { doubt = 2 } else part_silent part r (settled b)
+believed_silent part r b =
+    if asks_spelt b.alone then unasked b
+    else (if b.doubt == 1 then record b { doubt = 2 } else part_silent part r (settled b))
 
 -- ONE. A device was found and muted, and nothing else answered. What was counted since the last find begins at 0 again
 abbrev pub renewed : Belief → Belief
@@ -275,6 +298,7 @@ believed_found All r b = all_found (renewed b)
 believed_found Whole r b = renewed b
 believed_found End r b = record (all_found (renewed b)) { alone = alone.No }
 believed_found Apart r b = b
+believed_found Spelt r b = unasked (renewed b)
 
 -- COLLISION. The range has two devices, and is searched from this UID on. What is above it is forgotten
 abbrev pub split_at : ℕ → ℕ → ℕ → Span → Belief → Belief
@@ -338,15 +362,38 @@ convinced b = if b.doubt == 0 then b else record b { doubt = 0; level = b.level 
 abbrev pub fresh_apart : Span → Belief → Belief
 fresh_apart r b = split_at b.at 0 b.back r b
 
--- after a collision in this part and range, which had been silent so often in a row
+-- after a collision in this part and range, which had been silent so often in a row, wherever the search goes on
+abbrev pub part_apart : Part → Span → ℕ → Belief → Belief
+part_apart Fresh r silences b = if is_doubted b then doubting b else fresh_apart r (convinced b)
+part_apart Lower r silences b = if is_doubted b then doubting b else lower_apart r (convinced b)
+part_apart Rest r silences b = if is_doubted b then doubting b else lower_apart r (convinced b)
+part_apart All r silences b = all_apart r b
+part_apart Whole r silences b = whole_apart r silences b
+part_apart End r silences b = b
+part_apart Apart r silences b = b
+part_apart Spelt r silences b = b
+
+-- SPELT IN SPITE OF MUTES. If a range spells a UID for the fourth time in a row, its device breaks the rules, or
+-- colliding replies spell it. So the UID is asked alone next. After four bad answers it is set apart. After a silence
+-- the search goes on where it was
+
+-- whether the UID that was spelt last is in this range
+abbrev pub is_spelt_within : Option ℕ → Span → Bool
+is_spelt_within None r = false
+is_spelt_within (Some u) r = is_within r.lo r.hi u
+
+-- whether the UID that was spelt last was just read in this range, for the fourth time in a row
+abbrev pub is_spelt_often : Span → Belief → Bool
+is_spelt_often r b = (b.times == 4) && ((b.due == 4) && is_spelt_within b.spelt r)
+
+-- a belief that asks the UID that was spelt last alone, and won't do so at its next readings
+abbrev pub asking_spelt : Belief → Belief
+asking_spelt b = record b { alone = alone.Spelt; due = 8 }
+
+-- the same, and a UID that it has spelt too often is asked alone first
 abbrev pub believed_apart : Part → Span → ℕ → Belief → Belief
-believed_apart Fresh r silences b = if is_doubted b then doubting b else fresh_apart r (convinced b)
-believed_apart Lower r silences b = if is_doubted b then doubting b else lower_apart r (convinced b)
-believed_apart Rest r silences b = if is_doubted b then doubting b else lower_apart r (convinced b)
-believed_apart All r silences b = all_apart r b
-believed_apart Whole r silences b = whole_apart r silences b
-believed_apart End r silences b = b
-believed_apart Apart r silences b = b
+believed_apart part r silences b =
+    if is_spelt_often r b then asking_spelt (part_apart part r silences b) else part_apart part r silences b
 
 -- a belief that gives up this UID
 abbrev pub suspecting : ℕ → Belief → Belief
@@ -369,10 +416,16 @@ spelt_again b = record b {
 abbrev pub hushing : Belief → Belief
 hushing b = record b { hushed = true }
 
--- a belief after a branch spelt this UID
+-- A belief after a branch spelt this UID. If the UID that was spelt before is asked alone, it isn't any more
 abbrev pub hearing : ℕ → Belief → Belief
 hearing u b =
-    if is_suspect b.spelt u then spelt_again b else record b { spelt = Some u; times = 1; due = 1 }
+    if is_suspect b.spelt u then spelt_again b
+    else record b {
+      spelt = Some u;
+      times = 1;
+      due = 1;
+      alone = if asks_spelt b.alone then alone.No else b.alone;
+    }
 
 -- whether the UID that was spelt last is due; the first reading counts only if no branch was silent so far
 abbrev pub is_due : Belief → Bool

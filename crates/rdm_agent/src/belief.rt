@@ -50,6 +50,8 @@ pub(crate) enum Part {
     End,
     /// A UID that was set apart, alone.
     Apart,
+    /// A UID that was spelt in spite of its mutes, alone.
+    Spelt,
 }
 
 /// Which UID a sweep asks alone for that UID's sake.
@@ -61,6 +63,8 @@ pub(crate) enum Alone {
     End,
     /// One that was set apart.
     Apart,
+    /// The one that was spelt last, in spite of its mutes.
+    Spelt,
 }
 
 /// What a sweep asks: a part of the UIDs, and its range.
@@ -188,6 +192,13 @@ impl Belief {
                     range: spanning(uid, uid),
                 }
             }
+            Alone::Spelt => {
+                let uid = self.spelt_last();
+                Question {
+                    part: Part::Spelt,
+                    range: spanning(uid, uid),
+                }
+            }
         }
     }
 
@@ -227,6 +238,9 @@ impl Belief {
         ensures value { result ≡ believed_silent asked.part asked.range self }
         ensures small { IsSmall result }
     {
+        if self.asks_spelt() {
+            return self.unasked();
+        }
         if self.doubt == 1 {
             return Belief { doubt: 2, ..self };
         }
@@ -251,6 +265,7 @@ impl Belief {
                 ..renewed.all_found()
             },
             Part::Apart => *self,
+            Part::Spelt => renewed.unasked(),
         }
     }
 
@@ -270,7 +285,7 @@ impl Belief {
                 ..self
             },
             Part::End => self.end_silent(),
-            Part::Apart => self,
+            Part::Apart | Part::Spelt => self,
         }
     }
 
@@ -288,12 +303,16 @@ impl Belief {
         }
     }
 
-    /// This UID is given up, since its range answers and can't be searched.
+    /// This UID is given up, since its range answers and can't be searched. If it was asked alone because it was spelt,
+    /// the search goes on where it was.
     pub(crate) fn give_up(self, uid: Uid) -> Belief
         requires small { IsSmall self }
         ensures value { result ≡ give_up uid self }
         ensures small { IsSmall result }
     {
+        if self.asks_spelt() {
+            return self.unasked();
+        }
         let next = uid.number() + 1;
         Belief {
             base: next,

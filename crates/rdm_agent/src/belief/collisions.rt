@@ -1,7 +1,8 @@
 //! What a sweep believes after a collision.
 ghost use Rattle.std.specs.Prelude.{◌≡◌, ◌≤◌, ◌<◌, ◌^◌};
 ghost use Rattle.rdm_wire.specs.Span.{Span};
-ghost use Rattle.rdm_agent.specs.Beliefs.{believed_apart, fresh_apart, lower_apart, all_apart, next_pass, split_at};
+ghost use Rattle.rdm_agent.specs.Beliefs.{believed_apart, part_apart, fresh_apart, lower_apart, all_apart, next_pass};
+ghost use Rattle.rdm_agent.specs.Beliefs.{split_at};
 ghost use Rattle.rdm_agent.specs.body.Sound.{IsSmall};
 
 use super::{ALL_UIDS, Belief, Part, Question};
@@ -11,16 +12,31 @@ use rdm_wire::UidRange;
 const MOST_BACK: u64 = 1 << 46;
 
 impl Belief {
-    /// After a bad answer of what was asked, which had been silent this many times in a row. It has two devices, but if
-    /// noise is likely it is asked again first.
+    /// After a bad answer of what was asked, which had been silent this many times in a row. A UID that it has spelt
+    /// too often is asked alone first.
     pub(crate) fn apart(self, asked: Question, silences: u8) -> Belief
         requires small { IsSmall self }
         ensures value { result ≡ believed_apart asked.part asked.range silences self }
         ensures small { IsSmall result }
     {
+        let is_spelt_often = self.is_spelt_often(asked.range);
+        let belief = self.part_apart(asked, silences);
+        if is_spelt_often {
+            return belief.asking_spelt();
+        }
+        belief
+    }
+
+    // The same, wherever the search goes on. What was asked has two devices, but if noise is likely it is asked again
+    // first.
+    fn part_apart(self, asked: Question, silences: u8) -> Belief
+        requires small { IsSmall self }
+        ensures value { result ≡ part_apart asked.part asked.range silences self }
+        ensures small { IsSmall result }
+    {
         match asked.part {
             Part::All => self.all_apart(asked.range),
-            Part::End | Part::Apart => self,
+            Part::End | Part::Apart | Part::Spelt => self,
             Part::Whole if self.asks_whole_again(silences) => Belief {
                 again: true,
                 ..self

@@ -1,17 +1,23 @@
 //! What a sweep remembers of the UIDs that its branches spelt. A device that breaks the rules may reply to branches of
 //! ranges that it isn't in.
-ghost use Rattle.std.specs.Prelude.{◌≡◌};
+ghost use Rattle.std.specs.Prelude.{◌≡◌, ◌<◌, ◌^◌};
+ghost use Rattle.rdm_wire.specs.Span.{Span};
 ghost use Rattle.rdm_agent.specs.Beliefs.{hushing, hearing, spelt_again, is_due, is_checked_again, stray_found};
+ghost use Rattle.rdm_agent.specs.Beliefs.{spelt_last, is_spelt_within, is_spelt_often, asking_spelt, asks_spelt};
+ghost use Rattle.rdm_agent.specs.Beliefs.{unasked};
 ghost use Rattle.rdm_agent.specs.body.Sound.{IsSmall};
 
-use super::Belief;
-use rdm_wire::Uid;
+use super::{Alone, Belief, LAST_UID};
+use rdm_wire::{Uid, UidRange};
 
 /// How many readings of a UID in a row are counted.
 const MOST_TIMES: u32 = 1 << 20;
 
 /// From this reading of a UID on, a silent check is made again.
 const CHECKED_AGAIN: u32 = 8;
+
+/// At this reading in a row a UID that is spelt in spite of its mutes is asked alone.
+const READ_OFTEN: u32 = 4;
 
 impl Belief {
     /// The same after a branch was silent.
@@ -39,6 +45,11 @@ impl Belief {
             spelt: Some(uid),
             times: 1,
             due: 1,
+            alone: if self.asks_spelt() {
+                Alone::No
+            } else {
+                self.alone
+            },
             ..self
         }
     }
@@ -67,6 +78,66 @@ impl Belief {
             found_nothing: false,
             again: false,
             ..self.settled()
+        }
+    }
+
+    /// Whether it asks the UID that was spelt last alone.
+    pub(super) fn asks_spelt(&self) -> bool
+        ensures { result ≡ asks_spelt self.now.alone }
+    {
+        self.alone == Alone::Spelt
+    }
+
+    /// The UID that was spelt last.
+    pub(super) fn spelt_last(&self) -> u64
+        ensures value { result ≡ spelt_last self.now.spelt }
+        ensures in_range { result < 2 ^ 48 }
+    {
+        match self.spelt {
+            Some(uid) => uid.number(),
+            None => LAST_UID,
+        }
+    }
+
+    /// Whether the UID that was spelt last was just read in this range, for the fourth time in a row.
+    pub(super) fn is_spelt_often(&self, range: UidRange) -> bool
+        ensures { result ≡ is_spelt_often range self.now }
+    {
+        self.times == READ_OFTEN && (self.due == READ_OFTEN && self.is_spelt_within(range))
+    }
+
+    // Whether the UID that was spelt last is in this range.
+    fn is_spelt_within(&self, range: UidRange) -> bool
+        ensures { result ≡ is_spelt_within self.now.spelt range }
+    {
+        match self.spelt {
+            Some(uid) => range.contains(uid),
+            None => false,
+        }
+    }
+
+    /// The same if the UID that was spelt last is asked alone next.
+    pub(super) fn asking_spelt(self) -> Belief
+        requires small { IsSmall self }
+        ensures value { result ≡ asking_spelt self }
+        ensures small { IsSmall result }
+    {
+        Belief {
+            alone: Alone::Spelt,
+            due: 2 * READ_OFTEN,
+            ..self
+        }
+    }
+
+    /// The same if no UID is asked alone.
+    pub(super) fn unasked(self) -> Belief
+        requires small { IsSmall self }
+        ensures value { result ≡ unasked self }
+        ensures small { IsSmall result }
+    {
+        Belief {
+            alone: Alone::No,
+            ..self
         }
     }
 

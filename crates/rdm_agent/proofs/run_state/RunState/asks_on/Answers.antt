@@ -15,6 +15,7 @@ fourth parts.Rest a sweep bads other four = rw four refl
 fourth parts.All a sweep bads other four = rw four refl
 fourth parts.Whole a sweep bads other four = rw four refl
 fourth parts.End a sweep bads other four = rw four refl
+fourth parts.Spelt a sweep bads other four = rw four refl
 
 pub returns-in_default : goal.returns-in_default
 returns-in_default c =
