@@ -202,7 +202,7 @@ class Logs(OneRig):
         with folder() as place:
             self.assertEqual(self.run_command("fixtures", "--log", str(place / "log"))[2],
                              f"wurstlinen: {SLOW} asks for 0.3 s\n")
-            self.assertEqual(len((place / "log").read_text().splitlines()), 78)
+            self.assertEqual(len((place / "log").read_text().splitlines()), 79)
 
 
 if __name__ == "__main__":

@@ -46,9 +46,9 @@ class Fixtures(OneRig):
 
     def test_five(self) -> None:
         wanted = FIVE_TABLE.format(both="9abc:00000002, 9abc:00000003", slow="answers slowly; overlaps 1234:00000001",
-                                   part="part of 9abc:00000002; overlaps 1234:00000001", frames=117)
+                                   part="part of 9abc:00000002; overlaps 1234:00000001", frames=118)
         self.assertEqual(self.run_command("fixtures"), (0, wanted, f"wurstlinen: {SLOW} asks for 0.3 s\n"))
-        self.assertEqual(len(self.frames), 117)
+        self.assertEqual(len(self.frames), 118)
         self.assertIn(f"$ wurstlinen fixtures\n{wanted}", PAGE.read_text(encoding="utf-8"))
 
     def test_what_is_wrong_is_noted(self) -> None:
