@@ -17,7 +17,7 @@ from pathlib import Path
 from typing import List, Optional, Sequence, Tuple
 
 from checks import random_scene, uids_of
-from daemon import FIRST_SERIAL, Adapter, Daemon
+from daemon import FIRST_SERIAL, Adapter, Daemon, DaemonFailed
 from test_daemon import COUNTS, FIRMWARES
 from wurstlinen.line import Line
 from wurstlinen.lines.emulator import Widget
@@ -77,13 +77,6 @@ def lying_scene(count: int, seed: int, lie: Lie) -> Tuple[Scene, List[str]]:
     return parse_scene({"source": "7ff0:00000001", "devices": devices}), uids
 
 
-def found_all(daemon: Daemon, scene: Scene, wanted: Sequence[str]) -> bool:
-    """Whether a full discovery finds all of these fixtures."""
-    wait_for_quiet(daemon)
-    daemon.replace_rig(scene)
-    return set(wanted) <= set(daemon.discover(True))
-
-
 def try_losses(seeds: int, redirect: Path, library: Optional[Path]) -> None:
     """Prints a line for each kind of line that loses replies."""
     for count, firmware, loss in itertools.product(COUNTS, FIRMWARES, LOSSES):
@@ -104,16 +97,19 @@ def try_losses(seeds: int, redirect: Path, library: Optional[Path]) -> None:
 
 
 def try_lies(seeds: int, redirect: Path, library: Optional[Path]) -> None:
-    """Prints a line for each lie of one fixture beside others."""
-    for count in OTHERS:
-        with Daemon(random_scene(count, 0), redirect, library) as daemon:
-            for lie in Lie:
-                whole = frames = 0
-                for seed in range(seeds):
-                    whole += found_all(daemon, *lying_scene(count, seed, lie))
-                    frames += daemon.rig.exchanges
-                print(f"{count} fixtures, and one with the lie {lie.value}: all found {whole}, frames {frames}",
-                      flush=True)
+    """Prints a line for each lie of one fixture beside others. The frames are those of two discoveries."""
+    for count, lie in itertools.product(OTHERS, Lie):
+        whole = endless = frames = 0
+        for seed in range(seeds):
+            scene, others = lying_scene(count, seed, lie)
+            with Daemon(scene, redirect, library) as daemon:
+                try:
+                    whole += set(others) <= set(daemon.discover(True))
+                except DaemonFailed:
+                    endless += 1
+                frames += daemon.rig.exchanges
+        print(f"{count} fixtures, and one with the lie {lie.value}: all found {whole}, didn't end {endless}, "
+              f"frames {frames}", flush=True)
 
 
 def try_noise(seeds: int, redirect: Path, library: Optional[Path]) -> None:
@@ -125,7 +121,9 @@ def try_noise(seeds: int, redirect: Path, library: Optional[Path]) -> None:
             for seed in range(seeds):
                 adapter.seed = seed
                 scene = random_scene(count, seed)
-                whole += found_all(daemon, scene, uids_of(scene))
+                wait_for_quiet(daemon)
+                daemon.replace_rig(scene)
+                whole += set(uids_of(scene)) <= set(daemon.discover(True))
                 frames += daemon.rig.exchanges
         print(f"{count} fixtures, bit errors {errors}, noise {noise}: all found {whole}, frames {frames}", flush=True)
 
