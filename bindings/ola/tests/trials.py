@@ -17,7 +17,7 @@ from pathlib import Path
 from typing import List, Optional, Sequence, Tuple
 
 from checks import random_scene, uids_of
-from daemon import FIRST_SERIAL, Adapter, Daemon, DaemonFailed
+from daemon import FIRST_SERIAL, Adapter, Daemon
 from test_daemon import COUNTS, FIRMWARES
 from wurstlinen.line import Line
 from wurstlinen.lines.emulator import Widget
@@ -25,6 +25,7 @@ from wurstlinen.lines.scene import Lie, Scene, parse_scene
 
 LOSSES = (0.0, 0.1, 0.2)
 QUIET_SECONDS = 0.5
+MOST_SECONDS = 60.0
 # How many fixtures follow the rules beside one that lies, or in noise.
 OTHERS = (5, 15)
 # The part of replies with a bit error, and the part of silences in which noise comes.
@@ -61,12 +62,13 @@ class NoisyAdapter(Adapter):
         return NoisyLine(super()._line(), *self._disturbed, self.seed)
 
 
-def wait_for_quiet(daemon: Daemon) -> None:
-    """Waits until a discovery that the daemon has begun by itself has ended."""
-    before = -1
-    while before != daemon.rig.exchanges:
+def wait_for_quiet(daemon: Daemon) -> bool:
+    """Waits until a discovery that the daemon has begun by itself has ended: whether it has, in a while."""
+    before, end = -1, time.monotonic() + MOST_SECONDS
+    while before != daemon.rig.exchanges and time.monotonic() < end:
         before = daemon.rig.exchanges
         time.sleep(QUIET_SECONDS)
+    return before == daemon.rig.exchanges
 
 
 def lying_scene(count: int, seed: int, lie: Lie) -> Tuple[Scene, List[str]]:
@@ -103,10 +105,9 @@ def try_lies(seeds: int, redirect: Path, library: Optional[Path]) -> None:
         for seed in range(seeds):
             scene, others = lying_scene(count, seed, lie)
             with Daemon(scene, redirect, library) as daemon:
-                try:
-                    whole += set(others) <= set(daemon.discover(True))
-                except DaemonFailed:
-                    endless += 1
+                has_ended = wait_for_quiet(daemon)
+                endless += not has_ended
+                whole += has_ended and set(others) <= set(daemon.discover(True))
                 frames += daemon.rig.exchanges
         print(f"{count} fixtures, and one with the lie {lie.value}: all found {whole}, didn't end {endless}, "
               f"frames {frames}", flush=True)
