@@ -339,6 +339,8 @@ impl Controller {
     }
 
     /// The next frame for the line, and its owner.
+    // It is inlined: a frame is large, and each call would move it.
+    #[inline(always)]
     pub(crate) fn give(&mut self) -> Option<(Owner, Frame)>
         ensures frame { IfSome result (λ given. AddsToEach self.old
             (λ k block. MaySend k.opening k.entries given.0 given.1 × (block ≡ Send given.0 given.1 ∷ [])) self.new) }
@@ -362,6 +364,7 @@ impl Controller {
     }
 
     /// Ends what is due next, and returns its entry: a Finish or an Answer. None if nothing is due.
+    #[inline(always)]
     pub(crate) fn finish_next(&mut self) -> Option<Entry>
         ensures ended { IfSome result (λ entry. Ends self.old entry self.new) }
         ensures fewer { OnSome result (unended self.new < unended self.old) }

@@ -1,5 +1,5 @@
 //! The requests and discoveries that wait, the run that serves these, and the outcomes that wait for their clients.
-ghost use Rattle.std.specs.Prelude.{◌≡◌, ◌≤◌, length, IfSome, IfNone, Some, None, if◌then◌else◌};
+ghost use Rattle.std.specs.Prelude.{◌≡◌, ◌≤◌, ◌<◌, length, IfSome, IfNone, Some, None, if◌then◌else◌, true, false};
 ghost use Rattle.rdm_log.specs.declared.fault.WorkFault.TheVariants.{Full};
 ghost use Rattle.rdm_queue.specs.body.Rings.{NoneWaits, IsFirstInLine, value_shown};
 ghost use Rattle.rdm_queue.specs.body.Fields.{places_of};
@@ -264,6 +264,8 @@ impl Queue {
     }
 
     /// The next frame for the line, and its owner.
+    // It is inlined: a frame is large, and each call would move it.
+    #[inline(always)]
     pub(crate) fn take(&mut self) -> Option<(Owner, Frame)>
         ensures none { IfNone result ((to_send self.old ≡ None) × (self.new ≡ self.old)) }
         ensures frame { IfSome result (λ given. IsGiven self.old given.0 given.1 self.new) }
@@ -284,6 +286,7 @@ impl Queue {
     }
 
     // The frame of the oldest request, which is then under way.
+    #[inline(always)]
     fn take_request(&mut self) -> Option<(Owner, Frame)>
         ensures none { IfNone result ((request_to_send self.old ≡ None) × (self.new ≡ self.old)) }
         ensures frame { IfSome result (λ given. GivesRequest self.old given.0 given.1 self.new) }
@@ -340,6 +343,7 @@ impl Queue {
     }
 
     // The frame of the run's next operation; None if no run is open, or its agent has ended.
+    #[inline(never)]
     fn take_run(&mut self) -> Option<(Owner, Frame)>
         ensures none { IfNone result ((run_to_send self.old ≡ None) × (self.new ≡ self.old)) }
         ensures frame { IfSome result (λ given. GivesRun self.old given.0 given.1 self.new) }
@@ -564,16 +568,26 @@ fn first_in_line(clients: &[Client]) -> Option<(usize, &Waiting)>
     ensures first { IfSome result (λ found. IsFirstInLine clients.now found.0 found.1.now) }
 {
     let mut first: Option<(usize, &Waiting)> = None;
+    let mut lowest = u64::MAX;
     for (at, client) in clients.iter().enumerate() {
         let Some(oldest) = client.oldest() else {
             continue;
         };
-        match first {
-            Some((_, lowest)) if lowest.number < oldest.number => {}
-            _ => first = Some((at, oldest)),
+        if is_at_most(oldest.number, lowest) {
+            lowest = oldest.number;
+            first = Some((at, oldest));
         }
     }
     first
+}
+
+// Whether the number is at most this one.
+fn is_at_most(number: u64, most: u64) -> bool
+    ensures at_most { result ≡ true → number ≤ most }
+    ensures above { result ≡ false → most < number }
+    ensures fits { number ≤ 18446744073709551615 }
+{
+    number <= most
 }
 
 // The queue depth of each client, in the order of joining.
