@@ -219,6 +219,7 @@ impl Client {
     }
 
     /// Takes its oldest outcome out, if that is a request's.
+    #[inline(always)]
     pub(crate) fn collect_request(&mut self) -> Option<(u64, Completion)>
         requires { HasSets self.old }
         ensures removed { IfSome result (λ r. ClientCollects self.old (outcome_value (request_outcome r)) self.new) }

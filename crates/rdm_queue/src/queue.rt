@@ -403,6 +403,7 @@ impl Queue {
     }
 
     /// Takes a client's oldest outcome out, if that is a request's.
+    #[inline(always)]
     pub(crate) fn next_completion(&mut self, client: ClientId) -> Option<(u64, Completion)>
         ensures removed { IfSome result (λ r. CollectsOldest self.old client.0
             (outcome_value (request_outcome r)) self.new) }

@@ -135,6 +135,7 @@ impl Session {
     /// Accepts a client's request, as [`Controller::submit`] does. Each refusal except LogFull is an entry.
     /// Err: LogFull, or else the first other fault that applies; nothing changes but the log, and the request is
     /// returned.
+    #[inline(always)]
     pub fn submit(
         &mut self,
         client: ClientId,
@@ -280,6 +281,7 @@ impl Session {
     /// Collects a client's oldest outcome if that is a request's, as [`Controller::next_completion`] does, with an
     /// entry, which always fits into the log. It moves no set.
     /// None: there is no outcome, it is a discovery's, or there is no such client; nothing has changed.
+    #[inline(always)]
     pub fn next_completion(&mut self, client: ClientId) -> Option<(u64, Completion)>
         ensures adds { IfSome result (λ r. GrowsBy self.old
             (CollectAdds self.old.opening self.old.entries client (Some (request_outcome r))) self.new) }
