@@ -100,7 +100,6 @@ impl Queue {
     }
 
     // Ends what is due next, and returns the entry of its end; None if nothing is due.
-    #[inline(never)]
     fn end_next(&mut self) -> Option<Entry>
         ensures ended { IfSome result (λ entry. IsEnded self.old entry self.new) }
         ensures none { IfNone result (HasNothingDue self.old × (self.new ≡ self.old)) }
