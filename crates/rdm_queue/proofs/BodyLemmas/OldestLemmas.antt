@@ -181,7 +181,7 @@ none_more clients n k (Some found) at none so_far = (so_far.0, λ j v p own. by_
     by_index j v own (inr q) =
         let here = same_oldest clients n k v at (rw q at own) in absurd (let no : None ≡ Some v = sym none ∙ here in cc)
 
-pub first_stays : (clients : List Client) (n : ℕ) (k : Client) (found : ℕ × Bor Waiting) (w : Waiting)
+first_stays : (clients : List Client) (n : ℕ) (k : Client) (found : ℕ × Bor Waiting) (w : Waiting)
     → slice_get clients n ≡ Some k → slice_get k.waiting.items 0 ≡ Some w → found.1.now.number < w.number
     → IsFirstSoFar clients n (Some found) → IsFirstSoFar clients (n + 1) (Some found)
 first_stays clients n k found w at oldest less so_far = (so_far.0, λ j v p own. by_index j v own (below_or_last j n p))

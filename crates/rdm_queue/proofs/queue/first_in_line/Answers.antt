@@ -1,4 +1,4 @@
-use Rattle.rdm_queue.proofs.Common.{◌≡◌, Some, None, slice_get, refl, sym, ap, ◌∙◌, slice_get-get_or, arith}
+use Rattle.rdm_queue.proofs.Common.{◌≡◌, Some, None, slice_get, refl, sym, ap, ◌∙◌, slice_get-get_or}
 use Rattle.rdm_queue.proofs.BodyLemmas.OldestLemmas.{none_more, none_lower, lowest_stays, first_replaced}
 use Rattle.rdm_queue.proofs.BodyLemmas.OldestLemmas.{all_none, all_first}
 use Rattle.rdm_queue.proofs.queue.first_in_line.Goals.{After-oldest, then-is_at_most, else-is_at_most}
