@@ -1,12 +1,12 @@
 //! The requests and discoveries that wait, the run that serves these, and the outcomes that wait for their clients.
-ghost use Rattle.std.specs.Prelude.{◌≡◌, ◌≤◌, ◌<◌, length, IfSome, IfNone, Some, None, if◌then◌else◌, true, false};
+ghost use Rattle.std.specs.Prelude.{◌≡◌, ◌≤◌, length, IfSome, IfNone, Some, None, if◌then◌else◌};
 ghost use Rattle.rdm_log.specs.declared.fault.WorkFault.TheVariants.{Full};
 ghost use Rattle.rdm_queue.specs.body.Rings.{NoneWaits, IsFirstInLine, value_shown};
 ghost use Rattle.rdm_queue.specs.body.Fields.{places_of};
 
 mod ending;
 
-use crate::client::{Client, Waiting};
+use crate::client::{Client, Waiting, is_at_most};
 use crate::oldest::Oldest;
 use crate::pending::{Asked, Awaited, Running};
 use crate::takes_devices::TakesDevices;
@@ -580,15 +580,6 @@ fn first_in_line(clients: &[Client]) -> Option<(usize, &Waiting)>
         }
     }
     first
-}
-
-// Whether the number is at most this one.
-fn is_at_most(number: u64, most: u64) -> bool
-    ensures at_most { result ≡ true → number ≤ most }
-    ensures above { result ≡ false → most < number }
-    ensures fits { number ≤ 18446744073709551615 }
-{
-    number <= most
 }
 
 // The queue depth of each client, in the order of joining.
