@@ -212,7 +212,8 @@ first_replaced clients n k first w at oldest lower so_far =
         let same : v ≡ w.now = cc in rw same (omega arith)
 
 -- a number above the lowest one changes nothing, and any other one is the lowest
-pub none_lower : (first : Option (ℕ × Bor Waiting)) (lowest n : ℕ) → IsLowest first lowest → n ≤ lowest → NoneLower first n
+pub none_lower : (first : Option (ℕ × Bor Waiting)) (lowest n : ℕ) → IsLowest first lowest → n ≤ lowest
+    → NoneLower first n
 none_lower None lowest n is le = tt
 none_lower (Some found) lowest n is le = rw is at le
 
