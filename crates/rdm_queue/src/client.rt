@@ -1,6 +1,6 @@
 //! A client's queue depth, and the rings of what it has outstanding.
 ghost use Rattle.std.specs.Prelude.{◌≡◌, ◌≢◌, ◌+◌, ◌-◌, ◌<◌, ◌≤◌, IfOk, IfSome, IfNone, Some, length, option_map};
-ghost use Rattle.std.specs.Prelude.{slice_get, nat_le, ◌||◌, []};
+ghost use Rattle.std.specs.Prelude.{slice_get, nat_le, ◌||◌, [], true, false};
 ghost use Rattle.std.specs.VecDeque.{deque_len, deque_capacity};
 ghost use Rattle.rdm_agent.specs.declared.fault.AgentFault.TheVariants.{Aborted};
 
@@ -219,6 +219,7 @@ impl Client {
     }
 
     /// Takes its oldest outcome out, if that is a request's.
+    #[inline(always)]
     pub(crate) fn collect_request(&mut self) -> Option<(u64, Completion)>
         requires { HasSets self.old }
         ensures removed { IfSome result (λ r. ClientCollects self.old (outcome_value (request_outcome r)) self.new) }
@@ -263,4 +264,13 @@ impl MadeWith<Global> for Client {
             sets: SetRing::blank(alloc),
         }
     }
+}
+
+/// Whether the number is at most this one.
+pub(crate) fn is_at_most(number: u64, most: u64) -> bool
+    ensures at_most { result ≡ true → number ≤ most }
+    ensures above { result ≡ false → most < number }
+    ensures fits { number ≤ 18446744073709551615 }
+{
+    number <= most
 }

@@ -101,6 +101,7 @@ impl Controller {
 
     /// Accepts a client's request, and returns its number. It is outstanding until its outcome is collected.
     /// Err: the first fault that applies; nothing has changed, and the request is returned.
+    #[inline(always)]
     pub fn submit(
         &mut self,
         client: ClientId,
@@ -225,6 +226,7 @@ impl Controller {
 
     /// Collects a client's oldest outcome if that is a request's, and returns its number and how it ended. It moves no
     /// set. None: there is no outcome, it is a discovery's, or there is no such client; nothing has changed.
+    #[inline(always)]
     pub fn next_completion(&mut self, client: ClientId) -> Option<(u64, Completion)>
         ensures adds { IfSome result (λ r. AddsToEach self.old
             (λ k. CollectAdds k.opening k.entries client (Some (request_outcome r))) self.new) }
@@ -339,6 +341,8 @@ impl Controller {
     }
 
     /// The next frame for the line, and its owner.
+    // It is inlined: a frame is large, and each call would move it.
+    #[inline(always)]
     pub(crate) fn give(&mut self) -> Option<(Owner, Frame)>
         ensures frame { IfSome result (λ given. AddsToEach self.old
             (λ k block. MaySend k.opening k.entries given.0 given.1 × (block ≡ Send given.0 given.1 ∷ [])) self.new) }
@@ -362,6 +366,7 @@ impl Controller {
     }
 
     /// Ends what is due next, and returns its entry: a Finish or an Answer. None if nothing is due.
+    #[inline(always)]
     pub(crate) fn finish_next(&mut self) -> Option<Entry>
         ensures ended { IfSome result (λ entry. Ends self.old entry self.new) }
         ensures fewer { OnSome result (unended self.new < unended self.old) }

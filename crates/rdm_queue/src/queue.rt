@@ -6,7 +6,7 @@ ghost use Rattle.rdm_queue.specs.body.Fields.{places_of};
 
 mod ending;
 
-use crate::client::{Client, Waiting};
+use crate::client::{Client, Waiting, is_at_most};
 use crate::oldest::Oldest;
 use crate::pending::{Asked, Awaited, Running};
 use crate::takes_devices::TakesDevices;
@@ -264,6 +264,8 @@ impl Queue {
     }
 
     /// The next frame for the line, and its owner.
+    // It is inlined: a frame is large, and each call would move it.
+    #[inline(always)]
     pub(crate) fn take(&mut self) -> Option<(Owner, Frame)>
         ensures none { IfNone result ((to_send self.old ≡ None) × (self.new ≡ self.old)) }
         ensures frame { IfSome result (λ given. IsGiven self.old given.0 given.1 self.new) }
@@ -284,6 +286,7 @@ impl Queue {
     }
 
     // The frame of the oldest request, which is then under way.
+    #[inline(always)]
     fn take_request(&mut self) -> Option<(Owner, Frame)>
         ensures none { IfNone result ((request_to_send self.old ≡ None) × (self.new ≡ self.old)) }
         ensures frame { IfSome result (λ given. GivesRequest self.old given.0 given.1 self.new) }
@@ -340,6 +343,7 @@ impl Queue {
     }
 
     // The frame of the run's next operation; None if no run is open, or its agent has ended.
+    #[inline(never)]
     fn take_run(&mut self) -> Option<(Owner, Frame)>
         ensures none { IfNone result ((run_to_send self.old ≡ None) × (self.new ≡ self.old)) }
         ensures frame { IfSome result (λ given. GivesRun self.old given.0 given.1 self.new) }
@@ -399,6 +403,7 @@ impl Queue {
     }
 
     /// Takes a client's oldest outcome out, if that is a request's.
+    #[inline(always)]
     pub(crate) fn next_completion(&mut self, client: ClientId) -> Option<(u64, Completion)>
         ensures removed { IfSome result (λ r. CollectsOldest self.old client.0
             (outcome_value (request_outcome r)) self.new) }
@@ -564,13 +569,14 @@ fn first_in_line(clients: &[Client]) -> Option<(usize, &Waiting)>
     ensures first { IfSome result (λ found. IsFirstInLine clients.now found.0 found.1.now) }
 {
     let mut first: Option<(usize, &Waiting)> = None;
+    let mut lowest = u64::MAX;
     for (at, client) in clients.iter().enumerate() {
         let Some(oldest) = client.oldest() else {
             continue;
         };
-        match first {
-            Some((_, lowest)) if lowest.number < oldest.number => {}
-            _ => first = Some((at, oldest)),
+        if is_at_most(oldest.number, lowest) {
+            lowest = oldest.number;
+            first = Some((at, oldest));
         }
     }
     first

@@ -135,6 +135,7 @@ impl Session {
     /// Accepts a client's request, as [`Controller::submit`] does. Each refusal except LogFull is an entry.
     /// Err: LogFull, or else the first other fault that applies; nothing changes but the log, and the request is
     /// returned.
+    #[inline(always)]
     pub fn submit(
         &mut self,
         client: ClientId,
@@ -211,6 +212,8 @@ impl Session {
 
     /// The next frame for the line, as [`Controller::take`] returns it, with an entry if there is one.
     /// Err: the log is full, even if there would be no frame, and after a close too; nothing has changed.
+    // It is inlined, and so is what it calls for a request: a frame is large, and each call would move it.
+    #[inline(always)]
     pub fn take(&mut self) -> Result<Option<Frame>, LogFull>
         ensures adds { GrowsBy self.old (TakeLogs self.old result) self.new }
         ensures legal { Legal self.new.opening self.new.entries }
@@ -221,8 +224,10 @@ impl Session {
         let Some((owner, frame)) = self.controller.give() else {
             return Ok(None);
         };
-        let copy = copy_of_frame(&frame);
-        self.log.append(Entry::Send { owner, frame: copy });
+        self.log.append(Entry::Send {
+            owner,
+            frame: copy_of_frame(&frame),
+        });
         Ok(Some(frame))
     }
 
@@ -234,6 +239,8 @@ impl Session {
     /// - the budget is at least the bound on frames.
     ///
     /// Err: no reply is awaited; nothing has changed, and the event is returned.
+    // It is inlined: an event is large, and a call would move it there and back.
+    #[inline(always)]
     pub fn deliver(&mut self, alloc: Global, event: LineEvent) -> Result<(), (NotAsked, LineEvent)>
         ensures adds { GrowsBy self.old (DeliverAdds self.old event result) self.new }
         ensures legal { Legal self.new.opening self.new.entries }
@@ -274,6 +281,7 @@ impl Session {
     /// Collects a client's oldest outcome if that is a request's, as [`Controller::next_completion`] does, with an
     /// entry, which always fits into the log. It moves no set.
     /// None: there is no outcome, it is a discovery's, or there is no such client; nothing has changed.
+    #[inline(always)]
     pub fn next_completion(&mut self, client: ClientId) -> Option<(u64, Completion)>
         ensures adds { IfSome result (λ r. GrowsBy self.old
             (CollectAdds self.old.opening self.old.entries client (Some (request_outcome r))) self.new) }

@@ -149,6 +149,11 @@ IsFirstSoFar clients n (Some found) =
     OldestOf clients found.0 found.1.now
     × ((j : ℕ) (v : Waiting) → j < n → OldestOf clients j v → found.1.now.number ≤ v.number)
 
+-- the number of the first so far, or the greatest one
+abbrev pub IsLowest : Option (ℕ × Bor Waiting) → ℕ → Type 0
+IsLowest None n = n ≡ 18446744073709551615
+IsLowest (Some found) n = n ≡ found.1.now.number
+
 -- one client more: it has no request, or one that is or isn't the first so far
 same_oldest : (clients : List Client) (n : ℕ) (k : Client) (v : Waiting) → slice_get clients n ≡ Some k
     → OldestOf clients n v → slice_get k.waiting.items 0 ≡ Some v
@@ -176,7 +181,7 @@ none_more clients n k (Some found) at none so_far = (so_far.0, λ j v p own. by_
     by_index j v own (inr q) =
         let here = same_oldest clients n k v at (rw q at own) in absurd (let no : None ≡ Some v = sym none ∙ here in cc)
 
-pub first_stays : (clients : List Client) (n : ℕ) (k : Client) (found : ℕ × Bor Waiting) (w : Waiting)
+first_stays : (clients : List Client) (n : ℕ) (k : Client) (found : ℕ × Bor Waiting) (w : Waiting)
     → slice_get clients n ≡ Some k → slice_get k.waiting.items 0 ≡ Some w → found.1.now.number < w.number
     → IsFirstSoFar clients n (Some found) → IsFirstSoFar clients (n + 1) (Some found)
 first_stays clients n k found w at oldest less so_far = (so_far.0, λ j v p own. by_index j v own (below_or_last j n p))
@@ -205,6 +210,20 @@ first_replaced clients n k first w at oldest lower so_far =
     by_index first lower so_far j v own (inr q) =
         let here : Some v ≡ Some w.now = sym (same_oldest clients n k v at (rw q at own)) ∙ oldest in
         let same : v ≡ w.now = cc in rw same (omega arith)
+
+-- a number above the lowest one changes nothing, and any other one is the lowest
+pub none_lower : (first : Option (ℕ × Bor Waiting)) (lowest n : ℕ) → IsLowest first lowest → n ≤ lowest
+    → NoneLower first n
+none_lower None lowest n is le = tt
+none_lower (Some found) lowest n is le = rw is at le
+
+pub lowest_stays : (clients : List Client) (n : ℕ) (k : Client) (first : Option (ℕ × Bor Waiting)) (lowest : ℕ)
+    (w : Waiting) → slice_get clients n ≡ Some k → slice_get k.waiting.items 0 ≡ Some w → IsLowest first lowest
+    → lowest < w.number → w.number ≤ 18446744073709551615 → IsFirstSoFar clients n first
+    → IsFirstSoFar clients (n + 1) first
+lowest_stays clients n k None lowest w at oldest is less fits so_far = absurd (omega (arith, is))
+lowest_stays clients n k (Some found) lowest w at oldest is less fits so_far =
+    first_stays clients n k found w at oldest (rw is at less) so_far
 
 -- after the last client
 pub all_none : (clients : List Client) (n : ℕ) (first : Option (ℕ × Bor Waiting)) → length clients ≤ n

@@ -13,7 +13,7 @@ use rdm_log::{AnswerKey, Completion, Entry};
 use std::alloc::Global;
 
 impl Queue {
-    ghost use Rattle.std.specs.Prelude.{◌≡◌, ◌≢◌, ◌&&◌, ℕ, true, Some, None, IfSome, IfNone, OnSome};
+    ghost use Rattle.std.specs.Prelude.{◌≡◌, ◌≢◌, ◌&&◌, ℕ, true, false, Some, None, IfSome, IfNone, OnSome};
     ghost use Rattle.std.specs.Prelude.{is_some, option_map, slice_get};
     ghost use Rattle.rdm_join.specs.declared.verdict.Sent.{Sent};
     ghost use Rattle.rdm_agent.specs.Calls.{next_op};
@@ -79,7 +79,28 @@ impl Queue {
     /// Ends what is due next, and returns the entry of its end; None if nothing is due. These are due: the discoveries
     /// of a run that has ended, and a request that has. If the queue is closed and awaits no reply, more is due: a run
     /// that hasn't ended, the requests that wait, and last the discoveries without a run.
+    // It is inlined, so that nothing is made room for where nothing is due.
+    #[inline(always)]
     pub(crate) fn finish_next(&mut self) -> Option<Entry>
+        ensures ended { IfSome result (λ entry. IsEnded self.old entry self.new) }
+        ensures none { IfNone result (HasNothingDue self.old × (self.new ≡ self.old)) }
+    {
+        if self.may_end() {
+            self.end_next()
+        } else {
+            None
+        }
+    }
+
+    // Whether anything may be due.
+    fn may_end(&self) -> bool
+        ensures { result ≡ false → HasNothingDue self.now }
+    {
+        self.run.is_some() || self.decided.is_some() || self.is_closing()
+    }
+
+    // Ends what is due next, and returns the entry of its end; None if nothing is due.
+    fn end_next(&mut self) -> Option<Entry>
         ensures ended { IfSome result (λ entry. IsEnded self.old entry self.new) }
         ensures none { IfNone result (HasNothingDue self.old × (self.new ≡ self.old)) }
     {
