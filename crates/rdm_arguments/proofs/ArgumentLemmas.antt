@@ -1,7 +1,7 @@
 -- What arguments ask for, computed.
-use Rattle.std.proofs.Common.{◌≡◌, ◌==◌, Bool, true, false, not, refl, inl, inr, List, [], ◌∷◌, Some, codes, sym, ap}
-use Rattle.std.proofs.Common.{subst, arith}
+use Rattle.std.proofs.Common.{◌≡◌, ◌==◌, true, false, refl, inl, inr, List, [], ◌∷◌, Some, codes, sym, ap, subst, arith}
 use Rattle.std.specs.Prelude.{◌⊎◌, ◌≢◌, None}
+use Rattle.std.proofs.lemmas.Bool.{not-true}
 use Rattle.std.specs.Borrow.{Bor}
 use Rattle.clap.specs.Words.{App, HasKind, HasMatchesOf, IsAmong, Text, fault_of, is_simple, is_simple_and_free}
 use Rattle.clap.specs.Words.{kind_of, subcommand_of, subcommand_rows_of}
@@ -15,11 +15,6 @@ use Rattle.rdm_arguments.specs.declared.job.Job.TheVariants.{Decode, Encode, Exp
 use Rattle.rdm_arguments.specs.declared.job.WordsFault.{WordsFault}
 use Rattle.rdm_arguments.specs.declared.job.WordsFault.TheVariants.{Words}
 
--- what the test for a hyphen says of a plain argument
-no_hyphen : (b : Bool) → not b ≡ true → b ≡ false
-no_hyphen false h = refl
-no_hyphen true h = cc
-
 -- a command's name and a plain argument are taken
 no_fault : (command text : Text)
     → (command ≡ codes "decode") ⊎ ((command ≡ codes "encode") ⊎ (command ≡ codes "explain")) → is_plain text ≡ true
@@ -28,22 +23,22 @@ unfolding clap_on_literals
 no_fault command [] (inl is) h = rw is refl
 no_fault command [] (inr (inl is)) h = rw is refl
 no_fault command [] (inr (inr is)) h = rw is refl
-no_fault command (x ∷ xs) (inl is) h = rw is (simp (no_hyphen (x == 45) h) refl)
-no_fault command (x ∷ xs) (inr (inl is)) h = rw is (simp (no_hyphen (x == 45) h) refl)
-no_fault command (x ∷ xs) (inr (inr is)) h = rw is (simp (no_hyphen (x == 45) h) refl)
+no_fault command (x ∷ xs) (inl is) h = rw is (simp (not-true (x == 45) h) refl)
+no_fault command (x ∷ xs) (inr (inl is)) h = rw is (simp (not-true (x == 45) h) refl)
+no_fault command (x ∷ xs) (inr (inr is)) h = rw is (simp (not-true (x == 45) h) refl)
 
 -- it is the command's argument
 digits_given : (digits : Bor Text) (text : Text) → digits.now ≡ text → is_plain text ≡ true
     → IsGiven (subcommand_of commands (codes "decode" ∷ text ∷ [])) (Decode digits)
 unfolding clap_on_literals
 digits_given digits [] is h = (refl, ap Some (sym is))
-digits_given digits (x ∷ xs) is h = simp (no_hyphen (x == 45) h) (refl, ap Some (sym is))
+digits_given digits (x ∷ xs) is h = simp (not-true (x == 45) h) (refl, ap Some (sym is))
 
 uid_given : (uid : Bor Text) (text : Text) → uid.now ≡ text → is_plain text ≡ true
     → IsGiven (subcommand_of commands (codes "encode" ∷ text ∷ [])) (Encode uid)
 unfolding clap_on_literals
 uid_given uid [] is h = (refl, ap Some (sym is))
-uid_given uid (x ∷ xs) is h = simp (no_hyphen (x == 45) h) (refl, ap Some (sym is))
+uid_given uid (x ∷ xs) is h = simp (not-true (x == 45) h) (refl, ap Some (sym is))
 
 -- without options it is all that is given
 log_given : (job : ExplainJob) (text : Text) → job.log.now ≡ text → job.present.items ≡ [] → job.rig ≡ None
@@ -60,7 +55,7 @@ log_given job [] is none no_rig no_json h = (
     json = no_json;
   },
 )
-log_given job (x ∷ xs) is none no_rig no_json h = simp (no_hyphen (x == 45) h) (
+log_given job (x ∷ xs) is none no_rig no_json h = simp (not-true (x == 45) h) (
   refl,
   record {
     log = ap Some (sym is);

@@ -6,9 +6,8 @@ use Rattle.clap.specs.Words.{Text}
 use Rattle.rdm_arguments.specs.Complaints.{IsNoCommand, IsTrueAfter, IsTrueOf, IsTrueOfCommand}
 use Rattle.rdm_arguments.specs.declared.complaint.Complaint.{Complaint}
 use Rattle.rdm_arguments.specs.declared.complaint.Complaint.TheVariants.{Help, Version, NoCommand, UnknownCommand}
-use Rattle.rdm_arguments.specs.declared.complaint.Complaint.TheVariants.{UnknownOption, Repeated, HasValue}
-use Rattle.rdm_arguments.specs.declared.complaint.Complaint.TheVariants.{UnknownPort, NoArgument, Unexpected, NoText}
-use Rattle.rdm_arguments.specs.declared.complaint.Complaint.TheVariants.{Misfit}
+use Rattle.rdm_arguments.specs.declared.complaint.Complaint.TheVariants.{UnknownOption, Repeated, HasValue, UnknownPort}
+use Rattle.rdm_arguments.specs.declared.complaint.Complaint.TheVariants.{NoArgument, Unexpected, NoText, Misfit}
 use Rattle.rdm_arguments.specs.declared.complaint.Complaint.TheVariants.{NoValue, NoOption, NeedsLine, TooOften}
 use Rattle.rdm_arguments.specs.declared.complaint.Complaint.TheVariants.{UnknownBudget}
 

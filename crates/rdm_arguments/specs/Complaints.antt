@@ -5,10 +5,9 @@ use Rattle.clap.specs.Words.{Text}
 use Rattle.rdm_arguments.specs.Arguments.{IsBudget, is_plain, port_named}
 use Rattle.rdm_arguments.specs.declared.complaint.Complaint.{Complaint}
 use Rattle.rdm_arguments.specs.declared.complaint.Complaint.TheVariants.{Help, Version, NoCommand, UnknownCommand}
-use Rattle.rdm_arguments.specs.declared.complaint.Complaint.TheVariants.{UnknownOption, Repeated, HasValue}
-use Rattle.rdm_arguments.specs.declared.complaint.Complaint.TheVariants.{UnknownPort, NoArgument, Unexpected, Misfit}
-use Rattle.rdm_arguments.specs.declared.complaint.Complaint.TheVariants.{NoValue, NoOption, NeedsLine, TooOften}
-use Rattle.rdm_arguments.specs.declared.complaint.Complaint.TheVariants.{UnknownBudget}
+use Rattle.rdm_arguments.specs.declared.complaint.Complaint.TheVariants.{UnknownOption, Repeated, HasValue, UnknownPort}
+use Rattle.rdm_arguments.specs.declared.complaint.Complaint.TheVariants.{NoArgument, Unexpected, Misfit, NoValue}
+use Rattle.rdm_arguments.specs.declared.complaint.Complaint.TheVariants.{NoOption, NeedsLine, TooOften, UnknownBudget}
 
 -- the text isn't the name of a command
 pub record IsNoCommand (text : Text) : Type 0 where

@@ -1,6 +1,5 @@
 //! C's calls on a discovery run without a queue. Each is the library's call with that name, on what the handle holds.
-ghost use Rattle.std.specs.Prelude.{◌≡◌, ◌≢◌, ◌++◌, ◌∷◌, ◌+◌, ◌%◌, ◌^◌, ◌⊎◌, ◌==◌, [], length, take, map};
-ghost use Rattle.std.specs.Prelude.{true, false};
+ghost use Rattle.std.specs.Prelude.{◌≡◌, ◌≢◌, ◌++◌, ◌∷◌, ◌+◌, ◌%◌, ◌^◌, ◌⊎◌, ◌==◌, [], length, take, map, true, false};
 ghost use Rattle.std.specs.Prelude.{Some, None, nat_lt, if◌then◌else◌};
 ghost use Rattle.std.specs.List.{AllByRecursion};
 ghost use Rattle.rdm_agent.specs.Machine.{fed, fault_of};

@@ -1,11 +1,9 @@
 //! C's calls on controllers. Each is the library's call with that name, on what the handle holds.
-ghost use Rattle.std.specs.Prelude.{◌≡◌, ◌≢◌, ◌≤◌, ◌<◌, ◌↔◌, ◌⊎◌, ℕ, length, take, map, true, false, Some};
-ghost use Rattle.std.specs.Prelude.{None, Ok, ◌-◌};
-ghost use Rattle.std.specs.Prelude.{if◌then◌else◌, nat_lt, List, option_map};
+ghost use Rattle.std.specs.Prelude.{◌≡◌, ◌≢◌, ◌≤◌, ◌<◌, ◌↔◌, ◌⊎◌, ℕ, length, take, map, true, false, Some, None, Ok};
+ghost use Rattle.std.specs.Prelude.{◌-◌, if◌then◌else◌, nat_lt, List, option_map};
 ghost use Rattle.arrayvec.specs.ArrayVec.{ArrayVec as Bytes};
 ghost use Rattle.rdm_wire.specs.declared.device.Device.{Device};
 ghost use Rattle.rdm_join.specs.declared.event.LineEvent.TheVariants.{Reply, Failed};
-ghost use Rattle.rdm_log.specs.declared.entry.ClientId.{ClientId};
 ghost use Rattle.rdm_log.specs.declared.outcome.Completion.{Completion};
 ghost use Rattle.rdm_log.specs.declared.outcome.DiscoveryEnd.{DiscoveryEnd};
 ghost use Rattle.rdm_log.specs.declared.outcome.OutcomeKind.TheVariants as kinds;

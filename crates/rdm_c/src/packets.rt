@@ -1,5 +1,5 @@
 //! C's calls that read and write UIDs and packets.
-ghost use Rattle.std.specs.Prelude.{◌≡◌, ◌≢◌, ◌≤◌, ◌↔◌, ◌^◌, ℕ, [], length, take, Some, Ok, IfOk, IfErr, nat_lt};
+ghost use Rattle.std.specs.Prelude.{◌≡◌, ◌≢◌, ◌≤◌, ◌↔◌, ℕ, [], length, take, Some, Ok, IfOk, IfErr, nat_lt};
 ghost use Rattle.std.specs.Prelude.{if◌then◌else◌, ◌⊎◌, slice_index};
 ghost use Rattle.std.specs.Str.{IsUtf8};
 ghost use Rattle.rdm_wire.specs.BranchText.{BranchText, branch_text};

@@ -4,7 +4,6 @@ ghost use Rattle.std.specs.Prelude.{Ok, if◌then◌else◌, nat_lt, List, ◌�
 ghost use Rattle.arrayvec.specs.ArrayVec.{ArrayVec as Bytes};
 ghost use Rattle.rdm_wire.specs.declared.device.Device.{Device};
 ghost use Rattle.rdm_join.specs.declared.event.LineEvent.TheVariants.{Reply, Failed};
-ghost use Rattle.rdm_log.specs.declared.entry.ClientId.{ClientId};
 ghost use Rattle.rdm_log.specs.declared.outcome.Completion.{Completion};
 ghost use Rattle.rdm_log.specs.declared.outcome.DiscoveryEnd.{DiscoveryEnd};
 ghost use Rattle.rdm_log.specs.declared.outcome.OutcomeKind.TheVariants as kinds;

@@ -5,7 +5,7 @@ use Rattle.std.specs.Prelude.{◌==◌, ◌||◌, nat_lt, codes}
 use Rattle.std.proofs.lemmas.Grind.{fold-append}
 use Rattle.std.proofs.lemmas.List.{map-append}
 use Rattle.std.proofs.lemmas.List.Folds.{list_any-append}
-use Rattle.std.proofs.lemmas.Bool.{eqb-true, eqb-false}
+use Rattle.std.proofs.lemmas.Bool.{eqb-true, eqb-false, or_parts}
 use Rattle.serde_json.specs.Data.{Data}
 use Rattle.serde_json.specs.Find.{as_array}
 use Rattle.serde_json.specs.View.{view, items_view}
@@ -70,7 +70,7 @@ length-with x (d ∷ ds) = by_test (nat_lt d.device.uid x.device.uid) (length-wi
     by_test true rest = omega (arith, rest)
     by_test false rest = omega arith
 
--- tests of two numbers, and of either of two facts
+-- a test of two numbers
 eq-sym : (a b : ℕ) → (a == b) ≡ (b == a)
 eq-sym a b = by_test (a == b) (b == a) refl refl
   where
@@ -79,14 +79,6 @@ eq-sym a b = by_test (a == b) (b == a) refl refl
     by_test false false p q = refl
     by_test true false p q = absurd (eqb-false b a q (sym (eqb-true a b p)))
     by_test false true p q = absurd (eqb-false a b p (sym (eqb-true b a q)))
-
-or-left : (a b : Bool) → (a || b) ≡ false → a ≡ false
-or-left true b h = h
-or-left false b h = refl
-
-or-right : (a b : Bool) → (a || b) ≡ false → b ≡ false
-or-right true b h = cc
-or-right false b h = h
 
 has-pushed : (xs : List SceneDevice) (x : SceneDevice) (u : ℕ)
     → has (uids_of_scene (xs ++ x ∷ [])) u ≡ ((u == x.device.uid) || has (uids_of_scene xs) u)
@@ -118,8 +110,8 @@ differ-more : (us : List ℕ) (u : ℕ) → AllDiffer us → has us u ≡ false 
 differ-more [] u all new = (refl, tt)
 differ-more (v ∷ us) u all new = (
   list_any-append (λ w. v == w) us (u ∷ []) ∙ ap (λ b. b || ((v == u) || false)) all.0
-      ∙ others (v == u) (eq-sym v u ∙ or-left (u == v) (has us u) new),
-  differ-more us u all.1 (or-right (u == v) (has us u) new),
+      ∙ others (v == u) (eq-sym v u ∙ (or_parts (u == v) (has us u) new).0),
+  differ-more us u all.1 ((or_parts (u == v) (has us u) new).1),
 )
   where
     others : (b : Bool) → b ≡ false → (b || false) ≡ false
@@ -164,9 +156,8 @@ same_uids (v ∷ vs) (x ∷ xs) (y ∷ ys) a b =
 differ-before : (us : List ℕ) (u : ℕ) (ws : List ℕ) → AllDiffer (us ++ u ∷ ws) → has us u ≡ false
 differ-before [] u ws all = refl
 differ-before (v ∷ us) u ws all =
-    let other : (v == u)
-    ≡ false = or-left (v == u) (has ws v)
-    (or-right (has us v) _ (sym (list_any-append (λ w. v == w) us (u ∷ ws)) ∙ all.0)) in
+    let later = (or_parts (has us v) _ (sym (list_any-append (λ w. v == w) us (u ∷ ws)) ∙ all.0)).1 in
+    let other : (v == u) ≡ false = (or_parts (v == u) (has ws v) later).0 in
     ap (λ b. b || has us u) (eq-sym u v ∙ other) ∙ differ-before us u ws all.1
 
 -- a device that can't be added makes a list that says nothing

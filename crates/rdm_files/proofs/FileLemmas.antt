@@ -1,7 +1,6 @@
 -- The bytes of a file of which no more than a limit are read.
-use Rattle.std.proofs.Common.{◌≡◌, ℕ, ◌≤◌, ◌<◌, List, length, take, Option, Some, None, ap, ◌∙◌, min, arith}
+use Rattle.std.proofs.Common.{◌≡◌, ℕ, ◌≤◌, ◌<◌, List, length, take, Option, Some, None, ap, ◌∙◌, min, arith, inl, inr}
 use Rattle.std.specs.Prelude.{◌⊎◌, IfSome, option_map}
-use Rattle.std.proofs.Common.{inl, inr}
 use Rattle.std.proofs.lemmas.List.{take_all, length-take}
 use Rattle.rdm_files.specs.Input.{IsContent}
 

@@ -1,17 +1,16 @@
 -- Lists of values, read one after another, and texts that say nothing.
-use Rattle.std.proofs.Common.{◌≡◌, ℕ, zero, suc, ◌+◌, ◌<◌, ◌≤◌, List, [], ◌∷◌, ◌++◌, length, take, drop, get_or}
+use Rattle.std.proofs.Common.{◌≡◌, ℕ, zero, suc, ◌+◌, ◌<◌, ◌≤◌, List, [], ◌∷◌, ◌++◌, length, take, get_or}
 use Rattle.std.proofs.Common.{Option, Some, None, Result, Ok, Err, false, refl, sym, ap, ◌∙◌, subst, arith}
 use Rattle.std.specs.Prelude.{IsErrAnd, MatchOption}
-use Rattle.std.proofs.lemmas.List.{take-append-drop, take_all, take_more}
+use Rattle.std.proofs.lemmas.List.{take_all, take_more}
+use Rattle.std.proofs.lemmas.Option.{same_Some}
 use Rattle.hex.proofs.HexLemmas.{decode_sized-twice, decode_of-ok}
 use Rattle.serde_json.specs.Data.{Data, no_items}
 use Rattle.serde_json.specs.Find.{get, as_array, as_str}
 use Rattle.serde_json.specs.View.{view, items_view}
 use Rattle.serde_json.specs.declared.value.Value.{Value}
-use Rattle.rdm_wire.specs.Bytes.{number_of, uid_bytes}
-use Rattle.hex.specs.declared.error.FromHexError.{FromHexError}
-use Rattle.rdm_wire.specs.UidText.{UidText, colon}
-use Rattle.rdm_wire.proofs.BytesLemmas.{number_of-uid_bytes}
+use Rattle.rdm_wire.specs.UidText.{UidText}
+use Rattle.rdm_wire.proofs.UidLemmas.{text_once}
 use Rattle.hex.specs.Hex.{decode_of, decode_sized}
 use Rattle.rdm_files.specs.Forms.{is_memory, Reads, Each, IsListOf, IsWhole, IsUid, IsOwnUid, IsFourDigits, Has}
 use Rattle.rdm_files.specs.Forms.{MayHave, MayGive}
@@ -49,15 +48,11 @@ each_next P vs xs i v x lt is all here =
     let more = take_more vs i v lt ∙ ap (λ w. take i vs ++ w ∷ []) (sym is) in
     subst (λ us. Each P (items_view us) (xs ++ x ∷ [])) (sym more) (each_more P (take i vs) xs v x all here)
 
--- two values of one option
-some_same : {A : Type 0} (a b : A) → Some a ≡ Some b → a ≡ b
-some_same a b e = cc
-
 -- the items of a list that is read as such
 pub listed_items : {A : Type 0} (P : Data → A → Type 0) (least most : ℕ) (d : Data) (vs : List Value) (xs : List A)
     → Some (items_view vs) ≡ as_array d → IsListOf A P least most d xs → Each P (items_view vs) xs
 listed_items P least most d vs xs is list =
-    subst (λ ds. Each P ds xs) (some_same list.items (items_view vs) (sym list.is_list ∙ sym is)) list.each
+    subst (λ ds. Each P ds xs) (same_Some list.items (items_view vs) (sym list.is_list ∙ sym is)) list.each
 
 -- a list of items that were read to the end
 pub list_of : {A : Type 0} (P : Data → A → Type 0) (least most : ℕ) (d : Data) (vs : List Value) (i : ℕ) (xs : List A)
@@ -89,7 +84,7 @@ list_many P least most d vs is xs list = each_many P vs xs (listed_items P least
 pub no_uid : (d : Data) (text : List ℕ) → Some text ≡ as_str d → ((u : ℕ) → UidText text u → ⊥) → (u : ℕ) → IsUid d u
     → ⊥
 no_uid d text is none u h =
-    none u (subst (λ t. UidText t u) (some_same h.text text (sym h.is_text ∙ sym is)) h.spells)
+    none u (subst (λ t. UidText t u) (same_Some h.text text (sym h.is_text ∙ sym is)) h.spells)
 
 -- no items
 pub each_none : {A : Type 0} (P : Data → A → Type 0) (xs : List A) → xs ≡ [] → Each P no_items xs
@@ -100,7 +95,7 @@ each_none P (x ∷ xs) is = cc
 pub no_digits : (d : Data) (text : List ℕ) → Some text ≡ as_str d
     → ((bytes : List ℕ) → decode_sized text 2 ≡ Ok bytes → ⊥) → (n : ℕ) → IsFourDigits d n → ⊥
 no_digits d text is none n h =
-    let digits = ap decode_of (some_same text h.text (is ∙ h.is_text)) ∙ h.digits in
+    let digits = ap decode_of (same_Some text h.text (is ∙ h.is_text)) ∙ h.digits in
     none (h.high ∷ h.low ∷ []) (decode_sized-twice text 2 (decode_of-ok text (h.high ∷ h.low ∷ []) digits).2 ∙ digits)
 
 -- a fault that is passed on
@@ -110,37 +105,9 @@ passed (Ok x) fault P is none = absurd is
 passed (Err e) fault P is none = λ other. none (ap is_memory (sym is) ∙ other)
 
 -- a text spells one UID
-append_same : (n : ℕ) (a b c d : List ℕ) → length a ≡ n → length c ≡ n → a ++ b ≡ c ++ d → (a ≡ c) × (b ≡ d)
-append_same n [] b [] d p q h = (refl, h)
-append_same n [] b (y ∷ c) d p q h = absurd (omega (arith, p, q))
-append_same n (x ∷ a) b [] d p q h = absurd (omega (arith, p, q))
-append_same zero (x ∷ a) b (y ∷ c) d p q h = cc
-append_same (suc n) (x ∷ a) b (y ∷ c) d p q h =
-    let first : x ≡ y = cc in
-    let rest : a ++ b ≡ c ++ d = cc in
-    let same = append_same n a b c d (omega (arith, p)) (omega (arith, q)) rest in
-    (ap (λ l. x ∷ l) same.0 ∙ ap (λ z. z ∷ c) first, same.1)
-
-pub one_text_uid : (text : List ℕ) (u v : ℕ) → UidText text u → UidText text v → u ≡ v
-one_text_uid text u v a b =
-    let parts = append_same 4 a.manufacturer (colon ∷ a.device) b.manufacturer (colon ∷ b.device) a.manufacturer_length
-    b.manufacturer_length (sym a.parts ∙ b.parts) in
-    let device : a.device ≡ b.device = tail a.device b.device parts.1 in
-    let high = ok_same _ _ (sym a.manufacturer_digits ∙ ap decode_of parts.0 ∙ b.manufacturer_digits) in
-    let low = ok_same _ _ (sym a.device_digits ∙ ap decode_of device ∙ b.device_digits) in
-    sym (number_of-uid_bytes u a.in_range) ∙ ap number_of
-    (sym (take-append-drop 2 (uid_bytes u)) ∙ ap (λ l. l ++ drop 2 (uid_bytes u)) high
-    ∙ ap (λ l. take 2 (uid_bytes v) ++ l) low ∙ take-append-drop 2 (uid_bytes v)) ∙ number_of-uid_bytes v b.in_range
-  where
-    tail : (c d : List ℕ) → colon ∷ c ≡ colon ∷ d → c ≡ d
-    tail c d h = cc
-
-    ok_same : (c d : List ℕ) → ◌≡◌ {A = Result (List ℕ) FromHexError} (Ok c) (Ok d) → c ≡ d
-    ok_same c d h = cc
-
 pub one_uid : (d : Data) (u v : ℕ) → IsUid d u → IsUid d v → u ≡ v
 one_uid d u v a b =
-    one_text_uid b.text u v (subst (λ t. UidText t u) (some_same a.text b.text (sym a.is_text ∙ b.is_text)) a.spells)
+    text_once b.text u v (subst (λ t. UidText t u) (same_Some a.text b.text (sym a.is_text ∙ b.is_text)) a.spells)
     b.spells
 
 -- what one value says at most
@@ -148,7 +115,7 @@ abbrev pub SaysOne : {A : Type 0} → (Data → A → Type 0) → Type 0
 SaysOne {A} P = (d : Data) (x y : A) → P d x → P d y → x ≡ y
 
 pub one_whole : (least most : ℕ) → SaysOne (IsWhole least most)
-one_whole least most d m n a b = some_same m n (sym a.number ∙ b.number)
+one_whole least most d m n a b = same_Some m n (sym a.number ∙ b.number)
 
 pub one_own_uid : SaysOne IsOwnUid
 one_own_uid d u v a b = one_uid d u v a.uid b.uid

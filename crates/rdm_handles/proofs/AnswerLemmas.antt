@@ -1,13 +1,9 @@
 -- What a look at a client's oldest outcome shows is what a collect gives.
-use Rattle.std.proofs.Common.{◌≡◌, ℕ, Bool, List, length, Option, Some, None, refl, ap, sym, ◌∙◌}
+use Rattle.rdm_handles.proofs.Common.{◌≡◌, ℕ, Bool, List, length, Option, Some, None, refl, ap, sym, ◌∙◌, Opening}
+use Rattle.rdm_handles.proofs.Common.{Entry, number_of_status, Outcome, IsOldest}
 use Rattle.std.specs.Prelude.{option_map, option_and_then, unwrap_or}
-use Rattle.rdm_log.specs.declared.entry.Opening.{Opening}
-use Rattle.rdm_log.specs.declared.entry.Entry.{Entry}
 use Rattle.rdm_join.specs.declared.joiner.ReplyHead.{ReplyHead}
-use Rattle.rdm_join.specs.Statuses.{number_of_status}
 use Rattle.rdm_log.specs.declared.outcome.Completion.{Completion}
-use Rattle.rdm_log.specs.declared.outcome.Outcome.{Outcome}
-use Rattle.rdm_log.specs.promises.Blocks.{IsOldest}
 use Rattle.rdm_log.specs.promises.Outcomes.{outcome_value}
 use Rattle.rdm_queue.specs.promises.Lengths.{length_of_value, answer_length, oldest_length}
 use Rattle.rdm_handles.specs.Forms.{form_with_head, form_of_completion}

@@ -1,42 +1,30 @@
 -- A handle is made of a box's pointer, and made a pointer again, whatever it holds. Assumes `Logic`.
-use Rattle.std.proofs.Common.{◌≡◌, ◌^◌, T, ltb, eq-eqb, List, [], ◌∷◌, ◌++◌, refl, sym, subst, ◌∙◌, lit<}
+use Rattle.rdm_handles.proofs.Common.{◌≡◌, ◌^◌, T, ltb, eq-eqb, List, [], ◌∷◌, ◌++◌, refl, sym, subst, ◌∙◌, lit<, Ura}
+use Rattle.rdm_handles.proofs.Common.{w32, Val, vptr, SProp, ent, emp, id⊢, Fml, ftrue, WpFn, Logic, sem, ‵, raw, ◌⊛◌}
+use Rattle.rdm_handles.proofs.Common.{◌$◌, ◌∵◌, !, qed, by, move, keep, split, join, fsplit, fjoin, rewrite, suffices}
+use Rattle.rdm_handles.proofs.Common.{use0, use1, stop, fld, lit, of_opd, no_more, and_then, returns, enter, alloc_all}
+use Rattle.rdm_handles.proofs.Common.{pass_all, free_all, look_at, get, get_in, sets, agg, sub, whole, fact, fact_i}
+use Rattle.rdm_handles.proofs.Common.{tables, RattleType, owns, Ptr, block_ptr, lone, types_at, plain, nothing, heard}
+use Rattle.rdm_handles.proofs.Common.{layout, Stays, stay_dropped, walk_of, Goes-blank, proved_at, leaves, box_owns}
+use Rattle.rdm_handles.proofs.Common.{frees, Handle}
 use mathlib.Core.Bool.{true}
-use seplogic.Ra.Ura.{Ura}
-use mir.Syntax.{Fn, Callee, w32, int, opd_true, place, field, copy, assign, rv_opd, aggregate, seq, return, ty_ptr}
+use mir.Syntax.{Fn, Callee, int, opd_true, place, field, copy, assign, rv_opd, aggregate, seq, return, ty_ptr}
 use mir.Syntax.{local, value_local}
-use mir.Val.{Val, vptr}
-use base.Logic.{SProp, ent, emp, sep, id⊢}
-use base.Fml.{Fml, ftrue}
+use base.Logic.{sep}
 use prog.Model.{Model}
-use prog.Wp.{WpFn, Closed}
-use types.Logic.{Logic, sem}
-use types.Kit.{‵, raw, ◌⊛◌, ◌$◌, ◌∵◌, !, qed, by, move, keep, split, join, fsplit, fjoin, rewrite, suffices, use0, use1}
-use types.Run.{stop, fld, lit, of_opd, no_more, and_then, returns, enter, true_lit}
-use types.ByLocal.{alloc_all, pass_all, free_all, look_at, get, get_in, sets}
-use types.Part.{agg, sub, whole}
-use contract.Monad.{fact, fact_i}
-use contract.Running.{Running, tables}
+use prog.Wp.{Closed}
+use types.Run.{true_lit}
+use contract.Running.{Running}
 use denote.Exit.{yes}
-use denote.RattleType.{RattleType, owns}
-use denote.RawPtr.{Ptr, block_ptr}
-use denote.Memory.{lone}
-use denote.Signature.{types_at, plain}
-use denote.Steps.{nothing, heard}
-use denote.Param.{layout}
 use denote.Triple.Clauses.{Clauses, Ended, closing}
 use denote.Triple.Spec.{Meets}
-use denote.Triple.Walked.{Stays, stay_dropped, walk_of, Goes-dropped}
-use Rattle.core.proofs.alloc.Calls.{Goes-blank}
+use denote.Triple.Walked.{Goes-dropped}
 use Rattle.core.proofs.cell.Inside.{one}
-use Rattle.std.proofs.raw_atomic.Walks.{proved_at, leaves}
 use Rattle.std.specs.contracts.alloc.Global as heap
 use Rattle.std.proofs.alloc.Global.TheLaws as heap_laws
 use Rattle.std.specs.contracts.impls.GlobalAllocator.TheImpl.{ghosts}
-use Rattle.std_alloc.specs.Box.Ownership.{box_owns}
-use Rattle.rdm_handles.specs.Owned.{frees}
 use Rattle.rdm_handles.specs.Handles.{HandleKind, holds, a_controller, a_session, a_log, a_discovery}
 use Rattle.rdm_handles.specs.contracts.handle.Handle as handle
-use Rattle.rdm_handles.specs.declared.handle.Handle.{Handle}
 use Rattle.rdm_handles.proofs.Pointers.{two, Row, fits, unpacked, put_together}
 use Rattle.rdm_handles.proofs.Handles.{word, any_handle, owns_as, handle_in, handle_out, open_in_block}
 

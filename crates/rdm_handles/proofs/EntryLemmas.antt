@@ -1,18 +1,16 @@
 -- An entry is read back from its form and its bytes.
-use Rattle.std.proofs.Common.{◌≡◌, Some, None, refl, ap}
+use Rattle.rdm_handles.proofs.Common.{◌≡◌, Some, None, refl, ap, number_of_status, Entry}
 use Rattle.rdm_wire.specs.declared.request.Request.{Request}
 use Rattle.rdm_wire.specs.declared.request.ReqClass.{ReqClass}
 use Rattle.rdm_wire.specs.declared.request.ReqClass.TheVariants as requests
 use Rattle.rdm_join.specs.declared.event.LineEvent.TheVariants as events
 use Rattle.rdm_join.specs.declared.status.Status.{Status}
 use Rattle.rdm_join.specs.declared.status.Status.TheVariants as ends
-use Rattle.rdm_join.specs.Statuses.{number_of_status}
 use Rattle.rdm_agent.specs.declared.fault.AgentFault.TheVariants as faults
 use Rattle.rdm_agent.specs.declared.kind.Kind.{Kind}
 use Rattle.rdm_agent.specs.declared.kind.Kind.TheVariants as kinds
 use Rattle.rdm_log.specs.declared.entry.Call.TheVariants as calls
 use Rattle.rdm_log.specs.declared.entry.Owner.TheVariants as owners
-use Rattle.rdm_log.specs.declared.entry.Entry.{Entry}
 use Rattle.rdm_log.specs.declared.entry.Entry.TheVariants.{Join, Refuse, Accept, Ask, Send, Came, Finish}
 use Rattle.rdm_log.specs.declared.entry.Entry.TheVariants.{Answer, Collect, Pause, Resume, Close}
 use Rattle.rdm_handles.specs.Forms.{kind_of, class_of}
@@ -32,28 +30,10 @@ request_back r = ap (λ (class : ReqClass). record r { class = class }) (class_b
 
 status_back : (s : Status) → status_in (number_of_status s) ≡ s
 status_back ends.Completed = refl
-status_back ends.WasBroadcast = refl
-status_back ends.FailedToSend = refl
-status_back ends.Timeout = refl
-status_back ends.InvalidResponse = refl
-status_back ends.TooShort = refl
-status_back ends.WrongStart = refl
-status_back ends.WrongSubStart = refl
-status_back ends.LengthMismatch = refl
-status_back ends.ParamLengthMismatch = refl
-status_back ends.Checksum = refl
-status_back ends.InvalidClass = refl
-status_back ends.InvalidResponseType = refl
-status_back ends.TransactionMismatch = refl
-status_back ends.SubDeviceMismatch = refl
-status_back ends.SourceMismatch = refl
-status_back ends.DestMismatch = refl
-status_back ends.ClassMismatch = refl
-status_back ends.NoMemory = refl
+status_back _ = refl
 
 -- each entry is read back
 pub read_back : (e : Entry) → entry_in (form_of_entry e) (bytes_of_entry e) ≡ e
-read_back (Join c n) = refl
 read_back (Refuse None (calls.Join n) cause) = refl
 read_back (Refuse None (calls.Submit r) cause) =
     ap (λ (q : Request). Refuse None (calls.Submit q) cause) (request_back r)
@@ -73,11 +53,5 @@ read_back (Came events.Failed) = refl
 read_back (Finish n s len) = ap (λ (t : Status). Finish n t len) (status_back s)
 read_back (Answer n r None) = refl
 read_back (Answer n r (Some (faults.Corrupt u))) = refl
-read_back (Answer n r (Some faults.TooMany)) = refl
-read_back (Answer n r (Some faults.Exhausted)) = refl
-read_back (Answer n r (Some faults.LineFailed)) = refl
-read_back (Answer n r (Some faults.Aborted)) = refl
-read_back (Collect c) = refl
-read_back Pause = refl
-read_back Resume = refl
-read_back Close = refl
+read_back (Answer n r (Some _)) = refl
+read_back _ = refl

@@ -1,33 +1,22 @@
 -- The machine values of a `Handle`. Assumes `Logic`.
-use Rattle.std.proofs.Common.{◌≡◌, ℕ, ◌<◌, ◌^◌, Bool, true, false, ◌&&◌, ◌==◌, List, [], ◌∷◌, ◌++◌, refl, sym, ◌∙◌}
-use Rattle.std.proofs.Common.{true-eqb}
-use seplogic.Ra.Ura.{Ura}
-use mir.Syntax.{w32}
-use mir.Val.{Val, vbool, vint, vstruct, vcons, vnil, of_list}
+use Rattle.rdm_handles.proofs.Common.{◌≡◌, ℕ, ◌<◌, ◌^◌, Bool, true, false, ◌&&◌, ◌==◌, List, [], ◌∷◌, ◌++◌, refl, sym}
+use Rattle.rdm_handles.proofs.Common.{◌∙◌, true-eqb, Ura, w32, Val, vbool, vint, vstruct, vcons, vnil, of_list, Fml}
+use Rattle.rdm_handles.proofs.Common.{ent, never, fst∗, Logic, sem, Item, Goal, Seq, Step, step, ‵, ◌$◌, drop, fsplit}
+use Rattle.rdm_handles.proofs.Common.{fjoin, fpick, fpack, feq_i, feq_l, rewrite, use1, RattleType, Valss, RawPtr, bool}
+use Rattle.rdm_handles.proofs.Common.{u32, shows, lone, Ptr, ptr_val, block_ptr, null_ptr, in_a_block, nothing, within}
+use Rattle.rdm_handles.proofs.Common.{shape, box_owns, frees, Handle}
 use mir.Raw.{raw as bare}
-use base.Fml.{Fml}
-use base.Logic.{ent, never, fst∗}
-use types.Logic.{Logic, sem}
-use types.Kit.{Item, Goal, Seq, Step, step, ‵, ◌$◌, drop, fsplit, fjoin, fpick, fpack, feq_i, feq_l, rewrite, use1}
-use denote.RattleType.{RattleType, Valss}
-use denote.Builtin.{RawPtr, bool, u32}
-use denote.Laws.{shows, Is}
-use denote.Memory.{lone}
+use denote.Laws.{Is}
 use denote.Plain.{uint_Makes}
-use denote.RawPtr.{Ptr, ptr_val, block_ptr, null_ptr, in_a_block}
-use denote.Steps.{nothing, owned, facts}
-use denote.Struct.Struct.{within}
-use denote.Struct.Owning.{shape}
-use Rattle.std_alloc.specs.Box.Ownership.{box_owns}
+use denote.Steps.{owned, facts}
 use Rattle.rdm_agent.specs.Machine.{start}
 use Rattle.rdm_agent.specs.declared.kind.Kind.TheVariants.{Full}
 use Rattle.rdm_agent.specs.declared.search.Search.TheVariants.{Steady}
 use Rattle.rdm_log.specs.log.LogState.{blank_log}
 use Rattle.rdm_queue.specs.body.State.{first_state}
-use Rattle.rdm_handles.specs.Owned.{frees, handle_owns}
+use Rattle.rdm_handles.specs.Owned.{handle_owns}
 use Rattle.rdm_handles.specs.Handles.{is_open_as}
 use Rattle.rdm_handles.specs.contracts.handle.Handle as handle
-use Rattle.rdm_handles.specs.declared.handle.Handle.{Handle}
 
 abbrev pub word : Ptr → Bool → ℕ → Val
 word p y k = vstruct (vcons (ptr_val p) (vcons (vbool y) (vcons (vint w32 k) vnil)))

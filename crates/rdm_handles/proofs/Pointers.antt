@@ -1,27 +1,17 @@
 -- The machine values of a `Loose`: a pointer and its allocator. Assumes `Logic`.
-use Rattle.std.proofs.Common.{◌≡◌, ℕ, List, [], ◌∷◌, ◌++◌, refl, ap, ◌∙◌}
+use Rattle.rdm_handles.proofs.Common.{◌≡◌, ℕ, List, [], ◌∷◌, ◌++◌, refl, ap, ◌∙◌, Ura, dnil, Val, vptr, vstruct, vcons}
+use Rattle.rdm_handles.proofs.Common.{vnil, of_list, never, fst∗, Logic, sem, Item, Goal, Seq, Step, step, ‵, ◌$◌, move}
+use Rattle.rdm_handles.proofs.Common.{drop, fsplit, fjoin, fpick, fpack, feq_i, feq_l, RattleType, Valss, RawPtr, lone}
+use Rattle.rdm_handles.proofs.Common.{Ptr, block_ptr, null_ptr, ptr_val, in_a_block, nothing, layout, within, shape}
+use Rattle.rdm_handles.proofs.Common.{handle_tells, Good, box_owns}
 use mathlib.Core.Bool.{true, ◌&&◌}
 use lib.Dec.{T}
-use seplogic.Ra.Ura.{Ura}
-use mir.Syntax.{impl, tnil, dnil}
+use mir.Syntax.{impl, tnil}
 use mir.Raw.{raw as bare}
-use mir.Val.{Val, vptr, vstruct, vcons, vnil, of_list, has_ty, WT}
-use base.Logic.{never, fst∗}
-use types.Logic.{Logic, sem}
-use types.Kit.{Item, Goal, Seq, Step, step, ‵, ◌$◌, move, drop, fsplit, fjoin, fpick, fpack, feq_i, feq_l}
-use denote.RattleType.{RattleType, Valss}
-use denote.Builtin.{RawPtr}
-use denote.Memory.{lone}
-use denote.RawPtr.{Ptr, block_ptr, null_ptr, ptr_val, in_a_block}
-use denote.Steps.{nothing}
-use denote.Param.{layout}
+use mir.Val.{has_ty, WT}
 use denote.Param.Laws.{Laws}
-use denote.Struct.Struct.{within}
-use denote.Struct.Owning.{shape}
 use Rattle.core.specs.declared.alloc.Allocator.{Ghosts}
-use Rattle.core.proofs.alloc.Calls.{Al, handle_tells}
-use Rattle.core.proofs.cell.Inside.{Good}
-use Rattle.std_alloc.specs.Box.Ownership.{box_owns}
+use Rattle.core.proofs.alloc.Calls.{Al}
 use Rattle.std_alloc.proofs.ResultValues.{and_tt}
 use Rattle.rdm_handles.specs.contracts.loose.Loose as loose
 

@@ -7,23 +7,23 @@ use Rattle.rdm_agent.specs.Machine.{AgentState, fed}
 use Rattle.rdm_agent.specs.OpFrames.{op_frame}
 use Rattle.rdm_agent.specs.declared.op.Op.{Op}
 use Rattle.rdm_agent.specs.declared.op.Op.TheVariants as ops
-use Rattle.rdm_handles.specs.Statuses as status
 use Rattle.rdm_handles.specs.Forms.{uid_status}
 use Rattle.rdm_handles.specs.Packets.{first_of}
 use Rattle.rdm_handles.specs.declared.discovery.Discovery.{Discovery}
 use Rattle.rdm_handles.specs.declared.forms.StartForC.{StartForC}
+use Rattle.rdm_handles.specs.declared.status.TheConstants as status
 
 -- the first fault of a start
 abbrev pub start_status : StartForC → ℕ
 start_status s =
-    first_of (uid_status s.source) (if nat_lt 1 s.kind then status.bad_kind
-    else (if nat_lt 1 s.search then status.bad_search else status.done))
+    first_of (uid_status s.source) (if nat_lt 1 s.kind then status.BAD_KIND
+    else (if nat_lt 1 s.search then status.BAD_SEARCH else status.DONE))
 
 -- the status of a set that another device must fit into
 abbrev pub room_status : List ℕ → ℕ → ℕ
 room_status set u =
-    if has set u then status.done
-    else (if length set == 1024 then status.too_many_devices else status.done)
+    if has set u then status.DONE
+    else (if length set == 1024 then status.TOO_MANY_DEVICES else status.DONE)
 
 -- the fault of adding a UID to a set: first that of the UID, then that the set is full
 abbrev pub added_status : List ℕ → ℕ → ℕ
@@ -31,7 +31,7 @@ added_status set u = first_of (uid_status u) (room_status set u)
 
 -- the first fault of adding these UIDs to a set, in order
 abbrev pub known_status : List ℕ → List ℕ → ℕ
-known_status set [] = status.done
+known_status set [] = status.DONE
 known_status set (u ∷ us) = first_of (added_status set u) (known_status (with_uid u set) us)
 
 -- the set with these UIDs added
@@ -41,8 +41,8 @@ known_set set (u ∷ us) = known_set (with_uid u set) us
 
 -- the status of writing an operation: done, or nothing at the end
 abbrev pub operation_status : Op → ℕ
-operation_status ops.End = status.nothing
-operation_status _ = status.done
+operation_status ops.End = status.NOTHING
+operation_status _ = status.DONE
 
 -- the number of an operation; 3, the end, is never written
 abbrev pub operation_of : Op → ℕ

@@ -14,32 +14,28 @@ use Rattle.rdm_log.specs.declared.outcome.OutcomeKind.TheVariants as kinds
 use Rattle.rdm_log.specs.log.History.{next_client}
 use Rattle.rdm_log.specs.promises.Outcomes.{oldest_kind}
 use Rattle.rdm_queue.specs.promises.Lengths.{oldest_length}
-use Rattle.rdm_handles.specs.Statuses as status
+use Rattle.rdm_handles.specs.declared.status.TheConstants as status
 
 -- the fault of a join with this status
 abbrev pub join_fault_of : ℕ → Option JoinFault
 join_fault_of s =
-    if s == status.closed then Some joins.Closed
-    else (if s == status.too_many_clients then Some joins.TooManyClients
-    else (if s == status.no_places then Some joins.NoPlaces
-    else (if s == status.out_of_memory then Some joins.NoMemory
-    else (if s == status.log_full then Some joins.LogFull else None))))
+    if s == status.CLOSED then Some joins.Closed
+    else (if s == status.TOO_MANY_CLIENTS then Some joins.TooManyClients
+    else (if s == status.NO_PLACES then Some joins.NoPlaces
+    else (if s == status.OUT_OF_MEMORY then Some joins.NoMemory
+    else (if s == status.LOG_FULL then Some joins.LogFull else None))))
 
 -- the fault of a submit with this status
 abbrev pub submit_fault_of : ℕ → Option WorkFault
 submit_fault_of s =
-    if s == status.closed then Some works.Closed
-    else (if s == status.unknown_client then Some works.UnknownClient
-    else (if s == status.full then Some works.Full
-    else (if s == status.log_full then Some works.LogFull else None)))
+    if s == status.CLOSED then Some works.Closed
+    else (if s == status.UNKNOWN_CLIENT then Some works.UnknownClient
+    else (if s == status.FULL then Some works.Full
+    else (if s == status.LOG_FULL then Some works.LogFull else None)))
 
 -- the fault of a discover with this status
 abbrev pub ask_fault_of : ℕ → Option WorkFault
-ask_fault_of s =
-    if s == status.closed then Some works.Closed
-    else (if s == status.unknown_client then Some works.UnknownClient
-    else (if s == status.full then Some works.Full
-    else (if s == status.log_full then Some works.LogFull else None)))
+ask_fault_of = submit_fault_of
 
 -- the fault if there is one, or else the value
 abbrev pub ok_or : {E : Type 0} {A : Type 0} → Option E → A → Result A E
@@ -70,29 +66,29 @@ number_of_outcome_kind kinds.Discovery = 1
 
 -- the status of a call that reads a client's oldest outcome: no such client, no outcome, or done
 abbrev pub status_of_some : {A : Type 0} → Option A → ℕ
-status_of_some None = status.nothing
-status_of_some (Some x) = status.done
+status_of_some None = status.NOTHING
+status_of_some (Some x) = status.DONE
 
 -- the status of a call that returns the kind of a client's oldest outcome
 abbrev pub oldest_status : Opening → List Entry → ℕ → ℕ
 oldest_status o h c =
-    if nat_le (next_client o h) c then status.unknown_client else status_of_some (oldest_kind o h c)
+    if nat_le (next_client o h) c then status.UNKNOWN_CLIENT else status_of_some (oldest_kind o h c)
 
 -- the status of a collect of the first kind, if the oldest outcome is of the second
 abbrev pub status_of_kind : OutcomeKind → OutcomeKind → ℕ → ℕ
 status_of_kind kinds.Request kinds.Request s = s
 status_of_kind kinds.Discovery kinds.Discovery s = s
-status_of_kind _ _ s = status.other_outcome
+status_of_kind _ _ s = status.OTHER_OUTCOME
 
 -- the status of a collect of this kind, if this many bytes or devices fit: there is no outcome, it is of the other
 -- kind, or it has more
 abbrev pub status_of_oldest : OutcomeKind → Option OutcomeKind → ℕ → ℕ → ℕ
-status_of_oldest kind None needed room = status.nothing
+status_of_oldest kind None needed room = status.NOTHING
 status_of_oldest kind (Some oldest) needed room =
-    status_of_kind kind oldest (if nat_lt room needed then status.buffer_too_small else status.done)
+    status_of_kind kind oldest (if nat_lt room needed then status.BUFFER_TOO_SMALL else status.DONE)
 
 -- the status of a collect of this kind for this client, if this many bytes or devices fit
 abbrev pub collect_status : Opening → List Entry → ℕ → OutcomeKind → ℕ → ℕ
 collect_status o h c kind room =
-    if nat_le (next_client o h) c then status.unknown_client
+    if nat_le (next_client o h) c then status.UNKNOWN_CLIENT
     else status_of_oldest kind (oldest_kind o h c) (unwrap_or (oldest_length o h c) 0) room

@@ -21,8 +21,8 @@ use Rattle.rdm_log.specs.declared.entry.Entry.TheVariants.{Join, Refuse, Accept,
 use Rattle.rdm_log.specs.declared.entry.Entry.TheVariants.{Answer, Collect, Pause, Resume, Close}
 use Rattle.rdm_handles.specs.Forms.{kind_of, class_of, number_of_fault, corrupt_uid}
 use Rattle.rdm_handles.specs.Packets.{number_of_request}
-use Rattle.rdm_handles.specs.Statuses as status
 use Rattle.rdm_handles.specs.declared.forms.EntryForC.{EntryForC}
+use Rattle.rdm_handles.specs.declared.status.TheConstants as status
 
 -- an entry of this kind without other fields
 abbrev pub plain_entry : ℕ → EntryForC
@@ -128,9 +128,9 @@ bytes_of_entry _ = []
 
 -- the status of reading the entry with this index into a buffer of this many bytes
 abbrev pub status_of_entry : Option Entry → ℕ → ℕ
-status_of_entry None room = status.no_entry
+status_of_entry None room = status.NO_ENTRY
 status_of_entry (Some e) room =
-    if nat_lt room (length (bytes_of_entry e)) then status.buffer_too_small else status.done
+    if nat_lt room (length (bytes_of_entry e)) then status.BUFFER_TOO_SMALL else status.DONE
 
 -- the status of reading an entry of this log
 abbrev pub entry_status : List Entry → ℕ → ℕ → ℕ

@@ -22,12 +22,12 @@ use Rattle.rdm_agent.specs.declared.search.Search.TheVariants as searches
 use Rattle.rdm_log.specs.declared.config.Setup.{Setup}
 use Rattle.rdm_log.specs.declared.outcome.Completion.{Completion}
 use Rattle.rdm_log.specs.declared.outcome.DiscoveryEnd.{DiscoveryEnd}
-use Rattle.rdm_handles.specs.Statuses as status
 use Rattle.rdm_handles.specs.declared.forms.SetupForC.{SetupForC}
 use Rattle.rdm_handles.specs.declared.forms.RequestForC.{RequestForC}
 use Rattle.rdm_handles.specs.declared.forms.CompletionForC.{CompletionForC}
 use Rattle.rdm_handles.specs.declared.forms.EndForC.{EndForC}
 use Rattle.rdm_handles.specs.declared.forms.DeviceForC.{DeviceForC}
+use Rattle.rdm_handles.specs.declared.status.TheConstants as status
 
 -- the search with this number: 0 steady, 1 quick
 abbrev pub search_of : ℕ → Search
@@ -43,16 +43,16 @@ class_of n = if n == 0 then requests.Get else requests.Set
 
 -- the status of a UID that must be a device's or a controller's own
 abbrev pub uid_status : ℕ → ℕ
-uid_status u = if nat_lt u (2 ^ 48) then (if is_broadcast u then status.broadcast_uid else status.done) else
-    status.bad_uid
+uid_status u = if nat_lt u (2 ^ 48) then (if is_broadcast u then status.BROADCAST_UID else status.DONE) else
+    status.BAD_UID
 
 -- the first fault of a setup
 abbrev pub setup_status : SetupForC → ℕ
 setup_status s =
     if uid_status s.source == 0
-    then (if nat_lt 4080 s.places then status.too_many_places
-    else (if s.budget == 0 then status.no_budget
-    else (if nat_lt 1 s.search then status.bad_search else status.done)))
+    then (if nat_lt 4080 s.places then status.TOO_MANY_PLACES
+    else (if s.budget == 0 then status.NO_BUDGET
+    else (if nat_lt 1 s.search then status.BAD_SEARCH else status.DONE)))
     else uid_status s.source
 
 -- the setup with these numbers, if they have no fault
@@ -66,9 +66,9 @@ setup_of s = record {
 abbrev pub request_status : RequestForC → List ℕ → ℕ
 request_status r bytes =
     if nat_lt r.target (2 ^ 48)
-    then (if nat_lt 1 r.command_class then status.bad_class
-    else (if nat_lt 231 (length bytes) then status.data_too_long else status.done))
-    else status.bad_uid
+    then (if nat_lt 1 r.command_class then status.BAD_CLASS
+    else (if nat_lt 231 (length bytes) then status.DATA_TOO_LONG else status.DONE))
+    else status.BAD_UID
 
 -- the request with these numbers and data, if they have no fault
 abbrev pub request_of : RequestForC → List ℕ → Request

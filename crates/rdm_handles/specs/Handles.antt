@@ -2,8 +2,8 @@
 use Rattle.std.specs.Prelude.{◌≡◌, ◌≢◌, ℕ, Bool, true, false, ◌&&◌, ◌==◌}
 use denote.RattleType.{RattleType}
 use Rattle.rdm_handles.specs.Rows.{controller_row, session_row, log_row, discovery_row}
-use Rattle.rdm_handles.specs.Statuses as status
 use Rattle.rdm_handles.specs.declared.handle.Handle.{Handle}
+use Rattle.rdm_handles.specs.declared.status.TheConstants as status
 
 -- a kind of handle: its number, and what an open one holds
 pub record HandleKind : Type 1 where
@@ -35,7 +35,7 @@ holds kind h = is_open_as kind.number h
 -- is open afterwards too.
 abbrev pub StaysOpen : HandleKind → Handle → Handle → ℕ → Type 0
 StaysOpen kind before after result =
-    (holds kind before ≡ false → (result ≡ status.not_open) × (after ≡ before))
+    (holds kind before ≡ false → (result ≡ status.NOT_OPEN) × (after ≡ before))
     × (holds kind before ≡ true → holds kind after ≡ true)
 
 -- the same for a call that doesn't change what the handle holds
@@ -45,7 +45,7 @@ Reads kind before after result = StaysOpen kind before after result × (kind.hel
 -- the same for a call that is always done, with what it then writes, and what it leaves unchanged if it is refused
 abbrev pub Reports : HandleKind → Handle → Handle → ℕ → Type 0 → Type 0 → Type 0
 Reports kind before after result written unchanged =
-    Reads kind before after result × ((holds kind before ≡ true → (result ≡ status.done) × written)
+    Reads kind before after result × ((holds kind before ≡ true → (result ≡ status.DONE) × written)
     × (holds kind before ≡ false → unchanged))
 
 -- a call that closes a handle of this kind, and leaves any other unchanged
@@ -56,5 +56,5 @@ Closes kind before after =
 -- a call that opens a closed handle as one of this kind, and leaves an open one of any kind unchanged
 abbrev pub Opens : HandleKind → Handle → Handle → ℕ → Type 0
 Opens kind before after result =
-    (before.is_open ≡ true → result ≡ status.already_open)
-    × ((result ≢ status.done → after ≡ before) × (result ≡ status.done → holds kind after ≡ true))
+    (before.is_open ≡ true → result ≡ status.ALREADY_OPEN)
+    × ((result ≢ status.DONE → after ≡ before) × (result ≡ status.DONE → holds kind after ≡ true))

@@ -1,4 +1,3 @@
-pub mod Statuses
 pub mod Forms
 pub mod Answers
 pub mod Packets

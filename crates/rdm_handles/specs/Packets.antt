@@ -1,7 +1,6 @@
 -- Packets for C: the meaning of its structs, and the status of a call with one that has none.
-use Rattle.std.specs.Prelude.{ℕ, ◌^◌, Bool, true, false, List, [], length, Option, Some, None, Result, Ok}
-use Rattle.std.specs.Prelude.{Err, ◌==◌, is_some}
-use Rattle.std.specs.Prelude.{nat_lt, nat_le, if◌then◌else◌}
+use Rattle.std.specs.Prelude.{ℕ, ◌^◌, Bool, true, false, List, [], length, Option, Some, None, Result, Ok, Err, ◌==◌}
+use Rattle.std.specs.Prelude.{is_some, nat_lt, nat_le, if◌then◌else◌}
 use Rattle.rdm_wire.specs.declared.device.Device.{Device}
 use Rattle.rdm_wire.specs.declared.command.Command.{Command}
 use Rattle.rdm_wire.specs.declared.command.Command.TheVariants as commands
@@ -17,12 +16,12 @@ use Rattle.rdm_wire.specs.declared.response.PacketFault.{PacketFault}
 use Rattle.rdm_wire.specs.declared.response.PacketFault.TheVariants as faults
 use Rattle.rdm_wire.specs.declared.uid.UidFault.{UidFault}
 use Rattle.rdm_wire.specs.declared.uid.UidFault.TheVariants as texts
-use Rattle.rdm_handles.specs.Statuses as status
 use Rattle.rdm_handles.specs.Forms.{uid_status, number_of_ack, number_of_class, number_or_0}
 use Rattle.rdm_handles.specs.declared.forms.CommandForC.{CommandForC}
 use Rattle.rdm_handles.specs.declared.forms.DeviceForC.{DeviceForC}
 use Rattle.rdm_handles.specs.declared.forms.MuteAckForC.{MuteAckForC}
 use Rattle.rdm_handles.specs.declared.forms.ResponseForC.{ResponseForC}
+use Rattle.rdm_handles.specs.declared.status.TheConstants as status
 
 -- the first status if it isn't DONE, or else the second
 abbrev pub first_of : ℕ → ℕ → ℕ
@@ -30,36 +29,36 @@ first_of s t = if s == 0 then t else s
 
 -- the status of a number that must be a UID; it may be broadcast
 abbrev pub number_status : ℕ → ℕ
-number_status u = if nat_lt u (2 ^ 48) then status.done else status.bad_uid
+number_status u = if nat_lt u (2 ^ 48) then status.DONE else status.BAD_UID
 
 -- the status of a buffer of this many bytes, into which any frame must fit
 abbrev pub frame_status : ℕ → ℕ
-frame_status room = if nat_lt room 257 then status.buffer_too_small else status.done
+frame_status room = if nat_lt room 257 then status.BUFFER_TOO_SMALL else status.DONE
 
 -- the status of a buffer of this many bytes, into which any packet's data must fit
 abbrev pub data_status : ℕ → ℕ
-data_status room = if nat_lt room 231 then status.buffer_too_small else status.done
+data_status room = if nat_lt room 231 then status.BUFFER_TOO_SMALL else status.DONE
 
 -- the status of two bounds that must be in order
 abbrev pub range_status : ℕ → ℕ → ℕ
-range_status lo hi = if nat_le lo hi then status.done else status.bad_range
+range_status lo hi = if nat_le lo hi then status.DONE else status.BAD_RANGE
 
 -- the status of bytes that are no response
 abbrev pub packet_status : PacketFault → ℕ
-packet_status faults.TooShort = status.too_short
-packet_status faults.WrongStart = status.wrong_start
-packet_status faults.WrongSubStart = status.wrong_sub_start
-packet_status faults.LengthMismatch = status.length_mismatch
-packet_status faults.ParamLengthMismatch = status.param_length_mismatch
-packet_status faults.Checksum = status.wrong_checksum
-packet_status faults.InvalidClass = status.invalid_class
-packet_status faults.InvalidResponseType = status.invalid_response_type
+packet_status faults.TooShort = status.TOO_SHORT
+packet_status faults.WrongStart = status.WRONG_START
+packet_status faults.WrongSubStart = status.WRONG_SUB_START
+packet_status faults.LengthMismatch = status.LENGTH_MISMATCH
+packet_status faults.ParamLengthMismatch = status.PARAM_LENGTH_MISMATCH
+packet_status faults.Checksum = status.WRONG_CHECKSUM
+packet_status faults.InvalidClass = status.INVALID_CLASS
+packet_status faults.InvalidResponseType = status.INVALID_RESPONSE_TYPE
 
 -- the status of a text that is no UID
 abbrev pub uid_fault_status : UidFault → ℕ
-uid_fault_status texts.Length = status.uid_length
-uid_fault_status texts.Separator = status.uid_separator
-uid_fault_status texts.Digit = status.uid_digit
+uid_fault_status texts.Length = status.UID_LENGTH
+uid_fault_status texts.Separator = status.UID_SEPARATOR
+uid_fault_status texts.Digit = status.UID_DIGIT
 
 -- the status of reading bytes as a response
 abbrev pub read_status : Result Response PacketFault → ℕ → ℕ
@@ -68,8 +67,8 @@ read_status (Err fault) room = packet_status fault
 
 -- the status of reading something that may be absent
 abbrev pub found_status : {A : Type 0} → Option A → ℕ
-found_status (Some x) = status.done
-found_status None = status.nothing
+found_status (Some x) = status.DONE
+found_status None = status.NOTHING
 
 -- a response without its data
 abbrev pub form_of_response : Response → ResponseForC
@@ -97,9 +96,9 @@ reply_class_of n = if n == 0 then responses.Discovery else (if n == 1 then respo
 abbrev pub response_status : ResponseForC → List ℕ → ℕ
 response_status r bytes =
     first_of (number_status r.source) (first_of (number_status r.dest)
-    (if nat_lt 3 r.ack then status.bad_response_type
-    else (if nat_lt 2 r.response_class then status.bad_class
-    else (if nat_lt 231 (length bytes) then status.data_too_long else status.done))))
+    (if nat_lt 3 r.ack then status.BAD_RESPONSE_TYPE
+    else (if nat_lt 2 r.response_class then status.BAD_CLASS
+    else (if nat_lt 231 (length bytes) then status.DATA_TOO_LONG else status.DONE))))
 
 -- the response with these numbers and data, if they have no fault
 abbrev pub response_of : ResponseForC → List ℕ → Response

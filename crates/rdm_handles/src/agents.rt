@@ -1,9 +1,9 @@
 //! C's calls on a discovery run without a queue, with their statuses.
-ghost use Rattle.std.specs.Prelude.{◌≡◌, ◌≢◌, ◌++◌, ◌∷◌, ℕ, [], length, take, true, false, IfOk, IfErr, if◌then◌else◌};
+ghost use Rattle.std.specs.Prelude.{◌≡◌, ◌≢◌, ◌++◌, ◌∷◌, [], length, take, true, false, IfOk, IfErr, if◌then◌else◌};
 ghost use Rattle.std.specs.Prelude.{◌%◌, ◌^◌, ◌+◌, ◌==◌, option_copied, Some};
 ghost use Rattle.rdm_agent.specs.Machine.{fed, fault_of};
 ghost use Rattle.rdm_agent.specs.Run.{heard_by, seen_op};
-ghost use Rattle.rdm_agent.specs.Calls.{next_op, fits, ended_by_abort, HasRunBy, AfterEach};
+ghost use Rattle.rdm_agent.specs.Calls.{next_op, fits, HasRunBy, AfterEach};
 ghost use Rattle.rdm_agent.specs.OpFrames.{op_frame};
 ghost use Rattle.rdm_agent.specs.declared.op.OpReply.{OpReply};
 ghost use Rattle.rdm_agent.specs.declared.op.Op.TheVariants.{End};

@@ -1,5 +1,5 @@
 //! C's calls on a controller, with their statuses.
-ghost use Rattle.std.specs.Prelude.{◌≡◌, ◌≢◌, ◌≤◌, ◌<◌, ◌↔◌, List, [], length, take, map, Some, None, Ok, IfOk, IfErr};
+ghost use Rattle.std.specs.Prelude.{◌≡◌, ◌≢◌, ◌≤◌, ◌<◌, ◌↔◌, List, length, take, map, Some, None, Ok, IfOk, IfErr};
 ghost use Rattle.std.specs.Prelude.{if◌then◌else◌, ◌==◌, ◌⊎◌, nat_lt, ℕ, false, option_map};
 ghost use Rattle.arrayvec.specs.ArrayVec.{ArrayVec as Bytes};
 ghost use Rattle.rdm_wire.specs.declared.device.Device.{Device};
@@ -21,7 +21,7 @@ ghost use Rattle.rdm_handles.specs.Answers.{number_of_outcome_kind};
 
 use crate::convert::{
     completion_for_c, end_for_c, kind_of, put_bytes, put_devices, put_uids, request_of, setup_of,
-    status_of_ask, status_of_join, status_of_submit,
+    status_of_join, status_of_work,
 };
 use crate::forms::{CompletionForC, DeviceForC, EndForC, RequestForC, SetupForC};
 use crate::status::{
@@ -87,7 +87,7 @@ pub fn submit(
             *number = given;
             DONE
         }
-        Err((fault, _)) => status_of_submit(fault),
+        Err((fault, _)) => status_of_work(fault),
     }
 }
 
@@ -107,7 +107,7 @@ pub fn discover(controller: &mut Controller, client: u8, kind: u32, number: &mut
             *number = given;
             DONE
         }
-        Err(fault) => status_of_ask(fault),
+        Err(fault) => status_of_work(fault),
     }
 }
 

@@ -1,20 +1,18 @@
 //! The meaning of C's structs, and how they are written.
-ghost use Rattle.std.specs.Prelude.{◌≡◌, ◌≢◌, ◌≤◌, List, length, take, map, IfOk, IfErr, Some};
+ghost use Rattle.std.specs.Prelude.{◌≡◌, ◌≢◌, ◌≤◌, length, take, map, IfOk, IfErr, Some};
 ghost use Rattle.rdm_log.specs.log.Config.{IsConfig};
 ghost use Rattle.rdm_handles.specs.Forms.{setup_status, setup_of, search_of, uid_status, request_status, request_of};
 ghost use Rattle.rdm_handles.specs.Forms.{kind_of, number_of_ack, number_of_class, form_of_completion, form_of_end};
 ghost use Rattle.rdm_handles.specs.Forms.{form_of_device, number_or_0, number_of_fault, corrupt_uid};
 ghost use Rattle.rdm_handles.specs.Forms.{class_of, form_with_head, uid_of_fault};
-ghost use Rattle.rdm_handles.specs.Answers.{join_fault_of, submit_fault_of, ask_fault_of};
+ghost use Rattle.rdm_handles.specs.Answers.{join_fault_of, submit_fault_of};
 
 use crate::forms::{CompletionForC, DeviceForC, EndForC, RequestForC, SetupForC};
 use crate::status;
 use arrayvec::ArrayVec;
 use rdm_agent::{AgentFault, Kind, Search};
 use rdm_join::ReplyHead;
-use rdm_log::{
-    AskFault, Completion, Config, DiscoveryEnd, JoinFault, MOST_PLACES, Setup, SubmitFault,
-};
+use rdm_log::{Completion, Config, DiscoveryEnd, JoinFault, MOST_PLACES, Setup, WorkFault};
 use rdm_wire::{AckType, Device, MOST_PARAMETER_BYTES, ReqClass, Request, RespClass, Uid};
 
 /// The UID with this number, which must be a device's or a controller's own.
@@ -133,29 +131,16 @@ pub fn status_of_join(fault: JoinFault) -> u32
     }
 }
 
-/// The status of a submit's fault.
-pub fn status_of_submit(fault: SubmitFault) -> u32
+/// The status of a submit's fault, or of a discover's.
+pub fn status_of_work(fault: WorkFault) -> u32
     ensures fault { submit_fault_of result ≡ Some fault }
     ensures refused { result ≢ 0 }
 {
     match fault {
-        SubmitFault::Closed => status::CLOSED,
-        SubmitFault::UnknownClient => status::UNKNOWN_CLIENT,
-        SubmitFault::Full => status::FULL,
-        SubmitFault::LogFull => status::LOG_FULL,
-    }
-}
-
-/// The status of a discover's fault.
-pub fn status_of_ask(fault: AskFault) -> u32
-    ensures fault { ask_fault_of result ≡ Some fault }
-    ensures refused { result ≢ 0 }
-{
-    match fault {
-        AskFault::Closed => status::CLOSED,
-        AskFault::UnknownClient => status::UNKNOWN_CLIENT,
-        AskFault::Full => status::FULL,
-        AskFault::LogFull => status::LOG_FULL,
+        WorkFault::Closed => status::CLOSED,
+        WorkFault::UnknownClient => status::UNKNOWN_CLIENT,
+        WorkFault::Full => status::FULL,
+        WorkFault::LogFull => status::LOG_FULL,
     }
 }
 

@@ -1,5 +1,5 @@
 //! Entries of a log, as C reads them.
-ghost use Rattle.std.specs.Prelude.{◌≡◌, ◌≢◌, List, ℕ, length, take, Some, slice_get};
+ghost use Rattle.std.specs.Prelude.{◌≡◌, ◌≢◌, length, take, Some, slice_get};
 ghost use Rattle.rdm_join.specs.Statuses.{number_of_status};
 ghost use Rattle.rdm_log.specs.declared.entry.Entry.{Entry};
 ghost use Rattle.rdm_log.specs.log.LogState.{stored};

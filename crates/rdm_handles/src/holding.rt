@@ -110,11 +110,7 @@ impl Held for Controller {
     }
 
     fn pointer_of(handle: Handle, alloc: Global) -> Loose<Controller, Global> {
-        let Handle {
-            at,
-            is_open: _,
-            kind: _,
-        } = handle;
+        let Handle { at, .. } = handle;
         Loose {
             at: at as *mut Controller,
             alloc,
@@ -142,11 +138,7 @@ impl Held for Session {
     }
 
     fn pointer_of(handle: Handle, alloc: Global) -> Loose<Session, Global> {
-        let Handle {
-            at,
-            is_open: _,
-            kind: _,
-        } = handle;
+        let Handle { at, .. } = handle;
         Loose {
             at: at as *mut Session,
             alloc,
@@ -174,11 +166,7 @@ impl Held for Log {
     }
 
     fn pointer_of(handle: Handle, alloc: Global) -> Loose<Log, Global> {
-        let Handle {
-            at,
-            is_open: _,
-            kind: _,
-        } = handle;
+        let Handle { at, .. } = handle;
         Loose {
             at: at as *mut Log,
             alloc,
@@ -206,11 +194,7 @@ impl Held for Discovery {
     }
 
     fn pointer_of(handle: Handle, alloc: Global) -> Loose<Discovery, Global> {
-        let Handle {
-            at,
-            is_open: _,
-            kind: _,
-        } = handle;
+        let Handle { at, .. } = handle;
         Loose {
             at: at as *mut Discovery,
             alloc,

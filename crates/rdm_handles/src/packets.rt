@@ -1,10 +1,9 @@
 //! Packets for C: the meaning of its structs, and how they are written.
-ghost use Rattle.std.specs.Prelude.{◌≡◌, ◌≢◌, ◌≤◌, length, take, IfOk, IfErr, Some, None};
-ghost use Rattle.rdm_handles.specs.Packets.{number_status, frame_status, response_status, response_of};
-ghost use Rattle.rdm_handles.specs.Packets.{ack_of, reply_class_of};
-ghost use Rattle.rdm_handles.specs.Packets.{form_of_response, form_of_ack, form_of_command, device_status, device_of};
-ghost use Rattle.rdm_handles.specs.Packets.{data_of_command, packet_status, uid_fault_status, binding_of, data_status};
-ghost use Rattle.rdm_handles.specs.Packets.{number_of_request};
+ghost use Rattle.std.specs.Prelude.{◌≡◌, ◌≢◌, length, take, IfOk, IfErr, Some, None};
+ghost use Rattle.rdm_handles.specs.Packets.{number_status, frame_status, response_status, response_of, ack_of};
+ghost use Rattle.rdm_handles.specs.Packets.{reply_class_of, form_of_response, form_of_ack, form_of_command, device_of};
+ghost use Rattle.rdm_handles.specs.Packets.{device_status, data_of_command, packet_status, uid_fault_status};
+ghost use Rattle.rdm_handles.specs.Packets.{binding_of, data_status, number_of_request};
 
 use crate::convert::{number_of_ack, number_of_class, number_or_0, own_uid, put_bytes};
 use crate::forms::{CommandForC, DeviceForC, MuteAckForC, ResponseForC};

@@ -1,6 +1,6 @@
 //! C's calls on a session, with their statuses.
 ghost use Rattle.std.specs.Prelude.{◌≡◌, ◌≢◌, ◌≤◌, ◌<◌, ◌↔◌, ◌+◌, List, [], length, take, map, Some, None, Ok, IfOk};
-ghost use Rattle.std.specs.Prelude.{IfErr, if◌then◌else◌, ◌==◌, ◌⊎◌, ◌-◌, nat_lt, ℕ, true, false, option_map};
+ghost use Rattle.std.specs.Prelude.{IfErr, if◌then◌else◌, ◌==◌, ◌⊎◌, ◌-◌, ℕ, true, false, option_map};
 ghost use Rattle.arrayvec.specs.ArrayVec.{ArrayVec as Bytes};
 ghost use Rattle.rdm_wire.specs.declared.device.Device.{Device};
 ghost use Rattle.rdm_join.specs.declared.event.LineEvent.TheVariants.{Reply};
@@ -25,7 +25,7 @@ ghost use Rattle.rdm_handles.specs.Sessions.{open_status, full_status, rotate_st
 
 use crate::convert::{
     completion_for_c, end_for_c, kind_of, put_bytes, put_devices, request_of, setup_of,
-    status_of_ask, status_of_join, status_of_submit,
+    status_of_join, status_of_work,
 };
 use crate::forms::{CompletionForC, DeviceForC, EndForC, RequestForC, SetupForC};
 use crate::status::{
@@ -122,7 +122,7 @@ pub fn submit(
             *number = given;
             DONE
         }
-        Err((fault, _)) => status_of_submit(fault),
+        Err((fault, _)) => status_of_work(fault),
     }
 }
 
@@ -143,7 +143,7 @@ pub fn discover(session: &mut Session, client: u8, kind: u32, number: &mut u64) 
             *number = given;
             DONE
         }
-        Err(fault) => status_of_ask(fault),
+        Err(fault) => status_of_work(fault),
     }
 }
 

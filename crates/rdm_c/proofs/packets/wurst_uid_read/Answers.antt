@@ -1,7 +1,7 @@
 use Rattle.std.proofs.Common.{◌≡◌, ℕ, Ok, Err, inl, inr, refl, ◌∙◌}
 use Rattle.std.specs.Prelude.{Result, ◌⊎◌}
 use Rattle.rdm_handles.specs.Packets.{uid_fault_status}
-use Rattle.rdm_handles.specs.Statuses as status
+use Rattle.rdm_handles.specs.declared.status.TheConstants as status
 use Rattle.rdm_wire.specs.UidText.{UidText}
 use Rattle.rdm_wire.specs.declared.uid.UidFault.{UidFault}
 use Rattle.rdm_wire.specs.declared.uid.UidFault.TheVariants as texts
@@ -23,8 +23,8 @@ returns-in-Err-clause-all c u utf8 text = absurd (no ((c.in-Err.ensures.ok u).1 
 pub returns-in-Err-clause-statuses : goal.returns-in-Err-clause-statuses
 returns-in-Err-clause-statuses c = named c.in-Err.fault c.status_of_text.result c.status_of_text.ensures
   where
-    named : (f : UidFault) (s : ℕ) → s ≡ uid_fault_status f → (s ≡ status.done)
-        ⊎ ((s ≡ status.not_text) ⊎ ((s ≡ status.uid_length) ⊎ ((s ≡ status.uid_separator) ⊎ (s ≡ status.uid_digit))))
+    named : (f : UidFault) (s : ℕ) → s ≡ uid_fault_status f → (s ≡ status.DONE)
+        ⊎ ((s ≡ status.NOT_TEXT) ⊎ ((s ≡ status.UID_LENGTH) ⊎ ((s ≡ status.UID_SEPARATOR) ⊎ (s ≡ status.UID_DIGIT))))
     named texts.Length s is = inr (inr (inl is))
     named texts.Separator s is = inr (inr (inr (inl is)))
     named texts.Digit s is = inr (inr (inr (inr is)))

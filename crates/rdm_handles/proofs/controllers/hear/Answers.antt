@@ -1,5 +1,4 @@
-use Rattle.std.proofs.Common.{true, refl}
-use Rattle.rdm_log.specs.log.LogState.{LogState}
+use Rattle.rdm_handles.proofs.Common.{true, LogState}
 use Rattle.rdm_handles.proofs.controllers.hear.Goals as goal
 
 pub returns-in-Err-clause-not_asked : goal.returns-in-Err-clause-not_asked

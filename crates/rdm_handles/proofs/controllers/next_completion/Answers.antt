@@ -1,10 +1,5 @@
-use Rattle.std.proofs.Common.{◌≡◌, ◌≤◌, true, length, take, refl, ap, sym, ◌∙◌, arith, subst}
-use Rattle.rdm_log.specs.declared.outcome.Outcome.{Outcome}
-use Rattle.rdm_log.specs.log.LogState.{LogState}
-use Rattle.rdm_log.specs.promises.Blocks.{IsOldest}
-use Rattle.rdm_log.specs.promises.Outcomes.{request_outcome}
-use Rattle.rdm_queue.specs.declared.oldest.Oldest.{Oldest}
-use Rattle.rdm_queue.specs.promises.Oldest.{outcome_shown}
+use Rattle.rdm_handles.proofs.Common.{◌≡◌, ◌≤◌, true, length, take, ap, sym, ◌∙◌, arith, subst, Outcome, LogState}
+use Rattle.rdm_handles.proofs.Common.{IsOldest, request_outcome, Oldest, outcome_shown}
 use Rattle.rdm_handles.proofs.AnswerLemmas.{same_length, completion_len, own_flag}
 use Rattle.rdm_handles.proofs.controllers.next_completion.Goals as goal
 

@@ -1,11 +1,7 @@
-use Rattle.std.proofs.Common.{◌≡◌, ◌≤◌, true, length, take, map, refl, ap, sym, ◌∙◌, arith, subst}
-use Rattle.rdm_log.specs.declared.outcome.Outcome.{Outcome}
-use Rattle.rdm_log.specs.log.LogState.{LogState}
-use Rattle.rdm_log.specs.promises.Blocks.{IsOldest}
+use Rattle.rdm_handles.proofs.Common.{◌≡◌, ◌≤◌, true, length, take, map, ap, sym, ◌∙◌, arith, subst, Outcome, LogState}
+use Rattle.rdm_handles.proofs.Common.{IsOldest, form_of_device, Oldest, outcome_shown}
 use Rattle.rdm_log.specs.promises.Outcomes.{discovery_outcome}
-use Rattle.rdm_handles.specs.Forms.{form_of_end, form_of_device}
-use Rattle.rdm_queue.specs.declared.oldest.Oldest.{Oldest}
-use Rattle.rdm_queue.specs.promises.Oldest.{outcome_shown}
+use Rattle.rdm_handles.specs.Forms.{form_of_end}
 use Rattle.rdm_handles.proofs.AnswerLemmas.{same_length}
 use Rattle.rdm_handles.proofs.controllers.next_discovery.Goals as goal
 

@@ -1,11 +1,5 @@
-use Rattle.std.proofs.Common.{◌≡◌, ◌≤◌, List, length, take, ap, sym, ◌∙◌, arith, subst}
-use Rattle.rdm_log.specs.declared.entry.Opening.{Opening}
-use Rattle.rdm_log.specs.declared.entry.Entry.{Entry}
-use Rattle.rdm_log.specs.declared.outcome.Outcome.{Outcome}
-use Rattle.rdm_log.specs.promises.Blocks.{IsOldest}
-use Rattle.rdm_log.specs.promises.Outcomes.{request_outcome}
-use Rattle.rdm_queue.specs.declared.oldest.Oldest.{Oldest}
-use Rattle.rdm_queue.specs.promises.Oldest.{outcome_shown}
+use Rattle.rdm_handles.proofs.Common.{◌≡◌, ◌≤◌, List, length, take, ap, sym, ◌∙◌, arith, subst, Opening, Entry, Outcome}
+use Rattle.rdm_handles.proofs.Common.{IsOldest, request_outcome, Oldest, outcome_shown}
 use Rattle.rdm_handles.proofs.AnswerLemmas.{same_length, completion_len, own_flag}
 use Rattle.rdm_handles.proofs.sessions.next_completion.Goals as goal
 

@@ -1,25 +1,19 @@
+use Rattle.rdm_handles.proofs.Common.{lone, RattleType, Ptr, RawPtr, bool, u32, shape, Fml, box_owns, frees, Handle}
 use mir.Raw.{raw}
-use denote.Memory.{lone}
-use denote.RattleType.{RattleType}
-use denote.RawPtr.{Ptr}
 use denote.Param.Send.{IsSend, owning_send, struct_send, sendable}
-use denote.Builtin.{RawPtr, bool, u32}
 use denote.Struct.Struct.{exits_of}
-use denote.Struct.Owning.{shape, fields, to}
-use base.Fml.{Fml}
+use denote.Struct.Owning.{fields, to}
 use base.Shift.{Keyless}
 use Rattle.std.specs.Prelude.{Bool, true, false, ◌==◌}
 use Rattle.std_alloc.proofs.SendSync.{quiet, lies}
-use Rattle.std_alloc.specs.Box.Ownership.{box_owns}
 use Rattle.std.proofs.Crossing.{frees as anywhere}
 use Rattle.rdm_queue.proofs.controller.Controller.TheSendSync as of_controller
 use Rattle.rdm_queue.proofs.session.Session.TheSendSync as of_session
 use Rattle.rdm_log.proofs.log.Log.TheSendSync as of_log
 use Rattle.rdm_handles.proofs.discovery.Discovery.TheSendSync as of_discovery
 use Rattle.rdm_handles.specs.Rows.{controller_row, session_row, log_row, discovery_row}
-use Rattle.rdm_handles.specs.Owned.{heap, frees, choose}
+use Rattle.rdm_handles.specs.Owned.{heap, choose}
 use Rattle.rdm_handles.specs.contracts.handle.Handle.{the_row, the_type}
-use Rattle.rdm_handles.specs.declared.handle.Handle.{Handle}
 use Rattle.rdm_handles.proofs.Handles.{owns_as}
 
 boxed : (R : RattleType) → IsSend R → (p : Ptr) (x : R.Denot) → Keyless (box_owns frees R p x)

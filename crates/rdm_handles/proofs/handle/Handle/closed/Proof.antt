@@ -1,21 +1,10 @@
 -- `closed` makes a handle that owns nothing, at null.
-use Rattle.std.proofs.Common.{◌≡◌, [], ◌∷◌, refl, lit<}
+use Rattle.rdm_handles.proofs.Common.{◌≡◌, [], ◌∷◌, refl, lit<, Val, SProp, emp, ftrue, ‵, raw, ◌⊛◌, ◌$◌, ◌∵◌, !, qed}
+use Rattle.rdm_handles.proofs.Common.{by, keep, split, use0, lit, no_more, and_then, returns, enter, alloc_all}
+use Rattle.rdm_handles.proofs.Common.{pass_all, free_all, look_at, sets, agg, fact, fact_i, tables, owns, types_at}
+use Rattle.rdm_handles.proofs.Common.{null_ptr, nothing, walk_of, proved_at, leaves}
 use mathlib.Core.Bool.{false}
-use mir.Val.{Val}
-use base.Logic.{SProp, emp}
-use base.Fml.{ftrue}
-use types.Kit.{‵, raw, ◌⊛◌, ◌$◌, ◌∵◌, !, qed, by, keep, split, use0}
-use types.Run.{lit, no_more, and_then, returns, enter, false_lit}
-use types.ByLocal.{alloc_all, pass_all, free_all, look_at, sets}
-use types.Part.{agg}
-use contract.Monad.{fact, fact_i}
-use contract.Running.{tables}
-use denote.RattleType.{owns}
-use denote.Signature.{types_at}
-use denote.RawPtr.{null_ptr}
-use denote.Steps.{nothing}
-use denote.Triple.Walked.{walk_of}
-use Rattle.std.proofs.raw_atomic.Walks.{proved_at, leaves}
+use types.Run.{false_lit}
 use Rattle.rdm_handles.proofs.Handles.{word, any_handle, handle_in}
 use Rattle.rdm_handles.specs.contracts.handle.Handle.closed as f
 use Rattle.rdm_handles.proofs.handle.Handle.closed.Statement.{statement}

@@ -1,21 +1,10 @@
 -- `is_open` reads a field through a `&mut`.
-use Rattle.std.proofs.Common.{List, [], ◌∷◌, refl, sym}
-use mir.Syntax.{named}
-use mir.Val.{Val, vbool}
-use base.Fml.{ftrue, flft}
-use base.Fraction.{full_share}
-use contract.Running.{tables}
-use types.Kit.{‵, ◌⊛◌, ◌$◌, ◌∵◌, !, qed, done, move, keep, split, join, fsplit3, feq_i, rewrite, suffices, frame, group}
-use types.Run.{stop, fld, load, of_opd, returns, enter}
-use types.ByLocal.{alloc_all, pass_all, free_all, look_at, through, sets}
-use types.Part.{whole, sub, look_in}
-use denote.Laws.{shows}
-use denote.Memory.{cell_at}
-use denote.Ref.{MutRef, mut_vals, mut_Tells}
-use denote.Signature.{plain}
-use denote.Steps.{nothing, opens, closes, peeks}
-use denote.Triple.Walked.{says, Stays, stay_ref, walk_of, ends_at, Goes-ref}
-use Rattle.std.proofs.raw_atomic.Walks.{proved}
+use Rattle.rdm_handles.proofs.Common.{List, [], ◌∷◌, refl, sym, named, Val, vbool, ftrue, flft, full_share, tables, ‵}
+use Rattle.rdm_handles.proofs.Common.{◌⊛◌, ◌$◌, ◌∵◌, !, qed, done, move, keep, split, join, fsplit3, feq_i, rewrite}
+use Rattle.rdm_handles.proofs.Common.{suffices, frame, group, stop, fld, load, of_opd, returns, enter, alloc_all}
+use Rattle.rdm_handles.proofs.Common.{pass_all, free_all, look_at, through, sets, whole, sub, look_in, shows, cell_at}
+use Rattle.rdm_handles.proofs.Common.{MutRef, mut_vals, mut_Tells, plain, nothing, opens, closes, peeks, says, Stays}
+use Rattle.rdm_handles.proofs.Common.{stay_ref, walk_of, ends_at, Goes-ref, proved}
 use Rattle.rdm_handles.specs.contracts.handle.Handle.{the_row as R}
 use Rattle.rdm_handles.proofs.handle.Handle.TheLaws.{lowers}
 use Rattle.rdm_handles.specs.contracts.handle.Handle.is_open as f

@@ -1,22 +1,11 @@
 -- `kind` reads a field through a `&mut`.
-use Rattle.std.proofs.Common.{List, [], ◌∷◌, refl, sym, ◌^◌}
-use mir.Syntax.{named, w32}
-use mir.Val.{Val, vint}
-use base.Fml.{ftrue, flft}
-use base.Fraction.{full_share}
-use contract.Running.{tables}
-use types.Kit.{‵, ◌⊛◌, ◌$◌, ◌∵◌, !, qed, done, move, keep, split, join, fsplit3, fjoin, feq_i, flt_i, rewrite}
-use types.Kit.{suffices, frame, group}
-use types.Run.{stop, fld, load, of_opd, returns, enter}
-use types.ByLocal.{alloc_all, pass_all, free_all, look_at, through, sets}
-use types.Part.{whole, sub, look_in}
-use denote.Laws.{shows}
-use denote.Memory.{cell_at}
-use denote.Ref.{MutRef, mut_vals, mut_Tells}
-use denote.Signature.{plain}
-use denote.Steps.{nothing, opens, closes, peeks}
-use denote.Triple.Walked.{says, Stays, stay_ref, walk_of, ends_at, Goes-ref}
-use Rattle.std.proofs.raw_atomic.Walks.{proved}
+use Rattle.rdm_handles.proofs.Common.{List, [], ◌∷◌, refl, sym, ◌^◌, named, w32, Val, vint, ftrue, flft, full_share}
+use Rattle.rdm_handles.proofs.Common.{tables, ‵, ◌⊛◌, ◌$◌, ◌∵◌, !, qed, done, move, keep, split, join, fsplit3, fjoin}
+use Rattle.rdm_handles.proofs.Common.{feq_i, rewrite, suffices, frame, group, stop, fld, load, of_opd, returns, enter}
+use Rattle.rdm_handles.proofs.Common.{alloc_all, pass_all, free_all, look_at, through, sets, whole, sub, look_in, shows}
+use Rattle.rdm_handles.proofs.Common.{cell_at, MutRef, mut_vals, mut_Tells, plain, nothing, opens, closes, peeks, says}
+use Rattle.rdm_handles.proofs.Common.{Stays, stay_ref, walk_of, ends_at, Goes-ref, proved}
+use types.Kit.{flt_i}
 use Rattle.rdm_handles.specs.contracts.handle.Handle.{the_row as R}
 use Rattle.rdm_handles.proofs.handle.Handle.TheLaws.{lowers}
 use Rattle.rdm_handles.specs.contracts.handle.Handle.kind as f
