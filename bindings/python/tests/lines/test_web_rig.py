@@ -431,6 +431,22 @@ class TheCommand(LongTestCase):
             self.assertEqual((place / "said").read_text(), "http://192.0.2.1:1/#token")
             self.assertNotIn("token", (place / "words").read_text())
 
+    def test_the_address_as_a_qr_code_without_that_program(self) -> None:
+        """By the module of python3-qrcode, or not at all."""
+        module, printed = mock.Mock(), io.StringIO()
+        with folder() as place, mock.patch.dict(os.environ, {"PATH": str(place)}):
+            with mock.patch("importlib.util.find_spec", lambda name: name), \
+                    mock.patch("importlib.import_module", {"qrcode": module}.__getitem__):
+                running.show_code("http://192.0.2.1:1/#token")
+            with mock.patch("importlib.util.find_spec", lambda name: None), \
+                    contextlib.redirect_stdout(printed):
+                running.show_code("http://192.0.2.1:1/#token")
+        code = module.QRCode.return_value
+        self.assertEqual([code.add_data.mock_calls, len(code.print_ascii.mock_calls)],
+                         [[mock.call("http://192.0.2.1:1/#token")], 1])
+        self.assertEqual(printed.getvalue(),
+                         "with the package qrencode or python3-qrcode, this would be a QR code too\n")
+
     def test_faults(self) -> None:
         with servers.runtime() as place:
             for words, status, said in ((["--line", "ola:1"], 2, "olad has the line"),

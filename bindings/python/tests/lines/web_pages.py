@@ -12,7 +12,7 @@ from typing import Any, Callable, Dict, Iterator, List, Optional, Set, Tuple
 
 import servers
 from browser import Page, browser
-from common import random_scene, scene
+from common import TestCase, random_scene, scene
 from wurstlinen import LineFailed
 from wurstlinen.lines import OpenLine
 from wurstlinen.lines.rig import Rig
@@ -27,6 +27,12 @@ PHONE, DESK = (390, 844), (1400, 900)
 SIZES = (PHONE, DESK)
 SECONDS = 60.0
 Test = Callable[[Any, Tuple[int, int]], None]
+
+
+class BrowserTestCase(TestCase):
+    """Tests of browsers, each of which takes a minute to start on a machine that is busy enough."""
+
+    seconds = 540
 
 
 class Moody(Rig):
