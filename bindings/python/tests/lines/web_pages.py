@@ -215,10 +215,12 @@ class Window:
 
     def until(self, text: str) -> None:
         """Waits until JavaScript is true."""
-        end = time.monotonic() + SECONDS
+        end, pause = time.monotonic() + SECONDS, 0.01
         while not self.page.value(f"Boolean({text})"):
             assert time.monotonic() < end, (text, self.page.value("document.body.innerText"))
-            time.sleep(0.01)
+            time.sleep(pause)
+            # On a busy machine asking takes from the page what it needs to answer.
+            pause = min(1.5 * pause, 0.25)
 
     def texts(self, what: str) -> List[str]:
         """The texts of the elements that a selector finds, and that are seen."""
