@@ -5,6 +5,7 @@ import contextlib
 import io
 import json
 import os
+import shutil
 import signal
 import subprocess
 import sys
@@ -430,6 +431,15 @@ class TheCommand(LongTestCase):
                 running.show_code("http://192.0.2.1:1/#token")
             self.assertEqual((place / "said").read_text(), "http://192.0.2.1:1/#token")
             self.assertNotIn("token", (place / "words").read_text())
+
+    @unittest.skipUnless(shutil.which("qrencode"), "needs qrencode")
+    def test_the_address_as_a_real_qr_code(self) -> None:
+        done = subprocess.run([sys.executable, "-c", "from wurstlinen.web import running; running.show_code('http://x')"],
+                              env={**os.environ, "PYTHONPATH": str(servers.PACKAGE)}, capture_output=True, text=True,
+                              timeout=servers.SECONDS, check=False)
+        self.assertEqual(done.stderr, "")
+        # A code for so short an address has 21 modules a side, two of them to a character's height.
+        self.assertGreater(sum("\u2588" in each for each in done.stdout.splitlines()), 10)
 
     def test_the_address_as_a_qr_code_without_that_program(self) -> None:
         """By the module of python3-qrcode, or not at all."""

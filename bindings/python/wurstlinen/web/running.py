@@ -144,7 +144,7 @@ def show_code(address: str) -> None:
     """Shows an address as a QR code, if Debian's qrencode or python3-qrcode is there."""
     if shutil.which("qrencode") is not None:
         # By its standard input, since arguments are for all users to see.
-        subprocess.run(["qrencode", "-t", "ANSIUTF8", "-r", "-"], input=address.encode(), check=False)
+        subprocess.run(["qrencode", "-t", "ANSIUTF8"], input=address.encode(), check=False)
     elif importlib.util.find_spec("qrcode") is not None:
         code = importlib.import_module("qrcode").QRCode(border=2)
         code.add_data(address)
