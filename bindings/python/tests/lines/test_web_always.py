@@ -104,12 +104,14 @@ class Always(BrowserTestCase):
             for each in pages:
                 each.open()
                 each.until(f"document.querySelector(\"{row(LEFT)} .label\")?.disabled === false")
+                # What was shown for a moment only is remembered.
+                each.page.value("window.shown = '', window.now = document.getElementById('status'), "
+                                "new MutationObserver(() => (shown += now.textContent))"
+                                ".observe(now, { childList: true, characterData: true, subtree: true })")
             os.kill(pages[0].page.value("import('/server.js').then(({parts}) => parts.get('line').process)"),
                     signal.SIGKILL)
             for each in pages:
-                each.until("document.querySelector('#status').textContent.startsWith('No line')")
-            for each in pages:
-                each.until("document.querySelector('#status').className === ''")
+                each.until("shown.includes('No line: the server of the line has ended') && now.className === ''")
             process.kill()
             for each in pages:
                 each.until("document.querySelector('#status').textContent.startsWith('Not connected')")
