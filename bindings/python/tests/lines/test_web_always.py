@@ -192,7 +192,7 @@ class Always(BrowserTestCase):
                     .map((each) => each.innerText)""")
                 self.assertEqual(able, [] if "/" not in view else ["‹ Previous", "Next ›"], view)
                 if "/" in view:
-                    self.assertIn("when somebody who isn't view only opens this fixture", seen.texts(".sensors")[0])
+                    self.assertIn("shown once a page that isn't view only opens it", seen.texts(".sensors")[0])
             self.assertEqual(rig.exchanges, before)
 
     @at_each_size

@@ -83,7 +83,7 @@ export function view(uid) {
             nudge(found, "+", 1, "higher")),
         field("Personality", "personality"), make("p", { class: "sending" }, mayUse() ? SENDING : ""),
         make("p", { class: "sensors" }, measured || (parts.get("role") !== "looks" || sections.identity ? ""
-            : "The rest is shown when somebody who isn't view only opens this fixture.")),
+            : "Sensors and all else are shown once a page that isn't view only opens it.")),
         mayUse() && button(isReading ? "Reading …" : "Read all again", () => readAll(uid),
             { disabled: isReading || !maySend() }),
         make("div", { class: "sections", "aria-busy": String(isReading) },
