@@ -434,11 +434,11 @@ class TheCommand(LongTestCase):
 
     @unittest.skipUnless(shutil.which("qrencode"), "needs qrencode")
     def test_the_address_as_a_real_qr_code(self) -> None:
-        done = subprocess.run([sys.executable, "-c", "from wurstlinen.web import running; running.show_code('http://x')"],
-                              env={**os.environ, "PYTHONPATH": str(servers.PACKAGE)}, capture_output=True, text=True,
-                              timeout=servers.SECONDS, check=False)
+        text = "from wurstlinen.web import running; running.show_code('http://192.0.2.1:1/#token')"
+        done = subprocess.run([sys.executable, "-c", text], env={**os.environ, "PYTHONPATH": str(servers.PACKAGE)},
+                              capture_output=True, text=True, timeout=servers.SECONDS, check=False)
         self.assertEqual(done.stderr, "")
-        # A code for so short an address has 21 modules a side, two of them to a character's height.
+        # Codes have 21 modules a side or more, two of which are the height of a character.
         self.assertGreater(sum("\u2588" in each for each in done.stdout.splitlines()), 10)
 
     def test_the_address_as_a_qr_code_without_that_program(self) -> None:
