@@ -176,18 +176,21 @@ class Shown(TestCase):
         x = self.page.value("xOf(4)")
         self.assertGreater(self.colours(x, 60, 20, 200).get("0,158,115", 0), 50)
 
-    def test_a_phone(self) -> None:
+    def on_a_phone(self, scheme: str) -> None:
+        """It can be read and used there."""
         self.page.call("Emulation.setDeviceMetricsOverride", width=390, height=844, deviceScaleFactor=1, mobile=True)
+        self.page.call("Emulation.setEmulatedMedia", features=[{"name": "prefers-color-scheme", "value": scheme}])
         self.page.open(written(self.place, discovered(scene(devices=[{"uid": LEFT}])), *FINDINGS))
         for name in ("texts stand out", "what is typed stands out", "a control has a name",
                      "nothing is wider than the screen"):
-            for scheme in ("light", "dark"):
-                self.page.call("Emulation.setEmulatedMedia",
-                               features=[{"name": "prefers-color-scheme", "value": scheme}])
-                self.page.wait("document.documentElement.dataset.ready === 'yes' && innerWidth === 390")
-                self.assertEqual(self.page.value(RULES[name]), [], (name, scheme))
-        self.page.value("window.scrollTo(0, 0)")
+            self.assertEqual(self.page.value(RULES[name]), [], name)
         self.assertEqual(self.clicked(3)["title"], ["exchange 3"])
+
+    def test_a_phone(self) -> None:
+        self.on_a_phone("light")
+
+    def test_a_dark_phone(self) -> None:
+        self.on_a_phone("dark")
 
     def test_an_unmute_that_failed(self) -> None:
         frame = Packet(ALL_DEVICES, SOURCE, 0, 1, 0, 0, 0x10, 3).encode()
