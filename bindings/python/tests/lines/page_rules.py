@@ -49,10 +49,10 @@ RULES = {
         return all.filter((each, at) => all.indexOf(each) !== at);"""),
     "keys come in the order of the page": rule(
         "return seen('[tabindex]').filter((each) => each.tabIndex > 0).map(said);"),
-    "a finger or a mouse hits it": rule("""const least = innerWidth < 700 ? 40 : 24;
-        return seen("button, input, select, nav a, .more, summary").filter((each) => {
+    "a finger or a mouse hits it": rule("""const least = innerWidth < 700 ? 44 : 24;
+        return seen("button, input, select, nav a, .more, .back, summary").filter((each) => {
         const box = each.getBoundingClientRect(), isPiece = each.matches(".piece");
-        return box.height < (each.matches("summary") ? 24 : isPiece ? 32 : least) || (box.width < 24 && !isPiece);
+        return box.height < (isPiece ? Math.max(32, least) : least) || (box.width < 24 && !isPiece);
         }).map(said);"""),
     "nothing is wider than the screen": rule(
         "return document.documentElement.scrollWidth > innerWidth ? [document.documentElement.scrollWidth] : [];"),

@@ -49,6 +49,22 @@ class Findings(TestCase):
             self.assertEqual(found.all[0].explained,
                              f"discovery: quick; the proof that nothing else is on this line {end}")
 
+    def test_who_is_missing_breaks_no_rule(self) -> None:
+        lost = {**finding("broke", "was never heard", uid=SILENT, exchange=2), "found": False}
+        late = {**finding("broke", "answered too much", uid=LEFT, exchange=2), "found": True}
+        end = "1 fixture found; nothing else can be on this line if it is honest."
+        complete, incomplete = self.run_with("complete", lost), self.run_with("incomplete", lost)
+        other = {**lost, "uid": RIGHT}
+        for runs, wanted in (
+                ([complete], ["1 listed fixture was not found.", end]),
+                ([self.run_with("complete", lost, other)], ["2 listed fixtures were not found.", end]),
+                ([incomplete], ["1 listed fixture was not found.", "The discovery is incomplete."]),
+                ([self.run_with("complete", lost, late)], ["A rule was broken."]),
+                ([complete, complete], ["A rule was broken."]),
+                *(([self.run_with("complete", lost, finding(each, "bytes", exchange=2))], ["A rule was broken."])
+                  for each in ("stray", "garbled", "unmuted"))):
+            self.assertEqual(page_findings.findings_in(document(runs, broken=True)).verdict(), wanted)
+
     def test_the_headline_is_that_of_the_worst_run(self) -> None:
         complete, incomplete, cut = map(self.run_with, ("complete", "incomplete", "undecided"))
         corrupt = self.run_with("incomplete", end="corrupt", uid=LEFT)

@@ -12,6 +12,7 @@ from common import TestCase, folder, scene
 from page_logs import (
     DISCOVERY_OPENING, FEW_CLIENTS, HEAD, SOURCE, discovered, document, exchange_line, found_in, long_log, session_of,
 )
+from page_rules import RULES
 from wurstlinen.front import page, page_findings
 from wurstlinen.lines.packets import Packet
 from wurstlinen.lines.uids import ALL_DEVICES, parse_uid
@@ -174,6 +175,22 @@ class Shown(TestCase):
         # What was acknowledged keeps its colour.
         x = self.page.value("xOf(4)")
         self.assertGreater(self.colours(x, 60, 20, 200).get("0,158,115", 0), 50)
+
+    def on_a_phone(self, scheme: str) -> None:
+        """It can be read and used there."""
+        self.page.call("Emulation.setDeviceMetricsOverride", width=390, height=844, deviceScaleFactor=1, mobile=True)
+        self.page.call("Emulation.setEmulatedMedia", features=[{"name": "prefers-color-scheme", "value": scheme}])
+        self.page.open(written(self.place, discovered(scene(devices=[{"uid": LEFT}])), *FINDINGS))
+        for name in ("texts stand out", "what is typed stands out", "a control has a name",
+                     "nothing is wider than the screen"):
+            self.assertEqual(self.page.value(RULES[name]), [], name)
+        self.assertEqual(self.clicked(3)["title"], ["exchange 3"])
+
+    def test_a_phone(self) -> None:
+        self.on_a_phone("light")
+
+    def test_a_dark_phone(self) -> None:
+        self.on_a_phone("dark")
 
     def test_an_unmute_that_failed(self) -> None:
         frame = Packet(ALL_DEVICES, SOURCE, 0, 1, 0, 0, 0x10, 3).encode()

@@ -7,10 +7,10 @@ from typing import Tuple
 
 import servers
 from browser import needs_chromium
-from common import LongTestCase, folder, needs_library
+from common import folder, needs_library
 from web_pages import (
-    BACK, DESK, HOUSE, LEFT, PHONE, RIGHT, SECOND, Window, at_each_size, folder_of_downloads, many, opened, row, web_on,
-    window,
+    BACK, DESK, HOUSE, LEFT, PHONE, RIGHT, SECOND, BrowserTestCase, Window, at_each_size, folder_of_downloads, many,
+    opened, row, web_on, window,
 )
 from wurstlinen.tool.places import program
 
@@ -27,7 +27,7 @@ def way(seen: Window, from_slot: int, to_slot: int) -> Tuple[float, float]:
 
 @needs_chromium
 @needs_library
-class Fixtures(LongTestCase):
+class Fixtures(BrowserTestCase):
     """The table, the walk, undo and the file."""
 
     @at_each_size
@@ -96,14 +96,15 @@ class Fixtures(LongTestCase):
             seen.button("Slots")
             seen.until("!document.querySelector('.message') && document.querySelector('.universe')")
 
-    def test_wrong_values_come_back(self) -> None:
-        with opened(DESK) as (seen, _, _rig):
+    @at_each_size
+    def test_wrong_values_come_back(self, size: Tuple[int, int]) -> None:
+        with opened(size) as (seen, _, _rig):
             seen.until(f"document.querySelector(\"{row(LEFT)} .address\")?.value === '1'")
             seen.click(f"{row(LEFT)} .address")
             seen.type("513")
             seen.key("Tab")
             seen.until("document.querySelector('.message')")
-            self.assertIn("513 is not from 1 to 512", seen.texts(".message p")[0])
+            self.assertEqual(seen.texts(".message p"), ["address: 513 is not from 1 to 512"])
             seen.until(f"document.querySelector(\"{row(LEFT)} .address\")?.value === '1'")
             seen.click(f"{row(LEFT)} .label")
             seen.type("Anything")
@@ -115,8 +116,10 @@ class Fixtures(LongTestCase):
         with opened(size) as (seen, web, _), web.follow() as events:
             label = f"{row(LEFT)} .label"
             seen.until(f"document.querySelector(\"{label}\")?.value === 'Front left'")
-            self.assertEqual(seen.texts(".sending"),
-                             ["Enter, or leaving a field, sends what you typed; Escape restores it."])
+            # A phone has no Escape.
+            self.assertEqual(seen.texts(".sending"), [
+                "Leaving a field sends what you typed; Undo takes it back." if size == PHONE else
+                "Enter, or leaving a field, sends what you typed; Escape restores it."])
             # Whoever passes through, types what is there, or takes back what was typed changes nothing.
             seen.click(label)
             for _ in range(12):
@@ -133,9 +136,12 @@ class Fixtures(LongTestCase):
             events.until(lambda parts: parts.get(f"fixture/{LEFT}", {}).get("label") == "Wash 1")
             self.assertEqual(sum(each.endswith("/api/change") for each in seen.page.requests), 1)
 
-    def test_personality(self) -> None:
-        with opened(DESK) as (seen, web, _), web.follow() as events:
-            chosen = f"{row(RIGHT)} .personality"
+    @at_each_size
+    def test_personality(self, size: Tuple[int, int]) -> None:
+        """In the table, or on a phone where one fixture fills the screen."""
+        place, view = (row(RIGHT), "fixtures") if size == DESK else ("article", f"fixture/{RIGHT}")
+        with opened(size, view) as (seen, web, _), web.follow() as events:
+            chosen = f"{place} .personality"
             seen.until(f"document.querySelector(\"{chosen}\")?.options.length === 2")
             texts = seen.page.value(f"[...document.querySelector(\"{chosen}\").options].map((each) => each.text)")
             self.assertEqual(texts, ["1 Basic (7 slots)", "2 Extended (14 slots)"])
@@ -143,17 +149,23 @@ class Fixtures(LongTestCase):
             seen.key("ArrowDown")
             seen.key("Enter")
             events.until(lambda parts: parts.get(f"fixture/{RIGHT}", {}).get("personality") == 2)
-            seen.until(f"document.querySelector(\"{row(RIGHT)} .slots\")?.textContent === '8-21'")
+            seen.until(f"document.querySelector(\"{place} :is(.slots, .whole)\")?.textContent.endsWith('8-21')")
 
     @at_each_size
     def test_the_walk(self, size: Tuple[int, int]) -> None:
         with opened(size) as (seen, web, rig), web.follow() as events:
+            seen.until("document.querySelectorAll('.rig .label:enabled').length === 5")
+            top = "document.querySelector('tbody tr').getBoundingClientRect().top"
+            before = seen.page.value(top)
             # By address: both at 1 of the device with parts, then the others.
             for uid in (LEFT, HOUSE, SECOND, RIGHT, BACK):
                 seen.button("Identify next")
                 events.until(lambda parts, uid=uid: parts.get(f"fixture/{uid}", {}).get("identifies"))
                 events.until(lambda parts: sum(bool(value and value.get("identifies")) for name, value
                                                in parts.items() if name.startswith("fixture/")) == 1)
+                # What a finger is on stays where it was.
+                seen.until("document.querySelector('#stop')")
+                self.assertEqual(seen.page.value(f"scrollTo(0, 0), {top}"), before)
             seen.button("Identify next")
             events.until(lambda parts: not parts[f"fixture/{BACK}"]["identifies"])
             seen.until(f"document.querySelector(\"{row(BACK)} .identify\").ariaChecked === 'false'")
@@ -198,11 +210,15 @@ class Fixtures(LongTestCase):
             seen.page.value("document.activeElement.value = ''; "
                             "document.activeElement.dispatchEvent(new Event('input'))")
             labels = "[...document.querySelectorAll('.rig .label')].map((each) => each.value)"
-            if size == DESK:
-                seen.button("Label")
-                seen.until(f"{labels}[0] === 'Back truss'")
-                seen.button("Label")
-                seen.until(f"{labels}[0] === 'House lights'")
+            seen.button("Label")
+            seen.until(f"{labels}[0] === 'Back truss'")
+            seen.button("Label")
+            seen.until(f"{labels}[0] === 'House lights'")
+            if size == PHONE:
+                # It has no place for the other columns.
+                seen.page.value("document.querySelector('select.narrow').focus()")
+                seen.key("ArrowDown")
+                seen.until(f"{labels}[0] === 'Front left'")
 
     @at_each_size
     def test_a_file(self, size: Tuple[int, int]) -> None:
@@ -235,7 +251,7 @@ class Fixtures(LongTestCase):
             seen.button("Apply rig.csv …")
             seen.until("document.querySelector('.message')")
             self.assertEqual(seen.texts(".message p"), [
-                f"2 changes: Front left ({LEFT}): address 1 → 20; Front left ({LEFT}): label Front left → Wash 1."])
+                f"2 changes:\nFront left ({LEFT}): address 1 → 20\nFront left ({LEFT}): label Front left → Wash 1"])
             self.assertEqual(seen.page.value("document.activeElement.textContent"), "Cancel")
             seen.button("Make 2 changes")
             events.until(lambda parts: parts.get(f"fixture/{LEFT}", {}).get("label") == "Wash 1"
@@ -247,7 +263,7 @@ class Fixtures(LongTestCase):
 
 @needs_chromium
 @needs_library
-class OtherViews(LongTestCase):
+class OtherViews(BrowserTestCase):
     """Slots, one fixture, discovery and the line."""
 
     @at_each_size
@@ -365,6 +381,13 @@ class OtherViews(LongTestCase):
             for key in ("ArrowDown", "ArrowRight", "ArrowDown", "ArrowLeft", "ArrowLeft"):
                 seen.key(key)
             self.assertEqual(seen.texts(".hint"), ["Front right: 8-14 → 71-77, free"])
+            # Above another one it is lifted, so that the other one is seen.
+            for key in ("ArrowUp", "ArrowUp", "Home"):
+                seen.key(key)
+            lifted, below = seen.page.value(f"""[...document.querySelectorAll("button[data-uid='{RIGHT}'], "
+                + "button[data-uid='{LEFT}']")].map((each) => each.getBoundingClientRect().top)
+                .sort((one, other) => other - one)""")
+            self.assertGreater(lifted - below, 6)
             seen.key("Escape")
             self.assertIn("Drag a fixture", seen.texts(".hint")[0])
             for _ in range(3):
@@ -401,11 +424,12 @@ class OtherViews(LongTestCase):
                     seen.until("document.querySelector('iframe').offsetWidth === innerWidth")
                     self.assertGreater(seen.page.value("document.querySelector('iframe').offsetHeight"), 1_000)
 
-    def test_who_broke_the_rules_and_who_is_missing(self) -> None:
+    @at_each_size
+    def test_who_broke_the_rules_and_who_is_missing(self, size: Tuple[int, int]) -> None:
         if program() is None:
             self.skipTest("needs the proved program")
         liar = {"uid": "4444:00000001", "rig": {"label": "Liar", "lies": ["wrong sum"]}}
-        with opened(DESK, "discovery", devices=[liar]) as (seen, web, _):
+        with opened(size, "discovery", devices=[liar]) as (seen, web, _):
             web.call("load", name="rig.csv", text="uid,label\n1234:00000099,Lost\n")
             seen.button("Discover")
             sections = "Object.fromEntries([...document.querySelectorAll('main section')].map((each) => " \

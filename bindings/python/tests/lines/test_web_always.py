@@ -1,24 +1,29 @@
 """What holds for all views of the page in chromium: two browsers, ends and restarts, keys alone, rules, and times."""
 from __future__ import annotations
 
+import contextlib
+import functools
 import json
+import os
+import signal
+import subprocess
 import time
 import unittest
 from typing import Tuple
 
 import servers
 from browser import needs_chromium
-from common import LongTestCase, needs_library, scene
+from common import needs_library, scene
 from page_rules import RULES
 from web_pages import (
-    BACK, DESK, FIVE, LEFT, PHONE, RIGHT, SECOND, Moody, Web, at_each_size, busy, five, many, opened, row, web_on,
-    window,
+    BACK, DESK, FIVE, LEFT, PHONE, RIGHT, SECOND, BrowserTestCase, Moody, Web, at_each_size, busy, five, many, opened,
+    row, web_on, window,
 )
 
 
 @needs_chromium
 @needs_library
-class Always(LongTestCase):
+class Always(BrowserTestCase):
     """What holds for all views: two browsers, a server that ends, keys alone, rules for everybody's eyes, times."""
 
     def test_two_browsers(self) -> None:
@@ -58,13 +63,14 @@ class Always(LongTestCase):
             seen.until("document.querySelectorAll('.rig tbody tr').length === 40")
             self.assertLess(time.monotonic() - began, 1.0 * busy())
 
-    def test_the_server_ends_and_comes_back(self) -> None:
+    @at_each_size
+    def test_the_server_ends_and_comes_back(self, size: Tuple[int, int]) -> None:
         rig = Moody(scene(devices=FIVE["devices"]))
         with servers.here(lambda: rig) as server:
             web = Web("rig:/it")
             try:
                 web.wait([LEFT, SECOND])
-                with window(web.address) as seen:
+                with window(web.address, size) as seen:
                     seen.open()
                     seen.until(f"document.querySelector(\"{row(LEFT)} .label\")?.value === 'Front left'")
                     server.end()
@@ -85,12 +91,46 @@ class Always(LongTestCase):
             finally:
                 web.end()
 
-    def test_the_pages_program_ends_and_comes_back(self) -> None:
+    def test_processes_are_killed_under_open_pages(self) -> None:
+        """The real ones: the line's server, and then the page's program."""
+        with servers.runtime() as place, contextlib.ExitStack() as stack:
+            (place / "rig.json").write_text(json.dumps(FIVE), encoding="utf-8")
+            words = [*servers.TOOL, "web", "--json", "--line", f"rig:{place / 'rig.json'}", "--port"]
+            begin = functools.partial(subprocess.Popen, stdout=subprocess.PIPE, env=servers.environment(place))
+            process = stack.enter_context(begin([*words, "0"]))
+            stack.callback(process.kill)
+            address = json.loads(process.stdout.readline())["addresses"][0]
+            pages = [stack.enter_context(window(address, size)) for size in (DESK, PHONE)]
+            for each in pages:
+                each.open()
+                each.until(f"document.querySelector(\"{row(LEFT)} .label\")?.disabled === false")
+                # What was shown for a moment only is remembered.
+                each.page.value("window.shown = '', window.now = document.getElementById('status'), "
+                                "new MutationObserver(() => (shown += now.textContent))"
+                                ".observe(now, { childList: true, characterData: true, subtree: true })")
+            os.kill(pages[0].page.value("import('/server.js').then(({parts}) => parts.get('line').process)"),
+                    signal.SIGKILL)
+            for each in pages:
+                each.until("shown.includes('No line: the server of the line has ended') && now.className === ''")
+            process.kill()
+            for each in pages:
+                each.until("document.querySelector('#status').textContent.startsWith('Not connected')")
+                self.assertEqual(each.value(f"{row(LEFT)} .label"), "Front left")
+            port = address.partition("/#")[0].rpartition(":")[2]
+            again = stack.enter_context(begin([*words, port]))
+            stack.callback(again.kill)
+            # The address is the same, and so is its token.
+            self.assertEqual(json.loads(again.stdout.readline())["addresses"], [address])
+            for each in pages:
+                each.until(f"document.querySelector(\"{row(LEFT)} .label\")?.disabled === false")
+
+    @at_each_size
+    def test_the_pages_program_ends_and_comes_back(self, size: Tuple[int, int]) -> None:
         rig = Moody(scene(devices=FIVE["devices"]))
         with servers.here(lambda: rig):
             web = Web("rig:/it")
             web.wait([LEFT])
-            with window(web.address) as seen:
+            with window(web.address, size) as seen:
                 seen.open()
                 seen.until(f"document.querySelector(\"{row(LEFT)} .label\")?.value === 'Front left'")
                 web.end()
@@ -137,8 +177,9 @@ class Always(LongTestCase):
                 free = {"file": ["Save as CSV", "Compare with a saved file …"]}
                 self.assertEqual(able, free.get(view, ["‹ Previous", "Next ›"] if "/" in view else []), view)
 
-    def test_only_looking(self) -> None:
-        with opened(DESK, looking=True) as (seen, _, rig):
+    @at_each_size
+    def test_only_looking(self, size: Tuple[int, int]) -> None:
+        with opened(size, looking=True) as (seen, _, rig):
             seen.until(f"document.querySelector(\"{row(LEFT)} .label\")?.value === 'Front left'")
             self.assertIn("view only", seen.texts("#status")[0])
             before = rig.exchanges
@@ -147,9 +188,20 @@ class Always(LongTestCase):
                 seen.until("document.querySelector('main').children.length")
                 able = seen.page.value("""[...document.querySelectorAll('main :is(button, input, select)')].filter(
                     (each) => each.checkVisibility() && !each.disabled && !each.dataset.uid
-                    && !each.closest('th') && each.type !== 'search').map((each) => each.innerText)""")
+                    && !each.closest('th') && each.type !== 'search' && !each.matches('.narrow'))
+                    .map((each) => each.innerText)""")
                 self.assertEqual(able, [] if "/" not in view else ["‹ Previous", "Next ›"], view)
+                if "/" in view:
+                    self.assertIn("shown once a page that isn't view only opens it", seen.texts(".sensors")[0])
             self.assertEqual(rig.exchanges, before)
+
+    @at_each_size
+    def test_no_fixtures(self, size: Tuple[int, int]) -> None:
+        with web_on(Moody(scene(devices=[]))) as web, window(web.address, size) as seen:
+            seen.open()
+            seen.until("document.querySelector('.sending')?.textContent === 'No fixture so far: Discovery says more.'")
+            seen.click(".sending a")
+            seen.until("document.querySelector('.result')?.textContent.startsWith('0 fixtures found')")
 
     def test_no_token(self) -> None:
         with five() as (web, _), window(web.address.partition("#")[0]) as seen:
@@ -158,6 +210,9 @@ class Always(LongTestCase):
         with five() as (web, _), window(web.address.partition("#")[0] + "#wrong") as seen:
             seen.page.call("Page.navigate", url=seen.address)
             seen.until("document.querySelector('#status')?.textContent.includes('no valid token')")
+            # Nothing is known, so nothing is said of fixtures, nor that it is old.
+            self.assertEqual(seen.page.value("document.querySelector('main').textContent"), "Fixtures")
+            self.assertNotIn("old", seen.texts("#status")[0])
 
     def test_keys_alone_reach_everything(self) -> None:
         for view in ("fixtures", "slots", "file", f"fixture/{BACK}", "discovery", "line"):

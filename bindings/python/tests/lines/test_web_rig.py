@@ -5,6 +5,7 @@ import contextlib
 import io
 import json
 import os
+import shutil
 import signal
 import subprocess
 import sys
@@ -430,6 +431,31 @@ class TheCommand(LongTestCase):
                 running.show_code("http://192.0.2.1:1/#token")
             self.assertEqual((place / "said").read_text(), "http://192.0.2.1:1/#token")
             self.assertNotIn("token", (place / "words").read_text())
+
+    @unittest.skipUnless(shutil.which("qrencode"), "needs qrencode")
+    def test_the_address_as_a_real_qr_code(self) -> None:
+        text = "from wurstlinen.web import running; running.show_code('http://192.0.2.1:1/#token')"
+        done = subprocess.run([sys.executable, "-c", text], env={**os.environ, "PYTHONPATH": str(servers.PACKAGE)},
+                              capture_output=True, text=True, timeout=servers.SECONDS, check=False)
+        self.assertEqual(done.stderr, "")
+        # Codes have 21 modules a side or more, two of which are the height of a character.
+        self.assertGreater(sum("\u2588" in each for each in done.stdout.splitlines()), 10)
+
+    def test_the_address_as_a_qr_code_without_that_program(self) -> None:
+        """By the module of python3-qrcode, or not at all."""
+        module, printed = mock.Mock(), io.StringIO()
+        with folder() as place, mock.patch.dict(os.environ, {"PATH": str(place)}):
+            with mock.patch("importlib.util.find_spec", lambda name: name), \
+                    mock.patch("importlib.import_module", {"qrcode": module}.__getitem__):
+                running.show_code("http://192.0.2.1:1/#token")
+            with mock.patch("importlib.util.find_spec", lambda name: None), \
+                    contextlib.redirect_stdout(printed):
+                running.show_code("http://192.0.2.1:1/#token")
+        code = module.QRCode.return_value
+        self.assertEqual([code.add_data.mock_calls, len(code.print_ascii.mock_calls)],
+                         [[mock.call("http://192.0.2.1:1/#token")], 1])
+        self.assertEqual(printed.getvalue(),
+                         "with the package qrencode or python3-qrcode, this would be a QR code too\n")
 
     def test_faults(self) -> None:
         with servers.runtime() as place:

@@ -12,7 +12,7 @@ from typing import Any, Callable, Dict, Iterator, List, Optional, Set, Tuple
 
 import servers
 from browser import Page, browser
-from common import random_scene, scene
+from common import TestCase, random_scene, scene
 from wurstlinen import LineFailed
 from wurstlinen.lines import OpenLine
 from wurstlinen.lines.rig import Rig
@@ -27,6 +27,12 @@ PHONE, DESK = (390, 844), (1400, 900)
 SIZES = (PHONE, DESK)
 SECONDS = 60.0
 Test = Callable[[Any, Tuple[int, int]], None]
+
+
+class BrowserTestCase(TestCase):
+    """Tests of browsers, each of which takes a minute to start on a machine that is busy enough."""
+
+    seconds = 540
 
 
 class Moody(Rig):
@@ -209,10 +215,12 @@ class Window:
 
     def until(self, text: str) -> None:
         """Waits until JavaScript is true."""
-        end = time.monotonic() + SECONDS
+        end, pause = time.monotonic() + SECONDS, 0.01
         while not self.page.value(f"Boolean({text})"):
             assert time.monotonic() < end, (text, self.page.value("document.body.innerText"))
-            time.sleep(0.01)
+            time.sleep(pause)
+            # On a busy machine asking takes from the page what it needs to answer.
+            pause = min(1.5 * pause, 0.25)
 
     def texts(self, what: str) -> List[str]:
         """The texts of the elements that a selector finds, and that are seen."""

@@ -38,6 +38,8 @@ OUTCOMES = {
     Outcome.FAILED: ("The discovery failed.", "{} of {} discoveries failed."),
 }
 BROKEN, UNBROKEN, NO_DISCOVERY = "A rule was broken.", "No broken rule was seen.", "No discovery."
+# The judgements by which a rule was broken, whichever devices are there; and the one on a listed device.
+BREAKS, BROKE = ("stray", "unmuted", "garbled"), "broke"
 NOTHING_ELSE = "nothing else can be on this line if it is honest"
 COMPLETE = f"{{}} found; {NOTHING_ELSE}."
 ALL_COMPLETE = f"The last of {{}} discoveries: {{}} found; {NOTHING_ELSE}."
@@ -56,6 +58,8 @@ class Finding:
     uid: Optional[int] = None
     place: Optional[int] = None
     is_head: bool = False
+    # Of a listed device that broke a rule: whether it acknowledged a mute.
+    is_found: Optional[bool] = None
 
     @property
     def explained(self) -> str:
@@ -96,9 +100,20 @@ class Findings:
 
     def verdict(self) -> List[str]:
         """What they say in all, the worst first."""
-        if self.is_broken:
-            return [BROKEN, *worst_of(self.runs)]
-        return [*(worst_of(self.runs) or [complete_of(self.runs)]), UNBROKEN]
+        worst = worst_of(self.runs)
+        if not self.is_broken:
+            return [*(worst or [complete_of(self.runs)]), UNBROKEN]
+        missing = self.missing()
+        return [missing, *(worst or [complete_of(self.runs)])] if missing else [BROKEN, *worst]
+
+    def missing(self) -> str:
+        """How many listed devices weren't found, if no other rule was broken in the log's only run."""
+        broke = [each for each in self.all if each.judgement == BROKE]
+        if len(self.runs) != 1 or any(each.is_found is not False for each in broke) or any(
+                each.judgement in BREAKS for each in self.all):
+            return ""
+        count = len(broke)
+        return f"{count} listed fixture{' was' if count == 1 else 's were'} not found." if count else ""
 
 
 def findings_in(text: bytes) -> Findings:
@@ -130,7 +145,8 @@ def finding_in(found: Dict[str, Any], start: Optional[int], is_head: bool = Fals
     """A finding, about a run whose exchange 0 would have this place."""
     uid, exchange = found.get("uid"), found.get("exchange")
     place = None if start is None or exchange is None else start + exchange
-    return Finding(found["sentence"], found["judgement"], None if uid is None else parse_uid(uid), place, is_head)
+    return Finding(found["sentence"], found["judgement"], None if uid is None else parse_uid(uid), place, is_head,
+                   found.get("found"))
 
 
 def name_of(run: Dict[str, Any]) -> str:

@@ -67,7 +67,7 @@ export async function act(name, keys, done = "") {
     const answer = await asked(name, keys);
     const { made = 0, failures = [], problems = [] } = answer ?? {};
     if (failures.length) {
-        say(failures.join("; "), { isBad: true });
+        say(failures.join("\n"), { isBad: true });
     } else if (problems.length && !made) {
         const again = { text: "Do it anyway", act: () => act(name, { ...keys, force: true }, done) };
         say(`Not done: ${problems.join("; ").replaceAll("; after this,", ";")}.`, { isBad: true, action: again });
@@ -83,7 +83,7 @@ function statusText() {
         return ["This address has no token. Open the one that “wurstlinen web” has printed.", true];
     }
     if (lost || !now) {
-        return [`Not connected: ${lost || "no line so far"}. What you see is old.`, true];
+        return [`Not connected: ${lost || "no line so far"}.${parts.size ? " What you see is old." : ""}`, true];
     }
     if (!now.there) {
         return [now.served ? `${now.name}: adapter unplugged, waiting for it; what you see is old`
@@ -131,7 +131,8 @@ export function draw() {
         document.title = `${TITLES[name] ?? uid} · Wurstlinen`;
     }
     show(document.body, [header(name), make("main", { id: "view", key: place, class: name, tabindex: "-1" },
-        TITLES[name] && make("h2", { class: "hidden" }, TITLES[name]), ...views[name].view(uid)), messages()]);
+        TITLES[name] && make("h2", { class: "hidden" }, TITLES[name]), parts.size ? views[name].view(uid) : []),
+    messages()]);
     if (before && place !== before) {
         document.getElementById("view").focus();
         scrollTo(0, 0);

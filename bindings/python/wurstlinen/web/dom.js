@@ -6,6 +6,7 @@ export const make = (kind, attributes = {}, ...children) => ({ kind, attributes,
 
 export const button = (text, onclick, attributes = {}) => make("button", { type: "button", onclick, ...attributes },
     text);
+export const isTouched = matchMedia("(pointer: coarse)").matches;
 export const plural = (count, what) => (count === 1 ? `1 ${what}` : `${count} ${what}s`);
 
 // The names of an element's classes, without those that are false or empty.

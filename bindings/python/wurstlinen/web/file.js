@@ -28,10 +28,10 @@ async function look() {
         say("The fixtures that are here are as the file says.");
     } else if (plan) {
         const isBad = plan.problems.length > 0, count = plural(plan.changes.length, "change");
-        const problems = isBad ? ` But ${plan.problems.join("; ")}.` : "";
+        const problems = isBad ? `\nBut ${plan.problems.join("; ")}.` : "";
         const action = { text: `Make ${count}${isBad ? " anyway" : ""}`, act: () => act("apply", { force: isBad },
             `${count} made, and read back.`) };
-        say(`${count}: ${plan.changes.join("; ")}.${problems}`, { isBad, action });
+        say(`${count}:\n${plan.changes.join("\n")}${problems}`, { isBad, action });
     }
 }
 
@@ -53,5 +53,6 @@ export function view() {
             { disabled }),
         make("input", { type: "file", accept: ".csv,.txt,.tsv,text/csv", id: "chooser", hidden: true, onchange: load }),
         file && button(`Apply ${file.name} …`, look, { disabled: !maySend() }),
-        file && button("Close the file", () => act("unload", {}), { disabled })), ...(file ? differences(file) : [])];
+        file && button("Close the file", () => act("unload", {}), { disabled })), ...(file ? differences(file)
+        : [make("p", {}, "A saved file shows what is missing or differs, and can be applied.")])];
 }

@@ -20,8 +20,8 @@ async function go(uid, by) {
 function fieldOf({ name, unit, hint, choices, value }) {
     return make("label", {}, `${[name, unit].filter(Boolean).join(", ")} `, choices.length
         ? make("select", {}, choices.map((each) => make("option", { selected: each === value }, each)))
-        : make("input", { value, placeholder: hint, autocomplete: "off", spellcheck: "false" }),
-    make("small", {}, ` ${hint}`));
+        : make("input", { value, autocomplete: "off", spellcheck: "false" }),
+    make("small", {}, hint));
 }
 
 // A form for a parameter. What it does at once is a question first.
@@ -82,7 +82,8 @@ export function view(uid) {
         make("div", { class: "place" }, field("Address", "address"), nudge(found, "−", -1, "lower"),
             nudge(found, "+", 1, "higher")),
         field("Personality", "personality"), make("p", { class: "sending" }, mayUse() ? SENDING : ""),
-        make("p", { class: "sensors" }, measured),
+        make("p", { class: "sensors" }, measured || (parts.get("role") !== "looks" || sections.identity ? ""
+            : "Sensors and all else are shown once a page that isn't view only opens it.")),
         mayUse() && button(isReading ? "Reading …" : "Read all again", () => readAll(uid),
             { disabled: isReading || !maySend() }),
         make("div", { class: "sections", "aria-busy": String(isReading) },

@@ -1,13 +1,14 @@
 // The table of fixtures, in which values are edited in place; and the walk along the truss.
 
 import { act, addressOf, busily, busy, busyAs, redraw, say } from "/app.js";
-import { button, classes, make, plural } from "/dom.js";
+import { button, classes, isTouched, make, plural } from "/dom.js";
 import { fixtureOf, maySend, mayUse, parts, partsOf } from "/server.js";
 
 const COLUMNS = { label: "Label", address: "Address", slots: "Slots", personality: "Personality", model: "Model",
     uid: "UID" };
 const MOST_NOTES = 2;
-export const SENDING = "Enter, or leaving a field, sends what you typed; Escape restores it.";
+export const SENDING = isTouched ? "Leaving a field sends what you typed; Undo takes it back."
+    : "Enter, or leaving a field, sends what you typed; Escape restores it.";
 const chosen = { filter: "", column: "address", isDown: false };
 // The fixture to which this page's walk has come, which the page's program may not have shown so far.
 let walked = null;
@@ -160,7 +161,8 @@ export function view() {
     const orderOf = (column) => (chosen.column !== column ? "none" : chosen.isDown ? "descending" : "ascending");
     const heads = Object.entries(COLUMNS).map(([column, title]) => head(button(title, () => sortBy(column)),
         orderOf(column)));
-    return [tools(all, shown), make("p", { class: "sending" }, mayUse() ? SENDING : ""),
+    const none = ["No fixture so far: ", make("a", { href: addressOf("discovery") }, "Discovery"), " says more."];
+    return [tools(all, shown), make("p", { class: "sending" }, all.length ? mayUse() && SENDING : none),
         make("table", { class: "rig" }, make("thead", {}, make("tr", {}, head("Identify"), heads, head("Note"),
             head("More"))), make("tbody", {}, shown.map(rowOf)))];
 }

@@ -53,7 +53,7 @@ export function view() {
     const now = parts.get("line"), paused = Boolean(now?.paused), clients = programsOf(parts.get("clients") ?? []);
     const count = clients.reduce((sum, each) => sum + each.outstanding, 0);
     const last = partsOf("request/").sort((one, other) => other.at - one.at);
-    return [make("p", {}, now?.served ? `${now.name} is served by process ${now.process}, as ${now.source}.`
+    return [make("p", {}, now?.served ? `${now.name} is served by process ${now.process}, which sends as ${now.source}.`
         : "No server runs."),
         make("div", { class: "tools" }, pauser(paused, clients, !mayUse() || !now?.served),
             make("p", { role: "status" }, waitingText(paused, count))),

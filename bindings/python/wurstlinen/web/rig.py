@@ -227,7 +227,7 @@ class Rig:
         try:
             encode(COLUMNS[column], True, [value])
         except WordFault as fault:
-            raise Failure(BAD_ARGUMENTS, str(fault), reason="value") from None
+            raise Failure(BAD_ARGUMENTS, str(fault).replace(COLUMNS[column].name, column, 1), reason="value") from None
         before = value_in(entry.fixture, column)
         is_new = before is None or differs(column, before, value)
         return [Change(uid, column, before or "", value)] if is_new else []

@@ -3,6 +3,8 @@ from __future__ import annotations
 
 import argparse
 import contextlib
+import importlib
+import importlib.util
 import json
 import math
 import os
@@ -139,9 +141,13 @@ def addresses() -> List[str]:
 
 
 def show_code(address: str) -> None:
-    """Shows an address as a QR code, if Debian's qrencode is there. It gets it on its standard input: arguments are
-    for all users to see."""
-    if shutil.which("qrencode") is None:
-        print("with the package qrencode, this would be a QR code too", flush=True)
-        return
-    subprocess.run(["qrencode", "-t", "ANSIUTF8", "-r", "-"], input=address.encode(), check=False)
+    """Shows an address as a QR code, if Debian's qrencode or python3-qrcode is there."""
+    if shutil.which("qrencode") is not None:
+        # By its standard input, since arguments are for all users to see.
+        subprocess.run(["qrencode", "-t", "ANSIUTF8"], input=address.encode(), check=False)
+    elif importlib.util.find_spec("qrcode") is not None:
+        code = importlib.import_module("qrcode").QRCode(border=2)
+        code.add_data(address)
+        code.print_ascii(invert=True)
+    else:
+        print("with the package qrencode or python3-qrcode, this would be a QR code too", flush=True)

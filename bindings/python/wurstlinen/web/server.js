@@ -8,7 +8,7 @@ const ABSENT = "the program of this page doesn't answer";
 export const token = location.hash.slice(1).split("/")[0];
 // The parts that the program shows, by their names; and why these are old, if they are.
 export const parts = new Map();
-export let lost = "connecting ...";
+export let lost = "connecting";
 
 const headers = { Authorization: `Bearer ${token}` };
 

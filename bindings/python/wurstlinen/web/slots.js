@@ -1,12 +1,12 @@
 // The universe as 512 slots: who has which. Fixtures are moved by drag, or by keys.
 
 import { act, addressOf, draw, redraw } from "/app.js";
-import { classes, make } from "/dom.js";
+import { classes, isTouched, make } from "/dom.js";
 import { nameOf, problemOf, slotsOf } from "/fixtures.js";
 import { fixtureOf, maySend, parts, partsOf } from "/server.js";
 
 const LAST = 512;
-const HELP = matchMedia("(pointer: coarse)").matches ? "Tap a fixture to select it, and then drag it."
+const HELP = isTouched ? "Tap a fixture to select it, and then drag it."
     : "Drag a fixture, or select it and use the arrow keys; Enter moves it, Escape leaves it where it was.";
 const isNarrow = matchMedia("(max-width: 700px)");
 const width = () => (isNarrow.matches ? 16 : 32);
