@@ -118,7 +118,8 @@ def completion() -> str:
         cases.append(f"        {name}) {words}; options='{' '.join(options)}' ;;")
     return "\n".join([
         "# Completes the arguments of wurstlinen in bash.", "_wurstlinen() {",
-        '    local words="" options="" values="" word="${COMP_WORDS[COMP_CWORD]}"', f"    local parameters='{parameters}'",
+        '    local words="" options="" values="" word="${COMP_WORDS[COMP_CWORD]}"',
+        f"    local parameters='{parameters}'",
         "    # Bash divides a UID at its colon.", '    local first=3; [ "${COMP_WORDS[3]}" != : ] || first=5',
         '    case "${COMP_WORDS[first]}" in', *values(), "    esac",
         '    case "${COMP_WORDS[1]}" in', *cases, "    esac",
