@@ -138,10 +138,10 @@ class Columns(OneRig):
 
     def test_semicolons_and_tabs(self) -> None:
         for mark in (";", "\t"):
-            text = "\ufeffUID,Label,position\r\n{},Side,left\r\n".format(LEFT).replace(",", mark)
+            text = "\ufeffUID,Label,Position\r\n{},Side,left\r\n".format(LEFT).replace(",", mark)
             self.assertEqual(self.run_command("apply", "-", "--dry-run", text=text),
                              (0, f"{LEFT}  label  Front left -> Side\n1 change; nothing was changed\n",
-                              "wurstlinen: -: these columns change nothing: position\n"))
+                              "wurstlinen: -: these columns change nothing: Position\n"))
 
     def test_a_column_that_is_misspelled(self) -> None:
         self.assertEqual(self.run_command("apply", "-", text=f"uid,lable,model,slots,\n{LEFT},Side,a,b,c\n")[::2],

@@ -5,12 +5,14 @@ import contextlib
 import itertools
 import json
 import os
+import re
 import threading
 import time
-from typing import Any, List
+from pathlib import Path
+from typing import Any, Dict, Iterable, List, Set
 from unittest import mock
 
-from common import ROOT, TestCase, needs_library, scene
+from common import PACKAGE, ROOT, TestCase, needs_library, scene
 from moments import FAULTS, Trace, elsewhere, raising
 from servers import HELLO, SECONDS, SOURCE, Program, here
 from wurstlinen import (
@@ -21,7 +23,7 @@ from wurstlinen.lines import OpenLine, Rig
 from wurstlinen.lines.numbers import CommandClass, Pid
 from wurstlinen.lines.packets import decode_packet
 from wurstlinen.lines.uids import uid_text
-from wurstlinen.shared import peer, server
+from wurstlinen.shared import peer, server, words
 
 FIVE = ROOT / "bindings/examples/five_fixtures.json"
 LEFT = "1234:00000001"
@@ -221,6 +223,28 @@ class Protocol(TestCase):
                 self.assertEqual((answer["error"], answer["text"]), (name, text), says)
             program.ask(GET)
             self.assertEqual(program.read()["data"], LABEL)
+
+    def test_each_word_is_on_the_page(self) -> None:
+        page = (PACKAGE / "SERVER.md").read_text(encoding="utf-8")
+        on_page: Dict[str, Set[str]] = {}
+        for row in page.partition("| `do` |")[2].partition("\n\n")[0].splitlines()[2:]:
+            _, names, keys, _ = row.split("|", 3)
+            on_page.update(dict.fromkeys(re.findall(r'"(\w+)"', names), set(re.findall(r"`(\w+)`", keys))))
+        accepted: Dict[str, Set[str]] = {}
+
+        def check(keys: words.Keys, known: Iterable[str]) -> None:
+            """Notes which keys a request may have."""
+            accepted[keys["do"]] = set(known)
+        with mock.patch.object(server, "check_keys", check), mock.patch.object(words, "check_keys", check), \
+                here(five) as made, Program(made.place.path) as program:
+            for number, name in enumerate(server.ANSWERS):
+                program.say({"do": name, "id": number})
+            while program.next("id")["id"] != number:
+                pass
+        self.assertEqual(accepted, on_page)
+        source = "".join(path.read_text(encoding="utf-8") for path in Path(words.__file__).parents[1].rglob("*.py"))
+        named = {*re.findall(r'BadRequest\(.*"(\w+)"\)', source), *re.findall(r'"event": ("\w+")', source)}
+        self.assertEqual({name for name in named if f"`{name}`" not in page}, set())
 
     def test_the_id_of_a_bad_request(self) -> None:
         with here(five) as made, Program(made.place.path) as program:

@@ -1,6 +1,7 @@
 """The client's end of a connection to a server: servers of another version, and a close from another thread."""
 from __future__ import annotations
 
+import contextlib
 import itertools
 import json
 import math
@@ -31,7 +32,8 @@ class Stranger:
         self._thread.start()
 
     def _run(self) -> None:
-        with self._place.listener.accept()[0] as connection:
+        # Who connects may leave at any time.
+        with contextlib.suppress(ConnectionError), self._place.listener.accept()[0] as connection:
             connection.sendall(self._said)
             while connection.recv(4096):
                 pass

@@ -272,7 +272,11 @@ class Completion(TestCase):
             for words, wanted in ((["get", "12"], "1234:00000001 1234:00000002"),
                                   (["show", "1234", ":"], "00000001 00000002"),
                                   (["set", "9abc", ":", "00000002"], "00000002"), (["pids", "12"], ""),
-                                  (["identify", "9abc", ":", "00000002", "o"], "on off")):
+                                  (["identify", "9abc", ":", "00000002", "o"], "on off"),
+                                  # E1.20's states of a lamp; an address has no names.
+                                  (["set", "9abc", ":", "00000002", "lamp_state", "s"], "strike standby"),
+                                  (["set", "9abc:00000002", "identify_device", ""], "no yes"),
+                                  (["set", "9abc", ":", "00000002", "dmx_start_address", ""], "")):
                 self.assertEqual(self.completed(made, *words), f"{wanted}\n", words)
 
     def completed(self, made: Path, *words: str) -> str:

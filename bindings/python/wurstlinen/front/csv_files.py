@@ -277,7 +277,7 @@ def check_columns(name: str, sheet: Sheet) -> None:
 
 def note_others(name: str, sheet: Sheet, output: Output) -> None:
     """Names the columns that change nothing, since one of them may be misspelled."""
-    others = [sheet.columns[number] for number in sheet.others(WRITTEN) if sheet.columns[number]]
+    others = [sheet.titles[number].strip() for number in sheet.others(WRITTEN) if sheet.columns[number]]
     if others:
         named = ", ".join(f"{each}{hint(each, COLUMNS)}" for each in others)
         output.note(f"{name}: these columns change nothing: {named}")

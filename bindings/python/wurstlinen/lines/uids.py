@@ -5,7 +5,6 @@ import re
 
 ALL_DEVICES = 0xFFFFFFFFFFFF
 BROADCAST_DEVICE = 0xFFFFFFFF
-LAST_DEVICE = ALL_DEVICES - 1
 # A pattern.
 UID_TEXT = "([0-9A-Fa-f]{4}):([0-9A-Fa-f]{8})"
 

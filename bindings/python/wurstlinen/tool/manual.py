@@ -11,14 +11,17 @@ from pathlib import Path
 from typing import Dict, List
 
 from ..parameters import STANDARD
+from ..parameters.fields import Flag
 from . import arguments
 
 STATUSES = (("0", "It was done."), ("1", "The line failed, or no device answered."), ("2", "The arguments are wrong."),
             ("3", "A device refused it, or check found a difference."), ("130", "It was interrupted."))
 ENVIRONMENT = (("WURSTLINEN_LINE", "The line that is used without --line."),
                ("WURSTLINEN_LIBRARY", "The C library, if it isn't where it is installed."))
-# The commands that take names of parameters, and which of their words are none.
-NAMING = {"get": '-lt "$first"', "set": '-ne "$first"', "pids": "-ne 2"}
+# The commands that take names of parameters, and which of their words they are.
+PARAMETERS = 'words="$parameters"'
+NAMING = {"get": f'[ "$COMP_CWORD" -lt "$first" ] || {PARAMETERS}', "pids": f'[ "$COMP_CWORD" -ne 2 ] || {PARAMETERS}',
+          "set": f'case $((COMP_CWORD - first)) in 0) {PARAMETERS} ;; 1) words="$values" ;; esac'}
 
 
 def subcommands() -> Dict[str, argparse.ArgumentParser]:
@@ -90,6 +93,16 @@ def program_page() -> str:
     return "\n".join(lines) + "\n"
 
 
+def values() -> List[str]:
+    """What completes the first value of a SET: a case for each parameter that has names for it."""
+    cases = []
+    for each in STANDARD.parameters:
+        first = each.set.request[0] if each.set and each.set.request else None
+        names = ("no", "yes") if isinstance(first, Flag) else getattr(first, "labels", {}).values()
+        cases += [f"        {each.name}) values='{' '.join(names)}' ;;"] if names else []
+    return cases
+
+
 def completion() -> str:
     """The completion for bash. Where nothing fits, bash completes files."""
     commands = subcommands()
@@ -101,14 +114,14 @@ def completion() -> str:
         options = [option for action in shown(command) for option in action.option_strings]
         named = (action for action in command._actions if not action.option_strings)
         choices = [choice for action in named for choice in action.choices or ()]
-        words = f"words='{' '.join(choices)}'"
-        if name in NAMING:
-            words = f'[ "$COMP_CWORD" {NAMING[name]} ] || words="$parameters"'
+        words = NAMING.get(name, f"words='{' '.join(choices)}'")
         cases.append(f"        {name}) {words}; options='{' '.join(options)}' ;;")
     return "\n".join([
         "# Completes the arguments of wurstlinen in bash.", "_wurstlinen() {",
-        '    local words="" options="" word="${COMP_WORDS[COMP_CWORD]}"', f"    local parameters='{parameters}'",
+        '    local words="" options="" values="" word="${COMP_WORDS[COMP_CWORD]}"',
+        f"    local parameters='{parameters}'",
         "    # Bash divides a UID at its colon.", '    local first=3; [ "${COMP_WORDS[3]}" != : ] || first=5',
+        '    case "${COMP_WORDS[first]}" in', *values(), "    esac",
         '    case "${COMP_WORDS[1]}" in', *cases, "    esac",
         f"    [ \"$COMP_CWORD\" -gt 1 ] || words='{' '.join(commands)} help version' options='--help --version'",
         "    # A server knows the UIDs that it has found.",
