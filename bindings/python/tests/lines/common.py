@@ -24,7 +24,6 @@ from wurstlinen.lines import EnttecPro  # noqa: E402
 from wurstlinen.lines.emulator import Emulator, Widget  # noqa: E402
 from wurstlinen.lines.scene import Collide, DeviceKeys, FixtureKeys, RigKeys, Scene, parse_scene  # noqa: E402
 
-SECONDS = 60
 SOURCE = 0x7A7000000100
 LAST_DEVICE_PART = 0xFFFFFFFE
 MANUFACTURERS = (0x1234, 0x454E, 0x9ABC)
@@ -33,6 +32,8 @@ ANSWER_SECONDS = 5.0
 # How many seeds a test with losses has, and how many if it has 40 fixtures.
 SEEDS = int(os.environ.get("LINE_SEEDS", "3"))
 SEEDS_OF_LARGE_RIGS = min(SEEDS, 5)
+# How long a test may take: with more seeds it has more to do.
+SECONDS = 20 * SEEDS
 LOSSES = (0.0, 0.1, 0.5)
 # The two ways in which OLA expects firmware to end an answered branch.
 FIRMWARES = ((2, 4), (4, 15))

@@ -5,21 +5,28 @@ import itertools
 import sys
 import threading
 import unittest
-from typing import Any, Callable, List, Optional
+from functools import partial
+from typing import Any, Callable, List, Optional, Sequence, Tuple, Union
 
 from asking import DEVICE, OTHER_DEVICE, Clock, Device, Queueing, ack
 from common import LongTestCase, needs_library, one
 from moments import Trace, Trial, elsewhere, raising
+import wurstlinen
 from wurstlinen import (
-    Answer, Asker, Completion, Controller, Discovery, DiscoveryAgent, Kind, OutcomeKind, ReplyTooLong, Session,
-    Unserved, entries,
+    AckType, Answer, Asker, Completion, Controller, Discovery, DiscoveryAgent, Kind, OutcomeKind, ReplyTooLong,
+    ResponseClass, RunFaultKind, Session, Uid, Unserved, entries,
 )
 from wurstlinen.line import LineFailed
 from wurstlinen.lines import Rig
 from wurstlinen.lines.numbers import Pid
 
 SOURCE = "7a70:00000100"
+CONTROLLER = Uid.from_number(0x7A7000000100)
 LABEL = Pid.DEVICE_LABEL
+# What packets are of.
+REQUEST = wurstlinen.Request(DEVICE, LABEL)
+RESPONSE = wurstlinen.Response(DEVICE, CONTROLLER, 1, AckType.ACK, ResponseClass.GET, LABEL, b"Lamp")
+FOUND = wurstlinen.Device(DEVICE)
 LAMP = ack(LABEL, b"Lamp")
 HOURS, LAMP_HOURS = 0x0400, 0x0401
 PLACES = 4
@@ -187,7 +194,7 @@ class Calls(LongTestCase):
     def test_reads(self) -> None:
         for read in (lambda scene: scene.client.oldest(), lambda scene: scene.session.devices(),
                      lambda scene: scene.session.devices_run(), lambda scene: scene.session.bad_uids(),
-                     lambda scene: scene.session.is_idle(),
+                     lambda scene: scene.session.bad_uids_run(), lambda scene: scene.session.is_idle(),
                      lambda scene: scene.session.is_paused(), lambda scene: scene.session.is_closed(),
                      lambda scene: scene.session.awaits(), lambda scene: scene.session.free_entries(),
                      lambda scene: scene.session.entry_count(), lambda scene: scene.session.entry(0),
@@ -236,23 +243,58 @@ class Calls(LongTestCase):
 
         self.each(read, get, begin, then=whole)
 
-    def test_whole_controllers(self) -> None:
-        def whole(line: Rig) -> Optional[Completion]:
-            with Controller(SOURCE) as controller:
-                client = controller.join(1)
+    def test_whole_queues(self) -> None:
+        def whole(line: Rig, make: Callable[[], Union[Controller, Session]]) -> Optional[Completion]:
+            with make() as queue:
+                client = queue.join(1)
                 client.get(DEVICE, LABEL)
-                controller.run(line)
+                queue.run(line)
                 return client.next_completion()
 
-        Trial(lambda: Rig(one()), whole, lambda line, returned: None).run()
+        for make in (lambda: Controller(SOURCE), lambda: Session(SOURCE, 100)):
+            Trial(lambda: Rig(one()), partial(whole, make=make), lambda line, returned: None).run()
 
     def test_agents(self) -> None:
-        def check_run(made: Any, returned: List[Any]) -> None:
-            agent, line = made
-            self.assertEqual([each.uid for each in agent.run(line)], [DEVICE])
-            self.assertIsNone(elsewhere(agent.fault))
+        def make() -> Tuple[DiscoveryAgent, Rig]:
+            agent = DiscoveryAgent(SOURCE)
+            agent.next()
+            return agent, Rig(one())
 
-        Trial(lambda: (DiscoveryAgent(SOURCE), Rig(one())), lambda made: made[0].run(made[1]), check_run).run()
+        def hear(agent: DiscoveryAgent, line: Rig) -> Any:
+            asked = agent.next()
+            assert asked is not None
+            agent.hear(line.exchange(asked[1]))
+            return agent.frames(), agent.devices(), agent.bad_uids()
+
+        def check_run(made: Any, returned: List[Any], ends: Sequence[Any] = (None,)) -> None:
+            agent, line = made
+            found = agent.run(line)
+            fault = elsewhere(agent.fault)
+            self.assertIn(fault and fault.kind, ends[-1:] if returned else ends)
+            self.assertEqual([each.uid for each in found], [DEVICE] if fault is None else [])
+            agent.dispose()
+
+        Trial(make, lambda made: made[0].run(made[1]), check_run).run()
+        self.assertGreater(Trial(make, lambda made: hear(*made), check_run).run(), 20)
+        for call, kind in (("fail", RunFaultKind.LINE_FAILED), ("stop", RunFaultKind.ABORTED)):
+            Trial(make, lambda made, call=call: getattr(made[0], call)(), partial(check_run, ends=(None, kind))).run()
+
+    def test_packets(self) -> None:
+        """They keep nothing."""
+        calls: List[Callable[[], Any]] = [
+            lambda: wurstlinen.encode_request(REQUEST, CONTROLLER, 1), lambda: wurstlinen.encode_unmute(CONTROLLER, 1),
+            lambda: wurstlinen.encode_mute(DEVICE, CONTROLLER, 1), lambda: wurstlinen.write_branch_reply(DEVICE),
+            lambda: wurstlinen.encode_branch(DEVICE, DEVICE, CONTROLLER, 1),
+            lambda: wurstlinen.encode_response(RESPONSE), lambda: wurstlinen.encode_mute_ack(FOUND, CONTROLLER, 1),
+            lambda: wurstlinen.read_command(wurstlinen.encode_request(REQUEST, CONTROLLER, 1)),
+            lambda: wurstlinen.decode_response(wurstlinen.encode_response(RESPONSE)),
+            lambda: wurstlinen.read_branch_reply(wurstlinen.write_branch_reply(DEVICE)),
+            lambda: wurstlinen.read_mute_ack(DEVICE, CONTROLLER, 1, wurstlinen.encode_mute_ack(FOUND, CONTROLLER, 1))]
+        for call in calls:
+            wanted = call()
+            self.assertIsNotNone(wanted)
+            Trial(lambda: None, lambda _, call=call: call(),
+                  lambda _, returned, call=call, wanted=wanted: self.assertEqual(call(), wanted)).run()
 
 
 class Raising(Rig):

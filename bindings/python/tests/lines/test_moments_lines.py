@@ -161,6 +161,8 @@ class Adapters(LongTestCase):
                 trial = Trial(lambda: driver, lambda line, frame=frame: line.exchange(frame),
                               lambda line, _: self.lamp(line, 2))
                 self.assertGreater(trial.run(), 100)
+            for read in (lambda line: line.branch_end, lambda line: line.response_end, lambda line: line.is_there):
+                Trial(lambda: driver, read, lambda line, _: self.lamp(line, 2)).run()
 
     def test_opening_and_closing(self) -> None:
         with self.emulated() as (emulator, locks):
@@ -213,6 +215,13 @@ class Rigs(LongTestCase):
             assert reply is not None and reply.data == b"Lamp"
 
         Trial(lambda: Rig(one(label="Lamp")), lambda rig: rig.exchange(get(1)), check).run()
+
+    def test_a_rigs_file(self) -> None:
+        with folder() as place:
+            file = place / "rig.json"
+            file.write_text('{"source": "7a70:00000100", "devices": [{"uid": "1234:00000001"}]}')
+            trial = Trial(lambda: file, Rig, lambda path, _: self.assertEqual(len(Rig(path).fixtures), 1))
+            self.assertGreater(trial.run(), 20)
 
 
 if __name__ == "__main__":
