@@ -141,21 +141,31 @@ fn write_verdict(
 {
     match breach {
         None => write_innocent(text, facts, acked, see),
-        Some(breach) => {
-            write(text, but_text(acked))?;
-            write_breach(text, facts, heard, breach)
-        }
+        Some(breach) => write_broken(text, facts, heard, acked, breach),
     }
 }
 
-// That it was found all the same.
+// The rule that it broke first, and where; and that it was found all the same.
+fn write_broken(
+    text: &mut Vec<u8>,
+    facts: &RunFacts,
+    heard: bool,
+    acked: bool,
+    breach: Breach,
+) -> Result<(), AllocError>
+    ensures { OnOk result (text.new.items ≡ text.old.items
+        ++ (but_text acked ++ breach_text facts.now heard breach)) }
+{
+    write(text, but_text(acked))?;
+    write_breach(text, facts, heard, breach)
+}
+
 fn but_text(acked: bool) -> &'static str
     ensures { result.now ≡ but_text acked }
 {
     if acked { " was found, but" } else { "" }
 }
 
-// The rule that it broke first, and where.
 fn write_breach(
     text: &mut Vec<u8>,
     facts: &RunFacts,

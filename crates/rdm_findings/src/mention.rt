@@ -1,5 +1,5 @@
 //! The devices that a run's lines about bytes name.
-ghost use Rattle.std.specs.Prelude.{◌≡◌};
+ghost use Rattle.std.specs.Prelude.{◌≡◌, Some};
 ghost use Rattle.rdm_findings.specs.DeviceText.{mentioned, is_before};
 ghost use Rattle.rdm_findings.specs.Mentions.{spelt_or, source_or, named_in};
 ghost use Rattle.rdm_findings.specs.Mentions.{garbled_mention, signed_in, stray_mention};
@@ -139,7 +139,16 @@ fn source_or(uid: Uid, flaw: Option<Flaw>) -> Uid
     ensures { result ≡ source_or uid flaw }
 {
     match flaw {
-        Some(Flaw::Source(source)) => source,
+        Some(flaw) => source_of(uid, &flaw),
+        None => uid,
+    }
+}
+
+fn source_of(uid: Uid, flaw: &Flaw) -> Uid
+    ensures { result ≡ source_or uid (Some flaw.now) }
+{
+    match flaw {
+        Flaw::Source(source) => *source,
         _ => uid,
     }
 }

@@ -12,7 +12,7 @@ use crate::head::Start;
 use crate::stray_bytes::{Sign, sign_of};
 use crate::writing::{write, write_sighting, write_uid};
 use rdm_explain::{Asked, Exchange, Sighting};
-use rdm_wire::{Uid, UidRange};
+use rdm_wire::Uid;
 use std::alloc::AllocError;
 
 /// Writes the finding about a stray exchange, if there is one. `listed` also has the devices that come or leave.
@@ -142,7 +142,7 @@ fn asks_around(uid: Uid, asked: &Asked) -> bool
     ensures { result ≡ asks_around uid asked.now }
 {
     match asked {
-        Asked::Branch { lo, hi } => UidRange { lo: *lo, hi: *hi }.contains(uid),
+        Asked::Branch { lo, hi } => *lo <= uid && uid <= *hi,
         _ => false,
     }
 }
