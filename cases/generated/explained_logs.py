@@ -120,7 +120,7 @@ exchange 1 should be one of the three unmutes that begin a run
 """
 
 # A known device, in a run that ended too soon.
-GONE = "1234:00000001 was known, and wasn't found: the run ended before it was ruled out\n"
+GONE = "1234:00000001 was known, and wasn't found: the run ended before it was clear whether it is there\n"
 
 # Those that ended, and all of them.
 ENDED = f"""\
@@ -216,7 +216,7 @@ its certificate is incomplete
 exchange 3 mutes a UID that no earlier branch had read
 """ + "".join(f"1234:{number:08x} was found, and followed the rules\n" for number in range(1, 1025)) + """\
 exchange 1027: bytes came after a mute of 1234:00000401, which isn't listed; \
-they may be those of a device that the log doesn't show
+they may be noise, or those of a device that the log doesn't show
 """
 
 # What no writer of logs writes, as the last line.

@@ -9,7 +9,7 @@ from typing import Iterator, List, NamedTuple, Sequence
 
 from ..checker.case import Case
 from .runs import LIAR, UIDS, CommandClass, Pid, ResponseType, command_of, discovery, opening, session_opening
-from .runs import session_run, shows, shows_with_scene
+from .runs import session_run, shows, shows_with_scene, uid_text
 
 # Each block has a name, a run, all that is printed of it, and the status. An empty line ends a block.
 #
@@ -28,7 +28,7 @@ a device that answers too late
 3 unmute; 5 all; all > liar; mute liar
 10 exchanges, 0 devices; its certificate is incomplete, or the log ends within the run
 exchange 9 mutes a UID that neither acknowledged nor was muted five times in a row: perhaps no device has it
-1234:00000009 wasn't heard: exchange 7 is the fifth silence in a row in a range that holds it; \
+1234:00000009 didn't answer: exchange 7 is the fifth silence in a row in a range that holds it; \
 check its power and its cable
 status 3
 
@@ -36,7 +36,7 @@ other bytes from another UID alone, with which a run ends
 3 unmute; alone spare > noise
 4 exchanges, fault 1 1234:00000008 (its answer showed no new device), 0 devices; its certificate is incomplete
 0000:00000000 is the first UID that a missed device may have: five silences in a row of a range with it rule it out
-1234:00000009 wasn't found: the run ended before it was ruled out; it broke no rule until then
+1234:00000009 wasn't found: the run ended before it was clear whether it is there; it broke no rule until then
 exchange 3: 1234:00000008 alone was asked, and bytes came that aren't its text; \
 a rule was broken, by it, another device or noise: try each device alone on the line
 status 3
@@ -63,7 +63,7 @@ other bytes after a mute of all devices, and after one of a device
 5 exchanges, 0 devices; its certificate is incomplete, or the log ends within the run
 exchange 3 mutes a UID that neither acknowledged nor was muted five times in a row: perhaps no device has it
 0000:00000000 is the first UID that a missed device may have: five silences in a row of a range with it rule it out
-1234:00000009 was to mute, and other bytes came: exchange 4 has no acknowledgement; \
+1234:00000009 lacks an acknowledgement of a mute: exchange 4 has other bytes; \
 a rule was broken, by it, another device or noise: try it alone, then the others
 exchange 3 (and 1 more): bytes came after a mute of ffff:ffffffff that don't acknowledge it: \
 no device may answer a broadcast; \
@@ -83,7 +83,7 @@ the same and five mutes of it, with which a run ends
 3 unmute; alone spare > spare; 5 mute spare
 9 exchanges, fault 1 1234:00000008 (its answer showed no new device), 0 devices; its certificate is incomplete
 0000:00000000 is the first UID that a missed device may have: five silences in a row of a range with it rule it out
-1234:00000009 wasn't found: the run ended before it was ruled out; it broke no rule until then
+1234:00000009 wasn't found: the run ended before it was clear whether it is there; it broke no rule until then
 1234:00000008 answered alone and then acknowledged no mute: it left, or broke a rule; try it alone on the line
 status 3
 
@@ -92,7 +92,7 @@ the same, but the line fails at the fifth mute
 9 exchanges, 0 devices; its certificate is incomplete
 exchange 8 failed: check the adapter and the cable
 0000:00000000 is the first UID that a missed device may have: five silences in a row of a range with it rule it out
-1234:00000009 wasn't found: exchange 8 failed before it was ruled out; it broke no rule until then
+1234:00000009 wasn't found: exchange 8 failed before it was clear whether it is there; it broke no rule until then
 exchange 3: 1234:00000008 alone was asked, and bytes came though no listed device was due; \
 they read as 1234:00000008, which isn't listed: name it by --present, if it is there
 status 0
@@ -101,7 +101,7 @@ the same with other bytes after each mute
 3 unmute; alone spare > spare; 5 mute spare > noise
 9 exchanges, fault 1 1234:00000008 (its answer showed no new device), 0 devices; its certificate is incomplete
 0000:00000000 is the first UID that a missed device may have: five silences in a row of a range with it rule it out
-1234:00000009 wasn't found: the run ended before it was ruled out; it broke no rule until then
+1234:00000009 wasn't found: the run ended before it was clear whether it is there; it broke no rule until then
 1234:00000008 answered alone and then acknowledged no mute: it left, or broke a rule; try it alone on the line
 exchange 4 (and 4 more): bytes came after a mute of 1234:00000008 that don't acknowledge it: \
 they are too short for a response; a rule was broken, by it, another device or noise: try each device alone on the line
@@ -130,7 +130,7 @@ a broadcast UID that answers alone
 discovery: 4 exchanges, fault 1 ffff:ffffffff (its answer showed no new device), \
 0 devices; its certificate is incomplete
 0000:00000000 is the first UID that a missed device may have: five silences in a row of a range with it rule it out
-1234:00000009 wasn't found: the run ended before it was ruled out; it broke no rule until then
+1234:00000009 wasn't found: the run ended before it was clear whether it is there; it broke no rule until then
 exchange 3: ffff:ffffffff alone was asked and answered, though no device may have it; \
 a rule was broken: look for one that has it
 status 3
@@ -140,7 +140,7 @@ other bytes from a broadcast UID alone
 discovery: 4 exchanges, fault 1 ffff:ffffffff (its answer showed no new device), \
 0 devices; its certificate is incomplete
 0000:00000000 is the first UID that a missed device may have: five silences in a row of a range with it rule it out
-1234:00000009 wasn't found: the run ended before it was ruled out; it broke no rule until then
+1234:00000009 wasn't found: the run ended before it was clear whether it is there; it broke no rule until then
 exchange 3: ffff:ffffffff alone was asked, and bytes came that aren't its text; \
 a rule was broken, by a device or noise: try each device alone on the line
 status 3
@@ -207,7 +207,7 @@ discovery: 5 exchanges, 0 devices; its certificate is incomplete, or the log end
 1234:00000009 wasn't found yet; it followed the rules in the exchanges that the log has
 exchange 4: the UIDs from 8000:00000000 to ffff:ffffffff were asked, \
 and bytes came though no listed device was due; \
-they may be those of a device that the log doesn't show
+they may be noise, or those of a device that the log doesn't show
 status 0
 
 other bytes after a mute of a listed device, and silence after one of another UID
@@ -215,7 +215,7 @@ other bytes after a mute of a listed device, and silence after one of another UI
 discovery: 5 exchanges, 0 devices; its certificate is incomplete, or the log ends within the run
 exchange 3 mutes a UID that neither acknowledged nor was muted five times in a row: perhaps no device has it
 0000:00000000 is the first UID that a missed device may have: five silences in a row of a range with it rule it out
-1234:00000009 was to mute, and other bytes came: exchange 3 has no acknowledgement; \
+1234:00000009 lacks an acknowledgement of a mute: exchange 3 has other bytes; \
 a rule was broken, by it, another device or noise: try it alone, then the others
 exchange 3: bytes came after a mute of 1234:00000009 that don't acknowledge it: \
 they are too short for a response; a rule was broken, by it, another device or noise: try each device alone on the line
@@ -226,10 +226,10 @@ the same, and other bytes after a mute of that UID
 discovery: 6 exchanges, 0 devices; its certificate is incomplete, or the log ends within the run
 exchange 3 mutes a UID that neither acknowledged nor was muted five times in a row: perhaps no device has it
 0000:00000000 is the first UID that a missed device may have: five silences in a row of a range with it rule it out
-1234:00000009 was to mute, and other bytes came: exchange 3 has no acknowledgement; \
+1234:00000009 lacks an acknowledgement of a mute: exchange 3 has other bytes; \
 a rule was broken, by it, another device or noise: try it alone, then the others
 exchange 5: bytes came after a mute of 1234:00000008, which isn't listed; \
-they may be those of a device that the log doesn't show
+they may be noise, or those of a device that the log doesn't show
 exchange 3 (and 1 more): bytes came after a mute of 1234:00000009 that don't acknowledge it: \
 they are too short for a response; a rule was broken, by it, another device or noise: try each device alone on the line
 status 3
@@ -248,7 +248,7 @@ discovery: 10 exchanges, fault 1 1234:00000009 (its answer showed no new device)
 0 devices; its certificate is incomplete
 exchange 5 mutes a UID that neither acknowledged nor was muted five times in a row: perhaps no device has it
 0000:00000000 is the first UID that a missed device may have: five silences in a row of a range with it rule it out
-1234:00000009 wasn't found: the run ended before it was ruled out; it may have broken a rule: \
+1234:00000009 wasn't found: the run ended before it was clear whether it is there; it may have broken a rule: \
 see exchange 8
 exchange 8 (and 1 more): 1234:00000009 alone was asked, and bytes came that aren't its text; \
 a rule was broken, by it, another device or noise: try each device alone on the line
@@ -265,10 +265,38 @@ the same, and then one that is answered as a branch
 3 unmute; mute liar; mute liar > ack; mute liar > liar
 discovery: 6 exchanges, 1 device; its certificate is incomplete, or the log ends within the run
 0000:00000000 is the first UID that a missed device may have: five silences in a row of a range with it rule it out
-1234:00000009 was to mute, and other bytes came: exchange 5 has no acknowledgement; \
+1234:00000009 was found, but lacks an acknowledgement of a mute: exchange 5 has other bytes; \
 a rule was broken, by it, another device or noise: try it alone, then the others
 exchange 5: bytes came after a mute of 1234:00000009 that don't acknowledge it: \
 they are too short for a response; a rule was broken, by it, another device or noise: try each device alone on the line
+status 3
+
+another UID's text from a broadcast UID alone
+3 unmute; alone nobody > spare
+discovery: 4 exchanges, fault 1 ffff:ffffffff (its answer showed no new device), \
+0 devices; its certificate is incomplete
+0000:00000000 is the first UID that a missed device may have: five silences in a row of a range with it rule it out
+1234:00000009 wasn't found: the run ended before it was clear whether it is there; it broke no rule until then
+exchange 3: ffff:ffffffff alone was asked, and bytes came that aren't its text; they read as 1234:00000008; \
+a rule was broken, by it, another device or noise: try each device alone on the line
+status 3
+
+other bytes after a mute, and then an acknowledgement
+3 unmute; mute liar > noise; mute liar > ack
+discovery: 5 exchanges, 1 device; its certificate is incomplete, or the log ends within the run
+0000:00000000 is the first UID that a missed device may have: five silences in a row of a range with it rule it out
+1234:00000009 was found, but lacks an acknowledgement of a mute: exchange 3 has other bytes; \
+a rule was broken, by it, another device or noise: try it alone, then the others
+exchange 3: bytes came after a mute of 1234:00000009 that don't acknowledge it: \
+they are too short for a response; a rule was broken, by it, another device or noise: try each device alone on the line
+status 3
+
+a device that is found, and silent after three more unmutes
+3 unmute; all > liar; mute liar > ack; 3 unmute; 5 all
+discovery: 13 exchanges, 1 device; its certificate is complete but for what depends on its kind, \
+which the log doesn't have
+1234:00000009 was found, but didn't answer: exchange 12 is the fifth silence in a row in a range that holds it; \
+check its power and its cable
 status 3
 
 other bytes after two mutes of a UID that isn't listed
@@ -286,7 +314,7 @@ another UID's text from a UID alone, after an exchange that failed
 discovery: 5 exchanges, 0 devices; its certificate is incomplete
 exchange 3 failed: check the adapter and the cable
 0000:00000000 is the first UID that a missed device may have: five silences in a row of a range with it rule it out
-1234:00000009 wasn't found: exchange 3 failed before it was ruled out; it broke no rule until then
+1234:00000009 wasn't found: exchange 3 failed before it was clear whether it is there; it broke no rule until then
 status 0
 
 silence of the upper half
@@ -388,19 +416,19 @@ exchanges count from there
 SILENCES = "3 unmute; 5 all"
 FROM_TWO = """\
 discovery: 8 exchanges, 0 devices; its certificate can't be decided, since the log begins within the run
-1234:00000009 wasn't heard: exchange 9 is the fifth silence in a row in a range that holds it; \
+1234:00000009 didn't answer: exchange 9 is the fifth silence in a row in a range that holds it; \
 check its power and its cable
 """
 LATER = """\
 run 1: steady, 8 exchanges, 0 devices; its certificate can't be decided, since the log begins within the run; \
 exchanges count from there
-1234:00000009 wasn't heard: exchange 7 is the fifth silence in a row in a range that holds it; \
+1234:00000009 didn't answer: exchange 7 is the fifth silence in a row in a range that holds it; \
 check its power and its cable
 """
 UNKNOWN = """\
 run 1: 8 exchanges, 0 devices; its certificate can't be decided, since the log may begin within the run; \
 exchanges count from there
-1234:00000009 wasn't heard: exchange 7 is the fifth silence in a row in a range that holds it; \
+1234:00000009 didn't answer: exchange 7 is the fifth silence in a row in a range that holds it; \
 check its power and its cable
 """
 
@@ -413,7 +441,8 @@ discovery: incremental, steady, 15 exchanges, 1 device; its certificate is compl
 """
 JUDGED = """\
 discovery: incremental, steady, 15 exchanges, 1 device; its certificate is complete
-1234:00000001 didn't mute: exchange 7 is the fifth mute of it in a row without an answer; try it alone on the line
+1234:00000001 was found, but didn't mute: exchange 7 is the fifth mute of it in a row without an answer; \
+try it alone on the line
 """
 
 # A device that by the scene comes at exchange 8. Silence shows nothing of it, but its acknowledgement does.
@@ -432,7 +461,7 @@ discovery: incremental, steady, 12 exchanges, 1 device; its certificate is compl
 discovery: full, steady, 12 exchanges, 1 device; its certificate is complete
 exchange 10 (and 1 more): the UIDs from 0000:00000000 to ffff:ffffffff were asked, \
 and bytes came though no listed device was due; \
-they read as 9abc:00000002, which should be silent there unless it restarted: try it alone on the line
+they read as 9abc:00000002, which should be silent there unless it restarted: try it alone, then the others
 """, 3),
     ("the same after an unmute",
      opening("full") + discovery("3 unmute; 5 all; all > new; mute new > ack; unmute; 2 all > new"), """\
@@ -441,6 +470,7 @@ discovery: full, steady, 13 exchanges, 1 device; its certificate is complete
 )
 
 # A mute of the liar, and bytes that don't acknowledge it. They are judged in the order of this table.
+SPARE = UIDS["spare"]
 MUTE = command_of(("mute", "liar"), 3)
 FINE = MUTE.answer(UIDS["liar"], ResponseType.ACK, bytes(2))
 NACK = MUTE.answer(UIDS["liar"], ResponseType.NACK_REASON, bytes(2))
@@ -456,8 +486,8 @@ FLAWS = (
     ("their response type is unknown", FINE._replace(port_or_type=4).encode()),
     ("they answer another command", FINE._replace(pid=Pid.DISC_UN_MUTE).encode()),
     ("they answer another command", FINE._replace(command_class=0x21).encode()),
-    ("they are from another UID", NACK._replace(source=UIDS["spare"]).encode()),
-    ("they are for another controller", NACK._replace(destination=UIDS["spare"]).encode()),
+    ("they are from 1234:00000008", NACK._replace(source=SPARE).encode()),
+    ("they are for another controller", NACK._replace(destination=SPARE).encode()),
     ("they have another transaction number", NACK._replace(transaction=4).encode()),
     ("they are a NACK", NACK.encode()),
     ("they are no ACK", FINE._replace(port_or_type=ResponseType.ACK_TIMER).encode()),
@@ -468,9 +498,22 @@ FLAWED = """\
 discovery: {} exchanges, 0 devices; its certificate is incomplete, or the log ends within the run
 exchange 3 mutes a UID that neither acknowledged nor was muted five times in a row: perhaps no device has it
 0000:00000000 is the first UID that a missed device may have: five silences in a row of a range with it rule it out
-1234:00000009 was to mute, and other bytes came: exchange 3 has no acknowledgement; \
+1234:00000009 lacks an acknowledgement of a mute: exchange 3 has other bytes; \
 a rule was broken, by it, another device or noise: try it alone, then the others
 exchange 3{}: bytes came after a mute of 1234:00000009 that don't acknowledge it: {}; \
+a rule was broken, by it, another device or noise: try each device alone on the line
+"""
+
+# The mute is answered by another device.
+FROM_SPARE = FINE._replace(source=SPARE)
+SPARE_ANSWERS = """\
+discovery: 4 exchanges, 0 devices; its certificate is incomplete, or the log ends within the run
+exchange 3 mutes a UID that neither acknowledged nor was muted five times in a row: perhaps no device has it
+0000:00000000 is the first UID that a missed device may have: five silences in a row of a range with it rule it out
+1234:00000008 wasn't found yet; it may have broken a rule: see exchange 3
+1234:00000009 lacks an acknowledgement of a mute: exchange 3 has other bytes; \
+a rule was broken, by it, another device or noise: try it alone, then the others
+exchange 3: bytes came after a mute of 1234:00000009 that don't acknowledge it: they are from 1234:00000008; \
 a rule was broken, by it, another device or noise: try each device alone on the line
 """
 
@@ -514,6 +557,8 @@ def cases() -> Iterator[Case]:
     for name, log, text, status in PASSES:
         yield shows_with_scene(name, log, LATE_SCENE, UNJUDGED_NEW + text, status)
     yield from flawed()
+    run = f"3 unmute; mute liar > x{FROM_SPARE.encode().hex()}"
+    yield shows("a mute that another listed device answers", discovery(run), SPARE_ANSWERS, 3, [uid_text(SPARE), LIAR])
 
 
 def begun_before() -> Iterator[Case]:

@@ -54,9 +54,11 @@ SHORTENED = {re.compile(line): short for line, short in (
     (rf"{UID} was found, but may have broken a rule: see exchange (\d+)", rf"\1 {FOUND} \2"),
     (f"{UID} wasn't found(?::| yet;) .* (?:until then|that the log has)", rf"\1 {MISSED}"),
     (rf"{UID} wasn't found(?::| yet;) .*it may have broken a rule: see exchange (\d+)", rf"\1 {MISSED} \2"),
-    (rf"{UID} (?:was never|wasn't) heard: exchange (\d+) is .*", rf"\1 {HIDDEN} \2"),
+    (rf"{UID} (?:was never heard|didn't answer): exchange (\d+) is .*", rf"\1 {HIDDEN} \2"),
     (rf"{UID} didn't mute: exchange (\d+) is .*", rf"\1 {UNMUTED} \2"),
-    (rf"{UID} was to mute, and other bytes came: exchange (\d+) has .*", rf"\1 {GARBLED} \2"),
+    (rf"{UID} lacks an acknowledgement of a mute: exchange (\d+) has .*", rf"\1 {GARBLED} \2"),
+    (rf"{UID} was found, but didn't answer: exchange (\d+) is .*", rf"\1 {FOUND}, {HIDDEN} \2"),
+    (rf"{UID} was found, but didn't mute: exchange (\d+) is .*", rf"\1 {FOUND}, {UNMUTED} \2"),
     (rf"{SIGHTING}: .*(?:bytes came though no listed device was due|, which isn't listed)[;:] .*", r"stray \1\2"),
     (rf"{SIGHTING}: .* (?:aren't its text|though it was muted|don't acknowledge it)[;:] .*", r"none \1\2"))}
 
@@ -143,7 +145,9 @@ class Device:
     def shown(self, named_at: Sequence[int]) -> str:
         """What is said of it, if lines about these exchanges name it, or count them: the first one counts."""
         see = "".join(f" {at}" for at in named_at[:1])
-        return f"{uid_text(self.uid)} {self.broken or (FOUND if self.is_found else MISSED) + see}"
+        if self.broken:
+            return f"{uid_text(self.uid)} {f'{FOUND}, ' if self.is_found else ''}{self.broken}"
+        return f"{uid_text(self.uid)} {FOUND if self.is_found else MISSED}{see}"
 
 
 def findings_of(exchanges: Sequence[Exchange], uids: Sequence[str], has_all: bool) -> Tuple[List[str], int]:
@@ -238,7 +242,8 @@ def case_of(lie: str, place: str, seed: Optional[int]) -> Case:
 
 def check(name: str, found: Sequence[str], rule: str, has_none: bool, is_lossy: bool) -> None:
     """The model blames no honest fixture, and finds what the table has, at least without losses."""
-    blamed = [line.rpartition(" ")[0] for line in found if line.split(" ", 1)[1].startswith((HIDDEN, UNMUTED, GARBLED))]
+    lines = [line.replace(f"{FOUND}, ", "").rpartition(" ")[0] for line in found]
+    blamed = [line for line in lines if line.endswith((HIDDEN, UNMUTED, GARBLED))]
     is_right = blamed == ([f"{LIAR} {rule}"] if rule else []) and has_none == found[-1].startswith("none")
     if not is_right and not (is_lossy and all(line.startswith(LIAR) for line in blamed)):
         raise ValueError(f"{name}: the model finds {found}")

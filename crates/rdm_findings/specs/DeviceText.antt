@@ -24,9 +24,9 @@ use Rattle.rdm_findings.specs.Starts.{has_start, number_at}
 -- a breach, before its exchange. The log has all of a run in which a device was never heard
 abbrev pub breach_before : Bool → Rule → List ℕ
 breach_before never SilentBranches =
-    if never then codes " was never heard: exchange " else codes " wasn't heard: exchange "
+    if never then codes " was never heard: exchange " else codes " didn't answer: exchange "
 breach_before never SilentMutes = codes " didn't mute: exchange "
-breach_before never GarbledMute = codes " was to mute, and other bytes came: exchange "
+breach_before never GarbledMute = codes " lacks an acknowledgement of a mute: exchange "
 
 -- and after it. The flag says that the device was heard in the exchanges that the log has
 abbrev pub breach_after : Bool → Rule → List ℕ
@@ -36,7 +36,7 @@ breach_after true SilentMutes = codes " is the fifth mute of it in a row without
 breach_after false SilentMutes =
     codes " is the fifth mute of it in a row without an answer; check its power and its cable"
 breach_after heard GarbledMute =
-    codes " has no acknowledgement; a rule was broken, by it, another device or noise: try it alone, then the others"
+    codes " has other bytes; a rule was broken, by it, another device or noise: try it alone, then the others"
 
 -- a device that followed the rules. `whole` says that the log has all of the run
 abbrev pub followed_text : Bool → List ℕ
@@ -62,11 +62,12 @@ over_text start (Some at) = exchange_name (number_at start at) ++ codes " failed
 abbrev pub yet_text : Bool → List ℕ
 yet_text begun = if begun then codes " wasn't found yet; it" else []
 
--- a device that acknowledged no mute. In a run that is over, it wasn't ruled out either: five silences in a row would
--- have broken a rule
+-- a device that acknowledged no mute. In a run that is over, it may still be there: five silences in a row would have
+-- broken a rule
 abbrev pub unfound_text : RunFacts → List ℕ
 unfound_text r =
-    if r.whole then codes " wasn't found: " ++ over_text r.start r.failure ++ codes " before it was ruled out; it"
+    if r.whole then
+    codes " wasn't found: " ++ over_text r.start r.failure ++ codes " before it was clear whether it is there; it"
     else yet_text (has_start r.start)
 
 -- that such a device broke no rule
@@ -124,12 +125,20 @@ abbrev pub seen_at : RunFacts → Misreads → ℕ → Option ℕ
 seen_at r misreads u =
     first_number (mentioned r.garbled u) (first_number (misread_at r misreads u) (mentioned r.stray u))
 
--- Whether a device was found, if it broke no rule; or which rule it broke first, and where. The flags say that it was
--- heard in the run, and that it acknowledged a mute. The number is that of an exchange that leaves a doubt
+-- that a device was found, before the rule that it broke. The flag says that it acknowledged a mute
+abbrev pub but_text : Bool → List ℕ
+but_text acked = if acked then codes " was found, but" else []
+
+-- the rule that a device broke first, and where. The flag says that it was heard in the run
+abbrev pub breach_text : RunFacts → Bool → Breach → List ℕ
+breach_text r heard b =
+    breach_before (r.whole && not heard) b.rule ++ decimal (number_at r.start b.at) ++ breach_after heard b.rule
+
+-- Whether a device was found, and which rule it broke first, if any. The flags say that it was heard in the run, and
+-- that it acknowledged a mute. The number is that of an exchange that leaves a doubt
 abbrev pub verdict_text : RunFacts → Bool → Bool → Option ℕ → Option Breach → List ℕ
 verdict_text r heard acked see None = innocent_text r acked see
-verdict_text r heard acked see (Some b) =
-    breach_before (r.whole && not heard) b.rule ++ decimal (number_at r.start b.at) ++ breach_after heard b.rule
+verdict_text r heard acked see (Some b) = but_text acked ++ breach_text r heard b
 
 -- whether a device that broke no rule was found. The flag says that it acknowledged a mute
 abbrev pub unbroken_judgement : RunFacts → Bool → Judgement
@@ -188,7 +197,8 @@ abbrev pub gone_finding : Form → RunFacts → DeviceFinding → List ℕ
 gone_finding form r f = elim f.breach [
   | None ↦
       if r.whole then
-      uid_finding form judged.Gone f.uid (codes " was known, and wasn't found: the run ended before it was ruled out")
+      uid_finding form judged.Gone f.uid
+      (codes " was known, and wasn't found: the run ended before it was clear whether it is there")
       else []
   | Some b ↦
       finding form (of_gone f.uid (number_at r.start b.at))

@@ -118,7 +118,7 @@ facts_of head xs f = record {
   start = head.start;
   whole = shows_all head xs f;
   failure = f.certificate.failure;
-  garbled = garbled_mention head.start xs f.garbled;
+  garbled = garbled_mention head.start head.flaw xs f.garbled;
   stray = stray_mention head.start f.due.items xs (stray_of f);
 }
 

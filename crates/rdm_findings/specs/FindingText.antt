@@ -3,7 +3,7 @@ use Rattle.std.specs.Prelude.{ℕ, Bool, false, ◌&&◌, ◌||◌, List, [], �
 use Rattle.std.specs.Prelude.{length, slice_get, is_some, ◌==◌, if◌then◌else◌, true}
 use Rattle.std.specs.List.{list_all, position}
 use Rattle.rdm_wire.specs.Honest.{is_silent}
-use Rattle.rdm_wire.specs.Uid.{is_broadcast}
+use Rattle.rdm_wire.specs.Uid.{is_broadcast, is_within}
 use Rattle.rdm_wire.specs.UidText.{uid_text}
 use Rattle.rdm_wire.specs.declared.device.Device.{Device}
 use Rattle.rdm_agent.specs.declared.kind.Kind.{Kind}
@@ -275,27 +275,40 @@ place_text (Branch lo hi) = range_text lo hi ++ codes ", and bytes came though n
 place_text (Mute u) = mute_text u
 place_text _ = []
 
--- what the bytes read as
-abbrev pub sign_text : Sign → List ℕ
-sign_text (signs.Listed u) =
-    codes "; they read as " ++ uid_text u ++ codes ", which should be silent there unless it restarted"
-sign_text (signs.Other u) = codes "; they read as " ++ uid_text u ++ codes ", which isn't listed"
-sign_text signs.Unread = []
+-- whether a range was asked that has this UID
+abbrev pub asks_around : ℕ → Asked → Bool
+asks_around u (Branch lo hi) = is_within lo hi u
+asks_around u _ = false
+
+-- why a muted device may answer. A restart explains no answer for a range without its UID
+abbrev pub unless_text : Bool → List ℕ
+unless_text within = if within then codes " unless it restarted" else []
+
+-- that a device should be silent
+abbrev pub silent_text : Bool → List ℕ
+silent_text within = codes ", which should be silent there" ++ unless_text within
+
+-- what the bytes read as, which came after this
+abbrev pub sign_text : Asked → Sign → List ℕ
+sign_text asked (signs.Listed u) = codes "; they read as " ++ uid_text u ++ silent_text (asks_around u asked)
+sign_text asked (signs.Other u) = codes "; they read as " ++ uid_text u ++ codes ", which isn't listed"
+sign_text asked signs.Unread = []
 
 -- what to do about bytes. The flag says that they show that a rule was broken, unless their sender comes or leaves.
--- Without it another device may have sent them
+-- Without it a device that the log doesn't show may have sent them. In both cases it need not be the one that they
+-- read as
 abbrev pub advice_text : Bool → Sign → List ℕ
-advice_text true (signs.Listed u) = codes ": try it alone on the line"
+advice_text true (signs.Listed u) = codes ": try it alone, then the others"
 advice_text false (signs.Listed u) = codes "; or a device that the log doesn't show sent them"
 advice_text true (signs.Other u) = codes "; a rule was broken: name it by --present, if it is there"
 advice_text false (signs.Other u) = codes ": name it by --present, if it is there"
 advice_text true signs.Unread =
     codes "; a rule was broken: look for noise, a device that isn't listed, or one that should be silent there"
-advice_text false signs.Unread = codes "; they may be those of a device that the log doesn't show"
+advice_text false signs.Unread = codes "; they may be noise, or those of a device that the log doesn't show"
 
 -- about stray bytes that came after this
 abbrev pub stray_text : Bool → Asked → Sign → List ℕ
-stray_text decided asked sign = place_text asked ++ sign_text sign ++ advice_text decided sign
+stray_text decided asked sign = place_text asked ++ sign_text asked sign ++ advice_text decided sign
 
 -- whether stray bytes show that a rule was broken
 abbrev pub stray_judgement : Bool → Judgement
@@ -339,11 +352,10 @@ each_text u =
     if is_broadcast u then codes "; a rule was broken, by a device or noise: try each device alone on the line"
     else codes "; a rule was broken, by it, another device or noise: try each device alone on the line"
 
--- the same after a branch of u alone. Another device may have sent its own UID
+-- The same after a branch of u alone. Another device may have sent its own UID; but a third one may have sent it, or
+-- replies that collide read so
 abbrev pub reply_text : ℕ → Heard → List ℕ
-reply_text u (One v) =
-    if is_broadcast v then each_text u
-    else codes "; they read as " ++ uid_text v ++ codes "; a rule was broken: try that one alone on the line"
+reply_text u (One v) = if is_broadcast v then each_text u else codes "; they read as " ++ uid_text v ++ each_text v
 reply_text u _ = each_text u
 
 -- after a branch of u alone: bytes that aren't its text

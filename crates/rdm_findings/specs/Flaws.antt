@@ -1,5 +1,5 @@
 -- Why bytes that came after a mute don't acknowledge it, by the reader of responses.
-use Rattle.std.specs.Prelude.{ℕ, Bool, true, false, ◌||◌, not, List, length, Option, Some, None, Result}
+use Rattle.std.specs.Prelude.{ℕ, Bool, true, false, ◌||◌, not, List, ◌++◌, length, Option, Some, None, Result}
 use Rattle.std.specs.Prelude.{Ok, Err, codes, ◌==◌, if◌then◌else◌}
 use Rattle.arrayvec.specs.ArrayVec.{ArrayVec}
 use Rattle.rdm_wire.specs.Commands.{command_read}
@@ -7,6 +7,7 @@ use Rattle.rdm_wire.specs.Honest.{Asked, Heard, Seen}
 use Rattle.rdm_wire.specs.Honest.Asked.{Mute}
 use Rattle.rdm_wire.specs.Honest.Heard.{Noise}
 use Rattle.rdm_wire.specs.Responses.{decoded}
+use Rattle.rdm_wire.specs.UidText.{uid_text}
 use Rattle.rdm_wire.specs.declared.command.Command.{Command}
 use Rattle.rdm_wire.specs.declared.command.Command.TheVariants as asks
 use Rattle.rdm_wire.specs.declared.response.Response.{Response}
@@ -37,7 +38,7 @@ flaw_of_type _ n = Some flaws.Type
 abbrev pub flaw_of_response : (u s tn : ℕ) → Response → Option Flaw
 flaw_of_response u s tn r =
     if not (is_discovery r.class) || not (r.pid == 2) then Some flaws.Command
-    else (if not (r.source == u) then Some flaws.Source
+    else (if not (r.source == u) then Some (flaws.Source r.source)
     else (if not (r.dest == s) then Some flaws.Controller
     else (if not (r.tn == tn) then Some flaws.Number else flaw_of_type r.ack (length r.param.items))))
 
@@ -88,7 +89,7 @@ abbrev pub flaw_text : Flaw → List ℕ
 flaw_text (flaws.Packet fault) = packet_text fault
 flaw_text flaws.Broadcast = codes "no device may answer a broadcast"
 flaw_text flaws.Command = codes "they answer another command"
-flaw_text flaws.Source = codes "they are from another UID"
+flaw_text (flaws.Source v) = codes "they are from " ++ uid_text v
 flaw_text flaws.Controller = codes "they are for another controller"
 flaw_text flaws.Number = codes "they have another transaction number"
 flaw_text flaws.Nack = codes "they are a NACK"

@@ -8,6 +8,8 @@ use Rattle.rdm_explain.specs.declared.exchange.Heard.{Heard}
 use Rattle.rdm_explain.specs.declared.exchange.Heard.TheVariants.{One}
 use Rattle.rdm_explain.specs.declared.exchange.Exchange.{Exchange}
 use Rattle.rdm_explain.specs.declared.sighting.Sighting.{Sighting}
+use Rattle.rdm_findings.specs.declared.flaw.Flaw.{Flaw}
+use Rattle.rdm_findings.specs.declared.flaw.Flaw.TheVariants as flaws
 use Rattle.rdm_findings.specs.declared.head.Start.{Start}
 use Rattle.rdm_findings.specs.declared.mention.Mention.{Mention}
 use Rattle.rdm_findings.specs.declared.misread.Misreads.{Misreads}
@@ -22,21 +24,28 @@ abbrev pub spelt_or : ℕ → Heard → ℕ
 spelt_or u (One v) = v
 spelt_or u _ = u
 
--- bytes that no honest line allows, which came after this: the UID that was asked, and the one that they read as
-abbrev pub named_in : ℕ → Asked → Heard → Option Mention
-named_in number (Branch lo hi) heard = Some (record { number = number; uid = lo; other = spelt_or lo heard })
-named_in number (Mute u) heard = Some (record { number = number; uid = u; other = u })
-named_in number _ heard = None
+-- the UID that an answer to a mute is from, if that is what is wrong with it, or else this one
+abbrev pub source_or : ℕ → Option Flaw → ℕ
+source_or u (Some (flaws.Source v)) = v
+source_or u _ = u
+
+-- Bytes that no honest line allows, which came after this: the UID that was asked, and the one that they read as, or
+-- that they are from
+abbrev pub named_in : ℕ → Option Flaw → Asked → Heard → Option Mention
+named_in number flaw (Branch lo hi) heard = Some (record { number = number; uid = lo; other = spelt_or lo heard })
+named_in number flaw (Mute u) heard = Some (record { number = number; uid = u; other = source_or u flaw })
+named_in number flaw _ heard = None
 
 -- the same in an exchange with this number
-abbrev pub named_by : ℕ → Option Exchange → Option Mention
-named_by number None = None
-named_by number (Some e) = named_in number e.asked e.heard
+abbrev pub named_by : ℕ → Option Flaw → Option Exchange → Option Mention
+named_by number flaw None = None
+named_by number flaw (Some e) = named_in number flaw e.asked e.heard
 
--- the same in the first exchange with such bytes, if there is one
-abbrev pub garbled_mention : Start → List Exchange → Option Sighting → Option Mention
-garbled_mention start xs None = None
-garbled_mention start xs (Some s) = named_by (number_at start s.at) (slice_get xs s.at)
+-- the same in the first exchange with such bytes, if there is one. If it is a mute, it is the first whose reply has a
+-- flaw
+abbrev pub garbled_mention : Start → Option Flaw → List Exchange → Option Sighting → Option Mention
+garbled_mention start flaw xs None = None
+garbled_mention start flaw xs (Some s) = named_by (number_at start s.at) flaw (slice_get xs s.at)
 
 -- whether a branch of u alone was answered by other bytes than its text
 abbrev pub misreads : ℕ → Asked → Heard → Bool

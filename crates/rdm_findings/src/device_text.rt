@@ -3,6 +3,7 @@ ghost use Rattle.std.specs.Prelude.{◌≡◌, ◌++◌, OnOk, codes, decimal, f
 ghost use Rattle.rdm_findings.specs.DeviceText.{breach_before, breach_after, followed_text, until_text, over_text};
 ghost use Rattle.rdm_findings.specs.DeviceText.{yet_text, found_text, unfound_text, calm_text, unbroken_text};
 ghost use Rattle.rdm_findings.specs.DeviceText.{before_doubt, doubt_text, innocent_text, verdict_text};
+ghost use Rattle.rdm_findings.specs.DeviceText.{but_text, breach_text};
 ghost use Rattle.rdm_findings.specs.DeviceText.{device_finding, device_exchange, device_judgement, of_device};
 ghost use Rattle.rdm_findings.specs.DeviceText.{unbroken_judgement};
 ghost use Rattle.rdm_findings.specs.Forms.{finding};
@@ -140,12 +141,42 @@ fn write_verdict(
 {
     match breach {
         None => write_innocent(text, facts, acked, see),
-        Some(breach) => {
-            write(text, breach_before(facts.whole && !heard, breach.rule))?;
-            write_number(text, facts.start.number(breach.at))?;
-            write(text, breach_after(heard, breach.rule))
-        }
+        Some(breach) => write_broken(text, facts, heard, acked, breach),
     }
+}
+
+// The rule that it broke first, and where; and that it was found all the same.
+fn write_broken(
+    text: &mut Vec<u8>,
+    facts: &RunFacts,
+    heard: bool,
+    acked: bool,
+    breach: Breach,
+) -> Result<(), AllocError>
+    ensures { OnOk result (text.new.items ≡ text.old.items
+        ++ (but_text acked ++ breach_text facts.now heard breach)) }
+{
+    write(text, but_text(acked))?;
+    write_breach(text, facts, heard, breach)
+}
+
+fn but_text(acked: bool) -> &'static str
+    ensures { result.now ≡ but_text acked }
+{
+    if acked { " was found, but" } else { "" }
+}
+
+fn write_breach(
+    text: &mut Vec<u8>,
+    facts: &RunFacts,
+    heard: bool,
+    breach: Breach,
+) -> Result<(), AllocError>
+    ensures { OnOk result (text.new.items ≡ text.old.items ++ breach_text facts.now heard breach) }
+{
+    write(text, breach_before(facts.whole && !heard, breach.rule))?;
+    write_number(text, facts.start.number(breach.at))?;
+    write(text, breach_after(heard, breach.rule))
 }
 
 // A device whose log doesn't show that it broke a rule, and the exchange that leaves a doubt.
@@ -256,11 +287,11 @@ fn write_unfound(text: &mut Vec<u8>, facts: &RunFacts) -> Result<(), AllocError>
 // That it wasn't found in a run that is over.
 fn write_ended(text: &mut Vec<u8>, start: Start, failure: Option<usize>) -> Result<(), AllocError>
     ensures { OnOk result (text.new.items ≡ text.old.items ++ (codes " wasn't found: "
-        ++ over_text start failure ++ codes " before it was ruled out; it")) }
+        ++ over_text start failure ++ codes " before it was clear whether it is there; it")) }
 {
     write(text, " wasn't found: ")?;
     write_over(text, start, failure)?;
-    write(text, " before it was ruled out; it")
+    write(text, " before it was clear whether it is there; it")
 }
 
 // Why the run was over.
@@ -319,16 +350,16 @@ fn breach_before(never: bool, rule: Rule) -> &'static str
             if never {
                 " was never heard: exchange "
             } else {
-                " wasn't heard: exchange "
+                " didn't answer: exchange "
             }
         }
         Rule::SilentMutes => " didn't mute: exchange ",
-        Rule::GarbledMute => " was to mute, and other bytes came: exchange ",
+        Rule::GarbledMute => " lacks an acknowledgement of a mute: exchange ",
     }
 }
 
 const UNACKNOWLEDGED: &str =
-    " has no acknowledgement; a rule was broken, by it, another device or noise: try it alone, then the others";
+    " has other bytes; a rule was broken, by it, another device or noise: try it alone, then the others";
 
 fn breach_after(heard: bool, rule: Rule) -> &'static str
     ensures { result.now ≡ breach_after heard rule }

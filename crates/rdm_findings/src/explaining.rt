@@ -340,7 +340,7 @@ fn facts_of(head: &RunHead, exchanges: &[Exchange], found: &Findings) -> RunFact
         start: head.start,
         whole: shows_all(head, exchanges, found),
         failure: found.certificate.failure,
-        garbled: garbled_mention(head.start, exchanges, found.garbled),
+        garbled: garbled_mention(head.start, head.flaw, exchanges, found.garbled),
         stray: stray_mention(head.start, &found.due, exchanges, stray_of(found)),
     }
 }

@@ -1,17 +1,20 @@
 //! Why bytes that came after a mute don't acknowledge it.
-ghost use Rattle.std.specs.Prelude.{◌≡◌, length};
+ghost use Rattle.std.specs.Prelude.{◌≡◌, ◌++◌, OnOk, codes, length};
 ghost use Rattle.rdm_wire.specs.Commands.{command_read};
 ghost use Rattle.rdm_wire.specs.Responses.{decoded};
+ghost use Rattle.rdm_wire.specs.UidText.{uid_text};
 ghost use Rattle.rdm_join.specs.Exchange.{seen_event};
 ghost use Rattle.rdm_explain.specs.Exchanges.{seen_of};
 ghost use Rattle.rdm_findings.specs.Flaws.{is_discovery, flaw_of_type, flaw_of_response, flaw_of_decoded, flaw_after};
 ghost use Rattle.rdm_findings.specs.Flaws.{flaw_of_broadcast, flaw_read, flaw_of, first_flaw, packet_text, flaw_text};
 
+use crate::writing::{write, write_uid};
 use rdm_explain::{Asked, Exchange, Heard, read_exchange};
 use rdm_join::LineEvent;
 use rdm_wire::{
     AckType, Command, Frame, PacketFault, RespClass, Response, Uid, decode_response, read_command,
 };
+use std::alloc::AllocError;
 
 // The parameter of a mute (E1.20, discovery mute).
 const DISC_MUTE: u16 = 2;
@@ -25,8 +28,8 @@ pub enum Flaw {
     Broadcast,
     /// They answer another command.
     Command,
-    /// They are from another UID than that of the mute.
-    Source,
+    /// They are from this UID, and not from that of the mute.
+    Source(Uid),
     /// They are for another controller than the mute's.
     Controller,
     /// They have another transaction number than the mute.
@@ -108,7 +111,7 @@ fn flaw_of_response(uid: Uid, source: Uid, tn: u8, response: &Response) -> Optio
     if !is_discovery(response.class) || response.pid != DISC_MUTE {
         Some(Flaw::Command)
     } else if response.source != uid {
-        Some(Flaw::Source)
+        Some(Flaw::Source(response.source))
     } else if response.dest != source {
         Some(Flaw::Controller)
     } else if response.tn != tn {
@@ -143,21 +146,28 @@ fn flaw_of_type(ack: AckType, length: usize) -> Option<Flaw>
     }
 }
 
-/// A flaw in words.
-pub(crate) fn flaw_text(flaw: Flaw) -> &'static str
-    ensures { result.now ≡ flaw_text flaw }
+/// Writes a flaw in words.
+pub(crate) fn write_flaw(text: &mut Vec<u8>, flaw: Flaw) -> Result<(), AllocError>
+    ensures { OnOk result (text.new.items ≡ text.old.items ++ flaw_text flaw) }
 {
     match flaw {
-        Flaw::Packet(fault) => packet_text(fault),
-        Flaw::Broadcast => "no device may answer a broadcast",
-        Flaw::Command => "they answer another command",
-        Flaw::Source => "they are from another UID",
-        Flaw::Controller => "they are for another controller",
-        Flaw::Number => "they have another transaction number",
-        Flaw::Nack => "they are a NACK",
-        Flaw::Type => "they are no ACK",
-        Flaw::Length => "they have neither 2 bytes of data nor 8",
+        Flaw::Packet(fault) => write(text, packet_text(fault)),
+        Flaw::Broadcast => write(text, "no device may answer a broadcast"),
+        Flaw::Command => write(text, "they answer another command"),
+        Flaw::Source(uid) => write_source(text, uid),
+        Flaw::Controller => write(text, "they are for another controller"),
+        Flaw::Number => write(text, "they have another transaction number"),
+        Flaw::Nack => write(text, "they are a NACK"),
+        Flaw::Type => write(text, "they are no ACK"),
+        Flaw::Length => write(text, "they have neither 2 bytes of data nor 8"),
     }
+}
+
+fn write_source(text: &mut Vec<u8>, uid: Uid) -> Result<(), AllocError>
+    ensures { OnOk result (text.new.items ≡ text.old.items ++ (codes "they are from " ++ uid_text uid)) }
+{
+    write(text, "they are from ")?;
+    write_uid(text, uid)
 }
 
 fn packet_text(fault: PacketFault) -> &'static str

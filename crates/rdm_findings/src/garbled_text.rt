@@ -6,7 +6,7 @@ ghost use Rattle.rdm_findings.specs.FindingText.{same_text, own_text, other_byte
 ghost use Rattle.rdm_findings.specs.FindingText.{garbled_finding, asked_uid, of_garbled};
 ghost use Rattle.rdm_findings.specs.Forms.{finding};
 
-use crate::flaw::{Flaw, flaw_text};
+use crate::flaw::{Flaw, write_flaw};
 use crate::form::{About, Form, Judgement, begin, end};
 use crate::head::RunHead;
 use crate::writing::{write, write_sighting, write_uid};
@@ -153,7 +153,7 @@ fn write_why(text: &mut Vec<u8>, flaw: Option<Flaw>) -> Result<(), AllocError>
         None => Ok(()),
         Some(flaw) => {
             write(text, ": ")?;
-            write(text, flaw_text(flaw))
+            write_flaw(text, flaw)
         }
     }
 }
@@ -206,13 +206,11 @@ fn write_spelt(text: &mut Vec<u8>, uid: Uid, read: Uid) -> Result<(), AllocError
     }
 }
 
-const THAT_ONE: &str = "; a rule was broken: try that one alone on the line";
-
 fn write_other(text: &mut Vec<u8>, uid: Uid) -> Result<(), AllocError>
     ensures { OnOk result (text.new.items ≡ text.old.items
-        ++ (codes "; they read as " ++ uid_text uid ++ codes "; a rule was broken: try that one alone on the line")) }
+        ++ (codes "; they read as " ++ uid_text uid ++ each_text uid)) }
 {
     write(text, "; they read as ")?;
     write_uid(text, uid)?;
-    write(text, THAT_ONE)
+    write_each(text, uid)
 }

@@ -45,7 +45,8 @@ pub(crate) fn write_gone(
     Ok(())
 }
 
-const MISSED: &str = " was known, and wasn't found: the run ended before it was ruled out";
+const MISSED: &str =
+    " was known, and wasn't found: the run ended before it was clear whether it is there";
 
 fn write_one(
     text: &mut Vec<u8>,

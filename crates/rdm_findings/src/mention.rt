@@ -1,9 +1,10 @@
 //! The devices that a run's lines about bytes name.
-ghost use Rattle.std.specs.Prelude.{◌≡◌};
+ghost use Rattle.std.specs.Prelude.{◌≡◌, Some};
 ghost use Rattle.rdm_findings.specs.DeviceText.{mentioned, is_before};
-ghost use Rattle.rdm_findings.specs.Mentions.{spelt_or, named_in};
+ghost use Rattle.rdm_findings.specs.Mentions.{spelt_or, source_or, named_in};
 ghost use Rattle.rdm_findings.specs.Mentions.{garbled_mention, signed_in, stray_mention};
 
+use crate::flaw::Flaw;
 use crate::head::Start;
 use crate::misread::Misreads;
 use crate::stray_bytes::{Sign, sign_of};
@@ -94,23 +95,29 @@ fn mentioned(mention: &Option<Mention>, uid: Uid) -> Option<u64>
 /// What the line of the first exchange with bytes that no honest line allows names, if there is one.
 pub(crate) fn garbled_mention(
     start: Start,
+    flaw: Option<Flaw>,
     exchanges: &[Exchange],
     garbled: Option<Sighting>,
 ) -> Option<Mention>
-    ensures { result ≡ garbled_mention start exchanges.now garbled }
+    ensures { result ≡ garbled_mention start flaw exchanges.now garbled }
 {
     let Some(first) = garbled else {
         return None;
     };
     match exchanges.get(first.at) {
-        Some(exchange) => named_in(start.number(first.at), exchange.asked, &exchange.heard),
+        Some(exchange) => named_in(
+            start.number(first.at),
+            flaw,
+            exchange.asked,
+            &exchange.heard,
+        ),
         None => None,
     }
 }
 
-// The UID that was asked, and the one that the bytes read as.
-fn named_in(number: u64, asked: Asked, heard: &Heard) -> Option<Mention>
-    ensures { result ≡ named_in number asked heard.now }
+// The UID that was asked, and the one that the bytes read as, or that they are from.
+fn named_in(number: u64, flaw: Option<Flaw>, asked: Asked, heard: &Heard) -> Option<Mention>
+    ensures { result ≡ named_in number flaw asked heard.now }
 {
     match asked {
         Asked::Branch { lo, .. } => Some(Mention {
@@ -121,9 +128,28 @@ fn named_in(number: u64, asked: Asked, heard: &Heard) -> Option<Mention>
         Asked::Mute(uid) => Some(Mention {
             number,
             uid,
-            other: uid,
+            other: source_or(uid, flaw),
         }),
         _ => None,
+    }
+}
+
+// The UID that an answer to a mute is from, if that is what is wrong with it, or else this one.
+fn source_or(uid: Uid, flaw: Option<Flaw>) -> Uid
+    ensures { result ≡ source_or uid flaw }
+{
+    match flaw {
+        Some(flaw) => source_of(uid, &flaw),
+        None => uid,
+    }
+}
+
+fn source_of(uid: Uid, flaw: &Flaw) -> Uid
+    ensures { result ≡ source_or uid (Some flaw.now) }
+{
+    match flaw {
+        Flaw::Source(source) => *source,
+        _ => uid,
     }
 }
 

@@ -3,6 +3,7 @@ ghost use Rattle.std.specs.Prelude.{◌≡◌, ◌++◌, OnOk, codes};
 ghost use Rattle.rdm_wire.specs.UidText.{uid_text};
 ghost use Rattle.rdm_findings.specs.FindingText.{sighting_name, range_text, mute_text, place_text, sign_text};
 ghost use Rattle.rdm_findings.specs.FindingText.{advice_text, stray_text, stray_found, stray_finding};
+ghost use Rattle.rdm_findings.specs.FindingText.{asks_around, silent_text};
 ghost use Rattle.rdm_findings.specs.FindingText.{stray_judgement, sign_uid, of_stray};
 ghost use Rattle.rdm_findings.specs.Forms.{finding};
 
@@ -106,7 +107,7 @@ fn write_reason(
     ensures { OnOk result (text.new.items ≡ text.old.items ++ stray_text decided asked.now sign.now) }
 {
     write_place(text, asked)?;
-    write_sign(text, sign)?;
+    write_sign(text, asked, sign)?;
     write(text, advice_text(decided, sign))
 }
 
@@ -114,28 +115,46 @@ fn advice_text(decided: bool, sign: &Sign) -> &'static str
     ensures { result.now ≡ advice_text decided sign.now }
 {
     match (sign, decided) {
-        (Sign::Listed(_), true) => ": try it alone on the line",
+        (Sign::Listed(_), true) => ": try it alone, then the others",
         (Sign::Listed(_), false) => "; or a device that the log doesn't show sent them",
         (Sign::Other(_), true) => "; a rule was broken: name it by --present, if it is there",
         (Sign::Other(_), false) => ": name it by --present, if it is there",
         (Sign::Unread, true) => {
             "; a rule was broken: look for noise, a device that isn't listed, or one that should be silent there"
         }
-        (Sign::Unread, false) => "; they may be those of a device that the log doesn't show",
+        (Sign::Unread, false) =>
+            "; they may be noise, or those of a device that the log doesn't show",
     }
 }
 
-fn write_sign(text: &mut Vec<u8>, sign: &Sign) -> Result<(), AllocError>
-    ensures { OnOk result (text.new.items ≡ text.old.items ++ sign_text sign.now) }
+fn write_sign(text: &mut Vec<u8>, asked: &Asked, sign: &Sign) -> Result<(), AllocError>
+    ensures { OnOk result (text.new.items ≡ text.old.items ++ sign_text asked.now sign.now) }
 {
     match sign {
-        Sign::Listed(uid) => write_spelt(
-            text,
-            *uid,
-            ", which should be silent there unless it restarted",
-        ),
+        Sign::Listed(uid) => write_spelt(text, *uid, silent_text(asks_around(*uid, asked))),
         Sign::Other(uid) => write_spelt(text, *uid, ", which isn't listed"),
         Sign::Unread => Ok(()),
+    }
+}
+
+// Whether a range was asked that has this UID.
+fn asks_around(uid: Uid, asked: &Asked) -> bool
+    ensures { result ≡ asks_around uid asked.now }
+{
+    match asked {
+        Asked::Branch { lo, hi } => *lo <= uid && uid <= *hi,
+        _ => false,
+    }
+}
+
+// A restart explains no answer for a range without its UID.
+fn silent_text(within: bool) -> &'static str
+    ensures { result.now ≡ silent_text within }
+{
+    if within {
+        ", which should be silent there unless it restarted"
+    } else {
+        ", which should be silent there"
     }
 }
 
