@@ -269,12 +269,8 @@ Heard Below::judged(Heard heard) {
 
 // The same for a check. Without a matching response it only ends the doubt after a long time without frames.
 Heard Below::judged_check(Heard heard) {
-    const bool was_in_doubt = is_in_doubt_;
     heard = judged(std::move(heard));
     is_in_doubt_ &= !(heard.failure == nullptr && was_idle_ && heard.took < PROMPT);
-    if (heard.failure == nullptr && was_in_doubt && is_in_doubt_) {
-        heard.failure = OUT_OF_STEP;
-    }
     return heard;
 }
 
@@ -302,8 +298,8 @@ void Below::replied(RDMReply *reply) {
     }
     if (kind_ == Kind::Check) {
         answer = judged_check(std::move(answer));
-        const bool is_absent = answer.failure != nullptr && answer.status == RDM_TIMEOUT && !answer.is_late;
-        is_absent && !unchecked_.empty() ? check_more() : checked(answer);
+        const bool shows_nothing = answer.failure == nullptr && is_in_doubt_;
+        shows_nothing && !unchecked_.empty() ? check_more() : checked(answer);
     } else {
         heard(judged(std::move(answer)), sent_.kind == WURST_REQUEST ? reply : nullptr);
     }

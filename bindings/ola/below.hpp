@@ -40,7 +40,7 @@ protected:
     // Whether answers may be those of earlier frames. An answer that was compared with its request says no.
     bool is_in_doubt() const { return is_in_doubt_; }
     // Checks by mutes of these devices, and of the one that answered last, whether answers are those of their own
-    // frames. False: that can't be told yet.
+    // frames. If none of them answers, that stays in doubt. False: there is none to check.
     bool check_answers(std::vector<ola::rdm::UID> devices);
     void check_next();
     // Checks by a mute that no device answers whether the adapter still sends.
@@ -55,7 +55,7 @@ protected:
     virtual void heard(const Heard &heard, const ola::rdm::RDMReply *reply) = 0;
     virtual void handed_back(ola::rdm::RDMReply *reply) = 0;
     virtual void checked(const Heard &heard) = 0;
-    // A device didn't answer its check, and `check_next` sends that of another one.
+    // A device's check has shown nothing, and `check_next` sends that of another one.
     virtual void check_more() = 0;
     virtual void found(const ola::rdm::UIDSet &devices) = 0;
     // The adapter's own discovery has no answer.

@@ -340,7 +340,8 @@ bool StandIn::is_emptied_in_doubt(const Heard &heard) {
     return is_in_doubt() && run_.silences >= SILENT_BRANCHES;
 }
 
-// The line was checked: before a run, or before the end of a silent one.
+// The line was checked: before a run, or before the end of a silent one. If no known device answers any more, the run
+// itself has to show whether answers are those of their own frames.
 void StandIn::checked(const Heard &heard) {
     record(controller_, "heard", heard.failure == nullptr ? "check" : "failed check", "status_below", heard.status);
     within([&] {

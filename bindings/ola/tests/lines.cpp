@@ -279,7 +279,7 @@ public:
             std::exchange(unmuted_, nullptr)->Run();
         } else if (replied != nullptr) {
             // Only responses are looked at.
-            end_request(oldest.response ? RDMReply_of(*oldest.response) : std::make_unique<RDMReply>(RDM_TIMEOUT));
+            end_request(oldest.response ? RDMReply_of(oldest) : std::make_unique<RDMReply>(RDM_TIMEOUT));
         }
     }
     void answer_all() {
@@ -298,14 +298,22 @@ public:
     }
     bool is_waiting() const { return branched_ != nullptr || unmuted_ != nullptr || replied != nullptr; }
 
+    // The next response has a wrong length. The adapter reports it, and then that nothing else came (label 12), which
+    // is the next frame's answer for EnttecPortImpl.
+    void damage_next() { damages_ = true; }
+
     void SendRDMRequest(RDMRequest *taken, RDMCallback *callback) override {
         EnttecPortImpl::SendRDMRequest(taken, callback);
         const std::unique_ptr<RDMReply> reply = wire.reply_to(*request);
         Answer answer;
         if (reply->Response() != nullptr) {
             answer.response.reset(reply->Response()->Duplicate());
+            answer.is_damaged = std::exchange(damages_, false);
         }
-        unread_.push_back(std::move(answer));
+        unread_.push_back(answer);
+        if (answer.is_damaged) {
+            unread_.push_back({});
+        }
     }
     void UnMuteAll(UnMuteDeviceCallback *callback) override {
         unmuted_ = callback;
@@ -314,20 +322,24 @@ public:
     }
     void Branch(const UID &lower, const UID &upper, BranchCallback *callback) override {
         branched_ = callback;
-        unread_.push_back({wire.branch(number_of(lower), number_of(upper)), nullptr});
+        unread_.push_back({wire.branch(number_of(lower), number_of(upper)), nullptr, false});
     }
 
 private:
     struct Answer {
         std::vector<std::uint8_t> bytes;
         std::shared_ptr<RDMResponse> response;
+        bool is_damaged = false;
     };
 
-    std::unique_ptr<RDMReply> RDMReply_of(const RDMResponse &response) {
-        return std::unique_ptr<RDMReply>(RDMReply::FromFrame(frame_of(response), request.get()));
+    std::unique_ptr<RDMReply> RDMReply_of(const Answer &answer) {
+        RDMFrame frame = frame_of(*answer.response);
+        frame.data[2] ^= answer.is_damaged ? 8 : 0;
+        return std::unique_ptr<RDMReply>(RDMReply::FromFrame(frame, request.get()));
     }
 
     std::deque<Answer> unread_;
+    bool damages_ = false;
     UnMuteDeviceCallback *unmuted_ = nullptr;
     BranchCallback *branched_ = nullptr;
 };
@@ -359,6 +371,40 @@ void test_shifted_answers() {
             lower.answer_all();
         }
         CHECK(client.sets.size() == 5 && client.sets[4] == uids_of(lower.wire));
+    }
+}
+
+// A response is damaged, so that later answers are those of earlier frames, and then all fixtures are replaced. So none
+// that is known shows that answers are those of their own frames. Discoveries and requests are right all the same.
+void test_damaged_response() {
+    for (const bool is_full : {true, false}) {
+        Shifted lower;
+        lower.wire.fixtures = fixtures(3);
+        Client client;
+        Queue queue(&lower, 20);
+        const auto run = [&] {
+            is_full ? queue.RunFullDiscovery(client.discovery()) : queue.RunIncrementalDiscovery(client.discovery());
+            lower.answer_all();
+        };
+        run();
+        forget_messages();
+        lower.damage_next();
+        run();
+        CHECK(messages_with("the adapter's answers may be those of earlier frames") == 1);
+        CHECK(client.sets.size() == 2 && client.sets[0] == uids_of(lower.wire) && client.sets[1] == client.sets[0]);
+        lower.wire.fixtures = {{OTHER}, {UID(0x4321, 5)}, {UID(0x4321, 6)}, {UID(0x7a70, 1)}};
+        forget_messages();
+        for (std::size_t runs = 3; runs <= 5; runs++) {
+            run();
+            CHECK(client.sets.size() == runs && client.sets.back() == uids_of(lower.wire));
+        }
+        CHECK(messages_with("discovery failed: ") == 0);
+        for (std::uint8_t value = 1; value <= 3; value++) {
+            queue.SendRDMRequest(get(PID_DEVICE_LABEL, OTHER, 0, {value}), client.callback());
+            lower.answer_all();
+            const bool has_response = client.got.size() == value && client.got.back().response;
+            CHECK(has_response && data_of(*client.got.back().response) == Data{value});
+        }
     }
 }
 
@@ -499,6 +545,7 @@ void test_lines() {
     test_failing_requests<JaRulePortHandleImpl>();
     test_failing_requests<EnttecPortImpl>();
     test_shifted_answers();
+    test_damaged_response();
     test_shifted_silence();
     test_shifted_first_run();
     test_repeated_answers();
