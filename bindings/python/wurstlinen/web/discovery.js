@@ -1,8 +1,8 @@
 // Discovery: how far it is, what it found, who broke the rules, what is missing and why, and its picture.
 
-import { act } from "/app.js";
+import { act, addressOf } from "/app.js";
 import { button, classes, make, plural } from "/dom.js";
-import { linked, nameOf } from "/fixtures.js";
+import { advice, linked, nameOf } from "/fixtures.js";
 import { fixtureOf, maySend, parts, partsOf } from "/server.js";
 
 function resultText(last) {
@@ -10,8 +10,22 @@ function resultText(last) {
         return "";
     }
     const found = `${plural(last.found, "fixture")} found with ${plural(last.frames, "frame")}`;
-    return last.fault ? `${found}. The discovery is incomplete: ${last.fault}.`
-        : `${found}; nothing else can be on this line if it is honest.`;
+    const bad = (last.devices ?? []).filter((each) => each.is_broken).map(({ uid }) => nameOf(fixtureOf(uid)) || uid);
+    const first = bad.length ? `Take ${bad.join(", ")} off the line, and discover again. ` : "";
+    return last.fault ? `${first}The discovery is incomplete: ${last.fault}. ${found}.`
+        : last.found ? `${found}; if all on the line keep the rules, nothing else is on it.`
+            : `${found}: check the adapter and the first cable.`;
+}
+
+const labelOf = (uid) => parts.get("file")?.differences.find((each) => each.uid === uid)?.label;
+// The file that is loaded may have others than those that were found once.
+const neverFound = (last) => (last?.devices ?? []).filter((each) => !each.is_broken && !fixtureOf(each.uid));
+
+// What other views say of a discovery that is incomplete.
+export function alarm() {
+    const last = parts.get("discovery"), absent = neverFound(last).map(({ uid }) => labelOf(uid) || uid).join(", ");
+    return Boolean(last?.fault) && make("p", { class: "result bad" }, `${resultText(last)} `,
+        absent && `Missing: ${absent}. `, make("a", { href: addressOf("discovery") }, "Discovery"), " says more.");
 }
 
 // How far a run is, or was if the result isn't shown.
@@ -26,17 +40,15 @@ function progressText(now, last) {
 
 // What is said of devices, or without a UID of the line.
 function section(title, items) {
-    const labelOf = (uid) => parts.get("file")?.differences.find((each) => each.uid === uid)?.label;
     return items.length > 0 && make("section", {}, make("h3", {}, title), make("ul", {},
         items.map(({ uid = "", text }) => make("li", {}, ...(uid ? linked(uid, labelOf(uid)) : []),
-            `${uid && text.startsWith("exchange") ? ":" : ""} ${text}`))));
+            `${uid && text.startsWith("exchange") ? ":" : ""} ${advice(text)}`))));
 }
 
 export function view() {
     const last = parts.get("discovery"), said = last?.devices ?? [];
-    // The file that is loaded may have others.
     const missing = [...partsOf("fixture/").filter((found) => found.missing).map((found) => ({ uid: found.uid,
-        text: found.missing })), ...said.filter(({ uid, is_broken: isBroken }) => !isBroken && !fixtureOf(uid))];
+        text: found.missing })), ...neverFound(last)];
     const address = last?.picture && `/picture/${last.picture}`;
     const begin = button(last?.runs ? "Discovering …" : "Discover", () => act("discover", {}), { class: "main",
         disabled: !maySend() || Boolean(last?.runs) });

@@ -2,7 +2,8 @@
 
 import { act, addressOf, busily, busy, say } from "/app.js";
 import { button, classes, make } from "/dom.js";
-import { SENDING, editor, identifier, nameOf, notesOf, ordered, remarksOf, slotsOf, walk } from "/fixtures.js";
+import { SENDING, changeOf, editor, identifier, nameOf, notesOf, ordered, remarksOf, slotsOf, walk }
+    from "/fixtures.js";
 import { fixtureOf, maySend, mayUse, parts } from "/server.js";
 
 // The fixture that was asked for all by this page.
@@ -32,7 +33,7 @@ function formOf(uid, { parameter, about, acts, fields }) {
         const words = fields.flatMap((field, at) => (field.is_list ? values[at].split(" ").filter(Boolean)
             : [values[at]]));
         const set = () => act("set", { uid, parameter, words }, `${title} was set, and the fixture read again.`);
-        return acts ? say(`Really do it: ${title}?`, { action: { text: "Do it", act: set } }) : set();
+        return acts ? say(`Really do it: ${title}?`, { actions: [{ text: "Do it", act: set }] }) : set();
     };
     return make("details", { class: "form" }, make("summary", {}, `Change ${title}`), make("p", {}, about),
         fields.map(fieldOf), button(acts ? `Do it: ${title}` : "Set", send, { disabled: !maySend() }));
@@ -81,7 +82,7 @@ export function view(uid) {
         make("div", { class: "tools steps" }, steps), field("Label", "label"),
         make("div", { class: "place" }, field("Address", "address"), nudge(found, "−", -1, "lower"),
             nudge(found, "+", 1, "higher")),
-        field("Personality", "personality"), make("p", { class: "sending" }, mayUse() ? SENDING : ""),
+        field("Personality", "personality"), changeOf(found), make("p", { class: "sending" }, mayUse() && SENDING),
         make("p", { class: "sensors" }, measured || (parts.get("role") !== "looks" || sections.identity ? ""
             : "Sensors and all else are shown once a page that isn't view only opens it.")),
         mayUse() && button(isReading ? "Reading …" : "Read all again", () => readAll(uid),

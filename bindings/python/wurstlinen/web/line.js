@@ -34,8 +34,8 @@ function programsOf(clients) {
 const waits = (count) => (count ? `${plural(count, "request")} wait${count > 1 ? "" : "s"}` : "nothing waits");
 
 function waitingText(isPaused, count) {
-    return isPaused ? `Paused: ${waits(count)}. It ends when each program that paused goes on or ends; closing this `
-        + "page isn't enough." : count ? `${waits(count)}.` : "Nothing waits.";
+    return `${isPaused ? "Paused, until whoever paused resumes, also when this page is closed: " : ""}${waits(count)}. `
+        + "A pause holds RDM requests alone; it stops no DMX.";
 }
 
 // The pause, which is asked for once more if it is one for other programs, too; or who has paused.
@@ -43,10 +43,11 @@ function pauser(isPaused, clients, disabled) {
     const namesOf = (some) => some.map((each) => nameOf(each.client)).join(", ");
     const others = clients.filter((each) => !each.is_page), paused = clients.filter((each) => each.paused);
     const change = () => act("pause", { on: !isPaused });
-    const ask = () => say(`This pauses ${namesOf(others)}, too.`, { action: { text: "Pause them, too", act: change } });
+    const ask = () => say(`This holds the RDM requests of other programs, too: ${namesOf(others)}.`,
+        { actions: [{ text: "Pause them, too", act: change }] });
     return isPaused && paused.length && !paused[0].is_page
         ? button(`paused by ${namesOf(paused)}`, null, { disabled: true })
-        : button(isPaused ? "Go on" : "Pause all", !isPaused && others.length ? ask : change, { disabled });
+        : button(isPaused ? "Resume" : "Pause RDM", !isPaused && others.length ? ask : change, { disabled });
 }
 
 export function view() {
