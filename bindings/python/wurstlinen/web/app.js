@@ -1,5 +1,4 @@
 // The frame of the page: its views, how things are, and messages.
-
 import { button, classes, make, show } from "/dom.js";
 import { call, fixtureOf, follow, lost, maySend, parts, partsOf, token } from "/server.js";
 import * as discovery from "/discovery.js";
@@ -35,34 +34,25 @@ export function say(text, { isBad = false, actions = [] } = {}) {
 
 function close() {
     const { from } = message;
-    message = null;
-    draw();
-    if (document.activeElement === document.body) {
-        from.focus();
-    }
+    draw(message = null);
+    (document.activeElement === document.body ? from : document.activeElement).focus();
 }
 
 // Shows that something is under way.
 export async function busily(name, work) {
-    busy.add(name);
-    redraw();
+    redraw(busy.add(name));
     await work();
-    busy.delete(name);
-    redraw();
+    redraw(busy.delete(name));
 }
 
 // The attributes of an element for something that may be under way.
-export function busyAs(name, ...names) {
-    return { class: classes(...names, busy.has(name) && "busy"), "aria-busy": busy.has(name) ? "true" : null };
-}
+export const busyAs = (name, ...names) => ({ class: classes(...names, busy.has(name) && "busy"),
+    "aria-busy": busy.has(name) ? "true" : null });
 
-// The answer to a call; null if it is a fault, which is said.
+// The answer to a call; nothing if it is a fault, which is said.
 export async function asked(name, keys) {
     const answer = await call(name, keys);
-    if (answer.error) {
-        say(answer.error, { isBad: true });
-    }
-    return answer.error ? null : answer;
+    return answer.error ? void say(answer.error, { isBad: true }) : answer;
 }
 
 // Does something, and says how it ended. If slots would overlap, it is done only if that is wanted.
@@ -103,18 +93,15 @@ function statusText() {
 // Takes the last change back, where that is said.
 export const undo = ({ text, back }) => act("undo", { text }, `Undone: ${back}.`);
 
-// Which fixtures show themselves, and how all of them stop.
-function stop() {
-    const all = partsOf("fixture/").filter((found) => found.identifies && !found.missing);
-    return all.length > 0 && button(`${all.length} ${all.length > 1 ? "identify" : "identifies"} · Stop`, () =>
-        all.forEach(({ uid }) => act("identify", { uid, on: false })), { id: "stop", disabled: !maySend() });
-}
-
 function header(name) {
     const [text, isBad] = statusText(), last = parts.get("undo");
+    // Which fixtures show themselves, and how all of them stop.
+    const all = partsOf("fixture/").filter((found) => found.identifies && !found.missing);
+    const stop = all.length > 0 && button(`${all.length} ${all.length > 1 ? "identify" : "identifies"} · Stop`, () =>
+        all.forEach(({ uid }) => act("identify", { uid, on: false })), { id: "stop", disabled: !maySend() });
     return make("header", {}, make("h1", {}, "Wurstlinen"),
         make("p", { id: "status", role: "status", class: classes(isBad && "bad") }, text),
-        stop(), button(last ? `Undo (${last.count})` : "Undo", () => say(`Undo: ${last.back}?`, { actions: [{ text:
+        stop, button(last ? `Undo (${last.count})` : "Undo", () => say(`Undo: ${last.back}?`, { actions: [{ text:
             "Undo", act: () => undo(last) }] }), { id: "undo", disabled: !maySend() || !last }),
         make("nav", { "aria-label": "Views" }, Object.entries(TITLES).map(([each, title]) => make("a",
             { href: addressOf(each), "aria-current": each === name ? "page" : null }, title))));
@@ -146,7 +133,6 @@ export function draw() {
 }
 
 let frame = 0;
-
 // A page in the background draws nothing until it is seen.
 export function redraw() {
     frame ||= requestAnimationFrame(() => (frame = 0, draw()));

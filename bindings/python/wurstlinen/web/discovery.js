@@ -1,14 +1,10 @@
 // Discovery: how far it is, what it found, who broke the rules, what is missing and why, and its picture.
-
 import { act, addressOf } from "/app.js";
 import { button, classes, make, plural } from "/dom.js";
 import { advice, linked, nameOf } from "/fixtures.js";
 import { fixtureOf, maySend, parts, partsOf } from "/server.js";
 
 function resultText(last) {
-    if (!last || last.runs) {
-        return "";
-    }
     const found = `${plural(last.found, "fixture")} found with ${plural(last.frames, "frame")}`;
     const bad = (last.devices ?? []).filter((each) => each.is_broken).map(({ uid }) => nameOf(fixtureOf(uid)) || uid);
     const first = bad.length ? `Take ${bad.join(", ")} off the line, and discover again. ` : "";
@@ -18,7 +14,7 @@ function resultText(last) {
 }
 
 const labelOf = (uid) => parts.get("file")?.differences.find((each) => each.uid === uid)?.label;
-// The file that is loaded may have others than those that were found once.
+// Those of the file that is loaded, too.
 const neverFound = (last) => (last?.devices ?? []).filter((each) => !each.is_broken && !fixtureOf(each.uid));
 
 // What other views say of a discovery that is incomplete.
@@ -55,7 +51,7 @@ export function view() {
     return [make("div", { class: "tools" }, begin,
         make("p", { class: "sending" }, "Once it has begun, nothing stops it: it ends by itself.")),
         make("p", { role: "status" }, progressText(parts.get("progress"), last)),
-        make("p", { class: classes("result", last?.fault && "bad") }, resultText(last)),
+        make("p", { class: classes("result", last?.fault && "bad") }, last && !last.runs && resultText(last)),
         section("Fixtures that did something wrong", said.filter((each) => each.is_broken)),
         section("Missing", missing), section("Also seen", (last?.others ?? []).map((text) => ({ text }))),
         address && make("div", { key: address }, make("p", {}, make("a", { href: address, target: "_blank",

@@ -1,5 +1,4 @@
 // A saved file: what differs from it, and what makes the fixtures as it says.
-
 import { act, asked, say } from "/app.js";
 import { button, classes, make, plural } from "/dom.js";
 import { differencesOf, linked } from "/fixtures.js";

@@ -1,5 +1,4 @@
 // The table of fixtures, in which values are edited in place; and the walk along the truss.
-
 import { act, addressOf, busily, busy, busyAs, redraw, say, undo } from "/app.js";
 import { alarm } from "/discovery.js";
 import { button, classes, isTouched, make, plural } from "/dom.js";
@@ -19,7 +18,6 @@ export const nameOf = (found) => found?.label || (found?.model && found.address 
     : found?.model || found?.uid || "");
 // The same, with the word for one whose slots count though it isn't there.
 export const placedNameOf = (found) => nameOf(found) + (found?.missing ? " (missing)" : "");
-
 // What is to be done comes first, and then why.
 export const advice = (text) => text.replace(/^(.*); (check .*)$/, "$2 ($1)");
 
@@ -49,15 +47,10 @@ export function notesOf({ uid, missing, notes }) {
         ...problems.map((each) => problemOf(each, uid))];
 }
 
-export function remarksOf({ uid, root, is_slow: isSlow }) {
-    return [...(root === uid ? [] : [`part of ${nameOf(fixtureOf(root)) || root}`]),
-        ...(isSlow ? ["answers slowly"] : [])];
-}
-
-export function slotsOf({ first, last, is_read: isRead }) {
-    const unknown = isRead ? "none" : "…";
-    return first ? [...new Set([first, last])].join("-") : unknown;
-}
+export const remarksOf = ({ uid, root, is_slow: isSlow }) => [root === uid ? "" : `part of ${nameOf(fixtureOf(root))
+    || root}`, isSlow ? "answers slowly" : ""].filter(Boolean);
+export const slotsOf = ({ first, last, is_read: isRead }) => (first ? [...new Set([first, last])].join("-")
+    : isRead ? "none" : "…");
 
 // In the order in which they are shown.
 export function ordered() {
@@ -109,11 +102,8 @@ export function editor(found, column) {
 }
 
 // What was changed last, if it was here, and what takes it back.
-export function changeOf({ uid }) {
-    const last = parts.get("undo");
-    return last?.uid === uid && button(`${last.made} · Undo`, () => undo(last),
-        { class: "made", disabled: !maySend() });
-}
+export const changeOf = ({ uid }, last = parts.get("undo")) => last?.uid === uid && button(`${last.made} · Undo`,
+    () => undo(last), { class: "made", disabled: !maySend() });
 
 // The switch by which a fixture shows itself.
 export function identifier(found, size = "") {
@@ -139,8 +129,8 @@ export async function walk(from, step) {
 }
 
 async function walkInTable() {
-    const now = ordered().filter((found) => found.identifies).pop();
-    document.getElementById(await walk(walked ?? now?.uid ?? null, 1))?.scrollIntoView({ block: "nearest" });
+    const now = walked ?? ordered().filter((found) => found.identifies).pop()?.uid ?? null;
+    document.getElementById(await walk(now, 1))?.scrollIntoView({ block: "nearest" });
 }
 
 function rowOf(found) {
@@ -158,17 +148,13 @@ function rowOf(found) {
         Object.entries(cells).map(([name, inside]) => make("td", { class: name }, inside)));
 }
 
-function choose(wanted) {
-    Object.assign(chosen, wanted);
-    redraw();
-}
-
+const choose = (wanted) => redraw(Object.assign(chosen, wanted));
 const sortBy = (column) => choose({ column, isDown: chosen.column === column && !chosen.isDown });
 
 // How many differences from a file there are, and overlaps that it doesn't have.
-export function differencesOf({ differences }) {
-    const overlaps = differences.filter(({ kind }) => kind === "overlap").length;
-    return plural(differences.length - overlaps, "difference") + (overlaps ? `, ${plural(overlaps, "overlap")}` : "");
+export function differencesOf({ differences: all }) {
+    const overlaps = all.filter(({ kind }) => kind === "overlap").length;
+    return plural(all.length - overlaps, "difference") + (overlaps ? `, ${plural(overlaps, "overlap")}` : "");
 }
 
 function tools(all, shown) {

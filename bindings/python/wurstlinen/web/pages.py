@@ -134,7 +134,6 @@ class Pages:
         call = self.calls.get(path[len(API):])
         if handler.command != "POST" or call is None:
             raise Refusal(404, "there is nothing here")
-        # What is saved is what pages show.
         if role == LOOKS and path != f"{API}save":
             raise Refusal(403, "this address is view only")
         try:

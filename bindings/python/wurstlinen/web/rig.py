@@ -55,8 +55,7 @@ class Entry:
 
 @dataclass
 class Plan:
-    """Changes that are to be made, what would be wrong after them, which overlaps would end, and what was made of them,
-    for a page."""
+    """Changes to make, what would be wrong after them, which overlaps they end, and what was made, for a page."""
 
     changes: List[str]
     problems: List[str]

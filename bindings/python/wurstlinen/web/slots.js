@@ -1,5 +1,4 @@
 // The universe as 512 slots: who has which. Fixtures are moved by drag, or by keys.
-
 import { act, addressOf, draw, redraw } from "/app.js";
 import { classes, isTouched, make } from "/dom.js";
 import { alarm } from "/discovery.js";
@@ -13,11 +12,9 @@ const isNarrow = matchMedia("(max-width: 700px)");
 const width = () => (isNarrow.matches ? 16 : 32);
 const rowOf = (slot) => Math.ceil(slot / width());
 const areaOf = (from, to) => `grid-area: ${rowOf(from)} / ${(from - 1) % width() + 1} / auto / span ${to - from + 1};`;
+const mayMove = (uid) => maySend() && !fixtureOf(uid)?.missing;
 // The fixture that is being moved, and where it is now.
 let moving = null;
-
-// Missing ones keep their place.
-const mayMove = (uid) => maySend() && !fixtureOf(uid)?.missing;
 
 // The fixtures that have slots, by address. Those that share slots are in lanes, one below another.
 function placed() {
@@ -32,22 +29,18 @@ function placed() {
 }
 
 // How many fixtures have each slot; parts of one device may share slots.
-function ownersOf(fixtures) {
-    return Array.from({ length: LAST }, (_, at) => new Set(fixtures.filter(({ first, last }) =>
-        first <= at + 1 && at + 1 <= last).map(({ root }) => root)).size);
-}
+const ownersOf = (fixtures) => Array.from({ length: LAST }, (_, at) => new Set(fixtures.filter(({ first, last }) =>
+    first <= at + 1 && at + 1 <= last).map(({ root }) => root)).size);
 
 function move(uid, to) {
     const { first, last } = fixtureOf(uid), size = last - first + 1;
     const start = Math.min(Math.max(to, 1), LAST + 1 - Math.min(size, LAST));
-    moving = { uid, first: start, last: start + size - 1, lane: 0 };
-    draw();
+    draw(moving = { uid, first: start, last: start + size - 1, lane: 0 });
 }
 
 async function finish(isWanted) {
     const { uid, first } = moving ?? {};
-    moving = null;
-    draw();
+    draw(moving = null);
     if (isWanted && uid && first !== fixtureOf(uid)?.first) {
         await act("change", { uid, column: "address", value: String(first) },
             `${nameOf(fixtureOf(uid))} moved to ${first}.`);
@@ -56,13 +49,10 @@ async function finish(isWanted) {
 
 function hint(fixtures) {
     const before = fixtureOf(moving?.uid);
-    if (!before) {
-        return maySend() ? HELP : "";
-    }
-    const others = fixtures.filter((each) => each.root !== before.root && each.first <= moving.last
-        && each.last >= moving.first);
-    return `${nameOf(before)}: ${slotsOf(before)} → ${slotsOf(moving)}, `
-        + (others.length ? `overlaps ${others.map(placedNameOf).join(", ")}` : "free");
+    const others = fixtures.filter((each) => before && each.root !== before.root && each.first <= moving.last
+        && each.last >= moving.first).map(placedNameOf).join(", ");
+    return before ? `${nameOf(before)}: ${slotsOf(before)} → ${slotsOf(moving)}, `
+        + (others ? `overlaps ${others}` : "free") : maySend() ? HELP : "";
 }
 
 function keyed(event) {
