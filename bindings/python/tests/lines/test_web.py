@@ -71,14 +71,17 @@ class Fixtures(BrowserTestCase):
     def test_what_overlaps_is_asked_again(self, size: Tuple[int, int]) -> None:
         with opened(size) as (seen, web, _), web.follow() as events:
             seen.until(f"document.querySelector(\"{row(RIGHT)} .label\")?.value === 'Front right'")
+            # What is there at first is remembered.
+            seen.page.value("""new MutationObserver(() => document.querySelector(".message") && (window.first ??=
+                [...document.querySelectorAll(".message button")].map((each) => [each.textContent, each.disabled])))
+                .observe(document.body, { childList: true, subtree: true })""")
             seen.click(f"{row(RIGHT)} .address")
             seen.type("99")
             seen.key("Enter")
             seen.until("document.querySelector('.message')")
             self.assertIn("99-105 overlaps 454e:0a000017 Back truss 100", seen.texts(".message p")[0])
             # A second press of a thumb that was under way to what was there does nothing.
-            self.assertEqual(seen.page.value("[...document.querySelectorAll('.message button')].map((each) => "
-                                             "[each.textContent, each.disabled])"), [
+            self.assertEqual(seen.page.value("window.first"), [
                 ["Set 101, the next free address", True], ["Do it anyway", True], ["Cancel", False]])
             if size == PHONE:
                 self.assertLessEqual(seen.page.value(
